@@ -1,0 +1,20 @@
+-- A source's items as trees with places.
+use Rattle.std.specs.Prelude.{List, map}
+use Rattle.pddl_text.specs.declared.item.Item.{Item}
+use Rattle.pddl_text.specs.declared.item.Item.TheOpen.{Item-F}
+use Rattle.pddl_text.specs.declared.item.Item.TheFolds.{fold-Item}
+use Rattle.pddl_text.specs.Spelling.{view}
+use Rattle.pddl_text.specs.Trees.{Placed, placed_leaf, placed_node, placed_of}
+
+-- one level of an item, its own items seen already
+abbrev pub item_step : {A : _} → Item-F A Placed → Placed
+item_step (Item-F.Word token) = placed_leaf (view token)
+item_step (Item-F.List inner span) = placed_node span (placed_of inner.items)
+
+-- an item as a tree with places
+abbrev pub item_view : {A : _} → Item A → Placed
+item_view = fold-Item _ Placed item_step
+
+-- items as trees with places
+abbrev pub items_view : {A : _} → List (Item A) → List Placed
+items_view items = map item_view items

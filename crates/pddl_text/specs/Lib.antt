@@ -1,0 +1,17 @@
+pub mod Bytes
+pub mod ByteClass
+pub mod Words
+pub mod Spelling
+pub mod Spans
+pub mod Number
+pub mod Faults
+pub mod Reading
+pub mod Trees
+pub mod Items
+pub mod Lists
+pub mod Nesting
+pub mod Texts
+pub mod Pieces
+pub mod Positions
+pub mod NumberText
+pub mod Device

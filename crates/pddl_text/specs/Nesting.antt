@@ -1,0 +1,65 @@
+-- Reading words with a stack of open lists. No public contract names these.
+use Rattle.std.specs.Prelude.{◌≡◌, ◌≤◌, ℕ, List, [], ◌∷◌, ◌++◌, length, Option, Some, None, nat_lt, if◌then◌else◌}
+use Rattle.pddl_text.specs.declared.token.TokenKind.{TokenKind}
+use Rattle.pddl_text.specs.declared.token.TokenKind.TheVariants.{Open, Close}
+use Rattle.pddl_text.specs.declared.fault.TextFault.{TextFault}
+use Rattle.pddl_text.specs.declared.fault.TextFault.TheVariants as faults
+use Rattle.pddl_text.specs.declared.item.OpenList.{OpenList}
+use Rattle.pddl_text.specs.declared.item.Item.{Item}
+use Rattle.pddl_text.specs.Spelling.{PlacedWord}
+use Rattle.pddl_text.specs.Trees.{Placed, placed_leaf, placed_node, placed_of}
+use Rattle.pddl_text.specs.Items.{items_view}
+use Rattle.pddl_text.specs.Lists.{deepest}
+
+-- an open list: the items before its opening, and the opening's place
+pub record Opened : Type 0 where
+  pub items : List Placed
+  pub start : ℕ
+
+-- the open lists, the innermost first, and the items behind the innermost opening
+pub record Nest : Type 0 where
+  pub opened : List Opened
+  pub items : List Placed
+
+-- nothing read
+abbrev pub empty : Nest
+empty = record { opened = []; items = [] }
+
+-- a closing ends the innermost open list
+abbrev pub closed : List Opened → List Placed → PlacedWord → Option Nest
+closed [] items w = None
+closed (list ∷ opened) items w = Some (record { opened = opened; items = list.items ++ placed_node (record { start = list.start; end = w.span.end }) (placed_of items) ∷ [] })
+
+-- one more word, by its kind
+abbrev pub next_by : TokenKind → PlacedWord → Nest → Option Nest
+next_by Open w nest = if nat_lt (length nest.opened) deepest then Some (record { opened = record { items = nest.items; start = w.span.start } ∷ nest.opened; items = [] }) else None
+next_by Close w nest = closed nest.opened nest.items w
+next_by _ w nest = Some (record { opened = nest.opened; items = nest.items ++ placed_leaf w ∷ [] })
+
+-- one more word
+abbrev pub next_nest : PlacedWord → Nest → Option Nest
+next_nest w nest = next_by w.kind w nest
+
+-- the code's open list
+abbrev pub opened_view : {A : _} → OpenList A → Opened
+opened_view list = record { items = items_view list.items.items; start = list.start }
+
+-- the code's open lists, of which the innermost is the last
+abbrev pub stack_of : {A : _} → List (OpenList A) → List Opened
+stack_of [] = []
+stack_of (list ∷ lists) = stack_of lists ++ opened_view list ∷ []
+
+-- the code's two lists
+abbrev pub nest_of : {A : _} → List (OpenList A) → List (Item A) → Nest
+nest_of opened items = record { opened = stack_of opened; items = items_view items }
+
+-- why a word is refused
+abbrev pub IsRefused : TextFault → PlacedWord → Nest → Type 0
+IsRefused faults.Memory w nest = Unit {0}
+IsRefused (faults.Unopened at) w nest = (w.kind ≡ Close) × (nest.opened ≡ []) × (w.span.start ≡ at)
+IsRefused (faults.TooDeep at) w nest = (w.kind ≡ Open) × (deepest ≤ length nest.opened) × (w.span.start ≡ at)
+IsRefused (faults.Unclosed at) w nest = ⊥
+IsRefused faults.TooLong w nest = ⊥
+IsRefused (faults.Stray at) w nest = ⊥
+IsRefused (faults.Glued at) w nest = ⊥
+IsRefused (faults.NumberRange at) w nest = ⊥

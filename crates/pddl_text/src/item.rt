@@ -1,0 +1,19 @@
+//! Items: words, and lists of items.
+
+use crate::token::{Span, Token};
+use std::alloc::Allocator;
+
+/// A word that is no parenthesis, or a list of items with its span: from the first byte of its `(` to behind its `)`.
+#[derive(Drop)]
+#[derive_where(Debug)]
+pub enum Item<'t, A: Allocator> {
+    Word(Token<'t>),
+    List(Vec<Item<'t, A>, A>, Span),
+}
+
+/// A list whose end has not come: the items before its innermost opening, and that opening's place.
+#[derive(Drop)]
+pub struct OpenList<'t, A: Allocator> {
+    pub items: Vec<Item<'t, A>, A>,
+    pub start: u32,
+}

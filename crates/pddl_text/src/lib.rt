@@ -1,0 +1,43 @@
+//! The words, lists, numbers and places of PDDL texts.
+//!
+//! [`lex`] gives the words of a text as tokens, [`lists`] the lists that tokens form, and [`items_of`] both at once.
+//! [`value_of`] gives the value of a number's text as a [`Fixed`], [`position`] the line and column of a place. A place
+//! is a number of bytes from the beginning of the text.
+//!
+//! Each of these calls answers exactly what the definitions in `specs/` give, and else the fault that stands first:
+//! `Spelling` and `Words` (which words spell a text), `Number`, `Faults`, `Lists`, `Texts` (both together) and
+//! `Positions`. The functions with no body are laws on these definitions, for the crates above: a text has at most one
+//! reading and at most one fault, and texts and numbers written in canonical form read back.
+#![tactic(auto)]
+
+mod bytes;
+mod device;
+mod fault;
+mod fixed;
+mod item;
+mod lexer;
+mod nesting;
+mod next;
+mod number;
+mod pieces;
+mod place;
+mod reading;
+mod std_devices;
+mod texts;
+mod token;
+mod writing;
+
+pub use device::{DeviceFault, Sink, Source};
+pub use fault::TextFault;
+pub use fixed::{Fixed, LARGEST, number_reads_back};
+pub use item::Item;
+pub use lexer::{LONGEST, lex, one_spelling};
+pub use nesting::{DEEPEST, lists, one_nesting};
+pub use number::value_of;
+pub use pieces::{pieces_read_back, tree_reads_back};
+pub use place::{Pos, position};
+pub use reading::{SourceFault, read_all};
+pub use std_devices::{FromRead, ToWrite};
+pub use texts::{items_of, no_fault_in_items, one_items, one_reading, one_text_fault};
+pub use token::{Span, Token, TokenKind};
+pub use writing::{WriteFault, write_text};

@@ -1,0 +1,130 @@
+//! The lists of a text.
+
+ghost use Rattle.std.specs.Prelude.{◌≡◌, List, [], ◌∷◌, ◌++◌, Some, map, IfOk, IfErr, OnOk, MatchResult};
+ghost use Rattle.pddl_text.specs.declared.fault.TextFault.TheVariants.{Memory};
+ghost use Rattle.pddl_text.specs.Spelling.{PlacedWord, view};
+ghost use Rattle.pddl_text.specs.Trees.{Placed, placed_leaf};
+ghost use Rattle.pddl_text.specs.Items.{items_view};
+ghost use Rattle.pddl_text.specs.Lists.{AreItems, deepest, ListStands};
+ghost use Rattle.pddl_text.specs.Nesting.{nest_of, next_nest, IsRefused};
+
+use crate::fault::TextFault;
+use crate::item::{Item, OpenList};
+use crate::token::{Span, Token, TokenKind};
+use std::alloc::Allocator;
+use std::mem;
+
+/// The deepest level of a list; an outermost list has level 1. Own.
+pub const DEEPEST: usize = 128;
+
+fn open_list<'t, 'a, B: Allocator>(
+    alloc: &'a B,
+    opened: &mut Vec<OpenList<'t, &'a B>, &'a B>,
+    items: &mut Vec<Item<'t, &'a B>, &'a B>,
+    token: &Token<'t>,
+) -> Result<(), TextFault>
+    requires { token.now.kind ≡ TokenKind.Open }
+    ensures next { OnOk result (next_nest (view token.now) (nest_of opened.old.items items.old.items) ≡ Some (nest_of opened.new.items items.new.items)) }
+    ensures refused { IfErr result (λ fault. IsRefused fault (view token.now) (nest_of opened.old.items items.old.items)) }
+{
+    if opened.len() >= DEEPEST {
+        return Err(TextFault::TooDeep {
+            at: token.span.start,
+        });
+    }
+    let before = mem::replace(items, Vec::new(alloc));
+    opened.push(OpenList {
+        items: before,
+        start: token.span.start,
+    })?;
+    Ok(())
+}
+
+fn close_list<'t, 'a, B: Allocator>(
+    opened: &mut Vec<OpenList<'t, &'a B>, &'a B>,
+    items: &mut Vec<Item<'t, &'a B>, &'a B>,
+    token: &Token<'t>,
+) -> Result<(), TextFault>
+    requires { token.now.kind ≡ TokenKind.Close }
+    ensures next { OnOk result (next_nest (view token.now) (nest_of opened.old.items items.old.items) ≡ Some (nest_of opened.new.items items.new.items)) }
+    ensures refused { IfErr result (λ fault. IsRefused fault (view token.now) (nest_of opened.old.items items.old.items)) }
+{
+    let Some(list) = opened.pop() else {
+        return Err(TextFault::Unopened {
+            at: token.span.start,
+        });
+    };
+    let inner = mem::replace(items, list.items);
+    items.push(Item::List(
+        inner,
+        Span {
+            start: list.start,
+            end: token.span.end,
+        },
+    ))?;
+    Ok(())
+}
+
+fn add_word<'t, 'a, B: Allocator>(
+    items: &mut Vec<Item<'t, &'a B>, &'a B>,
+    token: &Token<'t>,
+) -> Result<(), TextFault>
+    ensures added { OnOk result (items_view items.new.items ≡ items_view items.old.items ++ placed_leaf (view token.now) ∷ []) }
+    ensures memory { IfErr result (λ fault. fault ≡ Memory) }
+{
+    items.push(Item::Word(*token))?;
+    Ok(())
+}
+
+fn add_token<'t, 'a, B: Allocator>(
+    alloc: &'a B,
+    opened: &mut Vec<OpenList<'t, &'a B>, &'a B>,
+    items: &mut Vec<Item<'t, &'a B>, &'a B>,
+    token: &Token<'t>,
+) -> Result<(), TextFault>
+    ensures next { OnOk result (next_nest (view token.now) (nest_of opened.old.items items.old.items) ≡ Some (nest_of opened.new.items items.new.items)) }
+    ensures refused { IfErr result (λ fault. IsRefused fault (view token.now) (nest_of opened.old.items items.old.items)) }
+{
+    match token.kind {
+        TokenKind::Open => open_list(alloc, opened, items, token),
+        TokenKind::Close => close_list(opened, items, token),
+        _ => add_word(items, token),
+    }
+}
+
+/// The items that tokens form: each is a token that is no parenthesis, or a list from an opening to its closing, with
+/// the items between. Lists are those of Kovacs' definition of PDDL 3.1; the limit of levels is own.
+///
+/// # Errors
+///
+/// The leftmost of [`TextFault::Unopened`], at a closing before which all tokens form items, and
+/// [`TextFault::TooDeep`], at an opening before which [`DEEPEST`] are open. Where there is none,
+/// [`TextFault::Unclosed`], at the leftmost opening that has no closing. [`TextFault::Memory`] only where a growth was
+/// refused. "Leftmost" is the order of the slice; the place is that of the token's span.
+pub fn lists<'t, 'a, B: Allocator>(
+    alloc: &'a B,
+    tokens: &[Token<'t>],
+) -> Result<Vec<Item<'t, &'a B>, &'a B>, TextFault>
+    // What is answered is the words' items.
+    ensures items { IfOk result (λ items. AreItems deepest (map view tokens.now) (items_view items.items)) }
+    // Words that form items are answered so.
+    ensures only { (trees : List Placed) → AreItems deepest (map view tokens.now) trees
+        → MatchResult result (λ items. items_view items.items ≡ trees) (λ fault. fault ≡ Memory) }
+    // What is wrong is the first fault.
+    ensures fault { IfErr result (λ fault. ListStands fault (map view tokens.now)) }
+{
+    let mut opened: Vec<OpenList<'t, &'a B>, &'a B> = Vec::new(alloc);
+    let mut items: Vec<Item<'t, &'a B>, &'a B> = Vec::new(alloc);
+    for token in tokens {
+        add_token(alloc, &mut opened, &mut items, token)?;
+    }
+    match opened.first() {
+        None => Ok(items),
+        Some(list) => Err(TextFault::Unclosed { at: list.start }),
+    }
+}
+
+/// Words form at most one list of items.
+pub fn one_nesting()
+    ensures { (words : List PlacedWord) (items others : List Placed) → AreItems deepest words items → AreItems deepest words others → items ≡ others }
+{}

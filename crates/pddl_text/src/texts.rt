@@ -1,0 +1,56 @@
+//! The items of a text.
+
+ghost use Rattle.std.specs.Prelude.{◌≡◌, ◌≢◌, List, ℕ, IfOk, IfErr, MatchResult};
+ghost use Rattle.pddl_text.specs.declared.fault.TextFault.{TextFault};
+ghost use Rattle.pddl_text.specs.declared.fault.TextFault.TheVariants.{Memory};
+ghost use Rattle.pddl_text.specs.Trees.{Tree, Placed};
+ghost use Rattle.pddl_text.specs.Items.{items_view};
+ghost use Rattle.pddl_text.specs.Texts.{HasItems, ReadsAs, TextStands};
+
+use crate::fault::TextFault;
+use crate::item::Item;
+use crate::lexer::lex;
+use crate::nesting::lists;
+use std::alloc::Allocator;
+
+/// The items of a text: its words, and the lists that they form.
+///
+/// # Errors
+///
+/// Those of [`lex`]; where the text has words, those of [`lists`].
+pub fn items_of<'t, 'a, B: Allocator>(
+    alloc: &'a B,
+    text: &'t [u8],
+) -> Result<Vec<Item<'t, &'a B>, &'a B>, TextFault>
+    // What is answered is the text's items.
+    ensures items { IfOk result (λ items. HasItems text.now (items_view items.items)) }
+    // A text that has items is answered so.
+    ensures only { (items : List Placed) → HasItems text.now items
+        → MatchResult result (λ found. items_view found.items ≡ items) (λ fault. fault ≡ Memory) }
+    // What is wrong stands in the text.
+    ensures fault { IfErr result (λ fault. TextStands fault text.now) }
+{
+    let tokens = lex(alloc, text)?;
+    lists(alloc, &tokens)
+}
+
+/// A text has at most one list of items.
+pub fn one_items()
+    ensures { (text : List ℕ) (items others : List Placed) → HasItems text items → HasItems text others → items ≡ others }
+{}
+
+/// A text reads as at most one list of trees.
+pub fn one_reading()
+    ensures { (text : List ℕ) (trees others : List Tree) → ReadsAs text trees → ReadsAs text others → trees ≡ others }
+{}
+
+/// A text has at most one fault: of two that stand in it, neither of them want of memory, the one is the other.
+pub fn one_text_fault()
+    ensures { (text : List ℕ) (fault other : TextFault) → TextStands fault text → TextStands other text
+        → fault ≢ Memory → other ≢ Memory → fault ≡ other }
+{}
+
+/// A text that has items has no fault: what may be answered of it is want of memory alone.
+pub fn no_fault_in_items()
+    ensures { (text : List ℕ) (fault : TextFault) (items : List Placed) → TextStands fault text → HasItems text items → fault ≡ Memory }
+{}
