@@ -1,0 +1,5 @@
+pub mod Options
+pub mod PlanSteps
+pub mod PlanLaws
+pub mod PlanTextLaws
+pub mod FaultPlaces

@@ -1,0 +1,16 @@
+-- Values read one after the other.
+use Rattle.std.proofs.Common.{◌≡◌, List, [], ◌∷◌, ◌++◌, ap, refl, append_assoc}
+use Rattle.std.specs.Prelude.{Option, Some, None, option_map}
+use Rattle.pddl_tree.specs.PlanReading.{both}
+
+-- the values so far, and those that are still to come
+abbrev pub with_front : {A : Type 0} → List A → Option (List A) → Option (List A)
+with_front front rest = option_map (λ xs. front ++ xs) rest
+
+pub front_more : {A : Type 0} (front : List A) (x : A) (rest : Option (List A)) → with_front (front ++ x ∷ []) rest ≡ with_front front (both (Some x) rest)
+front_more front x None = refl
+front_more front x (Some xs) = ap Some (append_assoc front (x ∷ []) xs)
+
+pub front_none : {A : Type 0} (rest : Option (List A)) → with_front [] rest ≡ rest
+front_none None = refl
+front_none (Some xs) = refl

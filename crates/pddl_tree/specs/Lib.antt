@@ -1,0 +1,6 @@
+pub mod Names
+pub mod Plans
+pub mod Places
+pub mod PlanFaults
+pub mod PlanTexts
+pub mod PlanReading

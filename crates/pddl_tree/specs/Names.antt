@@ -1,0 +1,25 @@
+-- Names, and the case of letters.
+use Rattle.std.specs.Prelude.{ℕ, List, [], ◌∷◌, map, Bool, false, ◌&&◌, ◌||◌, ◌==◌, Option, Some, None, if◌then◌else◌}
+use Rattle.std.specs.Char.{to_ascii_lowercase, is_ascii_lowercase, is_ascii_digit}
+use Rattle.std.specs.List.{list_all}
+
+-- a text with its ASCII letters in lower case
+abbrev pub folded : List ℕ → List ℕ
+folded = map to_ascii_lowercase
+
+-- `a` to `z`
+abbrev pub is_first_byte : ℕ → Bool
+is_first_byte b = is_ascii_lowercase b
+
+-- `a` to `z`, a digit, `-` or `_`
+abbrev pub is_later_byte : ℕ → Bool
+is_later_byte b = is_first_byte b || is_ascii_digit b || b == 45 || b == 95
+
+-- a name in lower case: a letter, then letters, digits, `-` and `_` (Kovacs, `<name>`)
+abbrev pub is_name : List ℕ → Bool
+is_name [] = false
+is_name (b ∷ bytes) = is_first_byte b && list_all is_later_byte bytes
+
+-- the name that a text spells: the folded text, where that is a name
+abbrev pub name_of : List ℕ → Option (List ℕ)
+name_of text = if is_name (folded text) then Some (folded text) else None

@@ -1,0 +1,135 @@
+-- Reading steps from the left. No public contract names these.
+use Rattle.std.specs.Prelude.{◌≡◌, ℕ, List, [], ◌∷◌, ◌++◌, Bool, true, false, ◌&&◌, if◌then◌else◌, is_some, Option, Some, None, Result, Ok, Err}
+use Rattle.pddl_text.specs.declared.token.TokenKind.{TokenKind}
+use Rattle.pddl_text.specs.declared.token.TokenKind.TheVariants.{Name, Number, Colon, Bracket}
+use Rattle.pddl_text.specs.declared.token.Span.{Span}
+use Rattle.pddl_text.specs.Number.{value_of}
+use Rattle.pddl_text.specs.Trees.{Placed, placed_leaf, placed_node, PlacedList, no_placed, placed_tree}
+use Rattle.pddl_text.specs.declared.fault.TextFault.TheVariants.{Memory}
+use Rattle.pddl_tree.specs.declared.fault.ReadFault.{ReadFault}
+use Rattle.pddl_tree.specs.declared.fault.ReadFault.TheVariants as faults
+use Rattle.pddl_tree.specs.Names.{name_of}
+use Rattle.pddl_tree.specs.Plans.{StepValue, TimedValue, PlanValue, plain, timed}
+use Rattle.pddl_tree.specs.PlanFaults.{span_of}
+
+abbrev pub name_by : TokenKind → List ℕ → Option (List ℕ)
+name_by Name text = name_of text
+name_by _ text = None
+
+-- the name that an item is
+abbrev pub name_at : Placed → Option (List ℕ)
+name_at (placed_leaf w) = name_by w.kind w.text
+name_at (placed_node span items) = None
+
+-- a name, before others
+abbrev pub both : {A : Type 0} → Option A → Option (List A) → Option (List A)
+both None xs = None
+both (Some x) None = None
+both (Some x) (Some xs) = Some (x ∷ xs)
+
+-- the names that some items are, each of them
+abbrev pub names_at : List Placed → Option (List (List ℕ))
+names_at [] = Some []
+names_at (item ∷ items) = both (name_at item) (names_at items)
+
+abbrev pub step_of : Option (List (List ℕ)) → Option StepValue
+step_of None = None
+step_of (Some []) = None
+step_of (Some (action ∷ objects)) = Some (record { action = action; objects = objects })
+
+abbrev pub placed_items : PlacedList → List Placed
+placed_items no_placed = []
+placed_items (placed_tree item items) = item ∷ placed_items items
+
+-- the step that an item is
+abbrev pub step_at : Placed → Option StepValue
+step_at (placed_leaf w) = None
+step_at (placed_node span items) = step_of (names_at (placed_items items))
+
+abbrev pub moment_by : TokenKind → List ℕ → Option ℕ
+moment_by Number text = value_of text
+moment_by _ text = None
+
+abbrev pub moment_at : Placed → Option ℕ
+moment_at (placed_leaf w) = moment_by w.kind w.text
+moment_at (placed_node span items) = None
+
+abbrev pub colon_by : TokenKind → Bool
+colon_by Colon = true
+colon_by _ = false
+
+abbrev pub is_colon : Placed → Bool
+is_colon (placed_leaf w) = colon_by w.kind
+is_colon (placed_node span items) = false
+
+abbrev pub timed_of : Option ℕ → Option StepValue → Option TimedValue
+timed_of None step = None
+timed_of (Some moment) None = None
+timed_of (Some moment) (Some step) = Some (record { moment = moment; step = step })
+
+abbrev pub timed_by : Placed → Placed → Placed → Option TimedValue
+timed_by number colon item = if is_colon colon then timed_of (moment_at number) (step_at item) else None
+
+-- the timed step that stands first
+abbrev pub timed_at : List Placed → Option TimedValue
+timed_at (number ∷ colon ∷ item ∷ items) = timed_by number colon item
+timed_at _ = None
+
+-- ---- whole plans
+
+abbrev pub bracket_by : TokenKind → Bool
+bracket_by Bracket = true
+bracket_by _ = false
+
+abbrev pub is_bracket : Placed → Bool
+is_bracket (placed_leaf w) = bracket_by w.kind
+is_bracket (placed_node span items) = false
+
+-- what is wrong where no step stands first: whether steps stand before, and the item
+abbrev pub no_step : Bool → Placed → ReadFault
+no_step behind item = if behind && is_bracket item then faults.Duration (span_of item) else faults.Step (span_of item) (span_of item).start
+
+abbrev pub timed_span : List Placed → Span
+timed_span (number ∷ colon ∷ item ∷ items) = record { start = (span_of number).start; end = (span_of item).end }
+timed_span _ = record { start = 0; end = 0 }
+
+-- what is wrong at these items, where no plain step stands first
+abbrev pub plain_fault : Bool → List Placed → ReadFault
+plain_fault behind [] = faults.Text Memory
+plain_fault behind (item ∷ items) = if is_some (timed_at (item ∷ items)) then faults.Mixed (timed_span (item ∷ items)) else no_step behind item
+
+-- the same, where no timed step stands first
+abbrev pub timed_fault : Bool → List Placed → ReadFault
+timed_fault behind [] = faults.Text Memory
+timed_fault behind (item ∷ items) = if is_some (step_at item) then faults.Mixed (span_of item) else no_step behind item
+
+abbrev pub is_behind : {A : Type 0} → List A → Bool
+is_behind [] = false
+is_behind (x ∷ xs) = true
+
+-- what to do with a value that is there, or else the answer
+abbrev pub where_some : {A B : Type 0} → Option A → (A → B) → B → B
+where_some None on other = other
+where_some (Some x) on other = on x
+
+-- the plain steps so far, and the items that are left
+unfoldable pub plain_from : List StepValue → List Placed → Result PlanValue ReadFault
+plain_from found [] = Ok (plain found)
+plain_from found (item ∷ items) = where_some (step_at item) (λ step. plain_from (found ++ step ∷ []) items) (Err (plain_fault (is_behind found) (item ∷ items)))
+
+-- the timed steps so far, and the items that are left
+unfoldable pub timed_from : List TimedValue → List Placed → Result PlanValue ReadFault
+timed_from found [] = Ok (timed found)
+timed_from found (number ∷ colon ∷ item ∷ items) = where_some (timed_by number colon item) (λ step. timed_from (found ++ step ∷ []) items) (Err (timed_fault (is_behind found) (number ∷ colon ∷ item ∷ items)))
+timed_from found (number ∷ items) = Err (timed_fault (is_behind found) (number ∷ items))
+
+-- the plan that items spell, or what is wrong with them
+abbrev pub plan_at : List Placed → Result PlanValue ReadFault
+plan_at [] = Ok (plain [])
+plan_at (placed_leaf w ∷ items) = timed_from [] (placed_leaf w ∷ items)
+plan_at (placed_node span children ∷ items) = plain_from [] (placed_node span children ∷ items)
+
+-- the fault is that of the answer, or memory was refused
+abbrev pub Refuses : ReadFault → Result PlanValue ReadFault → Type 0
+Refuses (faults.Text fault) answer = fault ≡ Memory
+Refuses fault answer = answer ≡ Err fault

@@ -1,0 +1,14 @@
+//! The values that PDDL files spell, and the readers that answer them.
+//!
+//! A reader answers a value exactly where the text spells one, and then that one; else the first fault.
+#![tactic(auto)]
+
+mod fault;
+mod name;
+mod plan;
+mod plan_reader;
+
+pub use fault::ReadFault;
+pub use name::Name;
+pub use plan::{Plan, Step, TimedStep, TimedSteps};
+pub use plan_reader::{no_fault_in_plan, one_plan, one_plan_fault, plan_fault_in_text, read_plan};
