@@ -1,0 +1,11 @@
+//! The canonical text of the values that PDDL files spell.
+//!
+//! One value has one canonical text: lower case, one space between two words of a list, one step a line. Where it
+//! keeps the limit of length it reads back as the value.
+#![tactic(auto)]
+
+mod number;
+mod plan;
+mod printing;
+
+pub use plan::{one_canonical_plan, plan_reads_back, plan_text, write_plan};
