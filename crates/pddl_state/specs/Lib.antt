@@ -1,0 +1,4 @@
+pub mod Atoms
+pub mod AtomSets
+pub mod BitRows
+pub mod Numbering
