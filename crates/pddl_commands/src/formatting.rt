@@ -1,0 +1,173 @@
+//! The command that prints a file in its canonical layout.
+
+ghost use Rattle.std.specs.Prelude.{◌≡◌, ◌≢◌, ◌≤◌, ◌<◌, ◌⊎◌, ℕ, List, true, IfOk, OnOk, IsErrOf, Ok, length};
+ghost use Rattle.std.specs.Io.KnownBytes.{Appends, Consumes, Keeps};
+ghost use Rattle.pddl_text.specs.Device.{AppendsBeginning, HasFailed};
+ghost use Rattle.pddl_commands.specs.declared.formatting.Kind.{Kind};
+ghost use Rattle.pddl_commands.specs.declared.outcome.Outcome.{Outcome};
+ghost use Rattle.pddl_tree.specs.PlanTexts.{PlanStands};
+ghost use Rattle.pddl_commands.specs.Formats.{is_memory, IsFormatted, IsLeft};
+
+use crate::line::fault_line;
+use crate::outcome::{Outcome, RunFault};
+use pddl_layout::plan_text;
+use pddl_text::{LONGEST, Sink, Source, SourceFault, TextFault, read_all, write_text};
+use pddl_tree::{ReadFault, read_plan};
+use std::alloc::{AllocError, Allocator};
+
+/// What a file holds.
+#[derive(Clone, Copy, Debug, PartialEq, Eq)]
+pub enum Kind {
+    /// A plan, in the form of VAL's plan files.
+    Plan,
+}
+
+/// What is printed for a plan file's text in which a fault stands, and the outcome.
+fn refused_plan<'a, B: Allocator>(
+    alloc: &'a B,
+    text: &[u8],
+    fault: &ReadFault,
+) -> Result<(Vec<u8, &'a B>, Outcome), AllocError>
+    requires { PlanStands fault.now text.now }
+    ensures { IfOk result (λ answer. IsFormatted Kind.Plan text.now answer.0.items answer.1) }
+{
+    if is_memory(fault) {
+        return Err(AllocError);
+    }
+    let line = fault_line(alloc, b"plan", text, fault)?;
+    Ok((line, Outcome::Refused))
+}
+
+/// Whether memory was refused.
+fn is_memory(fault: &ReadFault) -> bool
+    ensures { result ≡ is_memory fault.now }
+{
+    match fault {
+        ReadFault::Text(TextFault::Memory) => true,
+        _ => false,
+    }
+}
+
+/// What is printed for a plan file's text, and the outcome.
+fn formatted_plan<'a, B: Allocator>(
+    alloc: &'a B,
+    text: &[u8],
+) -> Result<(Vec<u8, &'a B>, Outcome), AllocError>
+    ensures { IfOk result (λ answer. IsFormatted Kind.Plan text.now answer.0.items answer.1) }
+{
+    match read_plan(alloc, text) {
+        Ok(plan) => {
+            let printed = plan_text(alloc, &plan)?;
+            Ok((printed, Outcome::Good))
+        }
+        Err(fault) => refused_plan(alloc, text, &fault),
+    }
+}
+
+/// What is printed for a text, and the outcome.
+fn formatted<'a, B: Allocator>(
+    alloc: &'a B,
+    kind: Kind,
+    text: &[u8],
+) -> Result<(Vec<u8, &'a B>, Outcome), AllocError>
+    ensures { IfOk result (λ answer. IsFormatted kind text.now answer.0.items answer.1) }
+{
+    match kind {
+        Kind::Plan => formatted_plan(alloc, text),
+    }
+}
+
+/// What is printed for a text that is longer than the limit, and the outcome.
+fn too_long<'a, B: Allocator>(
+    alloc: &'a B,
+    kind: Kind,
+) -> Result<(Vec<u8, &'a B>, Outcome), AllocError>
+    ensures { IfOk result (λ answer. (text : List ℕ) → LONGEST < length text → IsFormatted kind text answer.0.items answer.1) }
+{
+    match kind {
+        Kind::Plan => {
+            let line = fault_line(alloc, b"plan", b"", &ReadFault::Text(TextFault::TooLong))?;
+            Ok((line, Outcome::Refused))
+        }
+    }
+}
+
+/// What is printed for a reader's text, and the outcome. No writer plays a part.
+fn read_formatted<'a, B: Allocator, S: Source>(
+    alloc: &'a B,
+    kind: Kind,
+    source: &mut S,
+) -> Result<(Vec<u8, &'a B>, Outcome), RunFault>
+    ensures answer { IfOk result (λ answer. (text : List ℕ) × IsLeft (S.remaining source.old) text × IsFormatted kind text answer.0.items answer.1) }
+    ensures good_at_end { IfOk result (λ answer. answer.1 ≡ Outcome.Good → S.at_end source.new ≡ true) }
+    ensures none_failed { OnOk result (S.failures source.new ≡ S.failures source.old) }
+    ensures memory { IsErrOf result RunFault.Memory → S.failures source.new ≡ S.failures source.old }
+    ensures read_failed { IsErrOf result RunFault.ReadFailed → HasFailed (S.failures source.old) (S.failures source.new) }
+    ensures no_write { ¬ IsErrOf result RunFault.WriteFailed }
+    ensures stands { (given : List ℕ) × Consumes (S.remaining source.old) (S.remaining source.new) given }
+{
+    match read_all(alloc, source, LONGEST) {
+        Ok(text) => match formatted(alloc, kind, &text) {
+            Ok(answer) => Ok(answer),
+            Err(_) => Err(RunFault::Memory),
+        },
+        Err(SourceFault::TooLong) => match too_long(alloc, kind) {
+            Ok(answer) => Ok(answer),
+            Err(_) => Err(RunFault::Memory),
+        },
+        Err(SourceFault::Memory) => Err(RunFault::Memory),
+        Err(SourceFault::ReadFailed) => Err(RunFault::ReadFailed),
+    }
+}
+
+/// Writes a file in its canonical layout, or the line of its fault.
+///
+/// The file is read whole, its text is made, and then it is written. A file that some value spells gives the canonical
+/// text of that value and `Good`; any other gives one line with its fault and `Refused`.
+///
+/// # Errors
+///
+/// - `Memory`: a growth was refused. Nothing was written.
+/// - `ReadFailed`: a read failed in this call. Nothing was written.
+/// - `WriteFailed`: a write failed in this call. A beginning of the text was written.
+pub fn format<'a, B: Allocator, S: Source, W: Sink>(
+    alloc: &'a B,
+    kind: Kind,
+    source: &mut S,
+    out: &mut W,
+) -> Result<Outcome, RunFault>
+    // What is written is the outcome's text for all that the reader had left to give, and no call of either failed.
+    ensures outcome { IfOk result (λ outcome. (text printed : List ℕ) × IsLeft (S.remaining source.old) text
+        × IsFormatted kind text printed outcome × Appends (W.contents out.old) (W.contents out.new) printed) }
+    ensures none_failed { OnOk result ((S.failures source.new ≡ S.failures source.old) × (W.failures out.new ≡ W.failures out.old)) }
+
+    // A file is good only where its reader came to its end.
+    ensures good_at_end { result ≡ Ok Outcome.Good → S.at_end source.new ≡ true }
+
+    // For want of memory, or after a read of this call that failed, nothing is written.
+    ensures memory { IsErrOf result RunFault.Memory → (S.failures source.new ≡ S.failures source.old)
+        × Keeps (W.contents out.old) (W.contents out.new) × (W.failures out.new ≡ W.failures out.old) }
+    ensures read_failed { IsErrOf result RunFault.ReadFailed → HasFailed (S.failures source.old) (S.failures source.new)
+        × Keeps (W.contents out.old) (W.contents out.new) × (W.failures out.new ≡ W.failures out.old) }
+
+    // After a write of this call that failed, a beginning of the outcome's text is written.
+    ensures write_failed { IsErrOf result RunFault.WriteFailed → HasFailed (W.failures out.old) (W.failures out.new)
+        × (S.failures source.new ≡ S.failures source.old)
+        × ((text printed : List ℕ) × (outcome : Outcome) × IsLeft (S.remaining source.old) text
+        × IsFormatted kind text printed outcome × AppendsBeginning (W.contents out.old) (W.contents out.new) printed) }
+
+    // The reader stands after the bytes that it gave.
+    ensures stands { (given : List ℕ) × Consumes (S.remaining source.old) (S.remaining source.new) given }
+{
+    let (printed, outcome) = read_formatted(alloc, kind, source)?;
+    match write_text(out, &printed) {
+        Ok(()) => Ok(outcome),
+        Err(_) => Err(RunFault::WriteFailed),
+    }
+}
+
+/// For one text, `format` prints one text and ends in one way.
+pub fn one_outcome()
+    ensures { (kind : Kind) (text printed other : List ℕ) (outcome ended : Outcome) → IsFormatted kind text printed outcome
+        → IsFormatted kind text other ended → (printed ≡ other) × (outcome ≡ ended) }
+{}

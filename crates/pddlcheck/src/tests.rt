@@ -1,0 +1,114 @@
+//! Words of command lines, what they ask for, and the exit status of those that ask for nothing.
+
+use crate::words::{Job, parse_words, words_status};
+use pddl_commands::Kind;
+use std::process::Abort;
+use std::test::Fail;
+
+/// The exit status of words that ask for no command, and none where they ask for one.
+fn refused_with(rt: &impl AllocGlobal, words: &[&str]) -> Option<u8> {
+    match parse_words(rt.alloc(), words) {
+        Ok(_) => None,
+        Err(error) => Some(words_status(&error)),
+    }
+}
+
+#[test]
+fn words_give_jobs(rt: HostRuntime) -> Result<(), Fail> {
+    let rows: [(&[&str], Job); 3] = [
+        (
+            &["pddlcheck", "format", "plan", "my.plan"],
+            Job::Format {
+                kind: Kind::Plan,
+                path: "my.plan",
+            },
+        ),
+        (
+            &["pddlcheck", "format", "plan", "/dev/stdin"],
+            Job::Format {
+                kind: Kind::Plan,
+                path: "/dev/stdin",
+            },
+        ),
+        (
+            &["other name", "format", "plan", "plan"],
+            Job::Format {
+                kind: Kind::Plan,
+                path: "plan",
+            },
+        ),
+    ];
+    for (words, want) in rows {
+        assert_eq!(rt; parse_words(rt.alloc(), words)?, want, "{words:?}");
+    }
+    Ok(())
+}
+
+#[test]
+fn words_that_ask_for_help(rt: HostRuntime) -> Result<(), Fail> {
+    let rows: [&[&str]; 6] = [
+        &["pddlcheck", "--help"],
+        &["pddlcheck", "-h"],
+        &["pddlcheck", "help"],
+        &["pddlcheck", "help", "format"],
+        &["pddlcheck", "format", "--help"],
+        &["pddlcheck", "format", "-h"],
+    ];
+    for words in rows {
+        assert_eq!(rt; refused_with(&rt, words), Some(0), "{words:?}");
+    }
+    Ok(())
+}
+
+#[test]
+fn words_that_ask_for_nothing(rt: HostRuntime) -> Result<(), Fail> {
+    let rows: [&[&str]; 11] = [
+        &[],
+        &["pddlcheck"],
+        &["pddlcheck", "reformat"],
+        &["pddlcheck", "--unknown"],
+        &["pddlcheck", "format"],
+        &["pddlcheck", "format", "plan"],
+        &["pddlcheck", "format", "domain", "my.pddl"],
+        &["pddlcheck", "format", "Plan", "my.plan"],
+        &["pddlcheck", "format", "plan", "my.plan", "other.plan"],
+        &["pddlcheck", "format", "--unknown", "plan", "my.plan"],
+        &["pddlcheck", "help", "reformat"],
+    ];
+    for words in rows {
+        assert_eq!(rt; refused_with(&rt, words), Some(3), "{words:?}");
+    }
+    Ok(())
+}
+
+#[test]
+fn help_names_the_commands_and_the_statuses(rt: HostRuntime) -> Result<(), Fail> {
+    let asked: [&[&str]; 2] = [&["pddlcheck", "--help"], &["pddlcheck", "format", "--help"]];
+    let wanted: [&[&str]; 2] = [
+        &[
+            "Usage: pddlcheck <COMMAND>",
+            "format",
+            "Exit status:",
+            "Example:",
+        ],
+        &[
+            "Usage: pddlcheck format <KIND> <FILE>",
+            "plan",
+            "/dev/stdin",
+            "Exit status:",
+        ],
+    ];
+    for (words, parts) in asked.iter().zip(wanted) {
+        let Err(error) = parse_words(rt.alloc(), words) else {
+            return Err("help is no job")?;
+        };
+        let text = format!(in rt.alloc(); "{error}")?;
+        for part in parts {
+            assert!(rt;
+                text.as_str().contains(*part),
+                "{part} is missing in: {text}"
+            );
+        }
+    }
+    Ok(())
+}

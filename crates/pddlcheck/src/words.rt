@@ -1,0 +1,86 @@
+//! The words of a command line.
+
+ghost use Rattle.std.specs.Prelude.{◌≡◌, ◌≢◌, ◌↔◌};
+ghost use Rattle.clap.specs.Values.{kind_of};
+
+use crate::help;
+use clap::error::ErrorKind;
+use clap::{Arg, ArgMatches, Command, Error};
+use pddl_commands::Kind;
+use std::alloc::{AllocError, Global};
+use std::convert::AsStr;
+
+/// What the words ask for.
+#[derive(Clone, Copy, Debug, PartialEq, Eq)]
+pub enum Job<'a> {
+    /// To print the file at `path`, which holds what `kind` says, in its canonical layout.
+    Format { kind: Kind, path: &'a str },
+}
+
+/// The words for what a file holds.
+static KINDS: [&str; 1] = ["plan"];
+
+/// What the word says that a file holds.
+fn kind_named(word: &str) -> Option<Kind> {
+    match word {
+        "plan" => Some(Kind::Plan),
+        _ => None,
+    }
+}
+
+/// The command `format KIND FILE`.
+fn format_command<'a>(alloc: Global) -> Result<Command<'a>, AllocError> {
+    let kind = Arg::new(alloc, "KIND")
+        .required(true)
+        .value_parser(KINDS.as_slice())
+        .help(help::KIND);
+    let file = Arg::new(alloc, "FILE").required(true).help(help::FILE);
+    Command::new(alloc, "format")
+        .about(help::ABOUT_FORMAT)
+        .after_help(help::AFTER_FORMAT)
+        .arg(kind)?
+        .arg(file)
+}
+
+/// The job of the words after `format`, where they are its own.
+fn format_job<'a>(matches: &ArgMatches<'a>) -> Option<Job<'a>> {
+    let kind = kind_named(matches.get_str("KIND")?)?;
+    let path = matches.get_str("FILE")?;
+    Some(Job::Format { kind, path })
+}
+
+/// Reads the words of a command line, the program's name first.
+///
+/// A request for help is an error of the kind `DisplayHelp`, and want of memory one of the kind `OutOfMemory`; the
+/// other kinds say what is wrong with the words. What an error prints is `clap`'s own.
+pub fn parse_words<'a, S: AsStr>(alloc: Global, words: &'a [S]) -> Result<Job<'a>, Error> {
+    let mut command = Command::new(alloc, "pddlcheck")
+        .bin_name("pddlcheck")?
+        .about(help::ABOUT)
+        .after_help(help::AFTER)
+        .subcommand_required(true)
+        .subcommand(format_command(alloc)?)?;
+    let matches = command.try_get_matches_from_mut(words)?;
+    let job = match matches.subcommand() {
+        Some(("format", inner)) => format_job(inner),
+        _ => None,
+    };
+    match job {
+        Some(job) => Ok(job),
+        None => Err(command.error(ErrorKind::MissingSubcommand, "a command is wanted")?),
+    }
+}
+
+/// The exit status of words that ask for no command: 0 for help, 4 for want of memory, else 3. Source: own.
+pub fn words_status(error: &Error) -> u8
+    ensures help { (result ≡ 0) ↔ (kind_of error.now ≡ ErrorKind.DisplayHelp) }
+    ensures memory { (result ≡ 4) ↔ (kind_of error.now ≡ ErrorKind.OutOfMemory) }
+    ensures usage { (kind_of error.now ≢ ErrorKind.DisplayHelp)
+        → (kind_of error.now ≢ ErrorKind.OutOfMemory) → result ≡ 3 }
+{
+    match error.kind() {
+        ErrorKind::DisplayHelp => 0,
+        ErrorKind::OutOfMemory => 4,
+        _ => 3,
+    }
+}
