@@ -1,0 +1,13 @@
+//! The worked examples of the languages and of the program, as tests across crates. There is nothing here but tests.
+//!
+//! What a table expects is worked out by hand from the definitions that it names, and never taken from the program.
+#![tactic(auto)]
+
+#[cfg(test)]
+mod device_rows;
+#[cfg(test)]
+mod memory_rows;
+#[cfg(test)]
+mod plan_rows;
+#[cfg(test)]
+mod text_rows;
