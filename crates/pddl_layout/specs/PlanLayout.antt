@@ -8,6 +8,7 @@ use Rattle.pddl_tree.specs.Plans.{StepValue, TimedValue, PlanValue, plain, timed
 abbrev pub spaced_name : List ℕ → List ℕ
 spaced_name name = codes " " ++ name
 
+-- names, each behind a space
 abbrev pub spaced : List (List ℕ) → List ℕ
 spaced names = flat_map spaced_name names
 

@@ -1,19 +1,21 @@
--- What is wrong where items spell no plan.
+-- What is wrong where items spell no plan. Own.
 use Rattle.std.specs.Prelude.{◌≡◌, ◌≢◌, List, [], ◌∷◌, ◌++◌, map}
 use Rattle.pddl_text.specs.declared.token.TokenKind.TheVariants.{Bracket}
 use Rattle.pddl_text.specs.declared.token.Span.{Span}
 use Rattle.pddl_text.specs.Trees.{Placed, placed_leaf, placed_node, erased}
 use Rattle.pddl_tree.specs.Plans.{StepValue, TimedValue, IsStep, IsTimed, ArePlain, AreTimed}
 
--- the two kinds of steps
+-- the two kinds of steps: plain ones, and timed ones
 pub data StepKind : Type 0 where
   alone : StepKind
   at_moments : StepKind
 
+-- the kind that it is not
 abbrev pub other_kind : StepKind → StepKind
 other_kind alone = at_moments
 other_kind at_moments = alone
 
+-- from an item's first byte to its last
 abbrev pub span_of : Placed → Span
 span_of (placed_leaf w) = w.span
 span_of (placed_node span items) = span

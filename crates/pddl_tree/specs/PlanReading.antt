@@ -12,6 +12,7 @@ use Rattle.pddl_tree.specs.Names.{name_of}
 use Rattle.pddl_tree.specs.Plans.{StepValue, TimedValue, PlanValue, plain, timed}
 use Rattle.pddl_tree.specs.PlanFaults.{span_of}
 
+-- the name that a word of a kind is
 abbrev pub name_by : TokenKind → List ℕ → Option (List ℕ)
 name_by Name text = name_of text
 name_by _ text = None
@@ -32,11 +33,13 @@ abbrev pub names_at : List Placed → Option (List (List ℕ))
 names_at [] = Some []
 names_at (item ∷ items) = both (name_at item) (names_at items)
 
+-- a step of names, of which there is at least one
 abbrev pub step_of : Option (List (List ℕ)) → Option StepValue
 step_of None = None
 step_of (Some []) = None
 step_of (Some (action ∷ objects)) = Some (record { action = action; objects = objects })
 
+-- the items of a list
 abbrev pub placed_items : PlacedList → List Placed
 placed_items no_placed = []
 placed_items (placed_tree item items) = item ∷ placed_items items
@@ -46,27 +49,33 @@ abbrev pub step_at : Placed → Option StepValue
 step_at (placed_leaf w) = None
 step_at (placed_node span items) = step_of (names_at (placed_items items))
 
+-- the number that a word of a kind is
 abbrev pub moment_by : TokenKind → List ℕ → Option ℕ
 moment_by Number text = value_of text
 moment_by _ text = None
 
+-- the number that an item is
 abbrev pub moment_at : Placed → Option ℕ
 moment_at (placed_leaf w) = moment_by w.kind w.text
 moment_at (placed_node span items) = None
 
+-- whether words of a kind are colons
 abbrev pub colon_by : TokenKind → Bool
 colon_by Colon = true
 colon_by _ = false
 
+-- whether an item is a colon
 abbrev pub is_colon : Placed → Bool
 is_colon (placed_leaf w) = colon_by w.kind
 is_colon (placed_node span items) = false
 
+-- a moment and a step, where both are there
 abbrev pub timed_of : Option ℕ → Option StepValue → Option TimedValue
 timed_of None step = None
 timed_of (Some moment) None = None
 timed_of (Some moment) (Some step) = Some (record { moment = moment; step = step })
 
+-- the timed step that three items are
 abbrev pub timed_by : Placed → Placed → Placed → Option TimedValue
 timed_by number colon item = if is_colon colon then timed_of (moment_at number) (step_at item) else None
 
@@ -77,10 +86,12 @@ timed_at _ = None
 
 -- ---- whole plans
 
+-- whether words of a kind are brackets
 abbrev pub bracket_by : TokenKind → Bool
 bracket_by Bracket = true
 bracket_by _ = false
 
+-- whether an item is a bracket
 abbrev pub is_bracket : Placed → Bool
 is_bracket (placed_leaf w) = bracket_by w.kind
 is_bracket (placed_node span items) = false
@@ -89,6 +100,7 @@ is_bracket (placed_node span items) = false
 abbrev pub no_step : Bool → Placed → ReadFault
 no_step behind item = if behind && is_bracket item then faults.Duration (span_of item) else faults.Step (span_of item) (span_of item).start
 
+-- from the first of three items to the last
 abbrev pub timed_span : List Placed → Span
 timed_span (number ∷ colon ∷ item ∷ items) = record { start = (span_of number).start; end = (span_of item).end }
 timed_span _ = record { start = 0; end = 0 }
@@ -103,6 +115,7 @@ abbrev pub timed_fault : Bool → List Placed → ReadFault
 timed_fault behind [] = faults.Text Memory
 timed_fault behind (item ∷ items) = if is_some (step_at item) then faults.Mixed (span_of item) else no_step behind item
 
+-- whether something stands before
 abbrev pub is_behind : {A : Type 0} → List A → Bool
 is_behind [] = false
 is_behind (x ∷ xs) = true

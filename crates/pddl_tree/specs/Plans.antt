@@ -20,7 +20,7 @@ pub record TimedValue : Type 0 where
   pub moment : ℕ
   pub step : StepValue
 
--- a plan: steps alone, or steps at moments, in file order
+-- a plan: steps alone, or steps at moments, in file order (VAL)
 pub data PlanValue : Type 0 where
   plain : List StepValue → PlanValue
   timed : List TimedValue → PlanValue
@@ -42,12 +42,15 @@ is_plan (timed steps) = nat_lt 0 (length steps) && list_all is_timed steps
 
 -- ---- a plan of the program as a value
 
+-- a step without where it lies in memory
 abbrev pub step_view : {A : _} → Step A → StepValue
 step_view step = record { action = step.action; objects = step.objects.items }
 
+-- a timed step, likewise
 abbrev pub timed_view : {A : _} → TimedStep A → TimedValue
 timed_view s = record { moment = s.moment; step = step_view s.step }
 
+-- a plan, likewise
 abbrev pub plan_view : {A : _} → Plan A → PlanValue
 plan_view (Plain steps) = plain (map step_view steps.items)
 plan_view (Timed steps) = timed (map timed_view steps.steps.items)
@@ -71,10 +74,12 @@ abbrev pub IsStep : StepValue → Tree → Type 0
 IsStep step (node ts) = AreNamed (step.action ∷ step.objects) ts
 IsStep step (leaf w) = ⊥
 
+-- the tree is a number, and the moment is its value
 abbrev pub IsMoment : ℕ → Tree → Type 0
 IsMoment moment (leaf w) = (w.kind ≡ Number) × (value_of w.text ≡ Some moment)
 IsMoment moment (node ts) = ⊥
 
+-- the tree is a colon
 abbrev pub IsColon : Tree → Type 0
 IsColon (leaf w) = w.kind ≡ Colon
 IsColon (node ts) = ⊥
@@ -96,7 +101,7 @@ AreTimed [] [] = Unit {0}
 AreTimed (s ∷ steps) (number ∷ colon ∷ t ∷ ts) = IsTimed s number colon t × AreTimed steps ts
 AreTimed _ _ = ⊥
 
--- the trees are the plan's steps, in file order; a timed plan has a step
+-- the trees are the plan's steps, in file order (VAL); all are of one kind, and a timed plan has a step (own)
 abbrev pub AreSteps : PlanValue → List Tree → Type 0
 AreSteps (plain steps) ts = ArePlain steps ts
 AreSteps (timed steps) ts = (0 < length steps) × AreTimed steps ts
