@@ -12,6 +12,7 @@ use Rattle.pddl_text.specs.Bytes.{is_line_byte, begins}
 use Rattle.pddl_text.specs.Spelling.{PlacedWord, placed, Part, gap, word, spelling, IsOpenComment, IsPart, InTurn, words_from, SpelledUpTo, Spells}
 use Rattle.pddl_text.specs.Faults.{IsLongestNumber, IsFaulty, IsLeftmost, IsValued, AreValued}
 use Rattle.pddl_text.specs.Reading.{IsGapAt, IsWordAt, word_at}
+use Rattle.pddl_text.specs.Scanning.{LexedTo}
 use Rattle.pddl_text.proofs.Runs.{run_len}
 use Rattle.pddl_text.proofs.Numbers.{number_begins}
 use Rattle.pddl_text.proofs.FirstPart.{first_part, part_first}
@@ -142,12 +143,6 @@ no_other words others text front after text_is p faulty q valued =
     ]
 
 -- ---- the loop
-
--- the words spell the text up to the place
-pub record LexedTo (text : List ℕ) (words : List PlacedWord) (at : ℕ) : Type 0 where
-  pub in_range : at ≤ length text
-  pub spelled : SpelledUpTo words (take at text) (drop at text)
-  pub valued : AreValued words
 
 -- before the first part
 pub nothing_lexed : (text : List ℕ) → LexedTo text [] 0

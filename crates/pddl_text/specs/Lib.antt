@@ -6,6 +6,7 @@ pub mod Spans
 pub mod Number
 pub mod Faults
 pub mod Reading
+pub mod Scanning
 pub mod Trees
 pub mod Items
 pub mod Lists

@@ -3,3 +3,4 @@ pub mod PlanSteps
 pub mod PlanLaws
 pub mod PlanTextLaws
 pub mod FaultPlaces
+pub mod PlanScans

@@ -36,7 +36,7 @@ timed_of_some (Some m) (Some t) s e = (m, t, refl, refl, cc)
 
 -- ---- names
 
-named_sound : (kind : TokenKind) (text name : List ℕ) → name_by kind text ≡ Some name → IsTrue (is_name name) × (kind ≡ Name) × (folded text ≡ name)
+pub named_sound : (kind : TokenKind) (text name : List ℕ) → name_by kind text ≡ Some name → IsTrue (is_name name) × (kind ≡ Name) × (folded text ≡ name)
 named_sound Name text name e =
     let parts = where_true (is_name (folded text)) (Some (folded text)) name e in
     let same : folded text ≡ name = cc (parts.1) in

@@ -4,3 +4,4 @@ pub mod Places
 pub mod PlanFaults
 pub mod PlanTexts
 pub mod PlanReading
+pub mod PlanScanning

@@ -7,6 +7,7 @@ mod fault;
 mod name;
 mod plan;
 mod plan_reader;
+mod plan_scanner;
 
 pub use fault::ReadFault;
 pub use name::Name;

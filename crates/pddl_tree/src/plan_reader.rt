@@ -14,6 +14,7 @@ ghost use Rattle.pddl_tree.specs.PlanReading.{name_at, names_at, step_of, step_a
 use crate::fault::ReadFault;
 use crate::name::Name;
 use crate::plan::{Plan, Step, TimedStep, TimedSteps};
+use crate::plan_scanner::scan_plan;
 use pddl_text::{Fixed, Item, LONGEST, Span, TextFault, TokenKind, items_of, value_of};
 use std::alloc::{AllocError, Allocator};
 
@@ -285,6 +286,11 @@ pub fn read_plan<'a, B: Allocator>(alloc: &'a B, text: &[u8]) -> Result<Plan<&'a
     // What is wrong stands in the text.
     ensures fault { IfErr result (λ fault. PlanStands fault text.now) }
 {
+    if text.len() <= LONGEST {
+        if let Some(plan) = scan_plan(alloc, text)? {
+            return Ok(plan);
+        }
+    }
     let items = items_of(alloc, text)?;
     plan_at(alloc, &items)
 }

@@ -8,7 +8,7 @@ use Rattle.pddl_tree.specs.declared.fault.ReadFault.TheVariants.{Text}
 use Rattle.pddl_tree.specs.Plans.{plan_view}
 use Rattle.pddl_tree.specs.PlanTexts.{SpellsPlan, PlanStands}
 use Rattle.pddl_tree.specs.PlanReading.{plan_at, Refuses}
-use Rattle.pddl_tree.proofs.PlanTextLaws.{read_spells, refused_stands, read_only, refused_only}
+use Rattle.pddl_tree.proofs.PlanTextLaws.{one_plan, read_spells, refused_stands, read_only, refused_only}
 use Rattle.pddl_tree.proofs.plan_reader.read_plan.Goals as goal
 
 if_ok : {A E : Type 0} (P Q : A → Type 0) (r : Result A E) → ((a : A) → P a → Q a) → IfOk r P → IfOk r Q
@@ -25,8 +25,11 @@ match_both P Q (Err e) ok err = err
 
 pub returns-in_err-items-clause-only : goal.returns-in_err-items-clause-only
 returns-in_err-items-clause-only g c = λ plan spells.
-    let p = err_from_is_err_and c.from_residual.result c.from_residual.ensures.1 in
+    let p = err_from_is_err_and c.from_residual-in_err-items.result c.from_residual-in_err-items.ensures.1 in
     rw (p.1, p.2) (ap (λ t. Text t) (c.in_err-items.ensures.only spells.items spells.has))
+
+pub returns-in-Some-clause-only : goal.returns-in-Some-clause-only
+returns-in-Some-clause-only g c = λ plan spells. one_plan c.args.text.now (plan_view c.in-Some.plan) plan (rw c.in-Some.is at c.in_ok-plan.ensures) spells
 
 pub returns-clause-plan : goal.returns-clause-plan
 returns-clause-plan g c =
