@@ -1,4 +1,6 @@
 pub mod Options
+pub mod TreeLists
+pub mod Readers
 pub mod PlanSteps
 pub mod PlanLaws
 pub mod PlanTextLaws

@@ -1,7 +1,10 @@
 pub mod Names
 pub mod Plans
+pub mod Words
+pub mod ItemTrees
 pub mod Places
 pub mod PlanFaults
 pub mod PlanTexts
 pub mod PlanReading
 pub mod PlanScanning
+pub mod TreeReading

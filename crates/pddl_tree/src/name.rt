@@ -43,6 +43,17 @@ impl<A: Allocator> Name<A> {
         }
     }
 
+    /// The same name in memory of another allocator.
+    ///
+    /// Fails where memory for the name's bytes is refused.
+    pub fn copy<B: Allocator>(&self, alloc: B) -> Result<Name<B>, AllocError>
+        ensures { IfOk result (λ copy. copy ≡ self.now) }
+    {
+        Ok(Name {
+            text: self.text.to_vec(alloc)?,
+        })
+    }
+
     /// The name's bytes, in lower case.
     pub fn as_bytes(&self) -> &[u8]
         ensures value { result.now ≡ self.now }

@@ -1,0 +1,59 @@
+-- Words read from trees, for the readers above. What they mean stands in Words.
+use Rattle.std.specs.Prelude.{ℕ, List, [], ◌∷◌, ◌==◌, Bool, true, false, Option, Some, None, if◌then◌else◌, option_map}
+use Rattle.std.specs.Str.{bytes_eq}
+use Rattle.pddl_text.specs.declared.token.TokenKind.{TokenKind}
+use Rattle.pddl_text.specs.declared.token.TokenKind.TheVariants.{Name, Variable, Keyword, Dash, Equal}
+use Rattle.pddl_text.specs.Trees.{Tree, leaf, node}
+use Rattle.pddl_tree.specs.Names.{folded, name_of}
+use Rattle.pddl_tree.specs.PlanReading.{name_by, both}
+
+-- the name that a tree is
+abbrev pub name_at : Tree → Option (List ℕ)
+name_at (leaf w) = name_by w.kind w.text
+name_at (node ts) = None
+
+-- the name behind `?`
+abbrev pub variable_name : List ℕ → Option (List ℕ)
+variable_name [] = None
+variable_name (b ∷ text) = if b == 63 then name_of text else None
+
+abbrev pub variable_by : TokenKind → List ℕ → Option (List ℕ)
+variable_by Variable text = variable_name text
+variable_by _ text = None
+
+-- the variable that a tree is
+abbrev pub variable_at : Tree → Option (List ℕ)
+variable_at (leaf w) = variable_by w.kind w.text
+variable_at (node ts) = None
+
+abbrev pub word_by : TokenKind → List ℕ → List ℕ → Bool
+word_by Name text word = bytes_eq (folded text) word
+word_by _ text word = false
+
+-- whether a tree is this word
+abbrev pub is_word_at : List ℕ → Tree → Bool
+is_word_at word (leaf w) = word_by w.kind w.text word
+is_word_at word (node ts) = false
+
+abbrev pub keyword_by : TokenKind → List ℕ → List ℕ → Bool
+keyword_by Keyword text word = bytes_eq (folded text) word
+keyword_by _ text word = false
+
+-- whether a tree is this keyword
+abbrev pub is_keyword_at : List ℕ → Tree → Bool
+is_keyword_at keyword (leaf w) = keyword_by w.kind w.text keyword
+is_keyword_at keyword (node ts) = false
+
+abbrev pub dash_by : TokenKind → Bool
+dash_by Dash = true
+dash_by _ = false
+
+-- whether a tree is a dash
+abbrev pub is_dash : Tree → Bool
+is_dash (leaf w) = dash_by w.kind
+is_dash (node ts) = false
+
+-- all the values, if there is none missing
+abbrev pub all_of : {A : Type 0} → List (Option A) → Option (List A)
+all_of [] = Some []
+all_of (o ∷ os) = both o (all_of os)
