@@ -1,0 +1,88 @@
+-- One turn of the reading of a typed list, whatever it lists.
+use Rattle.std.proofs.Common.{◌≡◌, ℕ, ◌+◌, ◌<◌, ◌≤◌, true, false, List, [], ◌∷◌, ◌++◌, length, get_or, drop, refl, sym, ap, ◌∙◌, arith}
+use Rattle.std.specs.Prelude.{Option, Some, None}
+use Rattle.pddl_text.specs.declared.item.Item.{Item}
+use Rattle.pddl_text.specs.Trees.{Tree}
+use Rattle.pddl_tree.specs.ItemTrees.{item_tree, item_trees}
+use Rattle.pddl_tree.specs.TreeReading.{is_dash}
+use Rattle.pddl_formula.specs.TypedLists.{WithType}
+use Rattle.pddl_formula.specs.Reading.{nonempty, of_type, typed_from}
+use Rattle.pddl_formula.proofs.Turns.{trees_from, trees_end}
+
+nonempty_some : {X : Type 0} (group : List X) → 0 < length group → nonempty group ≡ Some group
+nonempty_some [] some = absurd (omega (arith, some))
+nonempty_some (x ∷ xs) some = refl
+
+module _ {X T : Type 0} (read_item : Tree → Option X) (read_type : Tree → Option T) (default : T) where
+  module _ (found : List (WithType X T)) (group : List X) (t : Tree) (ts : List Tree) where
+    type_missing : read_type t ≡ None → typed_from read_item read_type default found group true (t ∷ ts) ≡ None
+    unfolding typed_from
+    type_missing e = rw e refl
+
+    type_found : (type : T) → read_type t ≡ Some type
+        → typed_from read_item read_type default found group true (t ∷ ts) ≡ typed_from read_item read_type default (found ++ of_type group type) [] false ts
+    unfolding typed_from
+    type_found type e = rw e refl
+
+    dash_first : is_dash t ≡ true → group ≡ [] → typed_from read_item read_type default found group false (t ∷ ts) ≡ None
+    unfolding typed_from
+    dash_first e empty = rw (e, empty) refl
+
+    dash_after : is_dash t ≡ true → nonempty group ≡ Some group
+        → typed_from read_item read_type default found group false (t ∷ ts) ≡ typed_from read_item read_type default found group true ts
+    unfolding typed_from
+    dash_after e some = rw (e, some) refl
+
+    item_missing : is_dash t ≡ false → read_item t ≡ None → typed_from read_item read_type default found group false (t ∷ ts) ≡ None
+    unfolding typed_from
+    item_missing e none = rw (e, none) refl
+
+    item_found : (x : X) → is_dash t ≡ false → read_item t ≡ Some x
+        → typed_from read_item read_type default found group false (t ∷ ts) ≡ typed_from read_item read_type default found (group ++ x ∷ []) false ts
+    unfolding typed_from
+    item_found x e some = rw (e, some) refl
+
+  -- the same at a place among the items
+  module _ {A : Type 0} (xs : List (Item A)) (i : ℕ) (d : Item A) (below : i < length xs) (found : List (WithType X T)) (group : List X) (whole : Option (List (WithType X T))) where
+    pub type_fails : typed_from read_item read_type default found group true (item_trees (drop i xs)) ≡ whole
+        → read_type (item_tree (get_or xs i d)) ≡ None → None ≡ whole
+    type_fails so_far e =
+        sym (type_missing found group _ _ e) ∙ ap (typed_from read_item read_type default found group true) (sym (trees_from xs i d below)) ∙ so_far
+
+    pub type_done : (type : T) → typed_from read_item read_type default found group true (item_trees (drop i xs)) ≡ whole
+        → read_type (item_tree (get_or xs i d)) ≡ Some type
+        → typed_from read_item read_type default (found ++ of_type group type) [] false (item_trees (drop (i + 1) xs)) ≡ whole
+    type_done type so_far e =
+        sym (type_found found group _ _ type e) ∙ ap (typed_from read_item read_type default found group true) (sym (trees_from xs i d below)) ∙ so_far
+
+    pub dash_fails : typed_from read_item read_type default found group false (item_trees (drop i xs)) ≡ whole
+        → is_dash (item_tree (get_or xs i d)) ≡ true → group ≡ [] → None ≡ whole
+    dash_fails so_far e empty =
+        sym (dash_first found group _ _ e empty) ∙ ap (typed_from read_item read_type default found group false) (sym (trees_from xs i d below)) ∙ so_far
+
+    pub dash_done : typed_from read_item read_type default found group false (item_trees (drop i xs)) ≡ whole
+        → is_dash (item_tree (get_or xs i d)) ≡ true → 0 < length group
+        → typed_from read_item read_type default found group true (item_trees (drop (i + 1) xs)) ≡ whole
+    dash_done so_far e some =
+        sym (dash_after found group _ _ e (nonempty_some group some)) ∙ ap (typed_from read_item read_type default found group false) (sym (trees_from xs i d below)) ∙ so_far
+
+    pub item_fails : typed_from read_item read_type default found group false (item_trees (drop i xs)) ≡ whole
+        → is_dash (item_tree (get_or xs i d)) ≡ false → read_item (item_tree (get_or xs i d)) ≡ None → None ≡ whole
+    item_fails so_far e none =
+        sym (item_missing found group _ _ e none) ∙ ap (typed_from read_item read_type default found group false) (sym (trees_from xs i d below)) ∙ so_far
+
+    pub item_done : (x : X) → typed_from read_item read_type default found group false (item_trees (drop i xs)) ≡ whole
+        → is_dash (item_tree (get_or xs i d)) ≡ false → read_item (item_tree (get_or xs i d)) ≡ Some x
+        → typed_from read_item read_type default found (group ++ x ∷ []) false (item_trees (drop (i + 1) xs)) ≡ whole
+    item_done x so_far e some =
+        sym (item_found found group _ _ x e some) ∙ ap (typed_from read_item read_type default found group false) (sym (trees_from xs i d below)) ∙ so_far
+
+  -- behind the last item
+  module _ {A : Type 0} (xs : List (Item A)) (i : ℕ) (past : length xs ≤ i) (found : List (WithType X T)) (group : List X) (whole : Option (List (WithType X T))) where
+    pub end_fails : typed_from read_item read_type default found group true (item_trees (drop i xs)) ≡ whole → None ≡ whole
+    unfolding typed_from
+    end_fails so_far = ap (typed_from read_item read_type default found group true) (sym (trees_end xs i past)) ∙ so_far
+
+    pub end_done : typed_from read_item read_type default found group false (item_trees (drop i xs)) ≡ whole → Some (found ++ of_type group default) ≡ whole
+    unfolding typed_from
+    end_done so_far = ap (typed_from read_item read_type default found group false) (sym (trees_end xs i past)) ∙ so_far

@@ -1,0 +1,6 @@
+pub mod Reserved
+pub mod Terms
+pub mod TypedLists
+pub mod Formulas
+pub mod Reading
+pub mod Sorts

@@ -1,0 +1,19 @@
+//! Formulas.
+
+use crate::term::{Atom, Term};
+use crate::type_names::Typed;
+use std::alloc::Allocator;
+
+/// A condition on states (Kovacs, `<GD>` without preferences and comparisons).
+#[derive(Drop)]
+#[derive_where(Debug)]
+pub enum Formula<A: Allocator> {
+    Atom(Atom<A>),
+    Equal(Term<A>, Term<A>),
+    Not(Box<Formula<A>, A>),
+    Imply(Box<Formula<A>, A>, Box<Formula<A>, A>),
+    And(Vec<Formula<A>, A>),
+    Or(Vec<Formula<A>, A>),
+    Exists(Vec<Typed<A>, A>, Box<Formula<A>, A>),
+    Forall(Vec<Typed<A>, A>, Box<Formula<A>, A>),
+}

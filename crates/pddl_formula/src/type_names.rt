@@ -1,0 +1,152 @@
+//! Types, and items of typed lists.
+
+ghost use Rattle.std.specs.Prelude.{◌≡◌, IfOk, IsTrue};
+ghost use Rattle.std.specs.List.{list_all};
+ghost use Rattle.pddl_formula.specs.Reserved.{is_type_name, type_name_of, is_type, type_of};
+
+use pddl_tree::Name;
+use std::alloc::{AllocError, Allocator};
+use std::marker::Model;
+
+/// A primitive type: a name other than `either`.
+///
+/// Contracts see it as its bytes.
+#[derive(Drop)]
+#[derive_where(Debug)]
+pub struct TypeName<A: Allocator> {
+    name: Name<A>,
+}
+
+impl<A: Allocator> Model for TypeName<A> {
+    ghost use Rattle.std.specs.Prelude.{List, ℕ, IsTrue};
+    ghost use Rattle.pddl_formula.specs.Reserved.{is_type_name};
+
+    ghost Value = { List ℕ };
+
+    ghost view = { λ t. t.name };
+
+    ghost invariant = { λ t. IsTrue (is_type_name t.name) };
+}
+
+impl<A: Allocator> TypeName<A> {
+    /// The primitive type of this name, or `None` for `either` (that it names no type is own).
+    pub fn new(name: Name<A>) -> Option<TypeName<A>>
+        ensures { result ≡ type_name_of name }
+    {
+        if name.as_bytes() == b"either".as_slice() {
+            None
+        } else {
+            Some(TypeName { name })
+        }
+    }
+
+    /// The same type in memory of another allocator.
+    ///
+    /// Fails where memory for the name's bytes is refused.
+    pub fn copy<B: Allocator>(&self, alloc: B) -> Result<TypeName<B>, AllocError>
+        ensures { IfOk result (λ copy. copy ≡ self.now) }
+    {
+        Ok(TypeName {
+            name: self.name.copy(alloc)?,
+        })
+    }
+
+    /// The type's bytes, in lower case.
+    pub fn as_bytes(&self) -> &[u8]
+        ensures value { result.now ≡ self.now }
+        ensures type_name { IsTrue (is_type_name self.now) }
+    {
+        self.name.as_bytes()
+    }
+
+    /// The type's name.
+    pub fn as_name(&self) -> &Name<A>
+        ensures value { result.now ≡ self.now }
+        ensures type_name { IsTrue (is_type_name self.now) }
+    {
+        &self.name
+    }
+}
+
+/// A type: its primitive types, of which there is at least one, in the order in which they are written.
+///
+/// Contracts see it as the list of their bytes.
+#[derive(Drop)]
+#[derive_where(Debug)]
+pub struct TypeNames<A: Allocator> {
+    names: Vec<TypeName<A>, A>,
+}
+
+impl<A: Allocator> Model for TypeNames<A> {
+    ghost use Rattle.std.specs.Prelude.{List, ℕ, IsTrue};
+    ghost use Rattle.pddl_formula.specs.Reserved.{is_type};
+
+    ghost Value = { List (List ℕ) };
+
+    ghost view = { λ t. t.names.items };
+
+    ghost invariant = { λ t. IsTrue (is_type t.names.items) };
+}
+
+impl<A: Allocator> TypeNames<A> {
+    /// The type of these primitive types, or `None` where there are none.
+    pub fn new(names: Vec<TypeName<A>, A>) -> Option<TypeNames<A>>
+        ensures { result ≡ type_of names.items }
+    {
+        know_type_names(&names);
+        if names.len() == 0 {
+            None
+        } else {
+            Some(TypeNames { names })
+        }
+    }
+
+    /// The same type in memory of another allocator.
+    ///
+    /// Fails where memory for it is refused.
+    pub fn copy<'a, B: Allocator>(&self, alloc: &'a B) -> Result<TypeNames<&'a B>, AllocError>
+        ensures { IfOk result (λ copy. copy ≡ self.now) }
+    {
+        let names = copy_names(alloc, &self.names)?;
+        Ok(TypeNames { names })
+    }
+
+    /// The primitive types, in the order in which they are written.
+    pub fn as_slice(&self) -> &[TypeName<A>]
+        ensures value { result.now ≡ self.now }
+        ensures types { IsTrue (is_type self.now) }
+    {
+        &self.names
+    }
+}
+
+/// Looks at each type, which says that it is one; a proof learns it here, and the call does nothing else.
+fn know_type_names<A: Allocator>(names: &[TypeName<A>])
+    ensures { IsTrue (list_all is_type_name names.now) }
+{
+    for name in names {
+        let _bytes = name.as_bytes();
+    }
+}
+
+/// The same primitive types in memory of another allocator.
+fn copy_names<'a, A: Allocator, B: Allocator>(
+    alloc: &'a B,
+    names: &[TypeName<A>],
+) -> Result<Vec<TypeName<&'a B>, &'a B>, AllocError>
+    ensures { IfOk result (λ copies. copies.items ≡ names.now) }
+{
+    let mut copies = Vec::with_capacity(alloc, names.len())?;
+    for name in names {
+        copies.push(name.copy(alloc)?)?;
+    }
+    Ok(copies)
+}
+
+/// A name and its type: an object, a constant or a variable (without `?`) of a typed list.
+#[derive(Drop)]
+#[derive_where(Debug)]
+pub struct Typed<A: Allocator> {
+    pub name: Name<A>,
+    pub types: TypeNames<A>,
+}
