@@ -1,0 +1,4 @@
+pub mod AmountLaws
+pub mod EffectLaws
+pub mod EffectTurns
+pub mod IncreaseTestLaws

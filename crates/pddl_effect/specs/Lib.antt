@@ -1,0 +1,4 @@
+pub mod StaticNames
+pub mod Effects
+pub mod EffectReading
+pub mod IncreaseTests

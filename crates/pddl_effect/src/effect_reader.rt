@@ -1,0 +1,216 @@
+//! Effects read from items.
+
+ghost use Rattle.std.specs.Prelude.{◌≡◌, IfOk, MatchOption, map, option_map};
+ghost use Rattle.pddl_text.specs.Trees.{Tree};
+ghost use Rattle.pddl_tree.specs.ItemTrees.{item_tree, item_trees};
+ghost use Rattle.pddl_tree.specs.TreeReading.{all_of};
+ghost use Rattle.pddl_formula.specs.Reading.{atom_at, atom_of_list, behind, only, quantified};
+ghost use Rattle.pddl_effect.specs.Effects.{EffectValue, conjunction, universal, addition, deletion, increase, effects_of, amount_view, effect_view, IsEffect, IsWholeEffect};
+ghost use Rattle.pddl_effect.specs.EffectReading.{increase_of, conditional_of, effect_of_list, effect_at, whole_effect_at};
+
+use crate::amount_reader::amount_of;
+use crate::effect::Effect;
+use crate::increase::is_total_cost;
+use pddl_formula::{Head, atom_of, atom_of_list, formula_of, head_of, variables_of};
+use pddl_text::Item;
+use std::alloc::{AllocError, Allocator};
+
+/// The effect that an item spells, or `None` where it spells none (Kovacs, `<effect>` with `:conditional-effects` and
+/// `:action-costs`; that effects nest freely, and that reserved words name no predicate, is own).
+///
+/// Fails where memory for the effect is refused.
+pub fn effect_of<'a, B: Allocator>(
+    alloc: &'a B,
+    item: &Item<'_, &'a B>,
+) -> Result<Option<Effect<&'a B>>, AllocError>
+    ensures spelled { IfOk result (λ found. MatchOption found ((e : EffectValue) → IsEffect e (item_tree item.now) → ⊥) (λ effect. IsEffect (effect_view effect) (item_tree item.now))) }
+    ensures read { IfOk result (λ found. option_map effect_view found ≡ effect_at (item_tree item.now)) }
+{
+    item_effect(alloc, item)
+}
+
+/// The effect that an item spells, or `None` where it spells none: an effect, or `()`, which is the empty conjunction
+/// (Kovacs, `<emptyOr (x)>`; that they are one value is own). An action's effect is read so.
+///
+/// Fails where memory for the effect is refused.
+pub fn whole_effect_of<'a, B: Allocator>(
+    alloc: &'a B,
+    item: &Item<'_, &'a B>,
+) -> Result<Option<Effect<&'a B>>, AllocError>
+    ensures spelled { IfOk result (λ found. MatchOption found ((e : EffectValue) → IsWholeEffect e (item_tree item.now) → ⊥) (λ effect. IsWholeEffect (effect_view effect) (item_tree item.now))) }
+    ensures read { IfOk result (λ found. option_map effect_view found ≡ whole_effect_at (item_tree item.now)) }
+{
+    item_whole_effect(alloc, item)
+}
+
+/// At most one effect is spelled by a tree.
+pub fn one_effect()
+    ensures { (t : Tree) (e f : EffectValue) → IsEffect e t → IsEffect f t → e ≡ f }
+{}
+
+fn item_whole_effect<'a, B: Allocator>(
+    alloc: &'a B,
+    item: &Item<'_, &'a B>,
+) -> Result<Option<Effect<&'a B>>, AllocError>
+    ensures { IfOk result (λ found. option_map effect_view found ≡ whole_effect_at (item_tree item.now)) }
+{
+    match item {
+        Item::List(items, _) => {
+            if items.len() == 0 {
+                Ok(Some(Effect::And(Vec::new(alloc))))
+            } else {
+                item_effect(alloc, item)
+            }
+        }
+        Item::Word(_) => Ok(None),
+    }
+}
+
+#[cycle(effect)]
+fn item_effect<'a, B: Allocator>(
+    alloc: &'a B,
+    item: &Item<'_, &'a B>,
+) -> Result<Option<Effect<&'a B>>, AllocError>
+    ensures { IfOk result (λ found. option_map effect_view found ≡ effect_at (item_tree item.now)) }
+{
+    match item {
+        Item::List(items, _) => list_effect(alloc, items),
+        Item::Word(_) => Ok(None),
+    }
+}
+
+/// The effect of a list of these items.
+#[cycle(effect)]
+fn list_effect<'a, B: Allocator>(
+    alloc: &'a B,
+    items: &[Item<'_, &'a B>],
+) -> Result<Option<Effect<&'a B>>, AllocError>
+    ensures { IfOk result (λ found. option_map effect_view found ≡ effect_of_list (item_trees items.now) (map effect_at (item_trees items.now))) }
+{
+    match items {
+        [] => Ok(None),
+        [head, rest @ ..] => match head_of(head) {
+            Head::And => Ok(conjunction(effects_of(alloc, items)?)),
+            Head::Forall => universal_of(alloc, items),
+            Head::When => conditional_of(alloc, items),
+            Head::Not => deletion_of(alloc, rest),
+            Head::Name => addition_of(alloc, items),
+            Head::Increase => increase_of(alloc, rest),
+            Head::Or | Head::Imply | Head::Exists | Head::Equal | Head::Nothing => Ok(None),
+        },
+    }
+}
+
+/// The effects behind the head of a list, each of them.
+#[cycle(effect)]
+fn effects_of<'a, B: Allocator>(
+    alloc: &'a B,
+    items: &[Item<'_, &'a B>],
+) -> Result<Option<Vec<Effect<&'a B>, &'a B>>, AllocError>
+    ensures { IfOk result (λ found. option_map (λ v. map effect_view v.items) found ≡ all_of (behind (map effect_at (item_trees items.now)))) }
+{
+    let mut effects = Vec::with_capacity(alloc, items.len())?;
+    for index in 1..items.len() {
+        let Some(effect) = item_effect(alloc, &items[index])? else {
+            return Ok(None);
+        };
+        effects.push(effect)?;
+    }
+    Ok(Some(effects))
+}
+
+#[cycle(effect)]
+fn universal_of<'a, B: Allocator>(
+    alloc: &'a B,
+    items: &[Item<'_, &'a B>],
+) -> Result<Option<Effect<&'a B>>, AllocError>
+    ensures { IfOk result (λ found. option_map effect_view found ≡ quantified universal (behind (item_trees items.now)) (behind (map effect_at (item_trees items.now)))) }
+{
+    let [_, variables, body] = items else {
+        return Ok(None);
+    };
+    let Some(variables) = variables_of(alloc, variables)? else {
+        return Ok(None);
+    };
+    let Some(body) = item_effect(alloc, body)? else {
+        return Ok(None);
+    };
+    Ok(Some(Effect::Forall(variables, Box::new(alloc, body)?)))
+}
+
+#[cycle(effect)]
+fn conditional_of<'a, B: Allocator>(
+    alloc: &'a B,
+    items: &[Item<'_, &'a B>],
+) -> Result<Option<Effect<&'a B>>, AllocError>
+    ensures { IfOk result (λ found. option_map effect_view found ≡ conditional_of (behind (item_trees items.now)) (behind (map effect_at (item_trees items.now)))) }
+{
+    let [_, condition, body] = items else {
+        return Ok(None);
+    };
+    let Some(condition) = formula_of(alloc, condition)? else {
+        return Ok(None);
+    };
+    let Some(body) = item_effect(alloc, body)? else {
+        return Ok(None);
+    };
+    Ok(Some(Effect::When(condition, Box::new(alloc, body)?)))
+}
+
+/// The conjunction of effects, if they were read.
+fn conjunction<A: Allocator>(effects: Option<Vec<Effect<A>, A>>) -> Option<Effect<A>>
+    ensures { option_map effect_view result ≡ option_map (λ es. conjunction (effects_of es)) (option_map (λ v. map effect_view v.items) effects) }
+{
+    let Some(effects) = effects else {
+        return None;
+    };
+    Some(Effect::And(effects))
+}
+
+/// The deletion of the one atom that these items spell.
+fn deletion_of<'a, B: Allocator>(
+    alloc: &'a B,
+    items: &[Item<'_, &'a B>],
+) -> Result<Option<Effect<&'a B>>, AllocError>
+    ensures { IfOk result (λ found. option_map effect_view found ≡ option_map deletion (only (map atom_at (item_trees items.now)))) }
+{
+    let [item] = items else {
+        return Ok(None);
+    };
+    let Some(atom) = atom_of(alloc, item)? else {
+        return Ok(None);
+    };
+    Ok(Some(Effect::Del(atom)))
+}
+
+/// The addition of the atom of a list of these items.
+fn addition_of<'a, B: Allocator>(
+    alloc: &'a B,
+    items: &[Item<'_, &'a B>],
+) -> Result<Option<Effect<&'a B>>, AllocError>
+    ensures { IfOk result (λ found. option_map effect_view found ≡ option_map addition (atom_of_list (item_trees items.now))) }
+{
+    let Some(atom) = atom_of_list(alloc, items)? else {
+        return Ok(None);
+    };
+    Ok(Some(Effect::Add(atom)))
+}
+
+/// The increase of the total cost by the amount behind it.
+fn increase_of<'a, B: Allocator>(
+    alloc: &'a B,
+    items: &[Item<'_, &'a B>],
+) -> Result<Option<Effect<&'a B>>, AllocError>
+    ensures { IfOk result (λ found. option_map effect_view found ≡ option_map increase (increase_of (item_trees items.now))) }
+{
+    let [cost, amount] = items else {
+        return Ok(None);
+    };
+    if !is_total_cost(cost) {
+        return Ok(None);
+    }
+    let Some(amount) = amount_of(alloc, amount)? else {
+        return Ok(None);
+    };
+    Ok(Some(Effect::Increase(amount)))
+}
