@@ -1,0 +1,5 @@
+pub mod Sections
+pub mod Files
+pub mod Verdicts
+pub mod Answers
+pub mod Openings
