@@ -1,0 +1,5 @@
+pub mod KeywordLaws
+pub mod MarkLaws
+pub mod FileTexts
+pub mod WordTurns
+pub mod SectionTurns

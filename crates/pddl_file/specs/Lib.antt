@@ -1,0 +1,6 @@
+pub mod Keywords
+pub mod Flags
+pub mod Marks
+pub mod Faults
+pub mod WordReading
+pub mod FileReading

@@ -1,0 +1,15 @@
+//! What files of domains and problems share: keywords of sections, flags of `:requirements`, lists that are refused by name,
+//! and faults.
+#![tactic(auto)]
+
+mod fault;
+mod flag;
+mod keyword;
+mod mark;
+mod unfit;
+
+pub use fault::FileFault;
+pub use flag::{flag_of, flags_of};
+pub use keyword::{SectionKeyword, Seen, head_keyword_of, keyword_of};
+pub use mark::{Mark, first_marked};
+pub use unfit::refusal;
