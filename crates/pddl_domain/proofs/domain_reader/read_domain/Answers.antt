@@ -1,0 +1,56 @@
+use Rattle.std.proofs.Common.{◌≡◌, sym, ap, subst}
+use Rattle.std.specs.Prelude.{Result, Ok, Err, IfOk, IfErr, MatchResult}
+use Rattle.std.proofs.lemmas.Result.{err_from_is_err_and}
+use Rattle.pddl_text.specs.Items.{items_view}
+use Rattle.pddl_text.specs.Texts.{HasItems}
+use Rattle.pddl_text.specs.declared.fault.TextFault.TheVariants.{Memory}
+use Rattle.pddl_file.specs.declared.fault.FileFault.TheVariants.{Text}
+use Rattle.pddl_file.specs.FileReading.{RefusesFile}
+use Rattle.pddl_domain.specs.Domains.{domain_view, SpellsDomain, DomainStands}
+use Rattle.pddl_domain.specs.Sections.{domain_answer, AnswersDomain}
+use Rattle.pddl_domain.proofs.DomainTextLaws.{read_spells, read_only, refused_only, refused_stands}
+use Rattle.pddl_domain.proofs.domain_reader.read_domain.Goals as goal
+
+if_ok : {A E : Type 0} (P Q : A → Type 0) (r : Result A E) → ((a : A) → P a → Q a) → IfOk r P → IfOk r Q
+if_ok P Q (Ok a) on h = on a h
+if_ok P Q (Err e) on h = h
+
+if_err : {A E : Type 0} (P Q : E → Type 0) (r : Result A E) → ((e : E) → P e → Q e) → IfErr r P → IfErr r Q
+if_err P Q (Ok a) on h = h
+if_err P Q (Err e) on h = on e h
+
+match_both : {A E : Type 0} (P : A → Type 0) (Q : E → Type 0) (r : Result A E) → IfOk r P → IfErr r Q → MatchResult r P Q
+match_both P Q (Ok a) ok err = ok
+match_both P Q (Err e) ok err = err
+
+pub returns-in_err-items-clause-only : goal.returns-in_err-items-clause-only
+returns-in_err-items-clause-only g c = λ domain spells.
+    let p = err_from_is_err_and c.from_residual.result c.from_residual.ensures.1 in
+    rw (p.1, p.2) (ap (λ t. Text t) (c.in_err-items.ensures.only spells.items spells.has))
+
+pub returns-clause-domain : goal.returns-clause-domain
+returns-clause-domain g c =
+    let text = c.args.text.now in
+    let items = items_view c.deref.result.now in
+    let has : HasItems text items = subst (λ xs. HasItems text (items_view xs)) (sym c.deref.ensures.value) c.in_ok-items.ensures.items in
+    if_ok (λ domain. AnswersDomain (domain_view domain) items) (λ domain. SpellsDomain (domain_view domain) text) c.domain_at.result
+    (λ domain read. read_spells text items (domain_view domain) has read) c.domain_at.ensures.domain
+
+pub returns-clause-only : goal.returns-clause-only
+returns-clause-only g c = λ domain spells.
+    let text = c.args.text.now in
+    let items = items_view c.deref.result.now in
+    let has : HasItems text items = subst (λ xs. HasItems text (items_view xs)) (sym c.deref.ensures.value) c.in_ok-items.ensures.items in
+    match_both (λ found. domain_view found ≡ domain) (λ fault. fault ≡ Text Memory) c.domain_at.result
+    (if_ok (λ found. AnswersDomain (domain_view found) items) (λ found. domain_view found ≡ domain) c.domain_at.result
+    (λ found read. read_only text items domain (domain_view found) has spells read) c.domain_at.ensures.domain)
+    (if_err (λ fault. RefusesFile fault (domain_answer items)) (λ fault. fault ≡ Text Memory) c.domain_at.result
+    (λ fault refused. refused_only text items domain fault has spells refused) c.domain_at.ensures.refused)
+
+pub returns-clause-fault : goal.returns-clause-fault
+returns-clause-fault g c =
+    let text = c.args.text.now in
+    let items = items_view c.deref.result.now in
+    let has : HasItems text items = subst (λ xs. HasItems text (items_view xs)) (sym c.deref.ensures.value) c.in_ok-items.ensures.items in
+    if_err (λ fault. RefusesFile fault (domain_answer items)) (λ fault. DomainStands fault text) c.domain_at.result
+    (λ fault refused. refused_stands text items fault has refused) c.domain_at.ensures.refused

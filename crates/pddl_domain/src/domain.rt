@@ -1,0 +1,55 @@
+//! Domains and what they declare.
+
+use pddl_effect::Effect;
+use pddl_formula::{Formula, Predicate, TypeName, TypeNames, Typed};
+use pddl_tree::Name;
+use std::alloc::Allocator;
+
+/// A declared type and its parent.
+#[derive(Drop)]
+#[derive_where(Debug)]
+pub struct DeclaredType<A: Allocator> {
+    pub name: TypeName<A>,
+    pub parent: TypeName<A>,
+}
+
+/// A declared predicate and its parameters, which are variables (without `?`).
+#[derive(Drop)]
+#[derive_where(Debug)]
+pub struct DeclaredPredicate<A: Allocator> {
+    pub predicate: Predicate<A>,
+    pub parameters: Vec<Typed<A>, A>,
+}
+
+/// A declared function, its parameters, and the type of its result.
+#[derive(Drop)]
+#[derive_where(Debug)]
+pub struct DeclaredFunction<A: Allocator> {
+    pub name: Name<A>,
+    pub parameters: Vec<Typed<A>, A>,
+    pub result: TypeNames<A>,
+}
+
+/// An action: its parameters, when it can be applied, and what it does.
+#[derive(Drop)]
+#[derive_where(Debug)]
+pub struct Action<A: Allocator> {
+    pub name: Name<A>,
+    pub parameters: Vec<Typed<A>, A>,
+    pub precondition: Formula<A>,
+    pub effect: Effect<A>,
+}
+
+/// A planning domain. Each list keeps the order of the file.
+#[derive(Drop)]
+#[derive_where(Debug)]
+pub struct Domain<A: Allocator> {
+    pub name: Name<A>,
+    /// The flags of `:requirements`, without their colons.
+    pub requirements: Vec<Name<A>, A>,
+    pub types: Vec<DeclaredType<A>, A>,
+    pub constants: Vec<Typed<A>, A>,
+    pub predicates: Vec<DeclaredPredicate<A>, A>,
+    pub functions: Vec<DeclaredFunction<A>, A>,
+    pub actions: Vec<Action<A>, A>,
+}
