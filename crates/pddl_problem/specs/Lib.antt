@@ -1,0 +1,4 @@
+pub mod Inits
+pub mod Problems
+pub mod ProblemReading
+pub mod Slots

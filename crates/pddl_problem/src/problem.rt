@@ -1,0 +1,61 @@
+//! Problems and what they say.
+
+use pddl_formula::{Formula, Predicate, Typed};
+use pddl_text::Fixed;
+use pddl_tree::Name;
+use std::alloc::Allocator;
+
+/// A predicate and the names of objects.
+#[derive(Drop)]
+#[derive_where(Debug)]
+pub struct Fact<A: Allocator> {
+    pub predicate: Predicate<A>,
+    pub objects: Vec<Name<A>, A>,
+}
+
+/// A function and the names of objects.
+#[derive(Drop)]
+#[derive_where(Debug)]
+pub struct GroundFunction<A: Allocator> {
+    pub function: Name<A>,
+    pub objects: Vec<Name<A>, A>,
+}
+
+/// What an item of `:init` says: that a fact holds, that it does not, or the value of a function.
+#[derive(Drop)]
+#[derive_where(Debug)]
+pub enum InitItem<A: Allocator> {
+    Holds(Fact<A>),
+    Fails(Fact<A>),
+    Value(GroundFunction<A>, Fixed),
+}
+
+/// What a metric wants of its function.
+#[derive(Clone, Copy, Debug)]
+pub enum Direction {
+    Minimize,
+    Maximize,
+}
+
+/// What makes a plan better than another.
+#[derive(Drop)]
+#[derive_where(Debug)]
+pub struct Metric<A: Allocator> {
+    pub direction: Direction,
+    pub function: GroundFunction<A>,
+}
+
+/// A planning problem. Each list keeps the order of the file.
+#[derive(Drop)]
+#[derive_where(Debug)]
+pub struct Problem<A: Allocator> {
+    pub name: Name<A>,
+    /// The name of the problem's domain.
+    pub domain: Name<A>,
+    /// The flags of `:requirements`, without their colons.
+    pub requirements: Vec<Name<A>, A>,
+    pub objects: Vec<Typed<A>, A>,
+    pub init: Vec<InitItem<A>, A>,
+    pub goal: Formula<A>,
+    pub metric: Option<Metric<A>>,
+}
