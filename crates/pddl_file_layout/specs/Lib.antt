@@ -1,0 +1,2 @@
+pub mod FormulaValues
+pub mod FormulaTrees
