@@ -6,6 +6,8 @@
 #[cfg(test)]
 mod device_rows;
 #[cfg(test)]
+mod file_rows;
+#[cfg(test)]
 mod memory_rows;
 #[cfg(test)]
 mod plan_rows;
