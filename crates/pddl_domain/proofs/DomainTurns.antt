@@ -1,6 +1,6 @@
 -- Sections of a domain, and the domain that is made of them, in the words of the code.
 use Rattle.std.proofs.Common.{◌≡◌, ℕ, ◌≤◌, List, [], ◌∷◌, length, get_or, drop, refl, sym, ap, ◌∙◌, arith, codes}
-use Rattle.std.specs.Prelude.{Some, None}
+use Rattle.std.specs.Prelude.{Some}
 use Rattle.pddl_text.specs.declared.item.Item.{Item}
 use Rattle.pddl_text.specs.Trees.{Tree, Placed}
 use Rattle.pddl_tree.specs.Words.{list}
@@ -19,10 +19,6 @@ use Rattle.pddl_domain.specs.Sections.{AreParts, AnswersDomain}
 
 pub part_at_list : (ts : List Tree) → part_at (list ts) ≡ part_of ts
 part_at_list ts = ap part_of (list_of_trees_of ts)
-
-pub no_keyword : {A : Type 0} (xs : List (Item A)) (d : Item A) → 1 ≤ length xs → None ≡ head_key (item_tree (get_or xs 0 d)) → None ≡ part_of (item_trees xs)
-no_keyword [] d le e = absurd (omega (arith, le))
-no_keyword (x ∷ xs) d le e = ap (λ key. content_at key (item_trees xs)) e
 
 pub keyword_first : {A : Type 0} (xs rest : List (Item A)) (d : Item A) (key : SectionKeyword) → 1 ≤ length xs → Some key ≡ head_key (item_tree (get_or xs 0 d)) → rest ≡ drop 1 xs
     → content_at (Some key) (item_trees rest) ≡ part_of (item_trees xs)

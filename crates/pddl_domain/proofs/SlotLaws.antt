@@ -164,10 +164,6 @@ first_field s (x ∷ y ∷ ys) d e field le is = ap (option_and_then (with_field
 
 -- ---- the action
 
-pub no_title : {A : Type 0} (xs : List (Item A)) (d : Item A) → 1 ≤ length xs → None ≡ name_at (item_tree (get_or xs 0 d)) → None ≡ action_of (item_trees xs)
-no_title [] d le e = absurd (omega (arith, le))
-no_title (x ∷ xs) d le e = ap (option_and_then (λ n. option_and_then (assembled n) (fields_at (item_trees xs)))) e
-
 pub titled : {A : Type 0} (xs rest : List (Item A)) (d : Item A) (name : List ℕ) → 1 ≤ length xs → Some name ≡ name_at (item_tree (get_or xs 0 d)) → rest ≡ drop 1 xs
     → option_map (action_by name) (slots_from no_slots (item_trees rest)) ≡ action_of (item_trees xs)
 titled [] rest d name le e is = absurd (omega (arith, le))
