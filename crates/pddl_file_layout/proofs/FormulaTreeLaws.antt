@@ -98,7 +98,7 @@ spells_type (n ∷ m ∷ ns) h =
 
 -- ---- typed lists
 
-spells_variables : (xs : List TypedValue) → list_all is_typed xs ≡ true → AreTypedVariables xs (typed_trees variable_tree xs)
+pub spells_variables : (xs : List TypedValue) → list_all is_typed xs ≡ true → AreTypedVariables xs (typed_trees variable_tree xs)
 spells_variables [] h = untyped tt
 spells_variables (x ∷ xs) h =
     let p = and_parts (is_typed x) (list_all is_typed xs) h in

@@ -1,1 +1,12 @@
 pub mod FormulaTreeLaws
+pub mod Assembling
+pub mod DomainTreeLaws
+pub mod ProblemTreeLaws
+pub mod WritableTrees
+pub mod PiecesOfLines
+pub mod GoodFormulas
+pub mod GoodDomains
+pub mod GoodProblems
+pub mod DomainTextLaws
+pub mod ProblemTextLaws
+pub mod Examples

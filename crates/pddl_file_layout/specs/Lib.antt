@@ -1,2 +1,6 @@
 pub mod FormulaValues
 pub mod FormulaTrees
+pub mod PartLists
+pub mod DomainLayout
+pub mod ProblemLayout
+pub mod DomainPieces

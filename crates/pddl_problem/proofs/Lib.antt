@@ -1,6 +1,6 @@
 pub mod InitLaws
 pub mod PartLaws
 mod SlotLaws
-mod ProblemTexts
+pub mod ProblemTexts
 mod ItemTurns
 mod Results

@@ -1,5 +1,5 @@
 use Rattle.pddl_file_layout.proofs.FormulaTreeLaws.{spells_effect}
-use Rattle.pddl_file_layout.proofs.formula.effect_tree_spells.Goals as goal
+use Rattle.pddl_file_layout.proofs.laws.effect_tree_spells.Goals as goal
 
 pub returns : goal.returns
 returns c = spells_effect

@@ -1,5 +1,5 @@
 use Rattle.pddl_file_layout.proofs.FormulaTreeLaws.{spells_formula}
-use Rattle.pddl_file_layout.proofs.formula.formula_tree_spells.Goals as goal
+use Rattle.pddl_file_layout.proofs.laws.formula_tree_spells.Goals as goal
 
 pub returns : goal.returns
 returns c = spells_formula
