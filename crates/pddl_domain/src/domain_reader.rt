@@ -1,11 +1,12 @@
 //! Domains read from texts.
 
-ghost use Rattle.std.specs.Prelude.{◌≡◌, ◌≢◌, ◌++◌, ℕ, List, map, IfOk, IfErr, OnOk, MatchResult};
+ghost use Rattle.std.specs.Prelude.{◌≡◌, ◌≢◌, ◌≤◌, ◌++◌, ℕ, List, Some, length, map, IfOk, IfErr, OnOk, MatchResult};
 ghost use Rattle.pddl_text.specs.Items.{items_view};
 ghost use Rattle.pddl_text.specs.declared.fault.TextFault.TheVariants.{Memory};
 ghost use Rattle.pddl_file.specs.declared.fault.FileFault.{FileFault};
 ghost use Rattle.pddl_file.specs.declared.fault.FileFault.TheVariants.{Text};
 ghost use Rattle.pddl_file.specs.FileReading.{RefusesFile};
+ghost use Rattle.pddl_file.specs.Places.{file_place};
 ghost use Rattle.pddl_domain.specs.Domains.{DomainValue, domain_view, SpellsDomain, DomainStands};
 ghost use Rattle.pddl_domain.specs.DomainReading.{domain_of};
 ghost use Rattle.pddl_domain.specs.Sections.{section_view, domain_answer, AnswersDomain, with_part};
@@ -14,7 +15,7 @@ use crate::domain::Domain;
 use crate::section_reader::{Section, sections_of};
 use pddl_file::FileFault;
 use pddl_sections::open_file;
-use pddl_text::{Item, items_of};
+use pddl_text::{Item, LONGEST, items_of};
 use pddl_tree::Name;
 use std::alloc::{AllocError, Allocator};
 
@@ -116,6 +117,12 @@ pub fn one_domain()
 pub fn one_domain_fault()
     ensures { (text : List ℕ) (fault other : FileFault) → DomainStands fault text → DomainStands other text
         → fault ≢ Text Memory → other ≢ Text Memory → fault ≡ other }
+{}
+
+/// A fault that has a place stands in its text, and before the limit of length.
+pub fn domain_fault_in_text()
+    ensures { (text : List ℕ) (fault : FileFault) (at : ℕ) → DomainStands fault text → file_place fault ≡ Some at
+        → (at ≤ length text) × (at ≤ LONGEST) }
 {}
 
 /// A text that a domain spells has no fault: what may be answered beside the domain is want of memory alone.

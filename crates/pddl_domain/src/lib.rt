@@ -10,4 +10,6 @@ mod domain_reader;
 mod section_reader;
 
 pub use domain::{Action, DeclaredFunction, DeclaredPredicate, DeclaredType, Domain};
-pub use domain_reader::{no_fault_in_domain, one_domain, one_domain_fault, read_domain};
+pub use domain_reader::{
+    domain_fault_in_text, no_fault_in_domain, one_domain, one_domain_fault, read_domain,
+};

@@ -3,3 +3,4 @@ pub mod MarkLaws
 pub mod FileTexts
 pub mod WordTurns
 pub mod SectionTurns
+pub mod FaultPlaces

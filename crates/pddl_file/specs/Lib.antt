@@ -2,5 +2,6 @@ pub mod Keywords
 pub mod Flags
 pub mod Marks
 pub mod Faults
+pub mod Places
 pub mod WordReading
 pub mod FileReading

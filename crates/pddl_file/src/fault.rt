@@ -3,6 +3,7 @@
 ghost use Rattle.std.specs.Prelude.{◌≡◌};
 ghost use Rattle.pddl_text.specs.declared.fault.TextFault.TheVariants.{Memory};
 ghost use Rattle.pddl_file.specs.declared.fault.FileFault.TheVariants.{Text};
+ghost use Rattle.pddl_file.specs.Places.{file_place};
 
 use crate::keyword::SectionKeyword;
 use crate::mark::Mark;
@@ -32,6 +33,23 @@ pub enum FileFault {
     /// 14: no section has this keyword, which is required.
     #[error("a section is missing")]
     Missing { keyword: SectionKeyword },
+}
+
+impl FileFault {
+    /// The place of the fault in bytes, or that where its span starts. Want of memory, too long a text and a missing
+    /// section have none.
+    pub fn place(&self) -> Option<u32>
+        ensures { result ≡ file_place self.now }
+    {
+        match self {
+            FileFault::Text(fault) => fault.place(),
+            FileFault::Head { span } => Some(span.start),
+            FileFault::Section { span, .. } => Some(span.start),
+            FileFault::Unsupported { span, .. } => Some(span.start),
+            FileFault::Twice { span, .. } => Some(span.start),
+            FileFault::Missing { .. } => None,
+        }
+    }
 }
 
 impl From<TextFault> for FileFault {

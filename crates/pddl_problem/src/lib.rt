@@ -10,4 +10,6 @@ mod section;
 mod section_reader;
 
 pub use problem::{Direction, Fact, GroundFunction, InitItem, Metric, Problem};
-pub use problem_reader::{no_fault_in_problem, one_problem, one_problem_fault, read_problem};
+pub use problem_reader::{
+    no_fault_in_problem, one_problem, one_problem_fault, problem_fault_in_text, read_problem,
+};

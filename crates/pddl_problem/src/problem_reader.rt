@@ -1,12 +1,13 @@
 //! Problems read from texts.
 
-ghost use Rattle.std.specs.Prelude.{◌≡◌, ◌≢◌, ℕ, List, IfOk, IfErr, MatchResult, option_map, codes};
+ghost use Rattle.std.specs.Prelude.{◌≡◌, ◌≢◌, ◌≤◌, ℕ, List, Some, IfOk, IfErr, MatchResult, length, option_map, codes};
 ghost use Rattle.pddl_text.specs.Items.{items_view};
 ghost use Rattle.pddl_text.specs.declared.fault.TextFault.TheVariants.{Memory};
 ghost use Rattle.pddl_sections.specs.Answers.{file_answer};
 ghost use Rattle.pddl_file.specs.declared.fault.FileFault.{FileFault};
 ghost use Rattle.pddl_file.specs.declared.fault.FileFault.TheVariants.{Text};
 ghost use Rattle.pddl_file.specs.FileReading.{RefusesFile};
+ghost use Rattle.pddl_file.specs.Places.{file_place};
 ghost use Rattle.pddl_problem.specs.Problems.{ProblemValue, problem_view, required, AreProblem, SpellsProblem, ProblemStands};
 ghost use Rattle.pddl_problem.specs.ProblemReading.{problem_readers};
 ghost use Rattle.pddl_problem.specs.Slots.{slots_view, or_nothing, MakesUp, SaysMissing};
@@ -16,7 +17,7 @@ use crate::section::Slots;
 use crate::section_reader::sections_of;
 use pddl_file::{FileFault, SectionKeyword};
 use pddl_sections::open_file;
-use pddl_text::{Item, items_of};
+use pddl_text::{Item, LONGEST, items_of};
 use pddl_tree::Name;
 use std::alloc::Allocator;
 
@@ -126,6 +127,12 @@ pub fn one_problem()
 pub fn one_problem_fault()
     ensures { (text : List ℕ) (fault other : FileFault) → ProblemStands fault text → ProblemStands other text
         → fault ≢ Text Memory → other ≢ Text Memory → fault ≡ other }
+{}
+
+/// A fault that has a place stands in its text, and before the limit of length.
+pub fn problem_fault_in_text()
+    ensures { (text : List ℕ) (fault : FileFault) (at : ℕ) → ProblemStands fault text → file_place fault ≡ Some at
+        → (at ≤ length text) × (at ≤ LONGEST) }
 {}
 
 /// A text that a problem spells has no fault: what may be answered beside the problem is want of memory alone.

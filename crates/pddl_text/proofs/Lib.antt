@@ -17,3 +17,4 @@ pub mod TextFaults
 pub mod Behind
 pub mod NumberTexts
 pub mod Known
+pub mod FaultPlaces

@@ -5,6 +5,7 @@ pub mod Spelling
 pub mod Spans
 pub mod Number
 pub mod Faults
+pub mod Places
 pub mod Reading
 pub mod Scanning
 pub mod Trees

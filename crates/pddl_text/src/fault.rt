@@ -2,6 +2,7 @@
 
 ghost use Rattle.std.specs.Prelude.{◌≡◌};
 ghost use Rattle.pddl_text.specs.declared.fault.TextFault.TheVariants.{Memory};
+ghost use Rattle.pddl_text.specs.Places.{text_place};
 
 use std::alloc::{AllocError, AllocFailed};
 use thiserror::Error;
@@ -39,6 +40,23 @@ pub enum TextFault {
     /// 7: a `(` stands there that has no `)`; it is the leftmost such one.
     #[error("the list at byte {at} is not closed")]
     Unclosed { at: u32 },
+}
+
+impl TextFault {
+    /// The place of the fault in bytes. Want of memory and too long a text have none.
+    pub fn place(&self) -> Option<u32>
+        ensures { result ≡ text_place self.now }
+    {
+        match self {
+            TextFault::Memory | TextFault::TooLong => None,
+            TextFault::Stray { at } => Some(*at),
+            TextFault::Glued { at } => Some(*at),
+            TextFault::NumberRange { at } => Some(*at),
+            TextFault::Unopened { at } => Some(*at),
+            TextFault::TooDeep { at } => Some(*at),
+            TextFault::Unclosed { at } => Some(*at),
+        }
+    }
 }
 
 impl From<AllocError> for TextFault {

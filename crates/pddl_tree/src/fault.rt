@@ -3,7 +3,7 @@
 ghost use Rattle.std.specs.Prelude.{◌≡◌};
 ghost use Rattle.pddl_text.specs.declared.fault.TextFault.TheVariants.{Memory};
 ghost use Rattle.pddl_tree.specs.declared.fault.ReadFault.TheVariants.{Text};
-ghost use Rattle.pddl_tree.specs.Places.{text_place, fault_place};
+ghost use Rattle.pddl_tree.specs.Places.{fault_place};
 
 use pddl_text::{Span, TextFault};
 use std::alloc::{AllocError, AllocFailed};
@@ -26,28 +26,13 @@ pub enum ReadFault {
     Duration { span: Span },
 }
 
-/// The place of a fault of a text, in bytes, where it has one.
-fn text_place(fault: &TextFault) -> Option<u32>
-    ensures { result ≡ text_place fault.now }
-{
-    match fault {
-        TextFault::Memory | TextFault::TooLong => None,
-        TextFault::Stray { at } => Some(*at),
-        TextFault::Glued { at } => Some(*at),
-        TextFault::NumberRange { at } => Some(*at),
-        TextFault::Unopened { at } => Some(*at),
-        TextFault::TooDeep { at } => Some(*at),
-        TextFault::Unclosed { at } => Some(*at),
-    }
-}
-
 impl ReadFault {
     /// The place of the fault in bytes, or that where its span starts. Want of memory and too long a text have none.
     pub fn place(&self) -> Option<u32>
         ensures { result ≡ fault_place self.now }
     {
         match self {
-            ReadFault::Text(fault) => text_place(fault),
+            ReadFault::Text(fault) => fault.place(),
             ReadFault::Step { span, .. } => Some(span.start),
             ReadFault::Mixed { span } => Some(span.start),
             ReadFault::Duration { span } => Some(span.start),
