@@ -10,3 +10,8 @@ pub mod GoodProblems
 pub mod DomainTextLaws
 pub mod ProblemTextLaws
 pub mod Examples
+pub mod TreeTexts
+pub mod LineTexts
+pub mod Printed
+pub mod Arms
+pub mod SectionTexts

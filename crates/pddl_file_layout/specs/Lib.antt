@@ -4,3 +4,5 @@ pub mod PartLists
 pub mod DomainLayout
 pub mod ProblemLayout
 pub mod DomainPieces
+pub mod Texts
+pub mod Printing

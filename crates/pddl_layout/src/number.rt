@@ -1,6 +1,8 @@
 //! The canonical text of numbers.
 
-ghost use Rattle.std.specs.Prelude.{◌≡◌, ◌<◌, ◌≤◌, ℕ, length, take};
+ghost use Rattle.std.specs.Prelude.{◌≡◌, ◌<◌, ◌≤◌, ℕ, OnOk, OnErr, length, take};
+ghost use Rattle.std.specs.Io.KnownBytes.{Appends};
+ghost use Rattle.pddl_text.specs.Device.{AppendsBeginning, HasFailed};
 ghost use Rattle.pddl_text.specs.NumberText.{padded, trimmed, pointed, number_text};
 ghost use Rattle.pddl_layout.specs.Printing.{Prints};
 
@@ -63,4 +65,21 @@ pub fn put_number<W: Sink>(out: &mut W, number: Fixed) -> Result<(), WriteFault>
     let mut buffer = Buffer::new();
     put(out, buffer.format(billionths / ONE).as_bytes())?;
     put_decimals(out, billionths % ONE)
+}
+
+/// Writes the canonical text of a number: its whole part, and its decimals without zeros at the end.
+///
+/// # Errors
+///
+/// [`WriteFault::WriteFailed`] where a write failed in this call; a beginning of the text was then written.
+pub fn write_number<W: Sink>(number: Fixed, out: &mut W) -> Result<(), WriteFault>
+    // The number's text was written, and no write failed.
+    ensures written { OnOk result (Appends (W.contents out.old) (W.contents out.new) (number_text number)) }
+    ensures none_failed { OnOk result (W.failures out.new ≡ W.failures out.old) }
+
+    // A beginning of it was written, and a write of this call failed.
+    ensures beginning { OnErr result (AppendsBeginning (W.contents out.old) (W.contents out.new) (number_text number)) }
+    ensures write_failed { OnErr result (HasFailed (W.failures out.old) (W.failures out.new)) }
+{
+    put_number(out, number)
 }

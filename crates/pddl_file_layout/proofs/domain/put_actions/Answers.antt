@@ -1,0 +1,15 @@
+use Rattle.std.proofs.Common.{◌<◌, length, arith}
+use Rattle.pddl_domain.specs.Actions.{action_view}
+use Rattle.pddl_file_layout.specs.DomainLayout.{is_action}
+use Rattle.pddl_file_layout.specs.Texts.{action_lines}
+use Rattle.pddl_file_layout.proofs.Printed.{element_on, passes_on}
+use Rattle.pddl_file_layout.proofs.domain.put_actions.Goals as goal
+
+pub loop-action-preserved : goal.loop-action-preserved
+loop-action-preserved g c =
+    let l = c.loop-action in
+    let lt : l.action-index < length c.args.actions.now = omega arith in
+    record {
+      printed = element_on action_view action_lines c.args.actions.now l.action-index c.action-item.result lt c.action-item.is l.invariant.printed c.put_action.ensures.printed;
+      good = passes_on action_view is_action c.args.actions.now l.action-index c.action-item.result lt c.action-item.is l.invariant.good c.put_action.ensures.good;
+    }

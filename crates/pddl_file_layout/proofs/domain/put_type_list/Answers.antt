@@ -1,0 +1,20 @@
+use Rattle.std.proofs.Common.{◌<◌, length, arith}
+use Rattle.pddl_domain.specs.Declarations.{type_view}
+use Rattle.pddl_formula.specs.Reserved.{is_type_name}
+use Rattle.pddl_file_layout.specs.DomainLayout.{is_declared_type}
+use Rattle.pddl_file_layout.specs.Texts.{declared_type_text}
+use Rattle.pddl_file_layout.proofs.Printed.{puts_on, puts_as, spaced_on, passes_on}
+use Rattle.pddl_file_layout.proofs.SectionTexts.{both}
+use Rattle.pddl_file_layout.proofs.domain.put_type_list.Goals as goal
+
+pub loop-declared-preserved : goal.loop-declared-preserved
+loop-declared-preserved g c =
+    let l = c.loop-declared in
+    let lt : l.declared-index < length c.args.types.now = omega arith in
+    let x = c.declared-item.result in
+    record {
+      printed = spaced_on type_view declared_type_text c.args.types.now l.declared-index x lt c.declared-item.is l.invariant.printed c.put.ensures
+          (puts_on (puts_as c.as_bytes.ensures.value c.put-in-loop-declared.ensures) (puts_on c.put-in-loop-declared-2.ensures (puts_as c.as_bytes-in-loop-declared.ensures.value c.put-in-loop-declared-3.ensures)));
+      good = passes_on type_view is_declared_type c.args.types.now l.declared-index x lt c.declared-item.is l.invariant.good
+          (both (is_type_name x.name) (is_type_name x.parent) c.as_bytes.ensures.type_name c.as_bytes-in-loop-declared.ensures.type_name);
+    }

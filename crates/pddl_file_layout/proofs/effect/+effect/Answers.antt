@@ -1,0 +1,46 @@
+use Rattle.std.proofs.Common.{◌<◌, List, length, get_or, refl, ap, subst, ◌∙◌, arith}
+use Rattle.pddl_effect.specs.declared.effect.Effect.{Effect}
+use Rattle.pddl_effect.specs.Effects.{effect_view}
+use Rattle.pddl_file_layout.specs.FormulaValues.{is_effect}
+use Rattle.pddl_file_layout.specs.Texts.{effect_text}
+use Rattle.pddl_file_layout.proofs.Printed.{puts_on, puts_as, spaced_on, passes_on}
+use Rattle.pddl_file_layout.proofs.Arms.{all_text, each_text, when_text, del_text, increase_text, all_good}
+use Rattle.pddl_file_layout.proofs.effect.+effect.Goals as goal
+
+pub put_effect-returns-in-And-clause-printed : goal.put_effect-returns-in-And-clause-printed
+put_effect-returns-in-And-clause-printed g t c =
+    puts_as (all_text c.args.effect.now c.in-And.parts.items c.in-And.parts c.in-And.is refl)
+    (puts_on c.put-in-And.ensures (puts_on c.put_effects.ensures.printed c.put-in-And-2.ensures))
+
+pub put_effect-returns-in-And-clause-good : goal.put_effect-returns-in-And-clause-good
+put_effect-returns-in-And-clause-good g t c = all_good c.args.effect.now c.in-And.parts.items c.in-And.parts c.in-And.is refl c.put_effects.ensures.good
+
+pub put_effect-returns-in-Forall-clause-printed : goal.put_effect-returns-in-Forall-clause-printed
+put_effect-returns-in-Forall-clause-printed g t c =
+    puts_as (each_text c.args.effect.now c.deref-in-Forall.result.now c.deref.result.now c.in-Forall.variables c.in-Forall.part c.in-Forall.is c.deref.ensures.value c.deref-in-Forall.ensures)
+    (puts_on c.put.ensures (puts_on c.put_variables.ensures.printed (puts_on c.put-in-Forall.ensures (puts_on c.put_effect.ensures.printed c.put-in-Forall-2.ensures))))
+
+pub put_effect-returns-in-When-clause-printed : goal.put_effect-returns-in-When-clause-printed
+put_effect-returns-in-When-clause-printed g t c =
+    puts_as (when_text c.args.effect.now c.deref-in-When.result.now c.in-When.condition c.in-When.part c.in-When.is c.deref-in-When.ensures)
+    (puts_on c.put-in-When.ensures (puts_on c.put_formula.ensures.printed (puts_on c.put-in-When-2.ensures (puts_on c.put_effect-in-When.ensures.printed c.put-in-When-3.ensures))))
+
+pub put_effect-returns-in-Del-clause-printed : goal.put_effect-returns-in-Del-clause-printed
+put_effect-returns-in-Del-clause-printed g t c =
+    puts_as (del_text c.args.effect.now c.in-Del.atom c.in-Del.is) (puts_on c.put-in-Del.ensures (puts_on c.put_atom-in-Del.ensures.printed c.put-in-Del-2.ensures))
+
+pub put_effect-returns-in-Increase-clause-printed : goal.put_effect-returns-in-Increase-clause-printed
+put_effect-returns-in-Increase-clause-printed g t c =
+    puts_as (increase_text c.args.effect.now c.in-Increase.amount c.in-Increase.is) (puts_on c.put-in-Increase.ensures (puts_on c.put_amount.ensures.printed c.put-in-Increase-2.ensures))
+
+pub put_effects-loop-effect-preserved : goal.put_effects-loop-effect-preserved
+put_effects-loop-effect-preserved g t c =
+    let l = c.loop-effect in
+    let x = c.effect-item.result in
+    let xs_are = c.deref-effect-items.ensures.value in
+    let lt : l.effect-index < length c.args.effects.now.items = subst (λ (xs : List (Effect _)). l.effect-index < length xs) xs_are (omega arith) in
+    let here = c.effect-item.is ∙ ap (λ (xs : List (Effect _)). get_or xs l.effect-index x) xs_are in
+    record {
+      printed = spaced_on effect_view effect_text c.args.effects.now.items l.effect-index x lt here l.invariant.printed c.put.ensures c.put_effect.ensures.printed;
+      good = passes_on effect_view is_effect c.args.effects.now.items l.effect-index x lt here l.invariant.good c.put_effect.ensures.good;
+    }

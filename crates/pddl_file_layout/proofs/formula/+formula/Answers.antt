@@ -1,0 +1,56 @@
+use Rattle.std.proofs.Common.{◌<◌, length, arith}
+use Rattle.pddl_formula.specs.Formulas.{formula_view}
+use Rattle.pddl_file_layout.specs.FormulaValues.{is_formula}
+use Rattle.pddl_file_layout.specs.Texts.{formula_text}
+use Rattle.pddl_file_layout.proofs.Printed.{puts_on, puts_as, spaced_on, passes_on}
+use Rattle.pddl_file_layout.proofs.Arms.{equal_text, not_text, imply_text, and_text, or_text, exists_text, forall_text, and_good, or_good}
+use Rattle.pddl_file_layout.proofs.formula.+formula.Goals as goal
+
+pub put_formula-returns-in-Equal-clause-printed : goal.put_formula-returns-in-Equal-clause-printed
+put_formula-returns-in-Equal-clause-printed g t c =
+    puts_as (equal_text c.args.formula.now c.in-Equal.left c.in-Equal.right c.in-Equal.is) (puts_on c.put.ensures (puts_on c.put_term.ensures.printed (puts_on c.put-in-Equal.ensures (puts_on c.put_term-in-Equal.ensures.printed c.put-in-Equal-2.ensures))))
+
+pub put_formula-returns-in-Not-clause-printed : goal.put_formula-returns-in-Not-clause-printed
+put_formula-returns-in-Not-clause-printed g t c =
+    puts_as (not_text c.args.formula.now c.deref.result.now c.in-Not.part c.in-Not.is c.deref.ensures)
+    (puts_on c.put-in-Not.ensures (puts_on c.put_formula.ensures.printed c.put-in-Not-2.ensures))
+
+pub put_formula-returns-in-Imply-clause-printed : goal.put_formula-returns-in-Imply-clause-printed
+put_formula-returns-in-Imply-clause-printed g t c =
+    puts_as (imply_text c.args.formula.now c.deref-in-Imply.result.now c.deref-in-Imply-2.result.now c.in-Imply.left c.in-Imply.right c.in-Imply.is c.deref-in-Imply.ensures c.deref-in-Imply-2.ensures)
+    (puts_on c.put-in-Imply.ensures (puts_on c.put_formula-in-Imply.ensures.printed (puts_on c.put-in-Imply-2.ensures (puts_on c.put_formula-in-Imply-2.ensures.printed c.put-in-Imply-3.ensures))))
+
+pub put_formula-returns-in-And-clause-printed : goal.put_formula-returns-in-And-clause-printed
+put_formula-returns-in-And-clause-printed g t c =
+    puts_as (and_text c.args.formula.now c.deref-in-And.result.now c.in-And.parts c.in-And.is c.deref-in-And.ensures.value)
+    (puts_on c.put-in-And.ensures (puts_on c.put_formulas.ensures.printed c.put-in-And-2.ensures))
+
+pub put_formula-returns-in-And-clause-good : goal.put_formula-returns-in-And-clause-good
+put_formula-returns-in-And-clause-good g t c = and_good c.args.formula.now c.deref-in-And.result.now c.in-And.parts c.in-And.is c.deref-in-And.ensures.value c.put_formulas.ensures.good
+
+pub put_formula-returns-in-Or-clause-printed : goal.put_formula-returns-in-Or-clause-printed
+put_formula-returns-in-Or-clause-printed g t c =
+    puts_as (or_text c.args.formula.now c.deref-in-Or.result.now c.in-Or.parts c.in-Or.is c.deref-in-Or.ensures.value)
+    (puts_on c.put-in-Or.ensures (puts_on c.put_formulas-in-Or.ensures.printed c.put-in-Or-2.ensures))
+
+pub put_formula-returns-in-Or-clause-good : goal.put_formula-returns-in-Or-clause-good
+put_formula-returns-in-Or-clause-good g t c = or_good c.args.formula.now c.deref-in-Or.result.now c.in-Or.parts c.in-Or.is c.deref-in-Or.ensures.value c.put_formulas-in-Or.ensures.good
+
+pub put_formula-returns-in-Exists-clause-printed : goal.put_formula-returns-in-Exists-clause-printed
+put_formula-returns-in-Exists-clause-printed g t c =
+    puts_as (exists_text c.args.formula.now c.deref-in-Exists-2.result.now c.deref-in-Exists.result.now c.in-Exists.variables c.in-Exists.part c.in-Exists.is c.deref-in-Exists.ensures.value c.deref-in-Exists-2.ensures)
+    (puts_on c.put-in-Exists.ensures (puts_on c.put_variables.ensures.printed (puts_on c.put-in-Exists-2.ensures (puts_on c.put_formula-in-Exists.ensures.printed c.put-in-Exists-3.ensures))))
+
+pub put_formula-returns-in-Forall-clause-printed : goal.put_formula-returns-in-Forall-clause-printed
+put_formula-returns-in-Forall-clause-printed g t c =
+    puts_as (forall_text c.args.formula.now c.deref-in-Forall-2.result.now c.deref-in-Forall.result.now c.in-Forall.variables c.in-Forall.part c.in-Forall.is c.deref-in-Forall.ensures.value c.deref-in-Forall-2.ensures)
+    (puts_on c.put-in-Forall.ensures (puts_on c.put_variables-in-Forall.ensures.printed (puts_on c.put-in-Forall-2.ensures (puts_on c.put_formula-in-Forall.ensures.printed c.put-in-Forall-3.ensures))))
+
+pub put_formulas-loop-formula-preserved : goal.put_formulas-loop-formula-preserved
+put_formulas-loop-formula-preserved g t c =
+    let l = c.loop-formula in
+    let lt : l.formula-index < length c.args.formulas.now = omega arith in
+    record {
+      printed = spaced_on formula_view formula_text c.args.formulas.now l.formula-index c.formula-item.result lt c.formula-item.is l.invariant.printed c.put.ensures c.put_formula.ensures.printed;
+      good = passes_on formula_view is_formula c.args.formulas.now l.formula-index c.formula-item.result lt c.formula-item.is l.invariant.good c.put_formula.ensures.good;
+    }

@@ -1,0 +1,15 @@
+use Rattle.std.proofs.Common.{◌<◌, length, arith}
+use Rattle.pddl_formula.specs.Terms.{term_view}
+use Rattle.pddl_file_layout.specs.FormulaValues.{is_term}
+use Rattle.pddl_file_layout.specs.Texts.{term_text}
+use Rattle.pddl_file_layout.proofs.Printed.{spaced_on, passes_on}
+use Rattle.pddl_file_layout.proofs.formula.put_terms.Goals as goal
+
+pub loop-term-preserved : goal.loop-term-preserved
+loop-term-preserved g c =
+    let l = c.loop-term in
+    let lt : l.term-index < length c.args.terms.now = omega arith in
+    record {
+      printed = spaced_on term_view term_text c.args.terms.now l.term-index c.term-item.result lt c.term-item.is l.invariant.printed c.put.ensures c.put_term.ensures.printed;
+      good = passes_on term_view is_term c.args.terms.now l.term-index c.term-item.result lt c.term-item.is l.invariant.good c.put_term.ensures.good;
+    }

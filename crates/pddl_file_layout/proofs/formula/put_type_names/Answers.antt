@@ -1,0 +1,12 @@
+use Rattle.std.proofs.Common.{◌++◌, ◌<◌, ℕ, List, length, arith}
+use Rattle.std.specs.Prelude.{codes}
+use Rattle.pddl_file_layout.proofs.Printed.{puts_on, puts_as, words_on}
+use Rattle.pddl_file_layout.proofs.formula.put_type_names.Goals as goal
+
+pub loop-name-preserved : goal.loop-name-preserved
+loop-name-preserved g c =
+    let l = c.loop-name in
+    let lt : l.name-index < length c.args.names.now = omega arith in
+    record {
+      printed = words_on (λ (n : List ℕ). codes " " ++ n) c.args.names.now l.name-index c.name-item.result lt c.name-item.is l.invariant.printed (puts_on c.put.ensures (puts_as c.as_bytes.ensures.value c.put-in-loop-name.ensures));
+    }
