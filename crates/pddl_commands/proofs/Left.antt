@@ -1,13 +1,13 @@
 -- What a reader has left to give, where it is known, and a text past the limit.
 use Rattle.std.proofs.Common.{◌≡◌, ℕ, ◌<◌, List, [], length, refl}
-use Rattle.std.specs.Prelude.{codes, Option, Some, None, IfSome}
+use Rattle.std.specs.Prelude.{Option, Some, None, IfSome}
 use Rattle.pddl_text.specs.declared.fault.TextFault.TheVariants as texts
-use Rattle.pddl_tree.specs.declared.fault.ReadFault.TheVariants as faults
-use Rattle.pddl_commands.specs.declared.formatting.Kind.{Kind}
-use Rattle.pddl_commands.specs.declared.formatting.Kind.TheVariants.{Plan}
-use Rattle.pddl_commands.specs.declared.outcome.Outcome.TheVariants.{Refused}
-use Rattle.pddl_commands.specs.Lines.{IsFaultLine}
-use Rattle.pddl_commands.specs.Formats.{IsFormatted, IsLeft}
+use Rattle.pddl_tree.specs.declared.fault.ReadFault.TheVariants as plans
+use Rattle.pddl_file.specs.declared.fault.FileFault.TheVariants as files
+use Rattle.pddl_commands.specs.declared.kind.Kind.{Kind}
+use Rattle.pddl_commands.specs.declared.kind.Kind.TheVariants.{Domain, Problem, Plan}
+use Rattle.pddl_commands.specs.Lines.{text_fault_name, IsFaultLine}
+use Rattle.pddl_commands.specs.Formats.{kind_word, IsLeft, IsRefused}
 
 -- a text that was read to its end
 pub left_read : (remaining : Option (List ℕ)) (text : List ℕ) → IfSome remaining (λ known. text ≡ known) → IsLeft remaining text
@@ -20,10 +20,22 @@ left_more None new limit given known more = (given, tt, more)
 left_more (Some text) new limit given known more = (text, refl, known)
 
 -- the line for a text past the limit
-pub too_long_formatted : (kind : Kind) (text line : List ℕ) → 16777216 < length text → IsFaultLine (codes "plan") [] (faults.Text texts.TooLong) line → IsFormatted kind text line Refused
-too_long_formatted Plan text line longer is = record {
-  fault = faults.Text texts.TooLong;
+pub too_long_refused : (kind : Kind) (text line : List ℕ) → 16777216 < length text → IsFaultLine (kind_word kind) [] (text_fault_name texts.TooLong) None line → IsRefused kind text line
+too_long_refused Domain text line longer is = record {
+  fault = files.Text texts.TooLong;
   no_memory = λ e. absurd (cc (e));
   stands = longer;
-  line = record { shown = is.shown; place = is.place; line_is = is.line_is };
+  line = record { shown = is.shown; place_is = is.place_is; line_is = is.line_is };
+}
+too_long_refused Problem text line longer is = record {
+  fault = files.Text texts.TooLong;
+  no_memory = λ e. absurd (cc (e));
+  stands = longer;
+  line = record { shown = is.shown; place_is = is.place_is; line_is = is.line_is };
+}
+too_long_refused Plan text line longer is = record {
+  fault = plans.Text texts.TooLong;
+  no_memory = λ e. absurd (cc (e));
+  stands = longer;
+  line = record { shown = is.shown; place_is = is.place_is; line_is = is.line_is };
 }

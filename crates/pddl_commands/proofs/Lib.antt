@@ -1,2 +1,3 @@
+pub mod FaultLines
 pub mod OneOutcome
 pub mod Left

@@ -1,45 +1,68 @@
 -- What `format` prints for a text, and how it ends. Own.
-use Rattle.std.specs.Prelude.{◌≡◌, ◌≢◌, ℕ, Bool, true, false, List, codes, Option, Some, None}
+use Rattle.std.specs.Prelude.{◌≡◌, ◌≢◌, ℕ, List, codes, Option, Some, None}
 use Rattle.pddl_text.specs.declared.fault.TextFault.TheVariants.{Memory}
 use Rattle.pddl_tree.specs.declared.fault.ReadFault.{ReadFault}
-use Rattle.pddl_tree.specs.declared.fault.ReadFault.TheVariants.{Text}
-use Rattle.pddl_tree.specs.Plans.{PlanValue}
+use Rattle.pddl_tree.specs.declared.fault.ReadFault.TheVariants as plans
+use Rattle.pddl_tree.specs.Places.{fault_place}
 use Rattle.pddl_tree.specs.PlanTexts.{SpellsPlan, PlanStands}
+use Rattle.pddl_file.specs.declared.fault.FileFault.{FileFault}
+use Rattle.pddl_file.specs.declared.fault.FileFault.TheVariants as files
+use Rattle.pddl_file.specs.Places.{file_place}
+use Rattle.pddl_domain.specs.Domains.{SpellsDomain, DomainStands}
+use Rattle.pddl_problem.specs.Problems.{SpellsProblem, ProblemStands}
 use Rattle.pddl_layout.specs.PlanLayout.{plan_text}
-use Rattle.pddl_commands.specs.declared.formatting.Kind.{Kind}
-use Rattle.pddl_commands.specs.declared.formatting.Kind.TheVariants.{Plan}
+use Rattle.pddl_file_layout.specs.DomainLayout.{domain_text}
+use Rattle.pddl_file_layout.specs.ProblemLayout.{problem_text}
+use Rattle.pddl_commands.specs.declared.kind.Kind.{Kind}
+use Rattle.pddl_commands.specs.declared.kind.Kind.TheVariants.{Domain, Problem, Plan}
 use Rattle.pddl_commands.specs.declared.outcome.Outcome.{Outcome}
 use Rattle.pddl_commands.specs.declared.outcome.Outcome.TheVariants.{Good, Invalid, Refused}
-use Rattle.pddl_commands.specs.Lines.{IsFaultLine}
-
--- the fault is want of memory
-abbrev pub is_memory : ReadFault → Bool
-is_memory (Text Memory) = true
-is_memory _ = false
+use Rattle.pddl_commands.specs.Lines.{fault_name, file_fault_name, IsFaultLine}
 
 -- what a file is called in the line that refuses it
 abbrev pub kind_word : Kind → List ℕ
+kind_word Domain = codes "domain"
+kind_word Problem = codes "problem"
 kind_word Plan = codes "plan"
 
--- some plan spells the text, and its canonical text is printed
-pub record IsPlanPrinted (text printed : List ℕ) : Type 0 where
-  pub plan : PlanValue
-  pub spells : SpellsPlan plan text
-  pub printed_is : printed ≡ plan_text plan
+-- some value spells the text, and its canonical text is printed
+pub record IsPrinted {V : Type 0} (Spells : V → List ℕ → Type 0) (layout : V → List ℕ) (text printed : List ℕ) : Type 0 where
+  pub value : V
+  pub spells : Spells value text
+  pub printed_is : printed ≡ layout value
 
--- a fault stands in the text, and its line is printed
+-- a fault of a plan stands in the text, and its line is printed
 pub record IsPlanRefused (text printed : List ℕ) : Type 0 where
   pub fault : ReadFault
-  pub no_memory : fault ≢ Text Memory
+  pub no_memory : fault ≢ plans.Text Memory
   pub stands : PlanStands fault text
-  pub line : IsFaultLine (kind_word Plan) text fault printed
+  pub line : IsFaultLine (kind_word Plan) text (fault_name fault) (fault_place fault) printed
+
+-- a fault of a domain or a problem stands in the text, and its line is printed
+pub record IsFileRefused (kind : Kind) (Stands : FileFault → List ℕ → Type 0) (text printed : List ℕ) : Type 0 where
+  pub fault : FileFault
+  pub no_memory : fault ≢ files.Text Memory
+  pub stands : Stands fault text
+  pub line : IsFaultLine (kind_word kind) text (file_fault_name fault) (file_place fault) printed
+
+-- some value of the kind spells the text, and its canonical text is printed
+abbrev pub IsCanonical : Kind → List ℕ → List ℕ → Type 0
+IsCanonical Domain = IsPrinted SpellsDomain domain_text
+IsCanonical Problem = IsPrinted SpellsProblem problem_text
+IsCanonical Plan = IsPrinted SpellsPlan plan_text
+
+-- the text has a fault as a file of the kind, and its line is printed
+abbrev pub IsRefused : Kind → List ℕ → List ℕ → Type 0
+IsRefused Domain = IsFileRefused Domain DomainStands
+IsRefused Problem = IsFileRefused Problem ProblemStands
+IsRefused Plan = IsPlanRefused
 
 -- the file's text, what is printed for it, and the outcome
 abbrev pub IsFormatted : Kind → List ℕ → List ℕ → Outcome → Type 0
-IsFormatted Plan text printed Good = IsPlanPrinted text printed
-IsFormatted Plan text printed Refused = IsPlanRefused text printed
+IsFormatted kind text printed Good = IsCanonical kind text printed
+IsFormatted kind text printed Refused = IsRefused kind text printed
 -- `format` looks at no meaning
-IsFormatted Plan text printed Invalid = ⊥
+IsFormatted kind text printed Invalid = ⊥
 
 -- the text is all that a reader has left to give, where that is known
 abbrev pub IsLeft : Option (List ℕ) → List ℕ → Type 0

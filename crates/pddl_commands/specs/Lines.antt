@@ -6,8 +6,11 @@ use Rattle.pddl_text.specs.declared.fault.TextFault.TheVariants as texts
 use Rattle.pddl_text.specs.declared.place.Pos.{Pos}
 use Rattle.pddl_text.specs.Positions.{IsBehind}
 use Rattle.pddl_tree.specs.declared.fault.ReadFault.{ReadFault}
-use Rattle.pddl_tree.specs.declared.fault.ReadFault.TheVariants as faults
-use Rattle.pddl_tree.specs.Places.{fault_place}
+use Rattle.pddl_tree.specs.declared.fault.ReadFault.TheVariants as plans
+use Rattle.pddl_file.specs.declared.fault.FileFault.{FileFault}
+use Rattle.pddl_file.specs.declared.fault.FileFault.TheVariants as files
+use Rattle.pddl_file.specs.Keywords.{key_text}
+use Rattle.pddl_file.specs.Marks.{mark_word}
 
 -- the number and the name of a fault of a text
 abbrev pub text_fault_name : TextFault → List ℕ
@@ -20,20 +23,29 @@ text_fault_name (texts.Unopened at) = codes "5 Unopened"
 text_fault_name (texts.TooDeep at) = codes "6 TooDeep"
 text_fault_name (texts.Unclosed at) = codes "7 Unclosed"
 
--- the number and the name of a fault
+-- the number and the name of a fault of a plan
 abbrev pub fault_name : ReadFault → List ℕ
-fault_name (faults.Text fault) = text_fault_name fault
-fault_name (faults.Step span near) = codes "15 Step"
-fault_name (faults.Mixed span) = codes "16 Mixed"
-fault_name (faults.Duration span) = codes "17 Duration"
+fault_name (plans.Text fault) = text_fault_name fault
+fault_name (plans.Step span near) = codes "15 Step"
+fault_name (plans.Mixed span) = codes "16 Mixed"
+fault_name (plans.Duration span) = codes "17 Duration"
+
+-- the number and the name of a fault of a domain or a problem, and the word or the keyword that it is about
+abbrev pub file_fault_name : FileFault → List ℕ
+file_fault_name (files.Text fault) = text_fault_name fault
+file_fault_name (files.Head span) = codes "10 Head"
+file_fault_name (files.Section span near) = codes "11 Section"
+file_fault_name (files.Unsupported mark span) = codes "12 Unsupported " ++ mark_word mark
+file_fault_name (files.Twice keyword span) = codes "13 Twice " ++ key_text keyword
+file_fault_name (files.Missing keyword) = codes "14 Missing " ++ key_text keyword
 
 -- where the fault stands, as it is shown: nothing, or ` at `, the line, a colon and the column of its place
 abbrev pub IsPlaceShown : List ℕ → Option ℕ → List ℕ → Type 0
 IsPlaceShown text None shown = shown ≡ []
 IsPlaceShown text (Some at) shown = (pos : Pos) × IsBehind (take at text) pos × (shown ≡ codes " at " ++ (decimal pos.line ++ (codes ":" ++ decimal pos.col)))
 
--- the line of a file that is refused for a fault: what the file is, the fault, and its place in the text
-pub record IsFaultLine (word text : List ℕ) (fault : ReadFault) (line : List ℕ) : Type 0 where
+-- the line of a file that is refused: what the file is, the name of the fault, and its place in the text
+pub record IsFaultLine (word text name : List ℕ) (place : Option ℕ) (line : List ℕ) : Type 0 where
   pub shown : List ℕ
-  pub place : IsPlaceShown text (fault_place fault) shown
-  pub line_is : line ≡ word ++ (codes ": fault " ++ (fault_name fault ++ (shown ++ codes "\n")))
+  pub place_is : IsPlaceShown text place shown
+  pub line_is : line ≡ word ++ (codes ": fault " ++ (name ++ (shown ++ codes "\n")))

@@ -1,103 +1,24 @@
 //! The command that prints a file in its canonical layout.
 
-ghost use Rattle.std.specs.Prelude.{◌≡◌, ◌≢◌, ◌≤◌, ◌<◌, ◌⊎◌, ℕ, List, true, IfOk, OnOk, IsErrOf, Ok, length};
+ghost use Rattle.std.specs.Prelude.{◌≡◌, ℕ, List, true, IfOk, OnOk, IsErrOf, Ok};
 ghost use Rattle.std.specs.Io.KnownBytes.{Appends, Consumes, Keeps};
 ghost use Rattle.pddl_text.specs.Device.{AppendsBeginning, HasFailed};
-ghost use Rattle.pddl_commands.specs.declared.formatting.Kind.{Kind};
+ghost use Rattle.pddl_commands.specs.declared.kind.Kind.{Kind};
 ghost use Rattle.pddl_commands.specs.declared.outcome.Outcome.{Outcome};
-ghost use Rattle.pddl_tree.specs.PlanTexts.{PlanStands};
-ghost use Rattle.pddl_commands.specs.Formats.{is_memory, IsFormatted, IsLeft};
+ghost use Rattle.pddl_commands.specs.Formats.{IsFormatted, IsLeft};
 
-use crate::line::fault_line;
+use crate::formatted::{Formatted, formatted, too_long};
+use crate::kind::Kind;
 use crate::outcome::{Outcome, RunFault};
-use pddl_layout::plan_text;
-use pddl_text::{LONGEST, Sink, Source, SourceFault, TextFault, read_all, write_text};
-use pddl_tree::{ReadFault, read_plan};
-use std::alloc::{AllocError, Allocator};
-
-/// What a file holds.
-#[derive(Clone, Copy, Debug, PartialEq, Eq)]
-pub enum Kind {
-    /// A plan, in the form of VAL's plan files.
-    Plan,
-}
-
-/// What is printed for a plan file's text in which a fault stands, and the outcome.
-fn refused_plan<'a, B: Allocator>(
-    alloc: &'a B,
-    text: &[u8],
-    fault: &ReadFault,
-) -> Result<(Vec<u8, &'a B>, Outcome), AllocError>
-    requires { PlanStands fault.now text.now }
-    ensures { IfOk result (λ answer. IsFormatted Kind.Plan text.now answer.0.items answer.1) }
-{
-    if is_memory(fault) {
-        return Err(AllocError);
-    }
-    let line = fault_line(alloc, b"plan", text, fault)?;
-    Ok((line, Outcome::Refused))
-}
-
-/// Whether memory was refused.
-fn is_memory(fault: &ReadFault) -> bool
-    ensures { result ≡ is_memory fault.now }
-{
-    match fault {
-        ReadFault::Text(TextFault::Memory) => true,
-        _ => false,
-    }
-}
-
-/// What is printed for a plan file's text, and the outcome.
-fn formatted_plan<'a, B: Allocator>(
-    alloc: &'a B,
-    text: &[u8],
-) -> Result<(Vec<u8, &'a B>, Outcome), AllocError>
-    ensures { IfOk result (λ answer. IsFormatted Kind.Plan text.now answer.0.items answer.1) }
-{
-    match read_plan(alloc, text) {
-        Ok(plan) => {
-            let printed = plan_text(alloc, &plan)?;
-            Ok((printed, Outcome::Good))
-        }
-        Err(fault) => refused_plan(alloc, text, &fault),
-    }
-}
-
-/// What is printed for a text, and the outcome.
-fn formatted<'a, B: Allocator>(
-    alloc: &'a B,
-    kind: Kind,
-    text: &[u8],
-) -> Result<(Vec<u8, &'a B>, Outcome), AllocError>
-    ensures { IfOk result (λ answer. IsFormatted kind text.now answer.0.items answer.1) }
-{
-    match kind {
-        Kind::Plan => formatted_plan(alloc, text),
-    }
-}
-
-/// What is printed for a text that is longer than the limit, and the outcome.
-fn too_long<'a, B: Allocator>(
-    alloc: &'a B,
-    kind: Kind,
-) -> Result<(Vec<u8, &'a B>, Outcome), AllocError>
-    ensures { IfOk result (λ answer. (text : List ℕ) → LONGEST < length text → IsFormatted kind text answer.0.items answer.1) }
-{
-    match kind {
-        Kind::Plan => {
-            let line = fault_line(alloc, b"plan", b"", &ReadFault::Text(TextFault::TooLong))?;
-            Ok((line, Outcome::Refused))
-        }
-    }
-}
+use pddl_text::{LONGEST, Sink, Source, SourceFault, read_all, write_text};
+use std::alloc::Allocator;
 
 /// What is printed for a reader's text, and the outcome. No writer plays a part.
 fn read_formatted<'a, B: Allocator, S: Source>(
     alloc: &'a B,
     kind: Kind,
     source: &mut S,
-) -> Result<(Vec<u8, &'a B>, Outcome), RunFault>
+) -> Result<Formatted<'a, B>, RunFault>
     ensures answer { IfOk result (λ answer. (text : List ℕ) × IsLeft (S.remaining source.old) text × IsFormatted kind text answer.0.items answer.1) }
     ensures good_at_end { IfOk result (λ answer. answer.1 ≡ Outcome.Good → S.at_end source.new ≡ true) }
     ensures none_failed { OnOk result (S.failures source.new ≡ S.failures source.old) }
@@ -112,7 +33,7 @@ fn read_formatted<'a, B: Allocator, S: Source>(
             Err(_) => Err(RunFault::Memory),
         },
         Err(SourceFault::TooLong) => match too_long(alloc, kind) {
-            Ok(answer) => Ok(answer),
+            Ok(line) => Ok((line, Outcome::Refused)),
             Err(_) => Err(RunFault::Memory),
         },
         Err(SourceFault::Memory) => Err(RunFault::Memory),

@@ -4,9 +4,13 @@
 //! where memory was refused or a read failed.
 #![tactic(auto)]
 
+mod fault_names;
+mod formatted;
 mod formatting;
+mod kind;
 mod line;
 mod outcome;
 
-pub use formatting::{Kind, format, one_outcome};
+pub use formatting::{format, one_outcome};
+pub use kind::Kind;
 pub use outcome::{Outcome, RunFault, status};

@@ -2,40 +2,13 @@
 
 ghost use Rattle.std.specs.Prelude.{◌≡◌, ◌≤◌, ◌++◌, ℕ, List, Some, codes, length, IfOk, OnOk};
 ghost use Rattle.std.specs.Fmt.{decimal};
-ghost use Rattle.pddl_tree.specs.Places.{fault_place};
-ghost use Rattle.pddl_commands.specs.Lines.{text_fault_name, fault_name, IsPlaceShown, IsFaultLine};
+ghost use Rattle.pddl_commands.specs.Faults.{whole_name};
+ghost use Rattle.pddl_commands.specs.Lines.{IsPlaceShown, IsFaultLine};
 
+use crate::fault_names::FaultName;
 use itoa::Buffer;
-use pddl_text::{LONGEST, Pos, TextFault, position};
-use pddl_tree::ReadFault;
+use pddl_text::{LONGEST, Pos, position};
 use std::alloc::{AllocError, Allocator};
-
-fn text_fault_name(fault: &TextFault) -> &'static str
-    ensures { result.now ≡ text_fault_name fault.now }
-{
-    match fault {
-        TextFault::Memory => "0 Memory",
-        TextFault::TooLong => "1 TooLong",
-        TextFault::Stray { .. } => "2 Stray",
-        TextFault::Glued { .. } => "3 Glued",
-        TextFault::NumberRange { .. } => "4 NumberRange",
-        TextFault::Unopened { .. } => "5 Unopened",
-        TextFault::TooDeep { .. } => "6 TooDeep",
-        TextFault::Unclosed { .. } => "7 Unclosed",
-    }
-}
-
-/// The number and the name of a fault.
-fn fault_name(fault: &ReadFault) -> &'static str
-    ensures { result.now ≡ fault_name fault.now }
-{
-    match fault {
-        ReadFault::Text(fault) => text_fault_name(fault),
-        ReadFault::Step { .. } => "15 Step",
-        ReadFault::Mixed { .. } => "16 Mixed",
-        ReadFault::Duration { .. } => "17 Duration",
-    }
-}
 
 /// Adds a whole number.
 fn push_number<A: Allocator>(line: &mut Vec<u8, A>, number: u32) -> Result<(), AllocError>
@@ -43,6 +16,15 @@ fn push_number<A: Allocator>(line: &mut Vec<u8, A>, number: u32) -> Result<(), A
 {
     let mut buffer = Buffer::new();
     line.extend_from_slice(buffer.format(number).as_bytes())?;
+    Ok(())
+}
+
+/// Adds the name of a fault.
+fn push_name<A: Allocator>(line: &mut Vec<u8, A>, name: FaultName) -> Result<(), AllocError>
+    ensures { OnOk result (line.new.items ≡ line.old.items ++ whole_name name) }
+{
+    line.extend_from_slice(name.numbered.as_bytes())?;
+    line.extend_from_slice(name.about)?;
     Ok(())
 }
 
@@ -75,23 +57,25 @@ fn push_place<A: Allocator>(
     }
 }
 
-/// The line of a file that is refused for a fault; `word` says what the file is.
+/// The line of a file that is refused: `word` says what the file is, `name` which fault it has, and `place` where in the text
+/// that stands, as a number of bytes from 0.
 ///
 /// Fails where memory for the line is refused.
 pub fn fault_line<A: Allocator>(
     alloc: A,
     word: &[u8],
     text: &[u8],
-    fault: &ReadFault,
+    name: FaultName,
+    place: Option<u32>,
 ) -> Result<Vec<u8, A>, AllocError>
-    requires { (at : ℕ) → fault_place fault.now ≡ Some at → (at ≤ length text.now) × (at ≤ LONGEST) }
-    ensures { IfOk result (λ line. IsFaultLine word.now text.now fault.now line.items) }
+    requires { (at : ℕ) → place ≡ Some at → (at ≤ length text.now) × (at ≤ LONGEST) }
+    ensures { IfOk result (λ line. IsFaultLine word.now text.now (whole_name name) place line.items) }
 {
     let mut line = Vec::new(alloc);
     line.extend_from_slice(word)?;
     line.extend_from_slice(b": fault ")?;
-    line.extend_from_slice(fault_name(fault).as_bytes())?;
-    push_place(&mut line, text, fault.place())?;
+    push_name(&mut line, name)?;
+    push_place(&mut line, text, place)?;
     line.push(b'\n')?;
     Ok(line)
 }

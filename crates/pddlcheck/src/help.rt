@@ -8,7 +8,8 @@ pub const ABOUT: &str =
 pub const ABOUT_FORMAT: &str = "Prints a file in its canonical layout";
 
 /// What `KIND` stands for.
-pub const KIND: &str = "What the file holds: a plan, as planners write it and VAL reads it";
+pub const KIND: &str = "What the file holds: a planning domain or problem of PDDL 3.1, or a plan, \
+as planners write it and VAL reads it";
 
 /// What `FILE` stands for.
 pub const FILE: &str = "The file; /dev/stdin is standard input";
@@ -23,13 +24,16 @@ Exit status:
   4  reading, writing or memory failed, or a file does not open
 
 Example:
-  pddlcheck format plan my.plan";
+  pddlcheck format domain domain.pddl";
 
 /// What stands after the help of `format`.
 pub const AFTER_FORMAT: &str = "\
-A plan is printed with one step a line, in the order of the file, in lower case, with one space between two words
-and without comments. The moment of a step stands before it, as in `0.5: (light a)`. A file that is refused gives
-one line in place of that, which names the fault, as `plan: fault 3 Glued at 1:1`.
+A file is printed in lower case, with one space between two words and without comments.
+A domain or a problem gets one line for each section and four for each action; each item of a typed list gets its
+own type. A plan gets one step a line, in the order of the file, with the moment of a step before it, as in
+`0.5: (light a)`.
+A file that is refused gives one line in place of that, which names the fault, as `plan: fault 3 Glued at 1:1` or
+`problem: fault 14 Missing :goal`.
 
 Exit status:
   0  the file was printed
@@ -37,5 +41,7 @@ Exit status:
   3  the words of the command line are wrong
   4  reading, writing or memory failed, or the file does not open
 
-Example:
+Examples:
+  pddlcheck format domain domain.pddl
+  pddlcheck format problem problem.pddl
   pddlcheck format plan my.plan";

@@ -15,7 +15,21 @@ fn refused_with(rt: &impl AllocGlobal, words: &[&str]) -> Option<u8> {
 
 #[test]
 fn words_give_jobs(rt: HostRuntime) -> Result<(), Fail> {
-    let rows: [(&[&str], Job); 3] = [
+    let rows: [(&[&str], Job); 5] = [
+        (
+            &["pddlcheck", "format", "domain", "my.pddl"],
+            Job::Format {
+                kind: Kind::Domain,
+                path: "my.pddl",
+            },
+        ),
+        (
+            &["pddlcheck", "format", "problem", "my.pddl"],
+            Job::Format {
+                kind: Kind::Problem,
+                path: "my.pddl",
+            },
+        ),
         (
             &["pddlcheck", "format", "plan", "my.plan"],
             Job::Format {
@@ -62,14 +76,15 @@ fn words_that_ask_for_help(rt: HostRuntime) -> Result<(), Fail> {
 
 #[test]
 fn words_that_ask_for_nothing(rt: HostRuntime) -> Result<(), Fail> {
-    let rows: [&[&str]; 11] = [
+    let rows: [&[&str]; 12] = [
         &[],
         &["pddlcheck"],
         &["pddlcheck", "reformat"],
         &["pddlcheck", "--unknown"],
         &["pddlcheck", "format"],
         &["pddlcheck", "format", "plan"],
-        &["pddlcheck", "format", "domain", "my.pddl"],
+        &["pddlcheck", "format", "domain"],
+        &["pddlcheck", "format", "task", "my.pddl"],
         &["pddlcheck", "format", "Plan", "my.plan"],
         &["pddlcheck", "format", "plan", "my.plan", "other.plan"],
         &["pddlcheck", "format", "--unknown", "plan", "my.plan"],
@@ -93,7 +108,8 @@ fn help_names_the_commands_and_the_statuses(rt: HostRuntime) -> Result<(), Fail>
         ],
         &[
             "Usage: pddlcheck format <KIND> <FILE>",
-            "plan",
+            "domain, problem, plan",
+            "planning domain or problem",
             "/dev/stdin",
             "Exit status:",
         ],

@@ -18,11 +18,13 @@ pub enum Job<'a> {
 }
 
 /// The words for what a file holds.
-static KINDS: [&str; 1] = ["plan"];
+static KINDS: [&str; 3] = ["domain", "problem", "plan"];
 
 /// What the word says that a file holds.
 fn kind_named(word: &str) -> Option<Kind> {
     match word {
+        "domain" => Some(Kind::Domain),
+        "problem" => Some(Kind::Problem),
         "plan" => Some(Kind::Plan),
         _ => None,
     }

@@ -1,0 +1,21 @@
+-- Faults as the program looks at them. No public contract names these.
+use Rattle.std.specs.Prelude.{ℕ, List, ◌++◌, Bool, true, false}
+use Rattle.pddl_text.specs.declared.fault.TextFault.TheVariants.{Memory}
+use Rattle.pddl_tree.specs.declared.fault.ReadFault.{ReadFault}
+use Rattle.pddl_tree.specs.declared.fault.ReadFault.TheVariants as plans
+use Rattle.pddl_file.specs.declared.fault.FileFault.{FileFault}
+use Rattle.pddl_file.specs.declared.fault.FileFault.TheVariants as files
+use Rattle.pddl_commands.specs.declared.fault_names.FaultName.{FaultName}
+
+-- the whole name
+abbrev pub whole_name : FaultName → List ℕ
+whole_name name = name.numbered.now ++ name.about.now
+
+-- the fault is want of memory
+abbrev pub is_memory : ReadFault → Bool
+is_memory (plans.Text Memory) = true
+is_memory _ = false
+
+abbrev pub is_file_memory : FileFault → Bool
+is_file_memory (files.Text Memory) = true
+is_file_memory _ = false

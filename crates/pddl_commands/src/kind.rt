@@ -1,0 +1,28 @@
+//! Kinds of files.
+
+ghost use Rattle.std.specs.Prelude.{◌≡◌};
+ghost use Rattle.pddl_commands.specs.Formats.{kind_word};
+
+/// What a file holds.
+#[derive(Clone, Copy, Debug, PartialEq, Eq)]
+pub enum Kind {
+    /// A planning domain, as Kovacs' BNF definition of PDDL 3.1 has it.
+    Domain,
+    /// A planning problem, likewise.
+    Problem,
+    /// A plan, in the form of VAL's plan files.
+    Plan,
+}
+
+impl Kind {
+    /// What a file of the kind is called in the line that refuses it.
+    pub fn word(self) -> &'static [u8]
+        ensures { result.now ≡ kind_word self }
+    {
+        match self {
+            Kind::Domain => b"domain",
+            Kind::Problem => b"problem",
+            Kind::Plan => b"plan",
+        }
+    }
+}
