@@ -6,10 +6,20 @@
 #[cfg(test)]
 mod device_rows;
 #[cfg(test)]
+mod domain_rows;
+#[cfg(test)]
 mod file_rows;
+#[cfg(test)]
+mod format_rows;
+#[cfg(test)]
+mod formatting;
 #[cfg(test)]
 mod memory_rows;
 #[cfg(test)]
 mod plan_rows;
+#[cfg(test)]
+mod problem_rows;
+#[cfg(test)]
+mod sample_files;
 #[cfg(test)]
 mod text_rows;

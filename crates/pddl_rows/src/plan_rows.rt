@@ -2,16 +2,16 @@
 
 ghost use Rattle.std.specs.Prelude.{◌<◌};
 
-use pddl_commands::{Kind, Outcome, RunFault, format, status};
-use pddl_fakes::{Failure, FakeSink, FakeSource, Refusing};
+use crate::formatting::{
+    Row, check_rows, check_run, fails_at_each_read, fails_at_each_write, refuses_growths,
+};
+use pddl_commands::{Kind, Outcome};
+use pddl_fakes::{Failure, FakeSink, Refusing};
 use pddl_layout::{plan_text, write_plan};
-use pddl_text::{FromRead, LONGEST, Span, TextFault, ToWrite};
+use pddl_text::{LONGEST, Span, TextFault, ToWrite};
 use pddl_tree::{Name, Plan, ReadFault, read_plan};
 use std::process::Abort;
 use std::test::Fail;
-
-/// A plan file, what `format plan` writes for it, and the exit status.
-type Row = (&'static str, &'static str, u8);
 
 /// Files that are printed.
 const PRINTED: [Row; 14] = [
@@ -106,91 +106,43 @@ const NO_STEPS: [Row; 20] = [
     ("(a)\n]", "plan: fault 17 Duration at 2:1\n", 2),
 ];
 
-/// What `format plan` writes for a text, and how it ends.
-fn check_row<R: Abort + AllocGlobal>(rt: &R, row: Row) -> Result<(), Fail> {
-    let (text, want, want_status) = row;
-    let alloc = rt.alloc();
-    let mut source = FromRead::new(text.as_bytes());
-    let mut out = ToWrite::new(Vec::new(alloc));
-    let ended = format(&alloc, Kind::Plan, &mut source, &mut out);
-    let written = out.into_inner();
-    assert_eq!(rt; written.as_slice(), want.as_bytes(), "{text}");
-    assert_eq!(rt; status(&ended), want_status, "{text}");
-    Ok(())
-}
-
 #[test]
 fn prints_plans(rt: HostRuntime) -> Result<(), Fail> {
-    for row in PRINTED {
-        check_row(&rt, row)?;
+    check_rows(&rt, Kind::Plan, &PRINTED)
+}
+
+#[test]
+fn refuses_plans(rt: HostRuntime) -> Result<(), Fail> {
+    check_rows(&rt, Kind::Plan, &NO_ITEMS)?;
+    check_rows(&rt, Kind::Plan, &NO_STEPS)
+}
+
+#[test]
+fn keeps_the_limits(rt: HostRuntime) -> Result<(), Fail> {
+    let rows = [
+        (
+            b'(',
+            128,
+            "plan: fault 7 Unclosed at 1:1\n",
+            Outcome::Refused,
+        ),
+        (
+            b'(',
+            129,
+            "plan: fault 6 TooDeep at 1:129\n",
+            Outcome::Refused,
+        ),
+        (b' ', LONGEST, "", Outcome::Good),
+        (
+            b' ',
+            LONGEST + 1,
+            "plan: fault 1 TooLong\n",
+            Outcome::Refused,
+        ),
+    ];
+    for (byte, count, want, outcome) in rows {
+        check_run(&rt, Kind::Plan, byte, count, want, outcome)?;
     }
-    Ok(())
-}
-
-#[test]
-fn refuses_tokens_and_lists(rt: HostRuntime) -> Result<(), Fail> {
-    for row in NO_ITEMS {
-        check_row(&rt, row)?;
-    }
-    Ok(())
-}
-
-#[test]
-fn refuses_steps(rt: HostRuntime) -> Result<(), Fail> {
-    for row in NO_STEPS {
-        check_row(&rt, row)?;
-    }
-    Ok(())
-}
-
-/// What `format plan` writes for so many openings.
-fn openings<R: Abort + AllocGlobal>(rt: &R, count: usize, want: &str) -> Result<(), Fail> {
-    let alloc = rt.alloc();
-    let text = vec![in alloc; b'('; count]?;
-    let mut out = ToWrite::new(Vec::new(alloc));
-    let ended = format(
-        &alloc,
-        Kind::Plan,
-        &mut FromRead::new(text.as_slice()),
-        &mut out,
-    );
-    assert_eq!(rt; ended, Ok(Outcome::Refused), "{count}");
-    assert_eq!(rt; out.into_inner().as_slice(), want.as_bytes(), "{count}");
-    Ok(())
-}
-
-#[test]
-fn refuses_depth(rt: HostRuntime) -> Result<(), Fail> {
-    openings(&rt, 128, "plan: fault 7 Unclosed at 1:1\n")?;
-    openings(&rt, 129, "plan: fault 6 TooDeep at 1:129\n")
-}
-
-#[test]
-fn keeps_the_limit_of_length(rt: HostRuntime) -> Result<(), Fail> {
-    let alloc = rt.alloc();
-    let mut text = vec![in alloc; b' '; LONGEST]?;
-    let mut out = ToWrite::new(Vec::new(alloc));
-    let ended = format(
-        &alloc,
-        Kind::Plan,
-        &mut FromRead::new(text.as_slice()),
-        &mut out,
-    );
-    assert_eq!(rt; ended, Ok(Outcome::Good));
-    assert!(rt; out.into_inner().is_empty());
-    text.push(b'&')?;
-    let mut out = ToWrite::new(Vec::new(alloc));
-    let ended = format(
-        &alloc,
-        Kind::Plan,
-        &mut FromRead::new(text.as_slice()),
-        &mut out,
-    );
-    assert_eq!(rt; ended, Ok(Outcome::Refused));
-    assert_eq!(rt;
-        out.into_inner().as_slice(),
-        b"plan: fault 1 TooLong\n".as_slice()
-    );
     Ok(())
 }
 
@@ -267,56 +219,35 @@ fn makes_names(rt: HostRuntime) -> Result<(), Fail> {
 }
 
 /// A file that is printed, with a comment, a fraction and several names.
-const TEXT: &[u8] = b"; x\n1.50: (Light a b)\n 0: (check C)";
+const TEXT: &str = "; x\n1.50: (Light a b)\n 0: (check C)";
 
 /// Its canonical text.
-const CANONICAL: &[u8] = b"1.5: (light a b)\n0: (check c)\n";
+const CANONICAL: &str = "1.5: (light a b)\n0: (check c)\n";
 
 /// A file that is refused, and its line.
-const FAULTY: &[u8] = b"(a)\n(b) [1]";
+const FAULTY: &str = "(a)\n(b) [1]";
 
-const FAULT: &[u8] = b"plan: fault 17 Duration at 2:5\n";
-
-/// Refuses each growth of `format` in turn.
-fn refuses_growths<R: Abort + AllocGlobal>(
-    rt: &R,
-    text: &[u8],
-    want: &[u8],
-    outcome: Outcome,
-) -> Result<(), Fail> {
-    for n in 1..1000 {
-        let alloc = Refusing::nth(rt.alloc(), n);
-        let mut source = FakeSource::new(text, 7, 0);
-        let mut out = FakeSink::new(rt.alloc(), 5, 0, Failure::Answers);
-        let ended = format(&alloc, Kind::Plan, &mut source, &mut out);
-        if ended == Err(RunFault::Memory) {
-            assert!(rt; alloc.has_refused(), "growth {n}: memory without a refusal");
-            assert!(rt; out.held().is_empty(), "growth {n}");
-            continue;
-        }
-        assert_eq!(rt; ended, Ok(outcome), "growth {n}");
-        assert_eq!(rt; out.held(), want, "growth {n}");
-        if !alloc.has_refused() {
-            assert!(rt; n > 5, "only {n} growths");
-            return Ok(());
-        }
-    }
-    Err("no run without a refusal")?
-}
+const FAULT: &str = "plan: fault 17 Duration at 2:5\n";
 
 #[test]
 fn refuses_each_growth_in_turn(rt: HostRuntime) -> Result<(), Fail> {
-    refuses_growths(&rt, TEXT, CANONICAL, Outcome::Good)?;
-    refuses_growths(&rt, FAULTY, FAULT, Outcome::Refused)
+    refuses_growths(&rt, Kind::Plan, TEXT, CANONICAL, Outcome::Good)?;
+    refuses_growths(&rt, Kind::Plan, FAULTY, FAULT, Outcome::Refused)
+}
+
+#[test]
+fn fails_at_reads_and_writes(rt: HostRuntime) -> Result<(), Fail> {
+    fails_at_each_read(&rt, Kind::Plan, TEXT, CANONICAL)?;
+    fails_at_each_write(&rt, Kind::Plan, TEXT, CANONICAL)
 }
 
 #[test]
 fn refuses_each_growth_of_reading_and_printing(rt: HostRuntime) -> Result<(), Fail> {
     let ample = rt.alloc();
-    let plan = read_plan(&ample, TEXT).ok().ok_or("a plan")?;
+    let plan = read_plan(&ample, TEXT.as_bytes()).ok().ok_or("a plan")?;
     for n in 1..1000 {
         let alloc = Refusing::nth(rt.alloc(), n);
-        let read = read_plan(&alloc, TEXT);
+        let read = read_plan(&alloc, TEXT.as_bytes());
         let printed = plan_text(&alloc, &plan);
         if let Err(fault) = &read {
             assert!(rt;
@@ -326,7 +257,7 @@ fn refuses_each_growth_of_reading_and_printing(rt: HostRuntime) -> Result<(), Fa
             assert!(rt; alloc.has_refused(), "growth {n}");
         }
         match &printed {
-            Ok(text) => assert_eq!(rt; text.as_slice(), CANONICAL, "growth {n}"),
+            Ok(text) => assert_eq!(rt; text.as_slice(), CANONICAL.as_bytes(), "growth {n}"),
             Err(_) => assert!(rt; alloc.has_refused(), "growth {n}"),
         }
         if !alloc.has_refused() {
@@ -340,34 +271,15 @@ fn refuses_each_growth_of_reading_and_printing(rt: HostRuntime) -> Result<(), Fa
 #[test]
 fn writes_without_memory(rt: HostRuntime) -> Result<(), Fail> {
     let ample = rt.alloc();
-    let plan = read_plan(&ample, TEXT).ok().ok_or("a plan")?;
+    let plan = read_plan(&ample, TEXT.as_bytes()).ok().ok_or("a plan")?;
     let mut room = [0u8; 64];
     let mut out = ToWrite::new(room.as_mut_slice());
     assert!(rt; write_plan(&plan, &mut out).is_ok());
     Ok(())
 }
 
-#[test]
-fn fails_at_each_read(rt: HostRuntime) -> Result<(), Fail> {
-    let alloc = rt.alloc();
-    for k in 1..1000 {
-        let mut source = FakeSource::new(TEXT, 3, k);
-        let mut out = FakeSink::new(alloc, 5, 0, Failure::Answers);
-        let ended = format(&alloc, Kind::Plan, &mut source, &mut out);
-        if ended == Ok(Outcome::Good) {
-            // 36 bytes in 12 reads, and one at the end.
-            assert_eq!(rt; k, 14);
-            assert_eq!(rt; out.held(), CANONICAL);
-            return Ok(());
-        }
-        assert_eq!(rt; ended, Err(RunFault::ReadFailed), "read {k}");
-        assert!(rt; out.held().is_empty(), "read {k}");
-    }
-    Err("no run without a failure")?
-}
-
-/// Fails at each write of a writer that takes at most so many bytes: by `format`, and by `write_plan`.
-fn fails_at_each_write<R: Abort + AllocGlobal>(
+/// Fails at each write in turn of a writer that takes at most so many bytes, by `write_plan`.
+fn fails_at_each_piece<R: Abort + AllocGlobal>(
     rt: &R,
     size: usize,
     failure: Failure,
@@ -375,37 +287,27 @@ fn fails_at_each_write<R: Abort + AllocGlobal>(
     requires { 0 < size }
 {
     let alloc = rt.alloc();
-    let plan = read_plan(&alloc, TEXT).ok().ok_or("a plan")?;
-    let mut last = false;
+    let plan = read_plan(&alloc, TEXT.as_bytes()).ok().ok_or("a plan")?;
     for k in 1..1000 {
-        let mut source = FakeSource::new(TEXT, 4096, 0);
-        let mut out = FakeSink::new(alloc, size, k, failure);
-        let ended = format(&alloc, Kind::Plan, &mut source, &mut out);
         let mut pieces = FakeSink::new(alloc, size, k, failure);
         let wrote = write_plan(&plan, &mut pieces);
-        assert!(rt; CANONICAL.starts_with(out.held()), "write {k} of {size}");
-        assert!(rt; CANONICAL.starts_with(pieces.held()), "write {k} of {size}");
-        if ended == Ok(Outcome::Good) {
-            assert_eq!(rt; out.held(), CANONICAL);
-            last = true;
-        } else {
-            assert_eq!(rt; ended, Err(RunFault::WriteFailed), "write {k} of {size}");
-        }
+        assert!(rt;
+            CANONICAL.as_bytes().starts_with(pieces.held()),
+            "write {k} of {size}"
+        );
         if wrote.is_ok() {
-            assert_eq!(rt; pieces.held(), CANONICAL);
-            if last {
-                return Ok(());
-            }
+            assert_eq!(rt; pieces.held(), CANONICAL.as_bytes());
+            return Ok(());
         }
     }
     Err("no run without a failure")?
 }
 
 #[test]
-fn fails_at_writes(rt: HostRuntime) -> Result<(), Fail> {
+fn fails_at_pieces(rt: HostRuntime) -> Result<(), Fail> {
     for failure in [Failure::Answers, Failure::TakesNone] {
         for size in [1, 5, 4096] {
-            fails_at_each_write(&rt, size, failure)?;
+            fails_at_each_piece(&rt, size, failure)?;
         }
     }
     Ok(())

@@ -1,0 +1,39 @@
+#!/bin/sh
+# Prints MB/s and peak memory of `format`, and of the same work in plain Rust, on files of 1, 4 and 16 MiB: plans that are
+# plain, timed, and with many comments; domains of many actions; problems of many objects and facts. Each figure is that of
+# the best of five runs. Wants GNU time, Python 3 and rustc.
+here=$(cd "$(dirname "$0")" && pwd) || exit 1
+"$here/../pddlcheck" --help >/dev/null || exit 1
+program=$here/../crates/pddlcheck/out/pddlcheck
+folder=$(mktemp -d) || exit 1
+trap 'rm -rf "$folder"' EXIT
+rustc --edition 2021 -O -o "$folder/plain" "$here/plain.rs" || exit 1
+
+# best NAME COMMAND..: MB/s and bytes of memory a byte of the file
+best() {
+    name=$1
+    shift
+    for run in 1 2 3 4 5; do
+        /usr/bin/time -f '%e %M' "$@" 2>&1 >"$folder/$name" || exit 1
+    done | sort -n | head -n 1 | awk -v size="$size" '{
+        speed = $1 > 0 ? sprintf("%.0f", size / $1 / 1e6) : "-"
+        printf "%8s %8.1f", speed, $2 * 1024 / size
+    }'
+}
+
+printf '%-9s %4s   %-17s   %-17s\n' '' '' 'pddlcheck' 'plain Rust'
+printf '%-9s %4s  %8s %8s   %8s %8s\n' file MiB MB/s memory MB/s memory
+for file in plain timed comments domain problem; do
+    case $file in
+        domain | problem) kind=$file ;;
+        *) kind=plan ;;
+    esac
+    for mib in 1 4 16; do
+        python3 "$here/files.py" "$file" "$mib" >"$folder/file" || exit 1
+        size=$(wc -c <"$folder/file")
+        ours=$(best ours "$program" format "$kind" "$folder/file") || exit 1
+        theirs=$(best theirs "$folder/plain" "$kind" "$folder/file") || exit 1
+        cmp -s "$folder/ours" "$folder/theirs" || echo "the two print different texts"
+        printf '%-9s %4d  %s   %s\n' "$file" "$mib" "$ours" "$theirs"
+    done
+done

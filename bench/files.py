@@ -1,0 +1,108 @@
+#!/usr/bin/env python3
+"""Makes a file of a kind, of about so many MiB and no more, on standard output. The same file comes each time.
+
+A plan has steps with three objects each: plain, timed, or with a comment before each step. A domain has many
+actions; a problem has many objects and a long `:init`.
+
+Usage: files.py plain|timed|comments|domain|problem MIB
+"""
+import itertools
+import random
+import sys
+
+NUMBERS = random.Random(7)
+
+
+def step():
+    truck, start, goal = NUMBERS.randrange(100), NUMBERS.randrange(1000), NUMBERS.randrange(1000)
+    return f"(drive truck{truck} depot{start} depot{goal})\n"
+
+
+def timed(number):
+    return f"{number // 10}.{number % 1000:03d}: {step()}"
+
+
+def commented(_number):
+    return "; this step moves one truck, as the planner that found it says at length\n" + step()
+
+
+DOMAIN_HEAD = """\
+; A depot whose every road is an action of its own.
+(define (domain depot)
+  (:requirements :adl :action-costs)
+  (:types place vehicle crate - object truck lift - vehicle)
+  (:constants yard gate - place)
+  (:predicates (at ?v - vehicle ?p - place) (in ?c - crate ?t - truck) (locked ?p - place) (seen ?c - crate))
+  (:functions (total-cost) - number (length ?p - place) - number)
+"""
+
+
+def action(number):
+    return f"""\
+  (:action Drive-{number}
+    :parameters (?t - truck ?from ?to - place)
+    :precondition (and (at ?t ?from) (not (locked ?to))
+      (forall (?c - crate) (imply (in ?c ?t) (seen ?c))))
+    :effect (and (not (at ?t ?from)) (at ?t ?to) ; road {number}
+      (forall (?c - crate) (when (in ?c ?t) (not (seen ?c))))
+      (increase (total-cost) {NUMBERS.randrange(100)}.{NUMBERS.randrange(10)}0)))
+"""
+
+
+# so many places, trucks and crates for each MiB: about a tenth of the bytes
+OBJECTS = 4000
+
+
+def problem_head(mib):
+    count = OBJECTS * mib
+    names = [f"depot{n}" for n in range(count)] + ["- place\n   "]
+    names += [f"Truck{n}" for n in range(count)] + ["- truck\n   "]
+    names += [f"crate{n}" for n in range(count)] + ["- crate"]
+    return ("; A depot on a busy day.\n(define (problem day)\n  (:domain depot)\n  (:objects\n    " + " ".join(names)
+            + ")\n  (:init\n    (= total-cost 0)\n")
+
+
+def fact(mib):
+    count = OBJECTS * mib
+    first, second = NUMBERS.randrange(count), NUMBERS.randrange(count)
+    return NUMBERS.choice((
+        f"    (At Truck{first} depot{second})\n",
+        f"    (in crate{first} truck{second}) ; loaded\n",
+        f"    (= (length depot{first}) {second}.50)\n",
+    ))
+
+
+PROBLEM_TAIL = """\
+  )
+  (:goal (and (at truck0 depot1) (forall (?c - crate) (exists (?t - truck) (in ?c ?t)))))
+  (:metric minimize total-cost))
+"""
+
+
+def parts(kind, mib):
+    """The head of a file of the kind, its lines or actions by their numbers, and its tail."""
+    if kind == "domain":
+        return DOMAIN_HEAD, action, ")\n"
+    if kind == "problem":
+        return problem_head(mib), lambda number: fact(mib), PROBLEM_TAIL
+    lines = {"plain": lambda number: step(), "timed": timed, "comments": commented}
+    return "", lines[kind], ""
+
+
+def main():
+    if len(sys.argv) != 3 or sys.argv[1] not in ("plain", "timed", "comments", "domain", "problem") or not sys.argv[2].isdigit():
+        sys.exit(__doc__)
+    mib = int(sys.argv[2])
+    head, part, tail = parts(sys.argv[1], mib)
+    room = mib * 1024 * 1024 - len(head) - len(tail)
+    sys.stdout.write(head)
+    for number in itertools.count():
+        line = part(number)
+        room -= len(line)
+        if room < 0:
+            break
+        sys.stdout.write(line)
+    sys.stdout.write(tail)
+
+
+main()
