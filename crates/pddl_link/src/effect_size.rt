@@ -1,0 +1,56 @@
+//! Ground sizes of effects and of an action's steps.
+
+ghost use Rattle.std.specs.Prelude.{◌≡◌, map};
+ghost use Rattle.pddl_effect.specs.Effects.{effect_view, effects_of};
+ghost use Rattle.pddl_domain.specs.Actions.{action_view};
+ghost use Rattle.pddl_task.specs.GroundSize.{capped, effect_size, effects_size, action_size};
+
+use crate::size::{FittingCount, ground_size, quantifier_size, sum};
+use pddl_domain::Action;
+use pddl_effect::Effect;
+use std::alloc::Allocator;
+
+/// The ground size of an effect, or 1,000,001 where it is more than 1,000,000.
+#[cycle(sizes)]
+pub fn effect_ground_size<A: Allocator, C: FittingCount<A>>(counts: &C, effect: &Effect<A>) -> u32
+    ensures { result ≡ capped (effect_size (C.count counts.now) (effect_view effect.now)) }
+{
+    match effect {
+        Effect::And(parts) => sum(1, effect_ground_sizes(counts, parts)),
+        Effect::Forall(variables, inner) => {
+            quantifier_size(counts, variables, effect_ground_size(counts, inner))
+        }
+        Effect::When(condition, inner) => {
+            let condition = ground_size(counts, condition);
+            let inner = effect_ground_size(counts, inner);
+            sum(1, sum(condition, inner))
+        }
+        Effect::Add(_) => 1,
+        Effect::Del(_) => 1,
+        Effect::Increase(_) => 1,
+    }
+}
+
+/// The ground sizes of effects, added up, or 1,000,001 where that is more than 1,000,000.
+#[cycle(sizes)]
+fn effect_ground_sizes<A: Allocator, C: FittingCount<A>>(
+    counts: &C,
+    effects: &Vec<Effect<A>, A>,
+) -> u32
+    ensures { result ≡ capped (effects_size (C.count counts.now) (effects_of (map effect_view effects.now.items))) }
+{
+    let mut total = 0;
+    for effect in effects {
+        total = sum(total, effect_ground_size(counts, effect));
+    }
+    total
+}
+
+/// The ground size of an action's step, that of its precondition and its effect, or 1,000,001 where it is more than 1,000,000.
+pub fn action_ground_size<A: Allocator, C: FittingCount<A>>(counts: &C, action: &Action<A>) -> u32
+    ensures { result ≡ capped (action_size (C.count counts.now) (action_view action.now)) }
+{
+    let precondition = ground_size(counts, &action.precondition);
+    let effect = effect_ground_size(counts, &action.effect);
+    sum(precondition, effect)
+}

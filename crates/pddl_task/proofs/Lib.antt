@@ -1,0 +1,10 @@
+pub mod Lists
+pub mod Subtypes
+pub mod TypeCycles
+pub mod LowestFault
+pub mod DistinctNames
+pub mod LinkedTasks
+pub mod InitialStates
+pub mod ObjectLists
+pub mod KnownAtoms
+pub mod Examples

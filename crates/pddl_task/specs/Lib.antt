@@ -1,0 +1,9 @@
+pub mod Names
+pub mod Types
+pub mod Places
+pub mod Settings
+pub mod GroundSize
+pub mod Faults
+pub mod Linked
+pub mod Tasks
+pub mod Known
