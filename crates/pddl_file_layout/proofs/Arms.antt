@@ -1,6 +1,6 @@
 -- The text of a formula or an effect of the program, by its outermost part.
 use Rattle.std.proofs.Common.{◌≡◌, ℕ, ◌-◌, ◌<◌, List, [], ◌∷◌, ◌++◌, map, length, get_or, take, drop, Vec, Box, refl, sym, ap, ap₂, ◌∙◌, codes, arith}
-use Rattle.std.specs.Prelude.{Bool, true, ◌&&◌}
+use Rattle.std.specs.Prelude.{true, ◌&&◌}
 use Rattle.std.specs.List.{list_all}
 use Rattle.std.proofs.lemmas.List.{take_all, length-drop}
 use Rattle.pddl_formula.specs.declared.type_names.Typed.{Typed}
@@ -11,7 +11,7 @@ use Rattle.pddl_formula.specs.declared.formula.Formula.TheFolds.{fold-roll-Formu
 use Rattle.pddl_formula.specs.Terms.{term_view, atom_view}
 use Rattle.pddl_formula.specs.declared.term.Atom.{Atom}
 use Rattle.pddl_formula.specs.declared.formula.Formula.TheVariants.{Equal, rolls-Equal, Not, Imply, And, Or, Exists, Forall}
-use Rattle.pddl_formula.specs.TypedLists.{TypedValue, typed_view}
+use Rattle.pddl_formula.specs.TypedLists.{typed_view}
 use Rattle.pddl_formula.specs.Formulas.{FormulaValue, equal, formula_step, formula_view, formulas_of}
 use Rattle.pddl_formula.proofs.TurnsOfFormulas.{view_not, view_imply, view_and, view_or, view_exists, view_forall}
 use Rattle.pddl_effect.specs.declared.effect.Effect.{Effect}

@@ -1,6 +1,6 @@
 -- Sections that have content, and what is said of a whole domain or problem.
 use Rattle.std.proofs.Common.{◌≡◌, ℕ, ◌<◌, List, [], ◌∷◌, ◌++◌, map, length, suc, refl, sym, ap, ◌∙◌, codes, append_assoc, arith}
-use Rattle.std.specs.Prelude.{Bool, true, false, ◌&&◌}
+use Rattle.std.specs.Prelude.{Bool, true, ◌&&◌}
 use Rattle.pddl_file_layout.specs.Texts.{spaced_by, section_text}
 
 -- a section with content

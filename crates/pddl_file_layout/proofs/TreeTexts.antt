@@ -1,9 +1,6 @@
 -- The text of a tree, piece by piece.
 use Rattle.std.proofs.Common.{◌≡◌, ℕ, List, [], ◌∷◌, ◌++◌, map, refl, sym, ap, ap₂, ◌∙◌, codes, append_assoc, append-nil}
-use Rattle.std.specs.List.{flat_map}
-use Rattle.std.proofs.lemmas.Grind.{flat_map-append}
-use Rattle.pddl_text.specs.Spelling.{Word}
-use Rattle.pddl_text.specs.Trees.{Tree, leaf, Trees, trees_of}
+use Rattle.pddl_text.specs.Trees.{Tree, trees_of}
 use Rattle.pddl_text.specs.Pieces.{token, closing_word, pieces_text, tree_pieces, later_pieces, tree_text}
 use Rattle.pddl_text.proofs.Written.{pieces_append}
 use Rattle.pddl_tree.specs.Words.{list}

@@ -1,4 +1,4 @@
-use Rattle.std.proofs.Common.{◌≡◌, true, map, take}
+use Rattle.std.proofs.Common.{take}
 use Rattle.pddl_file_layout.specs.Texts.{spaced_by, word_text}
 use Rattle.pddl_file_layout.specs.Printing.{Puts}
 use Rattle.pddl_file_layout.proofs.formula.put_type_names.Given as goal

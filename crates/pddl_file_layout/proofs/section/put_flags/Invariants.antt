@@ -1,4 +1,4 @@
-use Rattle.std.proofs.Common.{◌≡◌, true, map, take}
+use Rattle.std.proofs.Common.{◌≡◌, true, take}
 use Rattle.std.specs.List.{list_all}
 use Rattle.pddl_tree.specs.Names.{is_name}
 use Rattle.pddl_file_layout.specs.Texts.{spaced_by, flag_text}
