@@ -1,0 +1,9 @@
+pub mod Passes
+pub mod Scopes
+pub mod TypeTables
+pub mod KnownNames
+pub mod Grounds
+pub mod Claims
+pub mod Parts
+pub mod TaskTables
+pub mod LinkedTasks

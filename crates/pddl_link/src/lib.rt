@@ -1,10 +1,40 @@
 //! Links domains and problems.
 //!
-//! So far it measures formulas, effects and actions: their ground size, without writing any quantifier out.
+//! `check_domain` and `link` look for one fault after another, in the order of their numbers: in declarations, by one walk over all
+//! places of actions, goals and `:init` for each fault that can stand there, and in what `:init` says. What links is a `Task`.
 #![tactic(auto)]
 
+mod arity;
+mod below_object;
+mod bound;
+mod check;
+mod declared_types;
+mod effect_costs;
 mod effect_size;
+mod fault;
+mod fractions;
+mod ground;
+mod init;
+mod known;
+mod linked;
+mod misfits;
+mod names;
+mod object_counts;
+mod objects;
+mod passes;
+mod repeated;
+mod repeats;
+mod search;
+mod search_files;
 mod size;
+mod task;
+mod types;
+mod unknown;
+mod unknown_types;
 
+pub use check::check_domain;
 pub use effect_size::{action_ground_size, effect_ground_size};
+pub use fault::LinkFault;
+pub use linked::link;
 pub use size::{FittingCount, ground_size};
+pub use task::Task;

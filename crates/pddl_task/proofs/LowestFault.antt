@@ -42,13 +42,13 @@ stands_cases : (f : Fault) (fs : List Fault) (n : ℕ) (w : Name) → Stands (f 
 stands_cases f fs n w (g, (zero, low, is), number, has) = inl (ap (λ h. h.number) is ∙ number, subst (λ h. Contains h.words w) (sym is) has)
 stands_cases f fs n w (g, (suc i, low, is), number, has) = inr (g, (i, omega arith, is), number, has)
 
-lowest_here : (f : Fault) (fs : List Fault) (w : Name) → Contains f.words w → ((m : ℕ) (v : Name) → Stands fs m v → f.number ≤ m) → IsLowest (f ∷ fs) f.number w
+pub lowest_here : (f : Fault) (fs : List Fault) (w : Name) → Contains f.words w → ((m : ℕ) (v : Name) → Stands fs m v → f.number ≤ m) → IsLowest (f ∷ fs) f.number w
 lowest_here f fs w has below = record {
   stands = (f, (0, omega arith, refl), refl, has);
   lowest = λ m v s. elim (stands_cases f fs m v s) as (λ _. f.number ≤ m) [ inl here ↦ omega (arith, here.0) | inr later ↦ below m v later ];
 }
 
-lowest_later : (f : Fault) (fs : List Fault) (n : ℕ) (w : Name) → IsLowest fs n w → ((v : Name) → Contains f.words v → n ≤ f.number) → IsLowest (f ∷ fs) n w
+pub lowest_later : (f : Fault) (fs : List Fault) (n : ℕ) (w : Name) → IsLowest fs n w → ((v : Name) → Contains f.words v → n ≤ f.number) → IsLowest (f ∷ fs) n w
 lowest_later f fs n w later above = record {
   stands = stands_later f fs n w later.stands;
   lowest = λ m v s. elim (stands_cases f fs m v s) as (λ _. n ≤ m) [ inl here ↦ let low = above v here.1 in omega (arith, low, here.0) | inr s' ↦ later.lowest m v s' ];

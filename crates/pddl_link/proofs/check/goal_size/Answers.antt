@@ -1,0 +1,16 @@
+use Rattle.std.proofs.Common.{refl, ap, ◌∙◌}
+use Rattle.pddl_formula.specs.Formulas.{formula_view}
+use Rattle.pddl_domain.specs.Domains.{domain_view}
+use Rattle.pddl_problem.specs.Problems.{problem_view}
+use Rattle.pddl_task.specs.Settings.{in_problem}
+use Rattle.pddl_task.specs.Faults.{setting_count}
+use Rattle.pddl_task.specs.GroundSize.{capped, formula_size}
+use Rattle.pddl_link.proofs.GoalSizes.{too_large}
+use Rattle.pddl_link.proofs.check.goal_size.Goals as goal
+
+pub returns-then-ground_size-gt1000000 : goal.returns-then-ground_size-gt1000000
+returns-then-ground_size-gt1000000 g c = (
+  refl,
+  too_large (formula_size (setting_count (in_problem (domain_view c.args.domain.now) (problem_view c.args.problem.now))) (formula_view c.args.problem.now.goal)) c.ground_size.result
+      (c.ground_size.ensures ∙ ap (λ s. capped (formula_size (setting_count s) (formula_view c.args.problem.now.goal))) c.requires) c.if-ground_size-gt1000000.true,
+)

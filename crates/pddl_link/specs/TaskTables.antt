@@ -1,0 +1,42 @@
+-- Two linked files with tables of what they declare, and what is asked of the task that they make.
+use Rattle.std.specs.Prelude.{◌≡◌, ℕ, ◌+◌, Bool, cond, List, [], ◌∷◌, map}
+use Rattle.std.specs.Borrow.{Bor}
+use Rattle.pddl_formula.specs.declared.type_names.Typed.{Typed}
+use Rattle.pddl_domain.specs.Declarations.{TypeValue}
+use Rattle.pddl_domain.specs.Domains.{DomainValue}
+use Rattle.pddl_problem.specs.Problems.{ProblemValue}
+use Rattle.pddl_task.specs.Names.{Name}
+use Rattle.pddl_task.specs.Types.{pairs, fits}
+use Rattle.pddl_task.specs.Settings.{objects_of}
+use Rattle.pddl_task.specs.Linked.{IsLinked}
+use Rattle.pddl_task.specs.Tasks.{TaskValue, task_of}
+use Rattle.pddl_link.specs.KnownNames.{signature_in, object_in}
+
+-- a domain and a problem
+pub record Files : Type 0 where
+  pub domain : DomainValue
+  pub problem : ProblemValue
+
+abbrev pub files : DomainValue → ProblemValue → Files
+files d p = record { domain = d; problem = p }
+
+-- the task that they make
+abbrev pub task_in : Files → TaskValue
+task_in f = task_of f.domain f.problem
+
+-- the places, from a first one on, of what passes a test
+abbrev pub places_from : {X : Type 0} → ℕ → (X → Bool) → List X → List ℕ
+places_from n test [] = []
+places_from n test (x ∷ xs) = cond (test x) (n ∷ places_from (n + 1) test xs) (places_from (n + 1) test xs)
+
+-- the numbers of the objects that fit a type, rising
+abbrev pub fitting_numbers : TaskValue → List Name → List ℕ
+fitting_numbers task types = places_from 0 (λ o. fits (pairs task.types) o.of types) task.objects
+
+-- two files are linked, and the tables hold what they declare
+pub record AreTablesOf {A : Type 0} (d : DomainValue) (p : ProblemValue) (types : List TypeValue) (predicates : List (Bor (List ℕ) × Bor (List (Typed A))))
+    (objects : List (Bor (List ℕ) × Bor (List (List ℕ)))) : Type 0 where
+  pub linked : IsLinked d p
+  pub types_are : types ≡ d.types
+  pub predicates_are : map signature_in predicates ≡ d.predicates
+  pub objects_are : map object_in objects ≡ objects_of d p

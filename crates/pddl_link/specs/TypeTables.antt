@@ -1,0 +1,73 @@
+-- How the types of a domain are held for look-ups by name.
+use Rattle.std.specs.Prelude.{◌≡◌, ℕ, zero, suc, Bool, true, false, ◌||◌, ◌==◌, ◌<◌, List, [], ◌∷◌, map, length, cond, bytes_eq, Contains, slice_get, ◌⊎◌}
+use Rattle.std.specs.Option.{option_map_or}
+use Rattle.indexmap.specs.IndexMap.{insert_entry}
+use Rattle.std.specs.List.{IsDistinct, slice_index_or}
+use Rattle.std.specs.Borrow.{Bor}
+use Rattle.pddl_domain.specs.Declarations.{TypeValue}
+use Rattle.pddl_task.specs.Names.{Name, is_in, repeated, item_of}
+use Rattle.pddl_task.specs.Types.{root, types_of}
+
+-- ---- tables
+
+-- a type's name, with the place of its parent in the table
+abbrev pub Row : Type 0
+Row = Bor (List ℕ) × ℕ
+
+-- the names of a table, in its order
+abbrev pub names_in : List Row → List Name
+names_in rows = map (λ r. r.0.now) rows
+
+-- the name at a place
+abbrev pub name_at : List Row → ℕ → Name
+name_at rows place = slice_index_or (names_in rows) place root
+
+-- a type's parent: as declared, or `object`
+abbrev pub parent_in : List TypeValue → Name → Name
+parent_in [] t = root
+parent_in (e ∷ es) t = cond (bytes_eq t e.item) e.of (parent_in es t)
+
+-- the table of these types, `object` first: each stands once, with the place of its parent, as far as parents are told
+pub record IsTableOf (types : List Name) (told : List TypeValue) (rows : List Row) : Type 0 where
+  pub names : (t : Name) → is_in (names_in rows) t ≡ is_in types t
+  pub once : IsDistinct bytes_eq (names_in rows)
+  pub some : 0 < length rows
+  pub first : name_at rows 0 ≡ root
+  pub parents : (r : Row) → Contains rows r → (r.1 < length rows) × (name_at rows r.1 ≡ parent_in told r.0.now)
+
+-- the table of the types of a domain, each declared once
+pub record IsTypeTable (declared : List TypeValue) (rows : List Row) : Type 0 where
+  pub declared_once : repeated [] (map item_of declared) ≡ []
+  pub table : IsTableOf (types_of declared) declared rows
+
+-- a table with a name, which goes under `object` where it does not stand yet
+abbrev pub with_name : List Row → Bor (List ℕ) → List Row
+with_name rows k = cond (is_in (names_in rows) k.now) rows (insert_entry (λ x y. bytes_eq x.now y.now) rows k 0)
+
+-- ---- climbs
+
+-- the place of a type's parent
+abbrev pub parent_place : List Row → ℕ → ℕ
+parent_place rows i = option_map_or (λ r. r.1) (slice_get rows i) i
+
+-- a place is come to by at most so many steps
+abbrev pub climbs : List Row → ℕ → ℕ → ℕ → Bool
+climbs rows zero i g = i == g
+climbs rows (suc n) i g = (i == g) || climbs rows n (parent_place rows i) g
+
+-- a place from which that of `object` is come to
+abbrev pub ComesToRoot : List Row → ℕ → Type 0
+ComesToRoot rows i = (n : ℕ) × (climbs rows n i 0 ≡ true)
+
+-- marks stand at such places alone
+abbrev pub MarksBelowRoot : List Row → List Bool → Type 0
+MarksBelowRoot rows marks = (i : ℕ) → slice_index_or marks i false ≡ true → ComesToRoot rows i
+
+-- a mark more, at this place
+abbrev pub AddsMark : List Bool → List Bool → ℕ → Type 0
+AddsMark old new place = (i : ℕ) → slice_index_or new i false ≡ true → (i ≡ place) ⊎ (slice_index_or old i false ≡ true)
+
+-- `object` is come to from each place, and no other from its own
+pub record AllBelowRoot (rows : List Row) : Type 0 where
+  pub top : parent_place rows 0 ≡ 0
+  pub below : (i : ℕ) → i < length rows → ComesToRoot rows i

@@ -1,0 +1,109 @@
+//! Atoms that hold and fail in `:init`, and functions of objects that have two values there.
+
+ghost use Rattle.std.specs.Prelude.{◌≡◌, [], map};
+ghost use Rattle.pddl_problem.specs.Inits.{init_view};
+ghost use Rattle.pddl_task.specs.Faults.{contradicts, init_name, clashing, wrong_values, starts_above_zero};
+ghost use Rattle.pddl_link.specs.Claims.{literal_in, value_in};
+ghost use Rattle.pddl_link.specs.Passes.{Passes};
+
+use crate::fault::LinkFault;
+use crate::ground::Ground;
+use indexmap::IndexMap;
+use pddl_problem::InitItem;
+use std::alloc::Allocator;
+use std::hash::{BuildHasherDefault, FoldHasher};
+
+type Hashed = BuildHasherDefault<FoldHasher>;
+
+/// The atom that an item of `:init` is about, and whether it holds there.
+fn literal<'d, A: Allocator>(item: &'d InitItem<A>) -> Option<(Ground<'d, A>, bool)>
+    ensures { result ≡ literal_in (init_view item.now) }
+{
+    match item {
+        InitItem::Holds(fact) => Some((Ground::of(fact.predicate.as_bytes(), &fact.objects), true)),
+        InitItem::Fails(fact) => Some((
+            Ground::of(fact.predicate.as_bytes(), &fact.objects),
+            false,
+        )),
+        InitItem::Value(_, _) => None,
+    }
+}
+
+/// The function of objects that an item of `:init` is about, and its value in billionths.
+fn value<'d, A: Allocator>(item: &'d InitItem<A>) -> Option<(Ground<'d, A>, u64)>
+    ensures { result ≡ value_in (init_view item.now) }
+{
+    match item {
+        InitItem::Holds(_) => None,
+        InitItem::Fails(_) => None,
+        InitItem::Value(call, amount) => Some((
+            Ground::of(call.function.as_bytes(), &call.objects),
+            amount.billionths(),
+        )),
+    }
+}
+
+/// The predicate or the function of an item of `:init`.
+fn name_of<'d, A: Allocator>(item: &'d InitItem<A>) -> &'d [u8]
+    ensures { result.now ≡ init_name (init_view item.now) }
+{
+    match item {
+        InitItem::Holds(fact) => fact.predicate.as_bytes(),
+        InitItem::Fails(fact) => fact.predicate.as_bytes(),
+        InitItem::Value(call, _) => call.function.as_bytes(),
+    }
+}
+
+/// Whether an item gives `total-cost` a value other than 0.
+fn starts_above_zero<A: Allocator>(item: &InitItem<A>) -> bool
+    ensures { result ≡ starts_above_zero (init_view item.now) }
+{
+    match item {
+        InitItem::Holds(_) => false,
+        InitItem::Fails(_) => false,
+        InitItem::Value(call, amount) => {
+            call.function.as_bytes() == b"total-cost".as_slice() && amount.billionths() != 0
+        }
+    }
+}
+
+/// No atom holds and fails.
+pub(crate) fn contradictions<'d, 'a, A: Allocator, B: Allocator>(
+    alloc: &'a B,
+    init: &'d [InitItem<A>],
+) -> Result<(), LinkFault<'d>>
+    ensures { Passes 29 (clashing contradicts [] (map init_view init.now)) result }
+{
+    let mut said: IndexMap<Ground<'d, A>, bool, Hashed, &'a B> = IndexMap::new(alloc);
+    for item in init {
+        if let Some((atom, holds)) = literal(item) {
+            let before = said.insert(atom, holds)?.unwrap_or(holds);
+            if holds != before {
+                return Err(LinkFault::InitContradiction(name_of(item)));
+            }
+        }
+    }
+    Ok(())
+}
+
+/// No function of objects has two values, and `total-cost` starts at none but 0.
+pub(crate) fn cost_values<'d, 'a, A: Allocator, B: Allocator>(
+    alloc: &'a B,
+    init: &'d [InitItem<A>],
+) -> Result<(), LinkFault<'d>>
+    ensures { Passes 31 (wrong_values [] (map init_view init.now)) result }
+{
+    let mut values: IndexMap<Ground<'d, A>, u64, Hashed, &'a B> = IndexMap::new(alloc);
+    for item in init {
+        if starts_above_zero(item) {
+            return Err(LinkFault::CostValue(name_of(item)));
+        }
+        if let Some((call, number)) = value(item) {
+            let before = values.insert(call, number)?.unwrap_or(number);
+            if number != before {
+                return Err(LinkFault::CostValue(name_of(item)));
+            }
+        }
+    }
+    Ok(())
+}

@@ -1,0 +1,41 @@
+//! How many objects fit a type.
+
+use crate::size::FittingCount;
+use crate::types::Types;
+use indexmap::IndexMap;
+use pddl_formula::TypeNames;
+use std::alloc::Allocator;
+use std::hash::{BuildHasherDefault, FoldHasher};
+
+type Hashed = BuildHasherDefault<FoldHasher>;
+
+/// Counts the objects that fit a type, each of which has one type by its name.
+#[derive(Drop)]
+pub(crate) struct ObjectCounts<'t, 'm, 'a, A: Allocator, B: Allocator> {
+    pub types: &'t Types<'m, 'a, A, B>,
+    pub objects: &'t IndexMap<&'m [u8], &'m TypeNames<A>, Hashed, &'a B>,
+}
+
+impl<'t, 'm, 'a, A: Allocator, B: Allocator> FittingCount<A> for ObjectCounts<'t, 'm, 'a, A, B> {
+    ghost use Rattle.std.specs.Prelude.{map};
+    ghost use Rattle.pddl_task.specs.Types.{pairs};
+    ghost use Rattle.pddl_task.specs.GroundSize.{fitting_count};
+    ghost use Rattle.pddl_link.specs.KnownNames.{object_in};
+
+    ghost count = { λ counts slot. fitting_count (pairs counts.types.now) (map object_in counts.objects.now.entries) slot };
+
+    fn fitting_count(&self, types: &TypeNames<A>) -> usize {
+        let mut count = 0;
+        for place in 0..self.objects.len() {
+            match self.objects.get_index(place) {
+                Some((_, object)) => {
+                    if self.types.fits(*object, types) {
+                        count += 1;
+                    }
+                }
+                None => {}
+            }
+        }
+        count
+    }
+}

@@ -1,0 +1,93 @@
+//! One search over all places of a domain, or of a problem.
+
+ghost use Rattle.std.specs.Prelude.{◌≡◌, map, option_map};
+ghost use Rattle.std.specs.List.{flat_map};
+ghost use Rattle.pddl_domain.specs.Domains.{domain_view};
+ghost use Rattle.pddl_problem.specs.Inits.{init_view, metric_view};
+ghost use Rattle.pddl_problem.specs.Problems.{problem_view};
+ghost use Rattle.pddl_task.specs.Places.{init_places, metric_places, domain_places, problem_places};
+ghost use Rattle.pddl_link.specs.Passes.{Passes};
+
+use crate::fault::LinkFault;
+use crate::passes::is_taken;
+use crate::search::{Scope, Search, search_action, search_formula};
+use pddl_domain::Domain;
+use pddl_problem::{InitItem, Metric, Problem};
+use std::alloc::Allocator;
+
+/// Searches a domain: its actions in turn.
+pub(crate) fn search_domain<'d, A: Allocator, S: Search<A>>(
+    search: &S,
+    domain: &'d Domain<A>,
+) -> Result<(), LinkFault<'d>>
+    ensures { Passes S.number (flat_map (S.words search.now) (domain_places (domain_view domain.now))) result }
+{
+    for action in &domain.actions {
+        search_action(search, action)?;
+    }
+    Ok(())
+}
+
+/// Searches an item of `:init`; a literal that fails is looked at like one that holds.
+fn search_item<'p, A: Allocator, S: Search<A>>(
+    search: &S,
+    item: &'p InitItem<A>,
+) -> Result<(), LinkFault<'p>>
+    ensures { Passes S.number (flat_map (S.words search.now) (init_places (init_view item.now))) result }
+{
+    match item {
+        InitItem::Holds(fact) => search.says_ground(fact.predicate.as_bytes(), &fact.objects),
+        InitItem::Fails(fact) => search.says_ground(fact.predicate.as_bytes(), &fact.objects),
+        InitItem::Value(call, amount) => {
+            search.calls_ground(call.function.as_bytes(), &call.objects)?;
+            let outside = Scope::Empty;
+            search.counts(call.function.as_bytes(), *amount, &outside)
+        }
+    }
+}
+
+/// Searches items of `:init` in turn.
+fn search_init<'p, A: Allocator, S: Search<A>>(
+    search: &S,
+    init: &'p [InitItem<A>],
+) -> Result<(), LinkFault<'p>>
+    ensures { Passes S.number (flat_map (S.words search.now) (flat_map init_places (map init_view init.now))) result }
+{
+    for item in init {
+        search_item(search, item)?;
+    }
+    Ok(())
+}
+
+/// Searches a metric; nothing is looked for in one that is not taken.
+fn search_metric<'p, A: Allocator, S: Search<A>>(
+    search: &S,
+    metric: &'p Option<Metric<A>>,
+) -> Result<(), LinkFault<'p>>
+    ensures { Passes S.number (flat_map (S.words search.now) (metric_places (option_map metric_view metric.now))) result }
+{
+    match metric {
+        None => Ok(()),
+        Some(metric) => {
+            if is_taken(metric) {
+                let outside = Scope::Empty;
+                search.calls(b"total-cost".as_slice(), &[], &outside)
+            } else {
+                Ok(())
+            }
+        }
+    }
+}
+
+/// Searches a problem: its initial state, its goal and its metric.
+pub(crate) fn search_problem<'p, A: Allocator, S: Search<A>>(
+    search: &S,
+    problem: &'p Problem<A>,
+) -> Result<(), LinkFault<'p>>
+    ensures { Passes S.number (flat_map (S.words search.now) (problem_places (problem_view problem.now))) result }
+{
+    search_init(search, &problem.init)?;
+    let outside = Scope::Empty;
+    search_formula(search, &problem.goal, &outside)?;
+    search_metric(search, &problem.metric)
+}

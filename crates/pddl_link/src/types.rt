@@ -1,0 +1,257 @@
+//! The types of a domain with their parents, looked up by name.
+
+ghost use Rattle.std.specs.Prelude.{◌≡◌, ◌<◌, [], ◌∷◌, map, not, filter, length, IfOk, OnOk, Contains};
+ghost use Rattle.std.specs.List.{flat_map, list_any};
+ghost use Rattle.pddl_formula.specs.TypedLists.{typed_view};
+ghost use Rattle.pddl_domain.specs.Declarations.{type_view};
+ghost use Rattle.pddl_task.specs.Names.{is_in, repeated, item_of};
+ghost use Rattle.pddl_task.specs.Types.{root, says_nothing, types_of, pairs, is_under, is_subtype, is_cyclic, fits};
+ghost use Rattle.pddl_task.specs.Faults.{primitives_of, first_alone};
+ghost use Rattle.pddl_link.specs.Passes.{Passes};
+ghost use Rattle.pddl_link.specs.TypeTables.{IsTableOf, IsTypeTable, with_name, name_at, climbs};
+
+use crate::below_object::all_below_object;
+use crate::fault::LinkFault;
+use indexmap::IndexMap;
+use pddl_domain::DeclaredType;
+use pddl_formula::{TypeNames, Typed};
+use std::alloc::{AllocError, Allocator};
+use std::hash::{BuildHasherDefault, FoldHasher};
+use std::marker::Model;
+
+type Hashed = BuildHasherDefault<FoldHasher>;
+
+/// The types of a domain, each with the place of its parent in the table; `object` is at place 0, and is its own parent where no
+/// other is declared.
+///
+/// Contracts see it as the list of the declared types.
+#[derive(Drop)]
+pub struct Types<'m, 'a, A: Allocator, B: Allocator> {
+    declared: &'m [DeclaredType<A>],
+    parents: IndexMap<&'m [u8], usize, Hashed, &'a B>,
+}
+
+impl<'m, 'a, A: Allocator, B: Allocator> Model for Types<'m, 'a, A, B> {
+    ghost use Rattle.std.specs.Prelude.{List, map};
+    ghost use Rattle.pddl_domain.specs.Declarations.{TypeValue, type_view};
+    ghost use Rattle.pddl_link.specs.TypeTables.{IsTypeTable};
+
+    ghost Value = { List TypeValue };
+
+    ghost view = { λ t. map type_view t.declared.now };
+
+    ghost invariant = { λ t. IsTypeTable (map type_view t.declared.now) t.parents.entries };
+}
+
+/// The place of a type in the table; it is put there under `object` where it does not stand yet.
+fn place_of<'m, 'a, B: Allocator>(
+    parents: &mut IndexMap<&'m [u8], usize, Hashed, &'a B>,
+    name: &'m [u8],
+) -> Result<usize, AllocError>
+    ensures rows { OnOk result (parents.new.entries ≡ with_name parents.old.entries name.entry) }
+    ensures place { IfOk result (λ place. place < length parents.new.entries) }
+    ensures named { IfOk result (λ place. name_at parents.new.entries place ≡ name.now) }
+{
+    match parents.get_index_of(name) {
+        Some(place) => Ok(place),
+        None => {
+            let (place, _) = parents.insert_full(name, 0)?;
+            Ok(place)
+        }
+    }
+}
+
+/// Puts each declared type under `object`.
+fn put_under_object<'m, 'a, A: Allocator, B: Allocator>(
+    parents: &mut IndexMap<&'m [u8], usize, Hashed, &'a B>,
+    declared: &'m [DeclaredType<A>],
+) -> Result<(), AllocError>
+    requires { IsTableOf (root ∷ []) [] parents.old.entries }
+    ensures { OnOk result (IsTableOf (root ∷ map item_of (map type_view declared.now)) [] parents.new.entries) }
+{
+    for declared_type in declared {
+        parents.insert(declared_type.name.as_bytes(), 0)?;
+    }
+    Ok(())
+}
+
+/// Puts each declared type under its parent.
+fn put_under_parents<'m, 'a, A: Allocator, B: Allocator>(
+    parents: &mut IndexMap<&'m [u8], usize, Hashed, &'a B>,
+    declared: &'m [DeclaredType<A>],
+) -> Result<(), AllocError>
+    requires once { repeated [] (map item_of (map type_view declared.now)) ≡ [] }
+    requires table { IsTableOf (root ∷ map item_of (map type_view declared.now)) [] parents.old.entries }
+    ensures { OnOk result (IsTypeTable (map type_view declared.now) parents.new.entries) }
+{
+    for declared_type in declared {
+        let place = place_of(parents, declared_type.parent.as_bytes())?;
+        parents.insert(declared_type.name.as_bytes(), place)?;
+    }
+    Ok(())
+}
+
+/// Whether one place is come to from another, from parent to parent.
+fn climbs<'m, 'a, B: Allocator>(
+    parents: &IndexMap<&'m [u8], usize, Hashed, &'a B>,
+    from: usize,
+    to: usize,
+) -> bool
+    ensures { result ≡ climbs parents.now.entries (length parents.now.entries) from to }
+{
+    let mut place = from;
+    for _step in 0..parents.len() {
+        if place == to {
+            return true;
+        }
+        match parents.get_index(place) {
+            Some((_, parent)) => {
+                if *parent == place {
+                    return false;
+                }
+                place = *parent;
+            }
+            None => return false,
+        }
+    }
+    place == to
+}
+
+/// Whether what is declared is `object` under `object`.
+fn says_nothing<A: Allocator>(declared: &DeclaredType<A>) -> bool
+    ensures { result ≡ says_nothing (type_view declared.now) }
+{
+    declared.name.as_bytes() == b"object".as_slice()
+        && declared.parent.as_bytes() == b"object".as_slice()
+}
+
+impl<'m, 'a, A: Allocator, B: Allocator> Types<'m, 'a, A, B> {
+    /// The table of these types, each declared once.
+    ///
+    /// Fails where memory for the table is refused.
+    pub(crate) fn of(
+        alloc: &'a B,
+        declared: &'m [DeclaredType<A>],
+    ) -> Result<Types<'m, 'a, A, B>, AllocError>
+        requires { repeated [] (map item_of (map type_view declared.now)) ≡ [] }
+        ensures { IfOk result (λ types. types ≡ map type_view declared.now) }
+    {
+        let mut parents: IndexMap<&'m [u8], usize, Hashed, &'a B> = IndexMap::new(alloc);
+        parents.insert(b"object".as_slice(), 0)?;
+        put_under_object(&mut parents, declared)?;
+        put_under_parents(&mut parents, declared)?;
+        Ok(Types { declared, parents })
+    }
+
+    /// Whether a name is a type: `object`, a declared type, or one that stands as a parent.
+    pub fn contains(&self, name: &[u8]) -> bool
+        ensures { result ≡ is_in (types_of self.now) name.now }
+    {
+        self.parents.contains_key(name)
+    }
+
+    /// Whether a name is under another, which holds of each name and itself.
+    fn is_under(&self, sub: &[u8], over: &[u8]) -> bool
+        ensures { result ≡ is_under (pairs self.now) sub.now over.now }
+    {
+        match self.parents.get_index_of(sub) {
+            None => sub == over,
+            Some(from) => match self.parents.get_index_of(over) {
+                None => sub == over,
+                Some(to) => climbs(&self.parents, from, to),
+            },
+        }
+    }
+
+    /// Whether a type is a subtype of another, or that type itself; no name that is no type is either.
+    pub fn is_a(&self, sub: &[u8], over: &[u8]) -> bool
+        ensures { result ≡ is_subtype self.now sub.now over.now }
+    {
+        self.contains(sub) && self.contains(over) && self.is_under(sub, over)
+    }
+
+    /// Whether a name is under some primitive of a slot's type.
+    fn fits_some<S: Allocator>(&self, name: &[u8], slot: &TypeNames<S>) -> bool
+        ensures { result ≡ list_any (is_under (pairs self.now) name.now) slot.now }
+    {
+        let primitives = slot.as_slice();
+        for primitive in primitives {
+            if self.is_under(name, primitive.as_bytes()) {
+                return true;
+            }
+        }
+        false
+    }
+
+    /// Whether a term of the first type fits a slot of the second: each primitive of the one is under some primitive of the other.
+    pub fn fits<T: Allocator, S: Allocator>(
+        &self,
+        types: &TypeNames<T>,
+        slot: &TypeNames<S>,
+    ) -> bool
+        ensures { result ≡ fits (pairs self.now) types.now slot.now }
+    {
+        let primitives = types.as_slice();
+        for primitive in primitives {
+            if !self.fits_some(primitive.as_bytes(), slot) {
+                return false;
+            }
+        }
+        true
+    }
+
+    /// Whether a declared type is above itself.
+    fn is_cyclic(&self, declared: &DeclaredType<A>) -> bool
+        requires once { repeated [] (map item_of self.now) ≡ [] }
+        requires listed { Contains self.now (type_view declared.now) }
+        ensures { result ≡ is_cyclic (pairs self.now) declared.now.name }
+    {
+        !says_nothing(declared)
+            && self.is_under(declared.parent.as_bytes(), declared.name.as_bytes())
+    }
+
+    /// No declared type is above itself. In a domain without a cycle one walk over the table shows it.
+    ///
+    /// Fails where memory for the walk is refused.
+    pub fn cycle(&self) -> Result<(), LinkFault<'m>>
+        ensures { Passes 22 (first_alone (filter (is_cyclic (pairs self.now)) (map item_of self.now))) result }
+    {
+        let all_below = all_below_object(&self.parents)?;
+        if all_below {
+            return Ok(());
+        }
+        for declared in self.declared {
+            if self.is_cyclic(declared) {
+                return Err(LinkFault::TypeCycle(declared.name.as_bytes()));
+            }
+        }
+        Ok(())
+    }
+
+    /// The primitives of a type are types.
+    fn known_primitives<'d, T: Allocator>(
+        &self,
+        types: &'d TypeNames<T>,
+    ) -> Result<(), LinkFault<'d>>
+        ensures { Passes 23 (filter (λ t. not (is_in (types_of self.now) t)) types.now) result }
+    {
+        let primitives = types.as_slice();
+        for primitive in primitives {
+            let name = primitive.as_bytes();
+            if !self.contains(name) {
+                return Err(LinkFault::UnknownType(name));
+            }
+        }
+        Ok(())
+    }
+
+    /// The primitive types of what is typed are types.
+    pub fn known<'d, T: Allocator>(&self, typed: &'d [Typed<T>]) -> Result<(), LinkFault<'d>>
+        ensures { Passes 23 (filter (λ t. not (is_in (types_of self.now) t)) (flat_map primitives_of (map typed_view typed.now))) result }
+    {
+        for item in typed {
+            self.known_primitives(&item.types)?;
+        }
+        Ok(())
+    }
+}
