@@ -1,7 +1,8 @@
 #!/bin/sh
 # Prints MB/s and peak memory of `format`, and of the same work in plain Rust, on files of 1, 4 and 16 MiB: plans that are
-# plain, timed, and with many comments; domains of many actions; problems of many objects and facts. Each figure is that of
-# the best of five runs. Wants GNU time, Python 3 and rustc.
+# plain, timed, and with many comments; domains of many actions; problems of many objects and facts. Then seconds and peak
+# memory of `domain` and `problem` on files that link, beside those of `format`, which reads and prints them. Each figure is
+# that of the best of five runs. Wants GNU time, Python 3 and rustc.
 here=$(cd "$(dirname "$0")" && pwd) || exit 1
 "$here/../pddlcheck" --help >/dev/null || exit 1
 program=$here/../crates/pddlcheck/out/pddlcheck
@@ -36,4 +37,25 @@ for file in plain timed comments domain problem; do
         cmp -s "$folder/ours" "$folder/theirs" || echo "the two print different texts"
         printf '%-9s %4d  %s   %s\n' "$file" "$mib" "$ours" "$theirs"
     done
+done
+
+# seconds COMMAND..: seconds and MiB of the best run
+seconds() {
+    for run in 1 2 3 4 5; do
+        /usr/bin/time -f '%e %M' "$@" 2>&1 >"$folder/line" || exit 1
+    done | sort -n | head -n 1 | awk '{ printf "%8.2f %8.0f", $1, $2 / 1024 }'
+}
+
+printf '\n%-24s %8s   %-17s   %-17s\n' '' '' 'format' 'linked'
+printf '%-24s %8s  %8s %8s   %8s %8s\n' file bytes seconds MiB seconds MiB
+python3 "$here/files.py" actions 1 >"$folder/domain" || exit 1
+for count in 500 2000; do
+    python3 "$here/files.py" actions "$count" >"$folder/file" || exit 1
+    printf '%-24s %8d  %s   %s\n' "domain, $count actions" "$(wc -c <"$folder/file")" \
+        "$(seconds "$program" format domain "$folder/file")" "$(seconds "$program" domain "$folder/file")"
+done
+for count in 125000 500000; do
+    python3 "$here/files.py" items "$count" >"$folder/file" || exit 1
+    printf '%-24s %8d  %s   %s\n' "problem, $count items" "$(wc -c <"$folder/file")" \
+        "$(seconds "$program" format problem "$folder/file")" "$(seconds "$program" problem "$folder/domain" "$folder/file")"
 done

@@ -5,6 +5,9 @@ A plan has steps with three objects each: plain, timed, or with a comment before
 actions; a problem has many objects and a long `:init`.
 
 Usage: files.py plain|timed|comments|domain|problem MIB
+       files.py actions|items N
+
+The second form makes a domain with so many actions, or a problem of it with so many items in `:init` and two objects for each five of them: these link.
 """
 import itertools
 import random
@@ -79,6 +82,33 @@ PROBLEM_TAIL = """\
 """
 
 
+def linked_action(number):
+    return f"""\
+  (:action drive-{number}
+    :parameters (?t - truck ?from ?to - place)
+    :precondition (and (at ?t ?from) (not (locked ?to)) (forall (?c - crate) (imply (in ?c ?t) (seen ?c))))
+    :effect (and (not (at ?t ?from)) (at ?t ?to) (forall (?c - crate) (when (in ?c ?t) (not (seen ?c))))
+      (increase (total-cost) (length ?to))))
+"""
+
+
+def linked_domain(actions):
+    return DOMAIN_HEAD + "".join(linked_action(number) for number in range(actions)) + ")\n"
+
+
+def linked_problem(items):
+    count = max(items // 10, 1)
+    kinds = (("depot", "place"), ("truck", "truck"), ("crate", "crate"), ("lift", "lift"))
+    objects = "".join(f"    {' '.join(f'{name}{n}' for n in range(count))} - {kind}\n" for name, kind in kinds)
+    facts = (
+        lambda n: f"(at truck{n % count} depot{n * 7 % count})\n",
+        lambda n: f"(in crate{n % count} truck{n * 5 % count})\n",
+        lambda n: f"(= (length depot{n % count}) {n % count})\n",
+    )
+    init = "".join(facts[n % 3](n) for n in range(items))
+    return f"(define (problem day)\n  (:domain depot)\n  (:objects\n{objects})\n  (:init\n{init})\n  (:goal (and (at truck0 depot0) (in crate0 truck0)))\n  (:metric minimize (total-cost)))\n"
+
+
 def parts(kind, mib):
     """The head of a file of the kind, its lines or actions by their numbers, and its tail."""
     if kind == "domain":
@@ -90,6 +120,10 @@ def parts(kind, mib):
 
 
 def main():
+    if len(sys.argv) == 3 and sys.argv[1] in ("actions", "items") and sys.argv[2].isdigit():
+        make = linked_domain if sys.argv[1] == "actions" else linked_problem
+        sys.stdout.write(make(int(sys.argv[2])))
+        return
     if len(sys.argv) != 3 or sys.argv[1] not in ("plain", "timed", "comments", "domain", "problem") or not sys.argv[2].isdigit():
         sys.exit(__doc__)
     mib = int(sys.argv[2])

@@ -1,13 +1,15 @@
 -- What a reader has left to give, where it is known, and a text past the limit.
-use Rattle.std.proofs.Common.{◌≡◌, ℕ, ◌<◌, List, [], length, refl}
+use Rattle.std.proofs.Common.{◌≡◌, ℕ, ◌<◌, List, [], length, refl, subst}
 use Rattle.std.specs.Prelude.{Option, Some, None, IfSome}
 use Rattle.pddl_text.specs.declared.fault.TextFault.TheVariants as texts
 use Rattle.pddl_tree.specs.declared.fault.ReadFault.TheVariants as plans
 use Rattle.pddl_file.specs.declared.fault.FileFault.TheVariants as files
+use Rattle.pddl_domain.specs.Domains.{DomainValue, SpellsDomain}
 use Rattle.pddl_commands.specs.declared.kind.Kind.{Kind}
 use Rattle.pddl_commands.specs.declared.kind.Kind.TheVariants.{Domain, Problem, Plan}
 use Rattle.pddl_commands.specs.Lines.{text_fault_name, IsFaultLine}
 use Rattle.pddl_commands.specs.Formats.{kind_word, IsLeft, IsRefused}
+use Rattle.pddl_commands.specs.Checks.{IsNoDomain}
 
 -- a text that was read to its end
 pub left_read : (remaining : Option (List ℕ)) (text : List ℕ) → IfSome remaining (λ known. text ≡ known) → IsLeft remaining text
@@ -18,6 +20,19 @@ left_read (Some known) text e = e
 pub left_more : (remaining new : Option (List ℕ)) (limit : ℕ) (given : List ℕ) → IfSome remaining (λ known. limit < length known) → limit < length given → (text : List ℕ) × IsLeft remaining text × (limit < length text)
 left_more None new limit given known more = (given, tt, more)
 left_more (Some text) new limit given known more = (text, refl, known)
+
+-- whatever is known, some text is left
+pub some_left : (remaining : Option (List ℕ)) → (text : List ℕ) × IsLeft remaining text
+some_left None = ([], tt)
+some_left (Some known) = (known, refl)
+
+left_known : (remaining : Option (List ℕ)) (text known : List ℕ) → remaining ≡ Some known → IsLeft remaining text → text ≡ known
+left_known None text known e is = cc
+left_known (Some left) text known e is = cc
+
+-- a text that spells a domain is not known to spell none
+pub no_domain_left : (remaining : Option (List ℕ)) (text : List ℕ) (d : DomainValue) → IsLeft remaining text → SpellsDomain d text → IsNoDomain remaining → ⊥
+no_domain_left remaining text d left spells (known, is, none) = none d (subst (λ t. SpellsDomain d t) (left_known remaining text known is left) spells)
 
 -- the line for a text past the limit
 pub too_long_refused : (kind : Kind) (text line : List ℕ) → 16777216 < length text → IsFaultLine (kind_word kind) [] (text_fault_name texts.TooLong) None line → IsRefused kind text line

@@ -1,3 +1,4 @@
 pub mod FaultLines
 pub mod OneOutcome
 pub mod Left
+pub mod OneCheck

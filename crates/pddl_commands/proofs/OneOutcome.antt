@@ -64,7 +64,7 @@ one_file_line kind Stands text printed other one p q =
     one_line (kind_word kind) text (file_fault_name p.fault) (file_fault_name q.fault) (file_place p.fault) (file_place q.fault) printed other
     (ap file_fault_name same) (ap file_place same) p.line q.line
 
-one_refused : (kind : Kind) (text printed other : List ℕ) → IsRefused kind text printed → IsRefused kind text other → printed ≡ other
+pub one_refused : (kind : Kind) (text printed other : List ℕ) → IsRefused kind text printed → IsRefused kind text other → printed ≡ other
 one_refused Domain text printed other p q = one_file_line Domain DomainStands text printed other (one_domain_fault text) p q
 one_refused Problem text printed other p q = one_file_line Problem ProblemStands text printed other (one_problem_fault text) p q
 one_refused Plan text printed other p q = one_plan_line text printed other p q

@@ -11,6 +11,8 @@ use Rattle.pddl_file.specs.declared.fault.FileFault.{FileFault}
 use Rattle.pddl_file.specs.declared.fault.FileFault.TheVariants as files
 use Rattle.pddl_file.specs.Keywords.{key_text}
 use Rattle.pddl_file.specs.Marks.{mark_word}
+use Rattle.pddl_link.specs.declared.fault.LinkFault.{LinkFault}
+use Rattle.pddl_link.specs.declared.fault.LinkFault.TheVariants as links
 
 -- the number and the name of a fault of a text
 abbrev pub text_fault_name : TextFault → List ℕ
@@ -38,6 +40,26 @@ file_fault_name (files.Section span near) = codes "11 Section"
 file_fault_name (files.Unsupported mark span) = codes "12 Unsupported " ++ mark_word mark
 file_fault_name (files.Twice keyword span) = codes "13 Twice " ++ key_text keyword
 file_fault_name (files.Missing keyword) = codes "14 Missing " ++ key_text keyword
+
+-- the number and the name of a fault of linking, and the word that it is about
+abbrev pub link_fault_name : LinkFault → List ℕ
+link_fault_name links.Memory = codes "0 Memory"
+link_fault_name (links.DomainName word) = codes "20 DomainName " ++ word.now
+link_fault_name (links.TypeTwice word) = codes "21 TypeTwice " ++ word.now
+link_fault_name (links.TypeCycle word) = codes "22 TypeCycle " ++ word.now
+link_fault_name (links.UnknownType word) = codes "23 UnknownType " ++ word.now
+link_fault_name (links.NameTwice word) = codes "24 NameTwice " ++ word.now
+link_fault_name (links.ObjectTypes word) = codes "25 ObjectTypes " ++ word.now
+link_fault_name (links.UnknownName word) = codes "26 UnknownName " ++ word.now
+link_fault_name (links.Arity word) = codes "27 Arity " ++ word.now
+link_fault_name (links.ArgumentType word) = codes "28 ArgumentType " ++ word.now
+link_fault_name (links.InitContradiction word) = codes "29 InitContradiction " ++ word.now
+link_fault_name (links.FractionalCost word) = codes "30 FractionalCost " ++ word.now
+link_fault_name (links.CostValue word) = codes "31 CostValue " ++ word.now
+link_fault_name (links.ObjectFluent word) = codes "32 ObjectFluent " ++ word.now
+link_fault_name links.Metric = codes "33 Metric"
+link_fault_name (links.ConditionalCost word) = codes "34 ConditionalCost " ++ word.now
+link_fault_name links.GoalTooLarge = codes "35 GoalTooLarge"
 
 -- where the fault stands, as it is shown: nothing, or ` at `, the line, a colon and the column of its place
 abbrev pub IsPlaceShown : List ℕ → Option ℕ → List ℕ → Type 0

@@ -2,29 +2,30 @@
 
 ghost use Rattle.std.specs.Prelude.{◌≡◌, ◌++◌};
 ghost use Rattle.pddl_commands.specs.Faults.{whole_name};
-ghost use Rattle.pddl_commands.specs.Lines.{text_fault_name, fault_name, file_fault_name};
+ghost use Rattle.pddl_commands.specs.Lines.{text_fault_name, fault_name, file_fault_name, link_fault_name};
 
 use pddl_file::FileFault;
+use pddl_link::LinkFault;
 use pddl_text::TextFault;
 use pddl_tree::ReadFault;
 
 /// The number and the name of a fault, and behind these the word or the keyword that it is about, which can be empty.
 #[derive(Clone, Copy)]
-pub struct FaultName {
+pub struct FaultName<'t> {
     pub numbered: &'static str,
-    pub about: &'static [u8],
+    pub about: &'t [u8],
 }
 
-impl FaultName {
+impl<'t> FaultName<'t> {
     /// A name that is about nothing further.
-    fn plain(numbered: &'static str) -> FaultName
+    fn plain(numbered: &'static str) -> FaultName<'t>
         ensures { whole_name result ≡ numbered.now }
     {
         FaultName::of(numbered, b"")
     }
 
     /// A name, a space at its end, and what it is about.
-    fn of(numbered: &'static str, about: &'static [u8]) -> FaultName
+    fn of(numbered: &'static str, about: &'t [u8]) -> FaultName<'t>
         ensures { whole_name result ≡ numbered.now ++ about.now }
     {
         FaultName { numbered, about }
@@ -32,7 +33,7 @@ impl FaultName {
 }
 
 /// The name of a fault of a text.
-pub fn text_fault_name(fault: &TextFault) -> FaultName
+pub fn text_fault_name(fault: &TextFault) -> FaultName<'static>
     ensures { whole_name result ≡ text_fault_name fault.now }
 {
     FaultName::plain(match fault {
@@ -48,7 +49,7 @@ pub fn text_fault_name(fault: &TextFault) -> FaultName
 }
 
 /// The name of a fault of a plan.
-pub fn fault_name(fault: &ReadFault) -> FaultName
+pub fn fault_name(fault: &ReadFault) -> FaultName<'static>
     ensures { whole_name result ≡ fault_name fault.now }
 {
     match fault {
@@ -60,7 +61,7 @@ pub fn fault_name(fault: &ReadFault) -> FaultName
 }
 
 /// The name of a fault of a domain or a problem.
-pub fn file_fault_name(fault: &FileFault) -> FaultName
+pub fn file_fault_name(fault: &FileFault) -> FaultName<'static>
     ensures { whole_name result ≡ file_fault_name fault.now }
 {
     match fault {
@@ -70,5 +71,30 @@ pub fn file_fault_name(fault: &FileFault) -> FaultName
         FileFault::Unsupported { word, .. } => FaultName::of("12 Unsupported ", word.word()),
         FileFault::Twice { keyword, .. } => FaultName::of("13 Twice ", keyword.text()),
         FileFault::Missing { keyword } => FaultName::of("14 Missing ", keyword.text()),
+    }
+}
+
+/// The name of a fault of linking.
+pub fn link_fault_name<'t>(fault: &LinkFault<'t>) -> FaultName<'t>
+    ensures { whole_name result ≡ link_fault_name fault.now }
+{
+    match fault {
+        LinkFault::Memory => return FaultName::plain("0 Memory"),
+        LinkFault::DomainName(word) => return FaultName::of("20 DomainName ", word),
+        LinkFault::TypeTwice(word) => return FaultName::of("21 TypeTwice ", word),
+        LinkFault::TypeCycle(word) => return FaultName::of("22 TypeCycle ", word),
+        LinkFault::UnknownType(word) => return FaultName::of("23 UnknownType ", word),
+        LinkFault::NameTwice(word) => return FaultName::of("24 NameTwice ", word),
+        LinkFault::ObjectTypes(word) => return FaultName::of("25 ObjectTypes ", word),
+        LinkFault::UnknownName(word) => return FaultName::of("26 UnknownName ", word),
+        LinkFault::Arity(word) => return FaultName::of("27 Arity ", word),
+        LinkFault::ArgumentType(word) => return FaultName::of("28 ArgumentType ", word),
+        LinkFault::InitContradiction(word) => return FaultName::of("29 InitContradiction ", word),
+        LinkFault::FractionalCost(word) => return FaultName::of("30 FractionalCost ", word),
+        LinkFault::CostValue(word) => return FaultName::of("31 CostValue ", word),
+        LinkFault::ObjectFluent(word) => return FaultName::of("32 ObjectFluent ", word),
+        LinkFault::Metric => return FaultName::plain("33 Metric"),
+        LinkFault::ConditionalCost(word) => return FaultName::of("34 ConditionalCost ", word),
+        LinkFault::GoalTooLarge => return FaultName::plain("35 GoalTooLarge"),
     }
 }

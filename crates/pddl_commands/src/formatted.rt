@@ -68,7 +68,7 @@ fn refused_plan<'a, B: Allocator>(
 }
 
 /// The line of a domain or a problem that is refused for a fault.
-fn refused_file<'a, B: Allocator>(
+pub fn refused_file<'a, B: Allocator>(
     alloc: &'a B,
     kind: Kind,
     text: &[u8],

@@ -7,10 +7,11 @@ ghost use Rattle.pddl_commands.specs.declared.kind.Kind.{Kind};
 ghost use Rattle.pddl_commands.specs.declared.outcome.Outcome.{Outcome};
 ghost use Rattle.pddl_commands.specs.Formats.{IsFormatted, IsLeft};
 
-use crate::formatted::{Formatted, formatted, too_long};
+use crate::formatted::{Formatted, formatted};
 use crate::kind::Kind;
 use crate::outcome::{Outcome, RunFault};
-use pddl_text::{LONGEST, Sink, Source, SourceFault, read_all, write_text};
+use crate::reading::{Content, read_file};
+use pddl_text::{Sink, Source, write_text};
 use std::alloc::Allocator;
 
 /// What is printed for a reader's text, and the outcome. No writer plays a part.
@@ -27,17 +28,9 @@ fn read_formatted<'a, B: Allocator, S: Source>(
     ensures no_write { ¬ IsErrOf result RunFault.WriteFailed }
     ensures stands { (given : List ℕ) × Consumes (S.remaining source.old) (S.remaining source.new) given }
 {
-    match read_all(alloc, source, LONGEST) {
-        Ok(text) => match formatted(alloc, kind, &text) {
-            Ok(answer) => Ok(answer),
-            Err(_) => Err(RunFault::Memory),
-        },
-        Err(SourceFault::TooLong) => match too_long(alloc, kind) {
-            Ok(line) => Ok((line, Outcome::Refused)),
-            Err(_) => Err(RunFault::Memory),
-        },
-        Err(SourceFault::Memory) => Err(RunFault::Memory),
-        Err(SourceFault::ReadFailed) => Err(RunFault::ReadFailed),
+    match read_file(alloc, kind, source)? {
+        Content::Text(text) => Ok(formatted(alloc, kind, &text)?),
+        Content::TooLong(line) => Ok((line, Outcome::Refused)),
     }
 }
 

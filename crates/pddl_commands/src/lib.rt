@@ -4,13 +4,19 @@
 //! where memory was refused or a read failed.
 #![tactic(auto)]
 
+mod checked;
+mod checking;
 mod fault_names;
 mod formatted;
 mod formatting;
 mod kind;
 mod line;
 mod outcome;
+mod reading;
 
+pub use checking::{
+    check_domain_file, check_problem_file, one_domain_outcome, one_problem_outcome,
+};
 pub use formatting::{format, one_outcome};
 pub use kind::Kind;
 pub use outcome::{Outcome, RunFault, status};

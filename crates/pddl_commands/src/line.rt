@@ -21,7 +21,7 @@ fn push_number<A: Allocator>(line: &mut Vec<u8, A>, number: u32) -> Result<(), A
 
 /// Adds the name of a fault.
 fn push_name<A: Allocator>(line: &mut Vec<u8, A>, name: FaultName) -> Result<(), AllocError>
-    ensures { OnOk result (line.new.items ≡ line.old.items ++ whole_name name) }
+    ensures { OnOk result (line.new.items ≡ line.old.items ++ whole_name name.entry) }
 {
     line.extend_from_slice(name.numbered.as_bytes())?;
     line.extend_from_slice(name.about)?;
@@ -69,7 +69,7 @@ pub fn fault_line<A: Allocator>(
     place: Option<u32>,
 ) -> Result<Vec<u8, A>, AllocError>
     requires { (at : ℕ) → place ≡ Some at → (at ≤ length text.now) × (at ≤ LONGEST) }
-    ensures { IfOk result (λ line. IsFaultLine word.now text.now (whole_name name) place line.items) }
+    ensures { IfOk result (λ line. IsFaultLine word.now text.now (whole_name name.entry) place line.items) }
 {
     let mut line = Vec::new(alloc);
     line.extend_from_slice(word)?;

@@ -1,7 +1,9 @@
 //! How a command ends, and the exit status for that.
 
 ghost use Rattle.std.specs.Prelude.{◌≡◌, ◌↔◌, Ok, IsErr};
+ghost use Rattle.pddl_commands.specs.declared.outcome.RunFault.TheVariants.{Memory};
 
+use std::alloc::AllocError;
 use thiserror::Error;
 
 /// What a command found. The text or the line that says so was written.
@@ -27,6 +29,14 @@ pub enum RunFault {
     /// A write failed, after a beginning of the text was written.
     #[error("fault 18 WriteFailed")]
     WriteFailed,
+}
+
+impl From<AllocError> for RunFault {
+    ghost from_gives = { λ _ fault. fault ≡ Memory };
+
+    fn from(_error: AllocError) -> RunFault {
+        RunFault::Memory
+    }
 }
 
 /// The exit status of a command that ended so: 0 good, 1 plan invalid, 2 a file refused, 4 reading, writing or memory.

@@ -28,3 +28,6 @@ pub mod UnknownTypes
 pub mod Verdicts
 pub mod Walks
 pub mod TaskNames
+pub mod OkResults
+pub mod Entries
+pub mod FittingObjects

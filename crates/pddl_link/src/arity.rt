@@ -8,7 +8,8 @@ ghost use Rattle.pddl_link.specs.Passes.{Passes};
 ghost use Rattle.pddl_link.specs.KnownNames.{signature_in};
 
 use crate::fault::LinkFault;
-use crate::known::{Hashed, Known, takes_others};
+use crate::hashed::Hashed;
+use crate::known::{Known, takes_others};
 use crate::search::{Scope, Search};
 use indexmap::IndexMap;
 use pddl_formula::{Term, Typed};

@@ -4,11 +4,9 @@ ghost use Rattle.std.specs.Prelude.{◌≡◌, true, false, IfOk};
 ghost use Rattle.std.specs.List.{slice_index_or};
 ghost use Rattle.pddl_link.specs.TypeTables.{parent_place, ComesToRoot, MarksBelowRoot, AllBelowRoot, AddsMark};
 
+use crate::hashed::Hashed;
 use indexmap::IndexMap;
 use std::alloc::{AllocError, Allocator};
-use std::hash::{BuildHasherDefault, FoldHasher};
-
-type Hashed = BuildHasherDefault<FoldHasher>;
 
 /// The place of the parent of the type at a place.
 fn parent_of<'m, 'a, B: Allocator>(

@@ -8,12 +8,10 @@ ghost use Rattle.pddl_link.specs.Passes.{Passes};
 
 use crate::fault::LinkFault;
 use crate::ground::Ground;
+use crate::hashed::Hashed;
 use indexmap::IndexMap;
 use pddl_problem::InitItem;
 use std::alloc::Allocator;
-use std::hash::{BuildHasherDefault, FoldHasher};
-
-type Hashed = BuildHasherDefault<FoldHasher>;
 
 /// The atom that an item of `:init` is about, and whether it holds there.
 fn literal<'d, A: Allocator>(item: &'d InitItem<A>) -> Option<(Ground<'d, A>, bool)>

@@ -8,14 +8,12 @@ ghost use Rattle.pddl_task.specs.Settings.{symbol_of};
 ghost use Rattle.pddl_task.specs.Faults.{takes_others, signature_of};
 ghost use Rattle.pddl_link.specs.KnownNames.{signature_in, object_in};
 
+use crate::hashed::Hashed;
 use crate::types::Types;
 use indexmap::IndexMap;
 use pddl_domain::{DeclaredFunction, DeclaredPredicate};
 use pddl_formula::{TypeNames, Typed};
 use std::alloc::{AllocError, Allocator};
-use std::hash::{BuildHasherDefault, FoldHasher};
-
-pub(crate) type Hashed = BuildHasherDefault<FoldHasher>;
 
 /// Predicates or functions by name, each with its parameters.
 pub(crate) type Signatures<'m, 'a, A, B> = IndexMap<&'m [u8], &'m [Typed<A>], Hashed, &'a B>;

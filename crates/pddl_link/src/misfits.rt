@@ -12,7 +12,8 @@ ghost use Rattle.pddl_link.specs.KnownNames.{signature_in, setting_of};
 
 use crate::bound::bound_type;
 use crate::fault::LinkFault;
-use crate::known::{Hashed, Known};
+use crate::hashed::Hashed;
+use crate::known::Known;
 use crate::search::{Scope, Search};
 use indexmap::IndexMap;
 use pddl_formula::{Term, Typed};

@@ -12,7 +12,8 @@ ghost use Rattle.pddl_link.specs.Passes.{Passes};
 ghost use Rattle.pddl_link.specs.KnownNames.{object_in};
 
 use crate::fault::LinkFault;
-use crate::known::{Hashed, Objects};
+use crate::hashed::Hashed;
+use crate::known::Objects;
 use crate::objects::list_objects;
 use crate::repeated::RepeatedVariables;
 use crate::repeats::{function_twice, predicate_twice};

@@ -1,13 +1,11 @@
 //! How many objects fit a type.
 
+use crate::hashed::Hashed;
 use crate::size::FittingCount;
 use crate::types::Types;
 use indexmap::IndexMap;
 use pddl_formula::TypeNames;
 use std::alloc::Allocator;
-use std::hash::{BuildHasherDefault, FoldHasher};
-
-type Hashed = BuildHasherDefault<FoldHasher>;
 
 /// Counts the objects that fit a type, each of which has one type by its name.
 #[derive(Drop)]

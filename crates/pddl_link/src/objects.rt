@@ -8,12 +8,10 @@ ghost use Rattle.pddl_link.specs.KnownNames.{object_in};
 ghost use Rattle.pddl_link.specs.Passes.{Passes};
 
 use crate::fault::LinkFault;
+use crate::hashed::Hashed;
 use indexmap::IndexMap;
 use pddl_formula::{TypeNames, Typed};
 use std::alloc::Allocator;
-use std::hash::{BuildHasherDefault, FoldHasher};
-
-type Hashed = BuildHasherDefault<FoldHasher>;
 
 /// Whether two types have the same primitives in the same order.
 fn same_types<A: Allocator, B: Allocator>(first: &TypeNames<A>, second: &TypeNames<B>) -> bool

@@ -11,13 +11,11 @@ ghost use Rattle.pddl_task.specs.Faults.{types_twice};
 ghost use Rattle.pddl_link.specs.Passes.{Passes};
 
 use crate::fault::LinkFault;
+use crate::hashed::Hashed;
 use indexmap::IndexSet;
 use pddl_domain::{Action, DeclaredFunction, DeclaredPredicate, DeclaredType, Domain};
 use pddl_formula::Typed;
 use std::alloc::{AllocError, Allocator};
-use std::hash::{BuildHasherDefault, FoldHasher};
-
-type Fixed = BuildHasherDefault<FoldHasher>;
 
 /// What has a name.
 pub(crate) trait Named {
@@ -77,7 +75,7 @@ fn first_repeat<'d, 'a, N: Named, B: Allocator>(
 ) -> Result<Option<&'d [u8]>, AllocError>
     ensures { IfOk result (λ found. MatchOption found (repeated [] (map N.name items.now) ≡ []) (λ word. Contains (repeated [] (map N.name items.now)) word.now)) }
 {
-    let mut seen: IndexSet<&'d [u8], Fixed, &'a B> = IndexSet::new(alloc);
+    let mut seen: IndexSet<&'d [u8], Hashed, &'a B> = IndexSet::new(alloc);
     for item in items {
         let name = item.text();
         let (_, is_new) = seen.insert_full(name)?;

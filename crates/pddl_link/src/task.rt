@@ -1,23 +1,28 @@
 //! Linked tasks.
 
-ghost use Rattle.std.specs.Prelude.{◌≡◌, option_map, slice_get};
+ghost use Rattle.std.specs.Prelude.{◌≡◌, false, option_map, slice_get, position, bytes_eq, IfOk};
+ghost use Rattle.std.specs.Option.{option_map_or};
 ghost use Rattle.pddl_formula.specs.Formulas.{formula_view};
+ghost use Rattle.pddl_domain.specs.Actions.{action_view};
 ghost use Rattle.pddl_domain.specs.Domains.{domain_view};
 ghost use Rattle.pddl_problem.specs.Problems.{problem_view};
-ghost use Rattle.pddl_task.specs.Types.{is_subtype};
-ghost use Rattle.pddl_task.specs.GroundSize.{capped, formula_size};
+ghost use Rattle.pddl_task.specs.Types.{pairs, fits, is_subtype};
+ghost use Rattle.pddl_task.specs.GroundSize.{capped, formula_size, action_size};
+ghost use Rattle.pddl_task.specs.Linked.{IsLinked};
 ghost use Rattle.pddl_task.specs.Tasks.{task_count, predicate_names, object_names};
-ghost use Rattle.pddl_link.specs.TaskTables.{AreTablesOf};
+ghost use Rattle.pddl_link.specs.TaskTables.{AreTablesOf, fitting_numbers};
 
+use crate::effect_size::action_ground_size;
+use crate::fitting::fitting_objects;
 use crate::known::{Objects, Signatures};
 use crate::object_counts::ObjectCounts;
 use crate::size::ground_size;
 use crate::types::Types;
-use pddl_domain::Domain;
-use pddl_formula::Formula;
+use pddl_domain::{Action, Domain};
+use pddl_formula::{Formula, TypeNames};
 use pddl_problem::Problem;
 use pddl_tree::Name;
-use std::alloc::Allocator;
+use std::alloc::{AllocError, Allocator};
 
 /// What a domain and a problem that link say together.
 ///
@@ -34,13 +39,53 @@ pub struct Task<'m, 'a, A: Allocator, B: Allocator> {
 }
 
 impl<'m, 'a, A: Allocator, B: Allocator> Task<'m, 'a, A, B> {
-    ghost use Rattle.pddl_link.specs.LinkedTasks.{task_of_files};
+    ghost use Rattle.pddl_link.specs.LinkedTasks.{files_of, task_of_files};
+
+    /// The domain that it is of.
+    pub fn domain(&self) -> &'m Domain<A>
+        ensures domain { domain_view result.now ≡ (files_of self.now).domain }
+        ensures linked { IsLinked (files_of self.now).domain (files_of self.now).problem }
+    {
+        self.domain
+    }
+
+    /// The problem that it is of.
+    pub fn problem(&self) -> &'m Problem<A>
+        ensures problem { problem_view result.now ≡ (files_of self.now).problem }
+        ensures linked { IsLinked (files_of self.now).domain (files_of self.now).problem }
+    {
+        self.problem
+    }
 
     /// Whether a type is a subtype of another, or that type itself; a name that is no type of the task is neither.
     pub fn is_a<N: Allocator>(&self, sub: &Name<N>, over: &Name<N>) -> bool
         ensures { result ≡ is_subtype (task_of_files self.now).types sub.now over.now }
     {
         self.types.is_a(sub.as_bytes(), over.as_bytes())
+    }
+
+    /// Whether the object of a number fits a type; past the last there is none that does.
+    pub fn object_fits<N: Allocator>(&self, object: usize, types: &TypeNames<N>) -> bool
+        ensures { result ≡ option_map_or (λ o. fits (pairs (task_of_files self.now).types) o.of types.now)
+            (slice_get (task_of_files self.now).objects object) false }
+    {
+        match self.objects.get_index(object) {
+            Some((_, own)) => self.types.fits(*own, types),
+            None => false,
+        }
+    }
+
+    /// The numbers of the objects that fit a type, rising.
+    ///
+    /// Fails where memory for them is refused.
+    pub fn fitting<'b, N: Allocator, C: Allocator>(
+        &self,
+        alloc: &'b C,
+        types: &TypeNames<N>,
+    ) -> Result<Vec<usize, &'b C>, AllocError>
+        ensures { IfOk result (λ numbers. numbers.items ≡ fitting_numbers (task_of_files self.now) types.now) }
+    {
+        fitting_objects(alloc, &self.types, &self.objects, types)
     }
 
     /// The ground size of a formula over the task's objects, or 1,000,001 where it is over 1,000,000.
@@ -52,6 +97,17 @@ impl<'m, 'a, A: Allocator, B: Allocator> Task<'m, 'a, A, B> {
             objects: &self.objects,
         };
         ground_size(&counts, formula)
+    }
+
+    /// The ground size of a step of an action over the task's objects, or 1,000,001 where it is over 1,000,000.
+    pub fn action_ground_size(&self, action: &Action<A>) -> u32
+        ensures { result ≡ capped (action_size (task_count (task_of_files self.now)) (action_view action.now)) }
+    {
+        let counts = ObjectCounts {
+            types: &self.types,
+            objects: &self.objects,
+        };
+        action_ground_size(&counts, action)
     }
 
     /// The name of the predicate of a number, or `None` past the last.
@@ -72,5 +128,19 @@ impl<'m, 'a, A: Allocator, B: Allocator> Task<'m, 'a, A, B> {
             Some((name, _)) => Some(*name),
             None => None,
         }
+    }
+
+    /// The number of the object of a name, or `None` where there is none.
+    pub fn object_number(&self, name: &[u8]) -> Option<usize>
+        ensures { result ≡ position (bytes_eq name.now) (object_names (task_of_files self.now)) }
+    {
+        self.objects.get_index_of(name)
+    }
+
+    /// The number of the predicate of a name, or `None` where there is none.
+    pub fn predicate_number(&self, name: &[u8]) -> Option<usize>
+        ensures { result ≡ position (bytes_eq name.now) (predicate_names (task_of_files self.now)) }
+    {
+        self.predicates.get_index_of(name)
     }
 }

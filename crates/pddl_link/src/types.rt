@@ -12,14 +12,12 @@ ghost use Rattle.pddl_link.specs.TypeTables.{IsTableOf, IsTypeTable, with_name, 
 
 use crate::below_object::all_below_object;
 use crate::fault::LinkFault;
+use crate::hashed::Hashed;
 use indexmap::IndexMap;
 use pddl_domain::DeclaredType;
 use pddl_formula::{TypeNames, Typed};
 use std::alloc::{AllocError, Allocator};
-use std::hash::{BuildHasherDefault, FoldHasher};
 use std::marker::Model;
-
-type Hashed = BuildHasherDefault<FoldHasher>;
 
 /// The types of a domain, each with the place of its parent in the table; `object` is at place 0, and is its own parent where no
 /// other is declared.

@@ -216,7 +216,12 @@ const OTHER_TYPES: [(&str, &str); 2] = [
 const TYPES: &str = "(:types lamp - object big - lamp)";
 
 /// A text with another part in place of the first such part.
-fn with_part<R: AllocGlobal>(rt: &R, text: &str, part: &str, other: &str) -> Result<String, Fail> {
+pub fn with_part<R: AllocGlobal>(
+    rt: &R,
+    text: &str,
+    part: &str,
+    other: &str,
+) -> Result<String, Fail> {
     let (before, after) = text.split_once(part).ok_or("a text with the part")?;
     Ok(format!(in rt.alloc(); "{before}{other}{after}")?)
 }

@@ -4,7 +4,11 @@
 #![tactic(auto)]
 
 #[cfg(test)]
+mod checking;
+#[cfg(test)]
 mod device_rows;
+#[cfg(test)]
+mod domain_checks;
 #[cfg(test)]
 mod domain_rows;
 #[cfg(test)]
@@ -18,8 +22,12 @@ mod memory_rows;
 #[cfg(test)]
 mod plan_rows;
 #[cfg(test)]
+mod problem_checks;
+#[cfg(test)]
 mod problem_rows;
 #[cfg(test)]
 mod sample_files;
+#[cfg(test)]
+mod task_rows;
 #[cfg(test)]
 mod text_rows;

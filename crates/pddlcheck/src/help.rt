@@ -4,6 +4,12 @@
 pub const ABOUT: &str =
     "Reads PDDL files, prints them in one layout, and says what is wrong with them";
 
+/// What `domain` does.
+pub const ABOUT_DOMAIN: &str = "Checks a domain";
+
+/// What `problem` does.
+pub const ABOUT_PROBLEM: &str = "Checks a problem with its domain";
+
 /// What `format` does.
 pub const ABOUT_FORMAT: &str = "Prints a file in its canonical layout";
 
@@ -14,6 +20,12 @@ as planners write it and VAL reads it";
 /// What `FILE` stands for.
 pub const FILE: &str = "The file; /dev/stdin is standard input";
 
+/// What `DOMAIN` stands for.
+pub const DOMAIN: &str = "The file of the domain; /dev/stdin is standard input";
+
+/// What `PROBLEM` stands for.
+pub const PROBLEM: &str = "The file of the problem; /dev/stdin is standard input";
+
 /// What stands after the help of the program.
 pub const AFTER: &str = "\
 Exit status:
@@ -23,8 +35,41 @@ Exit status:
   3  the words of the command line are wrong
   4  reading, writing or memory failed, or a file does not open
 
-Example:
+Examples:
+  pddlcheck domain domain.pddl
+  pddlcheck problem domain.pddl problem.pddl
   pddlcheck format domain domain.pddl";
+
+/// What stands after the help of `domain`.
+pub const AFTER_DOMAIN: &str = "\
+A good domain gives the line `good: domain NAME`. Any other file gives one line with its fault: that of its text, as
+`domain: fault 3 Glued at 1:1`, or of what its parts say together the fault with the lowest number, as
+`link: fault 26 UnknownName on`.
+
+Exit status:
+  0  the domain is good
+  2  the file is refused
+  3  the words of the command line are wrong
+  4  reading, writing or memory failed, or the file does not open
+
+Example:
+  pddlcheck domain domain.pddl";
+
+/// What stands after the help of `problem`.
+pub const AFTER_PROBLEM: &str = "\
+A good problem of a good domain gives the line `good: problem NAME`. Other files give one line with their fault: that
+of the domain's text, or else of the problem's, as `problem: fault 14 Missing :goal`, or else of what both say together
+the fault with the lowest number, as `link: fault 20 DomainName lamps`. A problem is not read where the domain's text
+has a fault.
+
+Exit status:
+  0  the problem is good, and so is its domain
+  2  a file is refused
+  3  the words of the command line are wrong
+  4  reading, writing or memory failed, or a file does not open
+
+Example:
+  pddlcheck problem domain.pddl problem.pddl";
 
 /// What stands after the help of `format`.
 pub const AFTER_FORMAT: &str = "\

@@ -13,7 +13,7 @@ mod input;
 mod words;
 
 use input::open;
-use pddl_commands::{RunFault, format, status};
+use pddl_commands::{RunFault, check_domain_file, check_problem_file, format, status};
 use pddl_text::{FromRead, ToWrite};
 use std::env::Env;
 use std::io::ErrorKind;
@@ -53,6 +53,22 @@ fn run_job<R: Files + Input + Print + Eprint + AllocGlobal>(rt: &R, job: Job<'_>
     let alloc = rt.alloc();
     let mut out = ToWrite::new(io::writer(rt));
     let ended = match job {
+        Job::Domain { path } => {
+            let Ok(file) = open(rt, path) else {
+                return cannot_open(rt, path);
+            };
+            check_domain_file(&alloc, &mut FromRead::new(file), &mut out)
+        }
+        Job::Problem { domain, problem } => {
+            let Ok(first) = open(rt, domain) else {
+                return cannot_open(rt, domain);
+            };
+            let Ok(second) = open(rt, problem) else {
+                return cannot_open(rt, problem);
+            };
+            let (mut first, mut second) = (FromRead::new(first), FromRead::new(second));
+            check_problem_file(&alloc, &mut first, &mut second, &mut out)
+        }
         Job::Format { kind, path } => {
             let Ok(file) = open(rt, path) else {
                 return cannot_open(rt, path);

@@ -15,7 +15,29 @@ fn refused_with(rt: &impl AllocGlobal, words: &[&str]) -> Option<u8> {
 
 #[test]
 fn words_give_jobs(rt: HostRuntime) -> Result<(), Fail> {
-    let rows: [(&[&str], Job); 5] = [
+    let rows: [(&[&str], Job); 9] = [
+        (
+            &["pddlcheck", "domain", "my.pddl"],
+            Job::Domain { path: "my.pddl" },
+        ),
+        (
+            &["pddlcheck", "domain", "domain"],
+            Job::Domain { path: "domain" },
+        ),
+        (
+            &["pddlcheck", "problem", "my.pddl", "other.pddl"],
+            Job::Problem {
+                domain: "my.pddl",
+                problem: "other.pddl",
+            },
+        ),
+        (
+            &["pddlcheck", "problem", "/dev/stdin", "/dev/stdin"],
+            Job::Problem {
+                domain: "/dev/stdin",
+                problem: "/dev/stdin",
+            },
+        ),
         (
             &["pddlcheck", "format", "domain", "my.pddl"],
             Job::Format {
@@ -60,7 +82,11 @@ fn words_give_jobs(rt: HostRuntime) -> Result<(), Fail> {
 
 #[test]
 fn words_that_ask_for_help(rt: HostRuntime) -> Result<(), Fail> {
-    let rows: [&[&str]; 6] = [
+    let rows: [&[&str]; 10] = [
+        &["pddlcheck", "domain", "--help"],
+        &["pddlcheck", "help", "domain"],
+        &["pddlcheck", "problem", "-h"],
+        &["pddlcheck", "help", "problem"],
         &["pddlcheck", "--help"],
         &["pddlcheck", "-h"],
         &["pddlcheck", "help"],
@@ -76,7 +102,13 @@ fn words_that_ask_for_help(rt: HostRuntime) -> Result<(), Fail> {
 
 #[test]
 fn words_that_ask_for_nothing(rt: HostRuntime) -> Result<(), Fail> {
-    let rows: [&[&str]; 12] = [
+    let rows: [&[&str]; 18] = [
+        &["pddlcheck", "domain"],
+        &["pddlcheck", "domain", "my.pddl", "other.pddl"],
+        &["pddlcheck", "problem"],
+        &["pddlcheck", "problem", "my.pddl"],
+        &["pddlcheck", "problem", "my.pddl", "other.pddl", "my.plan"],
+        &["pddlcheck", "Domain", "my.pddl"],
         &[],
         &["pddlcheck"],
         &["pddlcheck", "reformat"],
@@ -98,13 +130,32 @@ fn words_that_ask_for_nothing(rt: HostRuntime) -> Result<(), Fail> {
 
 #[test]
 fn help_names_the_commands_and_the_statuses(rt: HostRuntime) -> Result<(), Fail> {
-    let asked: [&[&str]; 2] = [&["pddlcheck", "--help"], &["pddlcheck", "format", "--help"]];
-    let wanted: [&[&str]; 2] = [
+    let asked: [&[&str]; 4] = [
+        &["pddlcheck", "--help"],
+        &["pddlcheck", "domain", "--help"],
+        &["pddlcheck", "problem", "--help"],
+        &["pddlcheck", "format", "--help"],
+    ];
+    let wanted: [&[&str]; 4] = [
         &[
             "Usage: pddlcheck <COMMAND>",
+            "domain",
+            "problem",
             "format",
             "Exit status:",
-            "Example:",
+            "Examples:",
+        ],
+        &[
+            "Usage: pddlcheck domain <FILE>",
+            "/dev/stdin",
+            "good: domain NAME",
+            "Exit status:",
+        ],
+        &[
+            "Usage: pddlcheck problem <DOMAIN> <PROBLEM>",
+            "/dev/stdin",
+            "good: problem NAME",
+            "Exit status:",
         ],
         &[
             "Usage: pddlcheck format <KIND> <FILE>",

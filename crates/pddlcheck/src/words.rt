@@ -13,6 +13,10 @@ use std::convert::AsStr;
 /// What the words ask for.
 #[derive(Clone, Copy, Debug, PartialEq, Eq)]
 pub enum Job<'a> {
+    /// To check the domain at `path`.
+    Domain { path: &'a str },
+    /// To check the problem at `problem` with the domain at `domain`.
+    Problem { domain: &'a str, problem: &'a str },
     /// To print the file at `path`, which holds what `kind` says, in its canonical layout.
     Format { kind: Kind, path: &'a str },
 }
@@ -28,6 +32,41 @@ fn kind_named(word: &str) -> Option<Kind> {
         "plan" => Some(Kind::Plan),
         _ => None,
     }
+}
+
+/// The command `domain FILE`.
+fn domain_command<'a>(alloc: Global) -> Result<Command<'a>, AllocError> {
+    let file = Arg::new(alloc, "FILE").required(true).help(help::FILE);
+    Command::new(alloc, "domain")
+        .about(help::ABOUT_DOMAIN)
+        .after_help(help::AFTER_DOMAIN)
+        .arg(file)
+}
+
+/// The job of the words after `domain`, where they are its own.
+fn domain_job<'a>(matches: &ArgMatches<'a>) -> Option<Job<'a>> {
+    let path = matches.get_str("FILE")?;
+    Some(Job::Domain { path })
+}
+
+/// The command `problem DOMAIN PROBLEM`.
+fn problem_command<'a>(alloc: Global) -> Result<Command<'a>, AllocError> {
+    let domain = Arg::new(alloc, "DOMAIN").required(true).help(help::DOMAIN);
+    let problem = Arg::new(alloc, "PROBLEM")
+        .required(true)
+        .help(help::PROBLEM);
+    Command::new(alloc, "problem")
+        .about(help::ABOUT_PROBLEM)
+        .after_help(help::AFTER_PROBLEM)
+        .arg(domain)?
+        .arg(problem)
+}
+
+/// The job of the words after `problem`, where they are its own.
+fn problem_job<'a>(matches: &ArgMatches<'a>) -> Option<Job<'a>> {
+    let domain = matches.get_str("DOMAIN")?;
+    let problem = matches.get_str("PROBLEM")?;
+    Some(Job::Problem { domain, problem })
 }
 
 /// The command `format KIND FILE`.
@@ -61,9 +100,13 @@ pub fn parse_words<'a, S: AsStr>(alloc: Global, words: &'a [S]) -> Result<Job<'a
         .about(help::ABOUT)
         .after_help(help::AFTER)
         .subcommand_required(true)
+        .subcommand(domain_command(alloc)?)?
+        .subcommand(problem_command(alloc)?)?
         .subcommand(format_command(alloc)?)?;
     let matches = command.try_get_matches_from_mut(words)?;
     let job = match matches.subcommand() {
+        Some(("domain", inner)) => domain_job(inner),
+        Some(("problem", inner)) => problem_job(inner),
         Some(("format", inner)) => format_job(inner),
         _ => None,
     };

@@ -1,0 +1,121 @@
+//! What `domain` and `problem` print for texts.
+
+ghost use Rattle.std.specs.Prelude.{◌≡◌, ◌≢◌, [], codes, None, IfOk};
+ghost use Rattle.pddl_domain.specs.Domains.{domain_view};
+ghost use Rattle.pddl_problem.specs.Problems.{problem_view};
+ghost use Rattle.pddl_link.specs.declared.fault.LinkFault.TheVariants as links;
+ghost use Rattle.pddl_commands.specs.Checks.{good_line, IsDomainJudged, IsProblemJudged, IsDomainChecked, ForProblem};
+ghost use Rattle.pddl_commands.specs.Lines.{link_fault_name, IsFaultLine};
+
+use crate::fault_names::link_fault_name;
+use crate::formatted::{Formatted, refused_file};
+use crate::kind::Kind;
+use crate::line::fault_line;
+use crate::outcome::Outcome;
+use pddl_domain::{Domain, read_domain};
+use pddl_link::{LinkFault, check_domain, link};
+use pddl_problem::{Problem, read_problem};
+use std::alloc::{AllocError, Allocator};
+
+/// The line of a good domain or problem.
+fn good_line<'a, B: Allocator>(
+    alloc: &'a B,
+    word: &[u8],
+    name: &[u8],
+) -> Result<Vec<u8, &'a B>, AllocError>
+    ensures { IfOk result (λ line. line.items ≡ good_line word.now name.now) }
+{
+    let mut line = Vec::new(alloc);
+    line.extend_from_slice(b"good: ")?;
+    line.extend_from_slice(word)?;
+    line.push(b' ')?;
+    line.extend_from_slice(name)?;
+    line.push(b'\n')?;
+    Ok(line)
+}
+
+/// The line of a fault of linking.
+fn link_line<'a, B: Allocator>(
+    alloc: &'a B,
+    fault: &LinkFault,
+) -> Result<Vec<u8, &'a B>, AllocError>
+    ensures no_memory { IfOk result (λ line. fault.now ≢ links.Memory) }
+    ensures line { IfOk result (λ line. IsFaultLine (codes "link") [] (link_fault_name fault.now) None line.items) }
+{
+    match fault {
+        LinkFault::Memory => Err(AllocError),
+        _ => fault_line(alloc, b"link", b"", link_fault_name(fault), None),
+    }
+}
+
+/// What is printed for a domain, and the outcome.
+fn judged_domain<'a, A: Allocator, B: Allocator>(
+    alloc: &'a B,
+    domain: &Domain<A>,
+) -> Result<Formatted<'a, B>, AllocError>
+    ensures { IfOk result (λ answer. IsDomainJudged (domain_view domain.now) answer.0.items answer.1) }
+{
+    match check_domain(alloc, domain) {
+        Ok(()) => {
+            let line = good_line(alloc, b"domain", domain.name.as_bytes())?;
+            Ok((line, Outcome::Good))
+        }
+        Err(fault) => {
+            let line = link_line(alloc, &fault)?;
+            Ok((line, Outcome::Refused))
+        }
+    }
+}
+
+/// What is printed for a problem with its domain, and the outcome.
+fn judged_problem<'a, A: Allocator, B: Allocator>(
+    alloc: &'a B,
+    domain: &Domain<A>,
+    problem: &Problem<A>,
+) -> Result<Formatted<'a, B>, AllocError>
+    ensures { IfOk result (λ answer. IsProblemJudged (domain_view domain.now) (problem_view problem.now) answer.0.items answer.1) }
+{
+    match link(alloc, domain, problem) {
+        Ok(_) => {
+            let line = good_line(alloc, b"problem", problem.name.as_bytes())?;
+            Ok((line, Outcome::Good))
+        }
+        Err(fault) => {
+            let line = link_line(alloc, &fault)?;
+            Ok((line, Outcome::Refused))
+        }
+    }
+}
+
+/// What `domain` prints for a text, and the outcome.
+pub fn checked_domain<'a, B: Allocator>(
+    alloc: &'a B,
+    text: &[u8],
+) -> Result<Formatted<'a, B>, AllocError>
+    ensures { IfOk result (λ answer. IsDomainChecked text.now answer.0.items answer.1) }
+{
+    match read_domain(alloc, text) {
+        Ok(domain) => judged_domain(alloc, &domain),
+        Err(fault) => {
+            let line = refused_file(alloc, Kind::Domain, text, &fault)?;
+            Ok((line, Outcome::Refused))
+        }
+    }
+}
+
+/// What `problem` prints for the text of a problem with a domain, and the outcome.
+pub fn checked_problem<'a, B: Allocator>(
+    alloc: &'a B,
+    domain: &Domain<&'a B>,
+    text: &[u8],
+) -> Result<Formatted<'a, B>, AllocError>
+    ensures { IfOk result (λ answer. ForProblem (IsProblemJudged (domain_view domain.now)) text.now answer.0.items answer.1) }
+{
+    match read_problem(alloc, text) {
+        Ok(problem) => judged_problem(alloc, domain, &problem),
+        Err(fault) => {
+            let line = refused_file(alloc, Kind::Problem, text, &fault)?;
+            Ok((line, Outcome::Refused))
+        }
+    }
+}

@@ -1,0 +1,10 @@
+use Rattle.pddl_domain.specs.Domains.{domain_view}
+use Rattle.pddl_problem.specs.Problems.{problem_view}
+use Rattle.pddl_task.specs.Settings.{objects_of}
+use Rattle.pddl_link.proofs.TaskNames.{object_number}
+use Rattle.pddl_link.proofs.task.Task.object_number.Goals as goal
+
+pub returns : goal.returns
+returns g c =
+    let t = c.args.self.now in
+    object_number t.objects.entries (objects_of (domain_view t.domain.now) (problem_view t.problem.now)) c.args.name.now c.get_index_of.result t.tables.objects_are c.get_index_of.ensures.index

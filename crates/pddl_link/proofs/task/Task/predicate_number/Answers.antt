@@ -1,0 +1,8 @@
+use Rattle.pddl_domain.specs.Domains.{domain_view}
+use Rattle.pddl_link.proofs.TaskNames.{predicate_number}
+use Rattle.pddl_link.proofs.task.Task.predicate_number.Goals as goal
+
+pub returns : goal.returns
+returns g c =
+    let t = c.args.self.now in
+    predicate_number t.predicates.entries (domain_view t.domain.now).predicates c.args.name.now c.get_index_of.result t.tables.predicates_are c.get_index_of.ensures.index
