@@ -10,6 +10,7 @@ use crate::format_rows::with_part;
 use crate::sample_files::{FLIPPED, FLIPS, IDLE, LAMPS, TWO};
 use pddl_commands::{Outcome, RunFault, check_problem_file};
 use pddl_fakes::{Failure, FakeSink, FakeSource};
+use std::process::Abort;
 use std::test::Fail;
 
 /// Texts of domains and problems.
@@ -48,7 +49,10 @@ const TEXTS: [(&str, &str, &str); 11] = [
 ];
 
 /// A part of the problem of lamps, what stands in its place, and the line for that with the domain of lamps.
-const CHANGES: [(&str, &str, &str); 53] = [
+type Change = (&'static str, &'static str, &'static str);
+
+/// Changes that add no fault.
+const KEPT: [Change; 7] = [
     ("(ok b)", "(ok b) (ok b) (not (on a))", "good: problem two"),
     (
         "(= (price b) 4)",
@@ -76,6 +80,10 @@ const CHANGES: [(&str, &str, &str); 53] = [
         "a - lamp b - big a - lamp",
         "good: problem two",
     ),
+];
+
+/// Changes of the domain's name, of types and of declarations.
+const DECLARATIONS: [Change; 11] = [
     ("lamps", "lamp", "link: fault 20 DomainName lamp"),
     (
         "(:domain lamps)\n  (:objects a - lamp",
@@ -119,6 +127,10 @@ const CHANGES: [(&str, &str, &str); 53] = [
         "b - (either lamp big)",
         "link: fault 25 ObjectTypes b",
     ),
+];
+
+/// Changes that name what is not declared.
+const NAMES: [Change; 14] = [
     (
         "(and (on a) (on b))",
         "(on c)",
@@ -157,6 +169,10 @@ const CHANGES: [(&str, &str, &str); 53] = [
     ("(price b)", "fee", "link: fault 26 UnknownName fee"),
     ("(price b)", "(price c)", "link: fault 26 UnknownName c"),
     ("(price b)", "(ok b)", "link: fault 26 UnknownName ok"),
+];
+
+/// Changes of numbers of terms.
+const ARITIES: [Change; 7] = [
     ("(and (on a) (on b))", "(on)", "link: fault 27 Arity on"),
     (
         "(and (on a) (on b))",
@@ -172,6 +188,10 @@ const CHANGES: [(&str, &str, &str); 53] = [
         "(= (total-cost b) 0)",
         "link: fault 27 Arity total-cost",
     ),
+];
+
+/// Changes of what is said in `:init`.
+const VALUES: [Change; 10] = [
     (
         "(ok b)",
         "(ok b) (not (ok a))",
@@ -222,6 +242,10 @@ const CHANGES: [(&str, &str, &str); 53] = [
         "(= (total-cost) 2) (= (price a) 5)",
         "link: fault 31 CostValue total-cost",
     ),
+];
+
+/// Changes of the metric.
+const METRICS: [Change; 4] = [
     ("minimize", "maximize", "link: fault 33 Metric"),
     (
         "minimize (total-cost)",
@@ -412,11 +436,61 @@ fn checks_problems(rt: HostRuntime) -> Result<(), Fail> {
     Ok(())
 }
 
+/// The line for the problem of lamps with another part.
+fn check_change<R: Abort + AllocGlobal>(
+    rt: &R,
+    part: &str,
+    other: &str,
+    line: &str,
+) -> Result<(), Fail> {
+    let problem = with_part(rt, TWO, part, other)?;
+    check_problem(rt, LAMPS, &problem, line)
+}
+
 #[test]
-fn finds_faults_of_a_changed_problem(rt: HostRuntime) -> Result<(), Fail> {
-    for (part, other, line) in CHANGES {
-        let problem = with_part(&rt, TWO, part, other)?;
-        check_problem(&rt, LAMPS, &problem, line)?;
+fn passes_changes_without_a_fault(rt: HostRuntime) -> Result<(), Fail> {
+    for (part, other, line) in KEPT {
+        check_change(&rt, part, other, line)?;
+    }
+    Ok(())
+}
+
+#[test]
+fn finds_faults_of_declarations(rt: HostRuntime) -> Result<(), Fail> {
+    for (part, other, line) in DECLARATIONS {
+        check_change(&rt, part, other, line)?;
+    }
+    Ok(())
+}
+
+#[test]
+fn finds_unknown_names(rt: HostRuntime) -> Result<(), Fail> {
+    for (part, other, line) in NAMES {
+        check_change(&rt, part, other, line)?;
+    }
+    Ok(())
+}
+
+#[test]
+fn finds_other_arities(rt: HostRuntime) -> Result<(), Fail> {
+    for (part, other, line) in ARITIES {
+        check_change(&rt, part, other, line)?;
+    }
+    Ok(())
+}
+
+#[test]
+fn finds_faults_of_values(rt: HostRuntime) -> Result<(), Fail> {
+    for (part, other, line) in VALUES {
+        check_change(&rt, part, other, line)?;
+    }
+    Ok(())
+}
+
+#[test]
+fn finds_other_metrics(rt: HostRuntime) -> Result<(), Fail> {
+    for (part, other, line) in METRICS {
+        check_change(&rt, part, other, line)?;
     }
     Ok(())
 }
@@ -457,16 +531,10 @@ const QUANTIFIERS: [(&str, u32); 5] = [
     ("(forall (?a ?b ?c ?d ?e) (p ?a))", 4),
 ];
 
-/// A problem of ten objects, whose goal is all of these quantifiers and so many atoms: with eleven its size is 1,000,000.
-fn large_problem<R: AllocGlobal>(rt: &R, atoms: u32) -> Result<String, Fail> {
-    let alloc = rt.alloc();
-    let mut text = String::new(alloc);
-    text.push_str("(define (problem tens) (:domain t) (:objects")?;
-    for k in 0..10 {
-        let name = format!(in alloc; " o{k}")?;
-        text.push_str(&name)?;
-    }
-    text.push_str(") (:init) (:goal (and")?;
+/// All of these quantifiers and so many atoms: with eleven atoms the size is 1,000,000.
+pub fn large_condition<R: AllocGlobal>(rt: &R, atoms: u32) -> Result<String, Fail> {
+    let mut text = String::new(rt.alloc());
+    text.push_str("(and")?;
     for (part, count) in QUANTIFIERS {
         for _ in 0..count {
             text.push_str(part)?;
@@ -475,16 +543,26 @@ fn large_problem<R: AllocGlobal>(rt: &R, atoms: u32) -> Result<String, Fail> {
     for _ in 0..atoms {
         text.push_str("(p o0)")?;
     }
-    text.push_str(")))")?;
+    text.push_str(")")?;
     Ok(text)
+}
+
+/// A problem of ten objects with this goal.
+fn large_problem<R: AllocGlobal>(rt: &R, goal: &str) -> Result<String, Fail> {
+    let objects = "o0 o1 o2 o3 o4 o5 o6 o7 o8 o9";
+    Ok(format!(in rt.alloc();
+        "(define (problem tens) (:domain t) (:objects {objects}) (:init) (:goal {goal}))"
+    )?)
 }
 
 #[test]
 fn keeps_the_limit_of_ground_size(rt: HostRuntime) -> Result<(), Fail> {
     let domain = "(define (domain t) (:predicates (p ?x)))";
-    let problem = large_problem(&rt, 11)?;
+    let goal = large_condition(&rt, 11)?;
+    let problem = large_problem(&rt, &goal)?;
     check_problem(&rt, domain, &problem, "good: problem tens")?;
-    let problem = large_problem(&rt, 12)?;
+    let goal = large_condition(&rt, 12)?;
+    let problem = large_problem(&rt, &goal)?;
     check_problem(&rt, domain, &problem, "link: fault 35 GoalTooLarge")
 }
 

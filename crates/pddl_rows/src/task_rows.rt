@@ -8,6 +8,8 @@ use pddl_formula::{TypeName, TypeNames};
 use pddl_link::link;
 use pddl_problem::read_problem;
 use pddl_tree::Name;
+use std::alloc::Allocator;
+use std::process::Abort;
 use std::test::Fail;
 
 #[test]
@@ -40,51 +42,71 @@ fn numbers_what_a_task_names(rt: HostRuntime) -> Result<(), Fail> {
     Ok(())
 }
 
+/// Two types, and whether the first is a subtype of the second among those of the lamps.
+const SUBTYPES: [(&str, &str, bool); 9] = [
+    ("big", "big", true),
+    ("big", "lamp", true),
+    ("big", "object", true),
+    ("lamp", "big", false),
+    ("object", "lamp", false),
+    ("object", "object", true),
+    ("small", "small", false),
+    ("small", "object", false),
+    ("big", "small", false),
+];
+
 #[test]
-fn tells_subtypes_and_fitting_objects(rt: HostRuntime) -> Result<(), Fail> {
+fn tells_subtypes(rt: HostRuntime) -> Result<(), Fail> {
     let alloc = rt.alloc();
-    let problem = with_part(&rt, TWO, "b - big", "b - big c")?;
     let domain = read_domain(&alloc, LAMPS.as_bytes()).ok().ok_or("lamps")?;
-    let problem = read_problem(&alloc, problem.as_bytes()).ok().ok_or("two")?;
+    let problem = read_problem(&alloc, TWO.as_bytes()).ok().ok_or("two")?;
     let task = link(&alloc, &domain, &problem).ok().ok_or("a task")?;
-    let rows = [
-        ("big", "big", true),
-        ("big", "lamp", true),
-        ("big", "object", true),
-        ("lamp", "big", false),
-        ("object", "lamp", false),
-        ("object", "object", true),
-        ("small", "small", false),
-        ("small", "object", false),
-        ("big", "small", false),
-    ];
-    for (sub, over, want) in rows {
-        let below = Name::new(&alloc, sub.as_bytes())?.ok_or("a name")?;
-        let above = Name::new(&alloc, over.as_bytes())?.ok_or("a name")?;
+    for (sub, over, want) in SUBTYPES {
+        let below = Name::new(alloc, sub.as_bytes())?.ok_or("a name")?;
+        let above = Name::new(alloc, over.as_bytes())?.ok_or("a name")?;
         assert_eq!(rt; task.is_a(&below, &above), want, "{sub} {over}");
     }
-    let rows = [
-        (["big"].as_slice(), [1usize].as_slice()),
-        (["lamp"].as_slice(), [0usize, 1].as_slice()),
-        (["object"].as_slice(), [0usize, 1, 2].as_slice()),
-        (["big", "lamp"].as_slice(), [0usize, 1].as_slice()),
-    ];
-    for (names, want) in rows {
-        let mut types = Vec::new(alloc);
-        for name in names {
-            let name = Name::new(alloc, name.as_bytes())?.ok_or("a name")?;
-            types.push(TypeName::new(name).ok_or("a type")?)?;
-        }
-        let types = TypeNames::new(types).ok_or("types")?;
-        let fitting = task.fitting(&alloc, &types)?;
-        assert_eq!(rt; fitting.as_slice(), want);
-        for number in 0..4 {
-            assert_eq!(rt; task.object_fits(number, &types), want.contains(&number));
-        }
-        let refusing = Refusing::each(rt.alloc());
-        assert!(rt; task.fitting(&refusing, &types).is_err());
-    }
     Ok(())
+}
+
+/// The type that has these primitives.
+fn type_of<'a, B: Allocator>(alloc: &'a B, names: &[&str]) -> Result<TypeNames<&'a B>, Fail> {
+    let mut types = Vec::new(alloc);
+    for name in names {
+        let name = Name::new(alloc, name.as_bytes())?.ok_or("a name")?;
+        types.push(TypeName::new(name).ok_or("a type")?)?;
+    }
+    Ok(TypeNames::new(types).ok_or("types")?)
+}
+
+/// The numbers of the objects that fit a type, of a lamp, a big one, and one without a type.
+fn check_fitting<R: Abort + AllocGlobal>(
+    rt: &R,
+    names: &[&str],
+    want: &[usize],
+) -> Result<(), Fail> {
+    let alloc = rt.alloc();
+    let text = with_part(rt, TWO, "b - big", "b - big c")?;
+    let domain = read_domain(&alloc, LAMPS.as_bytes()).ok().ok_or("lamps")?;
+    let problem = read_problem(&alloc, text.as_bytes()).ok().ok_or("two")?;
+    let task = link(&alloc, &domain, &problem).ok().ok_or("a task")?;
+    let types = type_of(&alloc, names)?;
+    let fitting = task.fitting(&alloc, &types)?;
+    assert_eq!(rt; fitting.as_slice(), want);
+    for number in 0..4 {
+        assert_eq!(rt; task.object_fits(number, &types), want.contains(&number));
+    }
+    let refusing = Refusing::each(rt.alloc());
+    assert!(rt; task.fitting(&refusing, &types).is_err());
+    Ok(())
+}
+
+#[test]
+fn finds_fitting_objects(rt: HostRuntime) -> Result<(), Fail> {
+    check_fitting(&rt, &["big"], &[1])?;
+    check_fitting(&rt, &["lamp"], &[0, 1])?;
+    check_fitting(&rt, &["object"], &[0, 1, 2])?;
+    check_fitting(&rt, &["big", "lamp"], &[0, 1])
 }
 
 /// Goals, and their ground sizes over one lamp and no big one.
