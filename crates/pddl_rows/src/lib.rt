@@ -28,6 +28,8 @@ mod problem_rows;
 #[cfg(test)]
 mod sample_files;
 #[cfg(test)]
+mod step_rows;
+#[cfg(test)]
 mod task_rows;
 #[cfg(test)]
 mod text_rows;

@@ -6,6 +6,7 @@ use pddl_domain::read_domain;
 use pddl_fakes::Refusing;
 use pddl_formula::{TypeName, TypeNames};
 use pddl_link::link;
+use pddl_plan_link::initial_atoms;
 use pddl_problem::read_problem;
 use pddl_tree::Name;
 use std::alloc::Allocator;
@@ -107,6 +108,30 @@ fn finds_fitting_objects(rt: HostRuntime) -> Result<(), Fail> {
     check_fitting(&rt, &["lamp"], &[0, 1])?;
     check_fitting(&rt, &["object"], &[0, 1, 2])?;
     check_fitting(&rt, &["big", "lamp"], &[0, 1])
+}
+
+#[test]
+fn numbers_the_initial_atoms(rt: HostRuntime) -> Result<(), Fail> {
+    let alloc = rt.alloc();
+    let text = with_part(&rt, TWO, "(ok b)", "(on b) (not (on a)) (ok b) (ok b)")?;
+    let domain = read_domain(&alloc, LAMPS.as_bytes()).ok().ok_or("lamps")?;
+    let problem = read_problem(&alloc, text.as_bytes()).ok().ok_or("two")?;
+    let task = link(&alloc, &domain, &problem).ok().ok_or("a task")?;
+    let atoms = initial_atoms(&alloc, &task)?;
+    let want = [(1, 0), (0, 1), (1, 1), (1, 1)];
+    assert_eq!(rt; atoms.len(), want.len());
+    for number in 0..atoms.len().min(want.len()) {
+        let (predicate, object) = want[number];
+        assert_eq!(rt; atoms[number].predicate, predicate, "atom {number}");
+        assert_eq!(rt;
+            atoms[number].args.as_slice(),
+            [object].as_slice(),
+            "atom {number}"
+        );
+    }
+    let refusing = Refusing::each(rt.alloc());
+    assert!(rt; initial_atoms(&refusing, &task).is_err());
+    Ok(())
 }
 
 /// Goals, and their ground sizes over one lamp and no big one.

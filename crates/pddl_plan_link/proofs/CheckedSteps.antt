@@ -1,0 +1,117 @@
+-- The first fault of a step, by what is looked up for it in turn.
+use Rattle.std.proofs.Common.{◌≡◌, ◌<◌, ◌≤◌, ℕ, Bool, true, false, not, ◌==◌, List, [], map, length, refl, sym, ap, ◌∙◌, bytes_eq, arith}
+use Rattle.std.specs.Prelude.{Some, None, Vec, vec_len, position}
+use Rattle.std.specs.Borrow.{Bor}
+use Rattle.std.specs.Map.{keys_of}
+use Rattle.std.specs.List.{slice_get}
+use Rattle.std.proofs.lemmas.Bool.Decides.{nat_tests}
+use Rattle.std.proofs.lemmas.List.{length-map}
+use Rattle.pddl_tree.specs.Plans.{StepValue}
+use Rattle.pddl_formula.specs.Terms.{name}
+use Rattle.pddl_formula.specs.TypedLists.{typed_view}
+use Rattle.pddl_formula.specs.declared.type_names.Typed.{Typed}
+use Rattle.pddl_domain.specs.Actions.{ActionValue, action_view}
+use Rattle.pddl_task.specs.Names.{Name, is_in}
+use Rattle.pddl_task.specs.Faults.{some_misfit}
+use Rattle.pddl_task.specs.Tasks.{TaskValue, object_names, task_count}
+use Rattle.pddl_plan_link.specs.StepFaults.{action_names, action_named, naming, has_arity, unknown_object, some_costless, some_increase, step_faults}
+use Rattle.pddl_plan_link.specs.LinkedSteps.{number_in}
+use Rattle.pddl_plan_link.specs.CostWords.{is_listed, is_valued, is_costless, given}
+use Rattle.pddl_plan_link.specs.declared.action_table.SizedAction.{SizedAction}
+use Rattle.pddl_plan_link.specs.StepTables.{named_action, named_in, some_unfit}
+use Rattle.pddl_plan_link.proofs.NamedActions.{Entry, none_named, number_found, IsFound, action_found}
+use Rattle.pddl_plan_link.proofs.NumberedObjects.{some_unknown, unfit_is}
+use Rattle.pddl_plan_link.proofs.StepTests.{IsFirst, unknown_first, arity_first, object_first, type_first, cost_first, size_first, none_stands, costs_are, is_large, is_not_large}
+
+pub as_long : {X Z : Type 0} (v : Vec X Z) (m : ℕ) → m ≡ vec_len v → m ≡ length v.items
+as_long v m is = omega (arith, v.ok.0, is)
+
+other_number : (m n : ℕ) → (m ≡ n → ⊥) → (m == n) ≡ false
+other_number m n h = grind (arith, nat_tests)
+
+same_number : (m n : ℕ) → m ≡ n → (m == n) ≡ true
+same_number m n h = grind (arith, nat_tests)
+
+told_no : (answer b : Bool) → answer ≡ not b → answer ≡ false → b ≡ true
+told_no answer true h k = refl
+told_no answer false h k = cc
+
+told_yes : (answer b : Bool) → answer ≡ not b → answer ≡ true → b ≡ false
+told_yes answer false h k = refl
+told_yes answer true h k = cc
+
+module _ {A : Type 0} (task : TaskValue) (es : List (Entry A)) (s : StepValue) (n : Name) (are : map named_in es ≡ map (named_action (task_count task)) task.actions) (read : n ≡ s.action) where
+  -- no action is found
+  pub action_unknown : None ≡ position (λ k. bytes_eq n k.now) (keys_of es) → IsFirst (step_faults task s) 40
+  action_unknown at = unknown_first task s (ap not (ap (is_in (action_names task)) (sym read) ∙ none_named task es n are at))
+
+  -- one is found, at this place
+  module _ (i : ℕ) (key : Bor (List ℕ)) (held : SizedAction A) (at : Some i ≡ position (λ k. bytes_eq n k.now) (keys_of es)) (there : slice_get es i ≡ Some (key, held)) where
+    abbrev a : ActionValue
+    a = action_view held.action.now
+
+    found : IsFound task es n are (named_in (key, held))
+    found = action_found task es n are i (key, held) at there
+
+    named : action_named task s.action ≡ Some a
+    named = ap (action_named task) (sym read) ∙ found.action_is
+
+    pub number_is : i ≡ number_in (action_names task) s.action
+    number_is = number_found task es n are i at ∙ ap (number_in (action_names task)) read
+
+    -- there are as many objects as parameters, or not
+    module _ (m k : ℕ) (first : m ≡ length s.objects) (second : k ≡ length held.action.now.parameters.items) where
+      compared : length s.objects == length a.parameters ≡ m == k
+      compared = ap (λ j. j == length a.parameters) (sym first) ∙ ap (λ j. m == j) (length-map held.action.now.parameters.items typed_view ∙ sym second)
+
+      pub arity_differs : (m ≡ k → ⊥) → IsFirst (step_faults task s) 41
+      arity_differs other = arity_first task s a named (compared ∙ other_number m k other)
+
+      module _ (same : m ≡ k) where
+        arity : has_arity s a ≡ true
+        arity = compared ∙ same_number m k same
+
+        -- all objects are known, or not
+        module _ (names : List Name) (answer : Bool) (own : names ≡ s.objects) (told : answer ≡ not (some_unknown (object_names task) names)) where
+          own_told : answer ≡ not (unknown_object task s)
+          own_told = told ∙ ap (λ ns. not (some_unknown (object_names task) ns)) own
+
+          pub object_unknown : answer ≡ false → IsFirst (step_faults task s) 42
+          object_unknown is = object_first task s a named arity (told_no answer (unknown_object task s) own_told is)
+
+          module _ (numbers : List ℕ) (numbered : answer ≡ true → numbers ≡ map (number_in (object_names task)) names) (all : answer ≡ true) where
+            known : unknown_object task s ≡ false
+            known = told_yes answer (unknown_object task s) own_told all
+
+            pub numbers_are : numbers ≡ map (number_in (object_names task)) s.objects
+            numbers_are = numbered all ∙ ap (map (number_in (object_names task))) own
+
+            -- some object does not fit, or all do
+            module _ (lent : List ℕ) (slots : List (Typed A)) (unfit : Bool) (whole : lent ≡ numbers) (parameters : slots ≡ held.action.now.parameters.items)
+                (tested : unfit ≡ some_unfit task lent (map typed_view slots)) where
+              misfit : unfit ≡ some_misfit (naming task.types task.objects) [] (map name s.objects) a.parameters
+              misfit =
+                  tested ∙ ap (λ ns. some_unfit task ns (map typed_view slots)) (whole ∙ numbers_are)
+                  ∙ ap (λ (xs : List (Typed A)). some_unfit task (map (number_in (object_names task)) s.objects) (map typed_view xs)) parameters ∙ unfit_is task s.objects a.parameters known
+
+              pub type_differs : unfit ≡ true → IsFirst (step_faults task s) 43
+              type_differs is = type_first task s a named arity known (sym misfit ∙ is)
+
+              -- some cost has no value, or all have one
+              module _ {C : Type 0} (keys : List (Vec (Bor (List ℕ)) C)) (valued : (ws : List Name) → is_listed keys ws ≡ is_valued task.costs ws) (ps : List (Typed A)) (os : List Name) (costless : Bool)
+                  (first_given : ps ≡ held.action.now.parameters.items) (second_given : os ≡ s.objects) (asked : costless ≡ some_increase (is_costless keys (given ps os)) a.effect) (fit : unfit ≡ false) where
+                costs : costless ≡ some_costless task s a
+                costs =
+                    asked ∙ ap (λ (xs : List (Typed A)). some_increase (is_costless keys (given xs os)) a.effect) first_given
+                    ∙ ap (λ ns. some_increase (is_costless keys (given held.action.now.parameters.items ns)) a.effect) second_given
+                    ∙ costs_are task keys (given held.action.now.parameters.items s.objects) a.effect valued
+
+                pub cost_is_undefined : costless ≡ true → IsFirst (step_faults task s) 44
+                cost_is_undefined is = cost_first task s a named arity known (sym misfit ∙ fit) (sym costs ∙ is)
+
+                -- the step is too large, or not
+                pub step_is_large : costless ≡ false → 1000000 < held.size → IsFirst (step_faults task s) 46
+                step_is_large none more = size_first task s a named arity known (sym misfit ∙ fit) (sym costs ∙ none) (is_large held.size _ found.size_is more)
+
+                pub step_is_good : costless ≡ false → held.size ≤ 1000000 → step_faults task s ≡ []
+                step_is_good none less = none_stands task s a named arity known (sym misfit ∙ fit) (sym costs ∙ none) (is_not_large held.size _ found.size_is less)

@@ -1,0 +1,13 @@
+pub mod Numbers
+pub mod NamedActions
+pub mod InitialAtoms
+pub mod FileTables
+pub mod GivenObjects
+pub mod NumberedObjects
+pub mod ValuedWords
+pub mod StepTests
+pub mod CheckedSteps
+pub mod HeldSteps
+pub mod PlanSteps
+pub mod KnownSteps
+mod StepExamples

@@ -1,0 +1,8 @@
+use Rattle.pddl_task.specs.Tasks.{object_names}
+use Rattle.pddl_link.specs.LinkedTasks.{task_of_files}
+use Rattle.pddl_plan_link.proofs.NumberedObjects.{AreNumbered}
+use Rattle.pddl_plan_link.proofs.checks.number_objects.Given as goal
+
+-- the objects so far are known, and these are their numbers
+abbrev pub invariant-loop-object : goal.invariant-loop-object
+invariant-loop-object g l = AreNumbered (object_names (task_of_files l.task)) l.names l.object-index l.numbers.items

@@ -1,0 +1,19 @@
+-- Ground atoms of a task by numbers (own). Predicates and objects are numbered from 0, in the order of the task.
+use Rattle.std.specs.Prelude.{◌≡◌, ℕ, List, map, Some, slice_get}
+use Rattle.pddl_problem.specs.Inits.{GroundValue}
+use Rattle.pddl_task.specs.Tasks.{TaskValue, predicate_names, object_names}
+use Rattle.pddl_state.specs.Atoms.{AtomValue}
+use Rattle.pddl_plan_link.specs.LinkedSteps.{number_in}
+
+-- a ground atom of which the task has all names
+abbrev pub numbered : TaskValue → GroundValue → AtomValue
+numbered task g = record { predicate = number_in (predicate_names task) g.name; args = map (number_in (object_names task)) g.objects }
+
+-- the atoms that hold at first, in the order of `:init`
+abbrev pub initial_atoms : TaskValue → List AtomValue
+initial_atoms task = map (numbered task) task.initial
+
+-- the numbers are those of the atom's names
+pub record NamesAtom (task : TaskValue) (g : GroundValue) (atom : AtomValue) : Type 0 where
+  pub predicate : slice_get (predicate_names task) atom.predicate ≡ Some g.name
+  pub objects : map (slice_get (object_names task)) atom.args ≡ map Some g.objects

@@ -1,0 +1,156 @@
+-- The faults of a plan's linking, 40 to 46 (own). A step is known by its number in file order, from 0.
+use Rattle.std.specs.Prelude.{◌≡◌, ◌≤◌, ◌<◌, ℕ, Bool, false, not, ◌&&◌, ◌||◌, ◌==◌, nat_lt, cond, List, [], ◌∷◌, ◌++◌, map, length, find, Option, Some, None, bytes_eq}
+use Rattle.std.specs.List.{list_any, AllByRecursion}
+use Rattle.std.specs.Option.{option_map_or}
+use Rattle.pddl_tree.specs.Plans.{StepValue, PlanValue, plain, timed}
+use Rattle.pddl_formula.specs.Terms.{name}
+use Rattle.pddl_formula.specs.TypedLists.{TypedValue}
+use Rattle.pddl_effect.specs.Effects as effects
+use Rattle.pddl_effect.specs.Effects.{FunctionTermValue, AmountValue, number, function, EffectValue, EffectValues, conditional, addition, deletion, increase, no_effects, effect}
+use Rattle.pddl_domain.specs.Declarations.{TypeValue}
+use Rattle.pddl_domain.specs.Actions.{ActionValue}
+use Rattle.pddl_problem.specs.Inits.{GroundValue}
+use Rattle.pddl_task.specs.Names.{Name, is_in}
+use Rattle.pddl_task.specs.Types.{pairs}
+use Rattle.pddl_task.specs.Settings.{Setting}
+use Rattle.pddl_task.specs.Faults.{some_misfit, same_ground}
+use Rattle.pddl_task.specs.GroundSize.{largest_size, action_size}
+use Rattle.pddl_task.specs.Tasks.{TaskValue, object_names, task_count}
+use Rattle.pddl_task.specs.Known.{Valuation, object_at, giving}
+
+-- ---- what a step names
+
+abbrev pub action_name : ActionValue → Name
+action_name a = a.name
+
+-- the names of a task's actions, in order
+abbrev pub action_names : TaskValue → List Name
+action_names task = map action_name task.actions
+
+-- the action of a name
+abbrev pub action_named : TaskValue → Name → Option ActionValue
+action_named task n = find (λ a. bytes_eq n a.name) task.actions
+
+-- the step's action is known, and passes a test
+abbrev pub action_passes : TaskValue → StepValue → (ActionValue → Bool) → Bool
+action_passes task s test = option_map_or test (action_named task s.action) false
+
+-- ---- 40 UnknownAction: no action has the step's name
+
+abbrev pub unknown_action : TaskValue → StepValue → Bool
+unknown_action task s = not (is_in (action_names task) s.action)
+
+-- ---- 41 StepArity: another number of objects than the action has parameters
+
+abbrev pub has_arity : StepValue → ActionValue → Bool
+has_arity s a = length s.objects == length a.parameters
+
+abbrev pub other_arity : TaskValue → StepValue → Bool
+other_arity task s = action_passes task s (λ a. not (has_arity s a))
+
+-- ---- 42 UnknownObject: a name that is no object of the task
+
+abbrev pub unknown_object : TaskValue → StepValue → Bool
+unknown_object task s = list_any (λ o. not (is_in (object_names task) o)) s.objects
+
+-- ---- 43 StepType: an object that does not fit its parameter; an unknown one has no type
+
+-- where a step's objects stand: objects may be named, and nothing else
+abbrev pub naming : List TypeValue → List TypedValue → Setting
+naming types objects = record { pairs = pairs types; predicates = []; functions = []; objects = objects }
+
+abbrev pub unfit_object : TaskValue → StepValue → Bool
+unfit_object task s = action_passes task s (λ a. some_misfit (naming task.types task.objects) [] (map name s.objects) a.parameters)
+
+-- ---- 44 CostUndefined: the function term of one of its amounts has no value in `:init`
+
+-- some function term that an effect adds to the cost passes a test. An increase under `when` or `forall` is a fault of the domain,
+-- so there is none in a task.
+abbrev pub some_amount : (FunctionTermValue → Bool) → AmountValue → Bool
+some_amount test (number n) = false
+some_amount test (function f) = test f
+
+abbrev mutual
+  pub some_increase : (FunctionTermValue → Bool) → EffectValue → Bool
+  some_increase test (effects.conjunction es) = some_increase_in test es
+  some_increase test (effects.universal xs e) = false
+  some_increase test (conditional f e) = false
+  some_increase test (addition a) = false
+  some_increase test (deletion a) = false
+  some_increase test (increase a) = some_amount test a
+
+  pub some_increase_in : (FunctionTermValue → Bool) → EffectValues → Bool
+  some_increase_in test no_effects = false
+  some_increase_in test (effect e es) = some_increase test e || some_increase_in test es
+
+-- the function of objects that a function term stands for
+abbrev pub grounded_call : Valuation → FunctionTermValue → GroundValue
+grounded_call v f = record { name = f.function; objects = map (object_at v) f.terms }
+
+-- a function of objects has a value in `:init`
+abbrev pub has_cost : TaskValue → GroundValue → Bool
+has_cost task g = list_any (λ e. same_ground g e.0) task.costs
+
+-- as many objects as parameters, and each of the task: what the action says of its parameters is then said of objects
+abbrev pub is_applied : TaskValue → StepValue → ActionValue → Bool
+is_applied task s a = has_arity s a && not (unknown_object task s)
+
+-- a term of an increase, with the step's objects for the parameters, has no value
+abbrev pub some_costless : TaskValue → StepValue → ActionValue → Bool
+some_costless task s a = some_increase (λ f. not (has_cost task (grounded_call (giving a.parameters s.objects []) f))) a.effect
+
+abbrev pub cost_undefined : TaskValue → StepValue → Bool
+cost_undefined task s = action_passes task s (λ a. is_applied task s a && some_costless task s a)
+
+-- ---- 46 StepTooLarge: the step's ground size is over 1,000,000
+
+abbrev pub too_large : TaskValue → StepValue → Bool
+too_large task s = action_passes task s (λ a. nat_lt largest_size (action_size (task_count task) a))
+
+-- ---- a step's faults
+
+abbrev pub number_if : Bool → ℕ → List ℕ
+number_if stands n = cond stands (n ∷ []) []
+
+-- the numbers of those that stand, rising
+abbrev pub step_faults : TaskValue → StepValue → List ℕ
+step_faults task s =
+    number_if (unknown_action task s) 40 ++ number_if (other_arity task s) 41 ++ number_if (unknown_object task s) 42
+    ++ number_if (unfit_object task s) 43 ++ number_if (cost_undefined task s) 44 ++ number_if (too_large task s) 46
+
+-- none stands
+abbrev pub IsGoodStep : TaskValue → StepValue → Type 0
+IsGoodStep task s = step_faults task s ≡ []
+
+-- ---- a plan's faults
+
+-- the most steps that a plan may have
+abbrev pub most_steps : ℕ
+most_steps = 1000000
+
+-- its steps in file order
+abbrev pub steps_of : PlanValue → List StepValue
+steps_of (plain steps) = steps
+steps_of (timed steps) = map (λ s. s.step) steps
+
+-- a plan is linked where it has at most 1,000,000 steps and none of them has a fault
+pub record IsLinkedPlan (task : TaskValue) (plan : PlanValue) : Type 0 where
+  pub short : length (steps_of plan) ≤ most_steps
+  pub good : AllByRecursion (IsGoodStep task) (steps_of plan)
+
+-- the first step with a fault, and the lowest number of its faults
+pub record IsFirstFault (task : TaskValue) (steps : List StepValue) (n place : ℕ) : Type 0 where
+  pub before : List StepValue
+  pub step : StepValue
+  pub after : List StepValue
+  pub others : List ℕ
+  pub steps_are : steps ≡ before ++ step ∷ after
+  pub place_is : length before ≡ place
+  pub good : AllByRecursion (IsGoodStep task) before
+  pub lowest : step_faults task step ≡ n ∷ others
+
+-- what is answered where a plan is not linked: 45 PlanTooLong, for over 1,000,000 steps, with no step, or the first faulty step
+-- with its lowest number
+abbrev pub IsPlanFault : TaskValue → PlanValue → ℕ → Option ℕ → Type 0
+IsPlanFault task plan n None = (n ≡ 45) × (most_steps < length (steps_of plan))
+IsPlanFault task plan n (Some place) = (length (steps_of plan) ≤ most_steps) × IsFirstFault task (steps_of plan) n place

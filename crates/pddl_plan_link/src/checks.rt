@@ -1,0 +1,105 @@
+//! The faults of a step.
+
+ghost use Rattle.std.specs.Prelude.{◌≡◌, true, map, not, IfOk, OnOk};
+ghost use Rattle.std.specs.List.{list_any};
+ghost use Rattle.pddl_formula.specs.TypedLists.{typed_view};
+ghost use Rattle.pddl_tree.specs.Plans.{step_view};
+ghost use Rattle.pddl_task.specs.Names.{is_in};
+ghost use Rattle.pddl_task.specs.Tasks.{object_names};
+ghost use Rattle.pddl_link.specs.LinkedTasks.{task_of_files};
+ghost use Rattle.pddl_plan_link.specs.StepFaults.{action_names, step_faults};
+ghost use Rattle.pddl_plan_link.specs.LinkedSteps.{number_in};
+ghost use Rattle.pddl_plan_link.specs.StepTables.{some_unfit, AreOfTask};
+ghost use Rattle.pddl_plan_link.specs.StepVerdicts.{StepVerdict};
+
+use crate::fault::StepFault;
+use crate::grounding::{Grounding, some_costless};
+use crate::tables::PlanTables;
+use pddl_formula::Typed;
+use pddl_link::Task;
+use pddl_tree::{Name, Step};
+use std::alloc::{AllocError, Allocator};
+
+/// Puts the numbers of named objects in place of what is listed, and answers whether all of them are known.
+///
+/// Fails where memory for them is refused.
+fn number_objects<'m, 'a, 'c, A: Allocator, B: Allocator, C: Allocator, D: Allocator>(
+    task: &Task<'m, 'a, A, B>,
+    names: &[Name<D>],
+    numbers: &mut Vec<usize, &'c C>,
+) -> Result<bool, AllocError>
+    ensures known { IfOk result (λ yes. yes ≡ not (list_any (λ o. not (is_in (object_names (task_of_files task.now)) o)) names.now)) }
+    ensures numbers { IfOk result (λ yes. yes ≡ true → numbers.new.items ≡ map (number_in (object_names (task_of_files task.now))) names.now) }
+{
+    numbers.clear();
+    for object in names {
+        match task.object_number(object.as_bytes()) {
+            Some(number) => numbers.push(number)?,
+            None => return Ok(false),
+        }
+    }
+    Ok(true)
+}
+
+/// Whether an object, by its number, does not fit its parameter.
+fn some_unfit<'m, 'a, A: Allocator, B: Allocator>(
+    task: &Task<'m, 'a, A, B>,
+    numbers: &[usize],
+    parameters: &[Typed<A>],
+) -> bool
+    ensures { result ≡ some_unfit (task_of_files task.now) numbers.now (map typed_view parameters.now) }
+{
+    for i in 0..numbers.len().min(parameters.len()) {
+        let number = numbers[i];
+        let parameter = &parameters[i];
+        if !task.object_fits(number, &parameter.types) {
+            return true;
+        }
+    }
+    false
+}
+
+/// The number of a step's action, where the step has no fault, with the numbers of its objects in place of what is listed.
+pub(crate) fn check_step<'t, 'm, 'a, 'c, A, B, C, D>(
+    tables: &PlanTables<'t, 'm, 'a, 'c, A, B, C>,
+    place: usize,
+    step: &Step<D>,
+    numbers: &mut Vec<usize, &'c C>,
+) -> Result<usize, StepFault>
+where
+    A: Allocator,
+    B: Allocator,
+    C: Allocator,
+    D: Allocator,
+    requires { AreOfTask (task_of_files tables.now.task.now) tables.now.actions.entries tables.now.valued.keys }
+    ensures verdict { StepVerdict (step_faults (task_of_files tables.now.task.now) (step_view step.now)) place result }
+    ensures action { IfOk result (λ n. n ≡ number_in (action_names (task_of_files tables.now.task.now)) step.now.action) }
+    ensures objects { OnOk result (numbers.new.items ≡ map (number_in (object_names (task_of_files tables.now.task.now))) step.now.objects.items) }
+{
+    let Some((number, _, found)) = tables.actions.get_full(step.action.as_bytes()) else {
+        return Err(StepFault::UnknownAction { step: place });
+    };
+    let action = found.action;
+    if step.objects.len() != action.parameters.len() {
+        return Err(StepFault::StepArity { step: place });
+    }
+    if !number_objects(tables.task, &step.objects, numbers)? {
+        return Err(StepFault::UnknownObject { step: place });
+    }
+    if some_unfit(tables.task, numbers, &action.parameters) {
+        return Err(StepFault::StepType { step: place });
+    }
+    let grounding = Grounding {
+        alloc: tables.alloc,
+        parameters: &action.parameters,
+        objects: &step.objects,
+        valued: &tables.valued,
+    };
+    if some_costless(&grounding, &action.effect)? {
+        return Err(StepFault::CostUndefined { step: place });
+    }
+    if found.size > 1_000_000 {
+        return Err(StepFault::StepTooLarge { step: place });
+    }
+    Ok(number)
+}
