@@ -8,10 +8,11 @@ use crate::sample_files::{LAMPS, TWO};
 use pddl_domain::read_domain;
 use pddl_fakes::Refusing;
 use pddl_link::link;
-use pddl_plan_link::{StepFault, link_plan};
+use pddl_plan_link::{StepFault, Steps, link_plan};
 use pddl_problem::read_problem;
 use pddl_text::Fixed;
 use pddl_tree::read_plan;
+use std::alloc::Allocator;
 use std::process::Abort;
 use std::test::Fail;
 
@@ -131,32 +132,50 @@ fn refuses_steps_without_a_cost(rt: HostRuntime) -> Result<(), Fail> {
     Ok(())
 }
 
+/// The step of a number has these numbers.
+fn check_step<'b, R: Abort + AllocGlobal, B: Allocator>(
+    rt: &R,
+    steps: &Steps<'b, B>,
+    number: usize,
+    action: usize,
+    objects: &[usize],
+    moment: Option<Fixed>,
+) -> Result<(), Fail> {
+    let Some(step) = steps.get(number) else {
+        return Err("a step")?;
+    };
+    assert_eq!(rt; step.action, action, "step {number}");
+    assert_eq!(rt; step.objects, objects, "step {number}");
+    assert_eq!(rt; step.moment, moment, "step {number}");
+    Ok(())
+}
+
 #[test]
 fn numbers_actions_and_objects(rt: HostRuntime) -> Result<(), Fail> {
     let alloc = rt.alloc();
     let domain = read_domain(&alloc, LAMPS.as_bytes()).ok().ok_or("lamps")?;
     let problem = read_problem(&alloc, TWO.as_bytes()).ok().ok_or("two")?;
-    let text = b"1.5: (light b) 0: (dark) 0: (check a)".as_slice();
-    let plan = read_plan(&alloc, text).ok().ok_or("a plan")?;
+    let plan = read_plan(&alloc, b"1.5: (light b) 0: (dark) 0: (check a)")
+        .ok()
+        .ok_or("a plan")?;
     let task = link(&alloc, &domain, &problem).ok().ok_or("a task")?;
     let steps = link_plan(&alloc, &task, &plan).ok().ok_or("steps")?;
     assert_eq!(rt; steps.len(), 3);
-    let rows = [
-        (0, 0, [1usize].as_slice(), 1_500_000_000),
-        (1, 2, [].as_slice(), 0),
-        (2, 1, [0usize].as_slice(), 0),
-    ];
-    for (number, action, objects, moment) in rows {
-        let step = steps.get(number).ok_or("a step")?;
-        assert_eq!(rt; step.action, action, "step {number}");
-        assert_eq!(rt; step.objects, objects, "step {number}");
-        assert_eq!(rt; step.moment, Fixed::new(moment), "step {number}");
-    }
     assert!(rt; steps.get(3).is_none());
-    let plan = read_plan(&alloc, b"(dark)").ok().ok_or("a plan")?;
+    check_step(&rt, &steps, 0, 0, &[1], Fixed::new(1_500_000_000))?;
+    check_step(&rt, &steps, 1, 2, &[], Fixed::new(0))?;
+    check_step(&rt, &steps, 2, 1, &[0], Fixed::new(0))
+}
+
+#[test]
+fn gives_plain_steps_no_moment(rt: HostRuntime) -> Result<(), Fail> {
+    let alloc = rt.alloc();
+    let domain = read_domain(&alloc, LAMPS.as_bytes()).ok().ok_or("lamps")?;
+    let problem = read_problem(&alloc, TWO.as_bytes()).ok().ok_or("two")?;
+    let plan = read_plan(&alloc, b"(light b)").ok().ok_or("a plan")?;
+    let task = link(&alloc, &domain, &problem).ok().ok_or("a task")?;
     let steps = link_plan(&alloc, &task, &plan).ok().ok_or("steps")?;
-    assert!(rt; steps.get(0).ok_or("a step")?.moment.is_none());
-    Ok(())
+    check_step(&rt, &steps, 0, 0, &[1], None)
 }
 
 #[test]

@@ -8,6 +8,7 @@ use pddl_formula::{TypeName, TypeNames};
 use pddl_link::link;
 use pddl_plan_link::initial_atoms;
 use pddl_problem::read_problem;
+use pddl_state::Atom;
 use pddl_tree::Name;
 use std::alloc::Allocator;
 use std::process::Abort;
@@ -110,6 +111,20 @@ fn finds_fitting_objects(rt: HostRuntime) -> Result<(), Fail> {
     check_fitting(&rt, &["big", "lamp"], &[0, 1])
 }
 
+/// The atom of a number has these numbers.
+fn check_atom<R: Abort + AllocGlobal, B: Allocator>(
+    rt: &R,
+    atoms: &[Atom<B>],
+    number: usize,
+    predicate: usize,
+    args: &[usize],
+) -> Result<(), Fail> {
+    let atom = atoms.get(number).ok_or("an atom")?;
+    assert_eq!(rt; atom.predicate, predicate, "atom {number}");
+    assert_eq!(rt; atom.args.as_slice(), args, "atom {number}");
+    Ok(())
+}
+
 #[test]
 fn numbers_the_initial_atoms(rt: HostRuntime) -> Result<(), Fail> {
     let alloc = rt.alloc();
@@ -118,16 +133,9 @@ fn numbers_the_initial_atoms(rt: HostRuntime) -> Result<(), Fail> {
     let problem = read_problem(&alloc, text.as_bytes()).ok().ok_or("two")?;
     let task = link(&alloc, &domain, &problem).ok().ok_or("a task")?;
     let atoms = initial_atoms(&alloc, &task)?;
-    let want = [(1, 0), (0, 1), (1, 1), (1, 1)];
-    assert_eq!(rt; atoms.len(), want.len());
-    for number in 0..atoms.len().min(want.len()) {
-        let (predicate, object) = want[number];
-        assert_eq!(rt; atoms[number].predicate, predicate, "atom {number}");
-        assert_eq!(rt;
-            atoms[number].args.as_slice(),
-            [object].as_slice(),
-            "atom {number}"
-        );
+    assert_eq!(rt; atoms.len(), 4);
+    for (number, predicate, object) in [(0, 1, 0), (1, 0, 1), (2, 1, 1), (3, 1, 1)] {
+        check_atom(&rt, &atoms, number, predicate, &[object])?;
     }
     let refusing = Refusing::each(rt.alloc());
     assert!(rt; initial_atoms(&refusing, &task).is_err());
