@@ -20,6 +20,7 @@ pub mod SignatureTables
 pub mod Sizes
 pub mod Slots
 pub mod SomeEffects
+pub mod SoundInits
 pub mod TypeClimbs
 pub mod TypeLookups
 pub mod TypeTables

@@ -10,7 +10,7 @@ use Rattle.std.proofs.lemmas.Map.Made.{is_some-lookup}
 use Rattle.indexmap.proofs.MapLemmas.{some_index}
 use Rattle.pddl_domain.specs.Declarations.{TypeValue}
 use Rattle.pddl_task.specs.Names.{Name, is_in}
-use Rattle.pddl_task.specs.Types.{types_of, pairs, is_under, is_subtype}
+use Rattle.pddl_task.specs.Types.{types_of, pairs, reaches, is_under, is_subtype}
 use Rattle.pddl_link.specs.TypeTables.{Row, names_in, name_at, with_name, climbs, IsTypeTable}
 use Rattle.pddl_task.proofs.Lists.{bytes_same}
 use Rattle.pddl_link.proofs.TypeTables.{or_none, put, put_at}
@@ -72,6 +72,14 @@ no_supertype declared rows sub over h at =
     and_off false = refl
 
 -- ---- types that are under others
+
+reached : (ps : List TypeValue) (n : ℕ) (t u : Name) → bytes_eq t u ≡ true → reaches ps n t u ≡ true
+reached ps zero t u same = same
+reached ps (suc n) t u same = ap (λ b. b || list_any (λ e. bytes_eq t e.item && reaches ps n e.of u) ps) same
+
+-- a name is under itself
+pub under_itself : (declared : List TypeValue) (t u : Name) → bytes_eq t u ≡ true → true ≡ is_under (pairs declared) t u
+under_itself declared t u same = sym (reached (pairs declared) (length (pairs declared)) t u same)
 
 pub under_same : (declared : List TypeValue) (rows : List Row) (t u : Name) → IsTypeTable declared rows → false ≡ is_subtype declared t u → bytes_eq t u ≡ is_under (pairs declared) t u
 under_same declared rows t u h off = sym (under_or_same declared t u h.declared_once ∙ ap (λ b. bytes_eq t u || b) (sym off) ∙ or_none (bytes_eq t u))

@@ -5,5 +5,6 @@ pub mod KnownNames
 pub mod Grounds
 pub mod Claims
 pub mod Parts
+pub mod SoundInits
 pub mod TaskTables
 pub mod LinkedTasks

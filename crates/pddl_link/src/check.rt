@@ -1,8 +1,11 @@
 //! Checks a domain, and a domain with a problem: the lowest fault that stands.
 
-ghost use Rattle.std.specs.Prelude.{◌≡◌};
+ghost use Rattle.std.specs.Prelude.{◌≡◌, true, [], map};
+ghost use Rattle.std.specs.List.{flat_map};
 ghost use Rattle.pddl_domain.specs.Domains.{domain_view};
+ghost use Rattle.pddl_problem.specs.Inits.{init_view};
 ghost use Rattle.pddl_problem.specs.Problems.{problem_view};
+ghost use Rattle.pddl_task.specs.Places.{init_places};
 ghost use Rattle.pddl_task.specs.Settings.{in_domain, in_problem};
 ghost use Rattle.pddl_task.specs.Faults.{large_goals};
 ghost use Rattle.pddl_task.specs.Linked.{domain_faults};
@@ -23,8 +26,9 @@ use crate::object_counts::ObjectCounts;
 use crate::passes::{metric, object_fluents, object_types};
 use crate::repeats::type_twice;
 use crate::search::Search;
-use crate::search_files::{search_domain, search_problem};
+use crate::search_files::{search_domain, search_goal_and_metric, search_problem};
 use crate::size::ground_size;
+use crate::sound_init::is_sound_init;
 use crate::types::Types;
 use crate::unknown::UnknownNames;
 use pddl_domain::Domain;
@@ -77,17 +81,23 @@ pub fn check_domain<'d, 'a, A: Allocator, B: Allocator>(
     check_actions(&known, domain)
 }
 
-/// Searches a domain by one search, and then a problem by another.
+/// Searches a domain by one search, and then a problem by another, which passes over an `:init` that is sound.
 fn search_both<'d, A: Allocator, S: Search<A>>(
     inner: &S,
     outer: &S,
     domain: &'d Domain<A>,
     problem: &'d Problem<A>,
+    is_init_sound: bool,
 ) -> Result<(), LinkFault<'d>>
+    requires { is_init_sound ≡ true → flat_map (S.words outer.now) (flat_map init_places (map init_view problem.now.init.items)) ≡ [] }
     ensures { Passes S.number (words_of_both (S.words inner.now) (S.words outer.now) (domain_view domain.now) (problem_view problem.now)) result }
 {
     search_domain(inner, domain)?;
-    search_problem(outer, problem)
+    if is_init_sound {
+        search_goal_and_metric(outer, problem)
+    } else {
+        search_problem(outer, problem)
+    }
 }
 
 /// The goal is not too large.
@@ -121,7 +131,7 @@ fn check_init<'k, 'm, 'a, 'd, A: Allocator, B: Allocator>(
     ensures { Verdict (last_faults (domain_view domain.now) (problem_view problem.now)) result }
 {
     contradictions(alloc, &problem.init)?;
-    search_both(&Fractions, &Fractions, domain, problem)?;
+    search_both(&Fractions, &Fractions, domain, problem, false)?;
     cost_values(alloc, &problem.init)?;
     object_fluents(domain)?;
     metric(&problem.metric)?;
@@ -141,23 +151,27 @@ pub(crate) fn check_places<'k, 'm, 'a, 'd, A: Allocator, B: Allocator>(
     requires outer { setting_of outer.now ≡ in_problem (domain_view domain.now) (problem_view problem.now) }
     ensures { Verdict (place_faults (domain_view domain.now) (problem_view problem.now)) result }
 {
+    let is_init_sound = is_sound_init(outer, &problem.init);
     search_both(
         &UnknownNames { known: inner },
         &UnknownNames { known: outer },
         domain,
         problem,
+        is_init_sound,
     )?;
     search_both(
         &OtherArities { known: inner },
         &OtherArities { known: outer },
         domain,
         problem,
+        is_init_sound,
     )?;
     search_both(
         &Misfits { known: inner },
         &Misfits { known: outer },
         domain,
         problem,
+        is_init_sound,
     )?;
     check_init(alloc, outer, domain, problem)
 }

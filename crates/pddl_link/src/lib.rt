@@ -1,7 +1,8 @@
 //! Links domains and problems.
 //!
 //! `check_domain` and `link` look for one fault after another, in the order of their numbers: in declarations, by one walk over all
-//! places of actions, goals and `:init` for each fault that can stand there, and in what `:init` says. What links is a `Task`.
+//! places of actions, goals and `:init` for each fault that can stand there, and in what `:init` says. A first look over `:init`
+//! spares most files three walks over it. What links is a `Task`.
 #![tactic(auto)]
 
 mod arity;
@@ -29,6 +30,7 @@ mod repeats;
 mod search;
 mod search_files;
 mod size;
+mod sound_init;
 mod task;
 mod types;
 mod unknown;

@@ -1,6 +1,6 @@
 //! One search over all places of a domain, or of a problem.
 
-ghost use Rattle.std.specs.Prelude.{◌≡◌, map, option_map};
+ghost use Rattle.std.specs.Prelude.{◌≡◌, [], map, option_map};
 ghost use Rattle.std.specs.List.{flat_map};
 ghost use Rattle.pddl_domain.specs.Domains.{domain_view};
 ghost use Rattle.pddl_problem.specs.Inits.{init_view, metric_view};
@@ -79,6 +79,19 @@ fn search_metric<'p, A: Allocator, S: Search<A>>(
     }
 }
 
+/// Searches a problem's goal and its metric, where `:init` has nothing to find.
+pub(crate) fn search_goal_and_metric<'p, A: Allocator, S: Search<A>>(
+    search: &S,
+    problem: &'p Problem<A>,
+) -> Result<(), LinkFault<'p>>
+    requires { flat_map (S.words search.now) (flat_map init_places (map init_view problem.now.init.items)) ≡ [] }
+    ensures { Passes S.number (flat_map (S.words search.now) (problem_places (problem_view problem.now))) result }
+{
+    let outside = Scope::Empty;
+    search_formula(search, &problem.goal, &outside)?;
+    search_metric(search, &problem.metric)
+}
+
 /// Searches a problem: its initial state, its goal and its metric.
 pub(crate) fn search_problem<'p, A: Allocator, S: Search<A>>(
     search: &S,
@@ -87,7 +100,5 @@ pub(crate) fn search_problem<'p, A: Allocator, S: Search<A>>(
     ensures { Passes S.number (flat_map (S.words search.now) (problem_places (problem_view problem.now))) result }
 {
     search_init(search, &problem.init)?;
-    let outside = Scope::Empty;
-    search_formula(search, &problem.goal, &outside)?;
-    search_metric(search, &problem.metric)
+    search_goal_and_metric(search, problem)
 }

@@ -152,10 +152,13 @@ impl<'m, 'a, A: Allocator, B: Allocator> Types<'m, 'a, A, B> {
     fn is_under(&self, sub: &[u8], over: &[u8]) -> bool
         ensures { result ≡ is_under (pairs self.now) sub.now over.now }
     {
+        if sub == over {
+            return true;
+        }
         match self.parents.get_index_of(sub) {
-            None => sub == over,
+            None => false,
             Some(from) => match self.parents.get_index_of(over) {
-                None => sub == over,
+                None => false,
                 Some(to) => climbs(&self.parents, from, to),
             },
         }

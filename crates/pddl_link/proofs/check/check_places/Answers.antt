@@ -8,8 +8,21 @@ use Rattle.pddl_task.specs.Linked.{fault}
 use Rattle.pddl_link.specs.Passes.{Passes}
 use Rattle.pddl_link.specs.KnownNames.{setting_of}
 use Rattle.pddl_link.specs.Parts.{words_of_both, last_faults}
+use Rattle.pddl_link.proofs.SoundInits.{items_read}
 use Rattle.pddl_link.proofs.Verdicts.{found_at, decided_after}
 use Rattle.pddl_link.proofs.check.check_places.Goals as goal
+
+pub search_both-requires : goal.search_both-requires
+search_both-requires g c = λ is.
+    (items_read (setting_of c.args.outer.now) c.deref.result.now c.args.problem.now.init.items c.deref.ensures.value (c.is_sound_init-is_init_sound.ensures is)).known
+
+pub search_both-requires-2 : goal.search_both-requires-2
+search_both-requires-2 g c = λ is.
+    (items_read (setting_of c.args.outer.now) c.deref.result.now c.args.problem.now.init.items c.deref.ensures.value (c.is_sound_init-is_init_sound.ensures is)).counted
+
+pub search_both-requires-3 : goal.search_both-requires-3
+search_both-requires-3 g c = λ is.
+    (items_read (setting_of c.args.outer.now) c.deref.result.now c.args.problem.now.init.items c.deref.ensures.value (c.is_sound_init-is_init_sound.ensures is)).fitting
 
 pub returns-in_err-search_both : goal.returns-in_err-search_both
 returns-in_err-search_both g c =

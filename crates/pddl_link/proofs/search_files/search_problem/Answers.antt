@@ -1,12 +1,13 @@
-use Rattle.std.proofs.Common.{[], ◌++◌, map, option_map, ap, refl, sym, ◌∙◌, Err}
+use Rattle.std.proofs.Common.{◌≡◌, List, [], ◌++◌, map, option_map, ap, sym, ◌∙◌, subst}
 use Rattle.std.specs.List.{flat_map}
 use Rattle.std.proofs.lemmas.Result.{err_from_is_err_and}
 use Rattle.pddl_formula.specs.Formulas.{formula_view}
+use Rattle.pddl_problem.specs.declared.problem.InitItem.{InitItem}
 use Rattle.pddl_problem.specs.Inits.{init_view, metric_view}
 use Rattle.pddl_problem.specs.Problems.{problem_view}
 use Rattle.pddl_task.specs.Places.{init_places, metric_places, problem_places}
 use Rattle.pddl_link.specs.Scopes.{words_in}
-use Rattle.pddl_link.proofs.Walks.{pass_front, pass_back}
+use Rattle.pddl_link.proofs.Walks.{pass_front}
 use Rattle.pddl_link.proofs.FileWalks.{words_problem}
 use Rattle.pddl_link.proofs.search_files.search_problem.Goals as goal
 
@@ -19,15 +20,7 @@ returns-in_err-search_init g c =
     rw (p.1, p.2) (pass_front g.S.Search.number (flat_map w (flat_map init_places (map init_view c.deref.result.now))) rest (flat_map w (problem_places (problem_view q))) c.in_err-search_init.field-0.0
     (words_problem w (problem_view q) ∙ ap (λ is. flat_map w (flat_map init_places (map init_view is)) ++ rest) (sym c.deref.ensures.value)) c.in_err-search_init.ensures)
 
-pub returns-in_err-search_formula : goal.returns-in_err-search_formula
-returns-in_err-search_formula g c =
-    let n = g.S.Search.number in
+pub search_goal_and_metric-requires : goal.search_goal_and_metric-requires
+search_goal_and_metric-requires g c =
     let w = g.S.Search.words c.args.search.now in
-    let q = c.args.problem.now in
-    let e = c.in_err-search_formula.field-0.0 in
-    let goal_words = words_in w (formula_view q.goal) [] in
-    let last = flat_map w (metric_places (option_map metric_view q.metric)) in
-    let p = err_from_is_err_and c.from_residual-in_err-search_formula.result c.from_residual-in_err-search_formula.ensures.1 in
-    rw (p.1, p.2) (pass_back n (flat_map w (flat_map init_places (map init_view c.deref.result.now))) (goal_words ++ last) (flat_map w (problem_places (problem_view q))) (Err e)
-    (words_problem w (problem_view q) ∙ ap (λ is. flat_map w (flat_map init_places (map init_view is)) ++ (goal_words ++ last)) (sym c.deref.ensures.value)) c.in_ok-search_init.ensures
-    (pass_front n goal_words last (goal_words ++ last) e refl c.in_err-search_formula.ensures))
+    subst (λ (is : List (InitItem _)). flat_map w (flat_map init_places (map init_view is)) ≡ []) c.deref.ensures.value c.in_ok-search_init.ensures
