@@ -2,7 +2,10 @@
 use Rattle.std.proofs.Common.{◌≡◌, Bool, true, false, ◌&&◌, ◌||◌, cond, List, [], ◌∷◌, ◌++◌, Option, Some, None, refl, ap, sym, ◌∙◌}
 use Rattle.std.specs.Prelude.{unwrap_or}
 use Rattle.std.specs.Cmp.{IsEquivalence}
-use Rattle.std.specs.List.{list_any}
+use Rattle.std.specs.List.{list_any, filter_map, cons_option}
+use Rattle.std.specs.Map.{lookup}
+use Rattle.std.proofs.lemmas.List.{append-nil}
+use Rattle.std.proofs.lemmas.List.Elements.{filter_map-append}
 use Rattle.std.proofs.lemmas.List.Folds.{list_any-append}
 
 or_false : (b : Bool) → b || false ≡ b
@@ -33,6 +36,25 @@ disagree same other (Some c) (Some d) = same c.0 d.0 && other c.1 d.1
 -- the value differs from what is found, if any
 abbrev pub at_odds : {V : Type 0} → (V → V → Bool) → Option V → V → Bool
 at_odds other found v = other v (unwrap_or found v)
+
+-- the first of two, where there is one
+abbrev pub first_of : {V : Type 0} → Option V → Option V → Option V
+first_of None o = o
+first_of (Some v) o = Some v
+
+first_none : {V : Type 0} (o : Option V) → first_of o None ≡ o
+first_none None = refl
+first_none (Some v) = refl
+
+first_found : {V : Type 0} (b : Bool) (v : V) (o p : Option V) → cond b (Some v) (first_of o p) ≡ first_of (cond b (Some v) o) p
+first_found true v o p = refl
+first_found false v o p = refl
+
+-- an entry that is put last
+lookup_more : {K V : Type 0} (test : K → Bool) (es : List (K × V)) (k : K) (v : V) → lookup test (es ++ (k, v) ∷ []) ≡ first_of (lookup test es) (cond (test k) (Some v) None)
+lookup_more test [] k v = refl
+lookup_more test (e ∷ es) k v =
+    ap (λ o. cond (test e.0) (Some e.1) o) (lookup_more test es k v) ∙ first_found (test e.0) e.1 (lookup test es) (cond (test k) (Some v) None)
 
 -- the table tells of each claim whether it disagrees with one of those seen
 abbrev pub Tells : {I K V : Type 0} → (K → K → Bool) → (V → V → Bool) → (I → Option (K × V)) → (K → Option V) → List I → Type 0
@@ -70,6 +92,39 @@ module _ {I K V : Type 0} (same : K → K → Bool) (equiv : IsEquivalence same)
       ∙ ap (λ b. b || (same q k && other w v)) (tells q w)
       ∙ told table k q v w (same k q) refl agrees
       ∙ sym (ap (λ o. at_odds other o w) (grows q))
+
+  -- ---- what is claimed first of a key
+
+  -- the table has it, where those seen claim something
+  abbrev pub Holds : (K → Option V) → List I → Type 0
+  Holds table seen = (q : K) → table q ≡ lookup (same q) (filter_map claim seen)
+
+  pub holds_none : (table : K → Option V) (seen : List I) (x : I) → claim x ≡ None → Holds table seen → Holds table (seen ++ x ∷ [])
+  holds_none table seen x none holds = λ q.
+      holds q
+      ∙ sym (ap (lookup (same q)) (filter_map-append claim seen (x ∷ []) ∙ ap (λ o. filter_map claim seen ++ cons_option o []) none ∙ append-nil (filter_map claim seen)))
+
+  agreed_first : (found : Option V) (v : V) → at_odds other found v ≡ false → Some v ≡ first_of found (Some v)
+  agreed_first None v h = refl
+  agreed_first (Some u) v h = ap Some (values_are v u h)
+
+  -- a key of a claim is this one, or another
+  held : (table : K → Option V) (k q : K) (v : V) (b : Bool) → same k q ≡ b → at_odds other (table k) v ≡ false
+      → cond b (Some v) (table q) ≡ first_of (table q) (cond (same q k) (Some v) None)
+  held table k q v false apart h = sym (ap (λ b. first_of (table q) (cond b (Some v) None)) (equiv.symm q k ∙ apart) ∙ first_none (table q))
+  held table k q v true joined h =
+      agreed_first (table k) v h
+      ∙ ap (λ j. first_of (table j) (Some v)) (is k q joined)
+      ∙ sym (ap (λ b. first_of (table q) (cond b (Some v) None)) (equiv.symm q k ∙ joined))
+
+  pub holds_more : (table next : K → Option V) (seen : List I) (x : I) (k : K) (v : V) → claim x ≡ Some (k, v) → Holds table seen
+      → at_odds other (table k) v ≡ false → ((q : K) → next q ≡ cond (same k q) (Some v) (table q)) → Holds next (seen ++ x ∷ [])
+  holds_more table next seen x k v claims holds agrees grows = λ q.
+      grows q
+      ∙ held table k q v (same k q) refl agrees
+      ∙ ap (λ o. first_of o (cond (same q k) (Some v) None)) (holds q)
+      ∙ sym (lookup_more (same q) (filter_map claim seen) k v)
+      ∙ sym (ap (lookup (same q)) (filter_map-append claim seen (x ∷ []) ∙ ap (λ o. filter_map claim seen ++ cons_option o []) claims))
 
   module _ (clash : I → I → Bool) (clash_is : (i j : I) → clash i j ≡ disagree same other (claim i) (claim j)) where
     -- whether an item clashes with one of those seen

@@ -1,17 +1,20 @@
 -- What is said in `:init`, as claims: items one after another, beside a table of what was claimed so far.
-use Rattle.std.proofs.Common.{◌≡◌, ℕ, ◌+◌, ◌<◌, Bool, true, false, ◌&&◌, ◌||◌, ◌==◌, not, cond, List, [], ◌∷◌, ◌++◌, map, length, get_or, drop, Option, Some, None, refl, ap, sym, ◌∙◌, subst, true≢false, arith}
+use Rattle.std.proofs.Common.{◌≡◌, ℕ, ◌+◌, ◌<◌, ◌≤◌, Bool, true, false, ◌&&◌, ◌||◌, ◌==◌, not, cond, List, [], ◌∷◌, ◌++◌, map, length, get_or, drop, Option, Some, None, refl, ap, sym, ◌∙◌, subst, true≢false, arith}
 use Rattle.std.specs.Prelude.{Contains, unwrap_or}
 use Rattle.std.specs.Bool.{beq}
-use Rattle.std.specs.List.{list_any}
+use Rattle.std.specs.List.{list_any, filter_map}
 use Rattle.std.specs.Map.{lookup}
+use Rattle.std.proofs.lemmas.List.{take_all}
+use Rattle.std.proofs.lemmas.List.Folds.{list_any-append}
 use Rattle.std.proofs.lemmas.Bool.Decides.{nat_tests}
 use Rattle.pddl_problem.specs.Inits.{GroundValue, InitValue, holds, fails, value}
 use Rattle.pddl_task.specs.Names.{Name, word_if}
 use Rattle.pddl_task.specs.Faults.{same_ground, contradicts, revalues, starts_above_zero, init_name, clashing, wrong_values}
-use Rattle.pddl_task.proofs.Lists.{or_right, or_none}
-use Rattle.pddl_link.specs.Claims.{literal_in, value_in}
+use Rattle.pddl_task.proofs.Lists.{or_right, or_none, none_left, none_right}
+use Rattle.pddl_link.specs.Claims.{literal_in, value_in, is_failure, HoldsValues}
 use Rattle.pddl_link.specs.Grounds.{ground_equiv, ground_is}
-use Rattle.pddl_link.proofs.Claims.{disagree, at_odds, Tells, tells_none, tells_more, clash_told, clash_none}
+use Rattle.pddl_link.proofs.Claims.{disagree, at_odds, Tells, tells_none, tells_more, holds_none, holds_more, clash_told, clash_none}
+use Rattle.pddl_link.proofs.ListPasses.{views_drop}
 use Rattle.pddl_link.proofs.SeenItems.{seen_at, seen_more, seen_bad, seen_good}
 
 -- what a table says of each key
@@ -113,6 +116,38 @@ pub clashing_step : (seen : List InitValue) (x : InitValue) (rest : List InitVal
     → clashing contradicts seen (x ∷ rest) ≡ word_if (no_item x || list_any (contradicts x) seen) (init_name x) ++ clashing contradicts (seen ++ x ∷ []) rest
 clashing_step seen x rest = refl
 
+-- ---- where no atom fails
+
+neither_fails : (i j : InitValue) → is_failure i ≡ false → is_failure j ≡ false → contradicts i j ≡ false
+neither_fails (holds f) (holds g) h k = refl
+neither_fails (holds f) (fails g) h k = absurd (true≢false k)
+neither_fails (holds f) (value g n) h k = refl
+neither_fails (fails f) j h k = absurd (true≢false h)
+neither_fails (value f n) j h k = refl
+
+none_beside : (i : InitValue) (seen : List InitValue) → is_failure i ≡ false → list_any is_failure seen ≡ false → list_any (contradicts i) seen ≡ false
+none_beside i [] h k = refl
+none_beside i (j ∷ seen) h k =
+    or_none (contradicts i j) (list_any (contradicts i) seen)
+    (neither_fails i j h (none_left (is_failure j) (list_any is_failure seen) k))
+    (none_beside i seen h (none_right (is_failure j) (list_any is_failure seen) k))
+
+none_seen : (seen : List InitValue) (i : InitValue) → list_any is_failure seen ≡ false → is_failure i ≡ false → list_any is_failure (seen ++ i ∷ []) ≡ false
+none_seen seen i h k =
+    list_any-append is_failure seen (i ∷ []) ∙ or_none (list_any is_failure seen) (is_failure i || false) h (or_none (is_failure i) false k refl)
+
+-- an item is in turn, and then those that are left
+pub failures_left : {X : Type 0} (view : X → InitValue) (xs : List X) (i : ℕ) (x : X) → i < length xs → x ≡ get_or xs i x
+    → list_any is_failure (map view (drop i xs)) ≡ is_failure (view x) || list_any is_failure (map view (drop (i + 1) xs))
+failures_left view xs i x h at = ap (list_any is_failure) (views_drop view xs i x h at)
+
+pub no_failures : (seen xs : List InitValue) → list_any is_failure seen ≡ false → list_any is_failure xs ≡ false → clashing contradicts seen xs ≡ []
+no_failures seen [] h k = refl
+no_failures seen (x ∷ xs) h k =
+    let fine = none_left (is_failure x) (list_any is_failure xs) k in
+    ap (λ b. word_if b (init_name x) ++ clashing contradicts (seen ++ x ∷ []) xs) (none_beside x seen fine h)
+    ∙ no_failures (seen ++ x ∷ []) xs (none_seen seen x h fine) (none_right (is_failure x) (list_any is_failure xs) k)
+
 -- ---- values of functions
 
 -- two different numbers
@@ -141,3 +176,41 @@ revalues_is (fails f) j = refl
 pub wrong_step : (seen : List InitValue) (x : InitValue) (rest : List InitValue)
     → wrong_values seen (x ∷ rest) ≡ word_if (starts_above_zero x || list_any (revalues x) seen) (init_name x) ++ wrong_values (seen ++ x ∷ []) rest
 wrong_step seen x rest = refl
+
+-- items with values, in front of one of them: so far none is wrong, and the table has the value of each function of objects
+pub record Valued {X : Type 0} (view : X → InitValue) (xs : List X) (i : ℕ) (table : GroundValue → Option ℕ) : Type 0 where
+  pub checked : Checked view unequal value_in wrong_values xs i table
+  pub has : (g : GroundValue) → table g ≡ lookup (same_ground g) (filter_map value_in (seen_at view [] xs i))
+
+module _ {X : Type 0} (view : X → InitValue) (xs : List X) where
+  pub valued_start : (es : List (GroundValue × ℕ)) → es ≡ [] → Valued view xs 0 (told_by es)
+  valued_start es empty = record {
+    checked = checked_start view unequal unequal_own unequal_is value_in revalues revalues_is starts_above_zero wrong_values wrong_step xs es empty;
+    has = λ g. ap (lookup (same_ground g)) empty;
+  }
+
+  module _ (i : ℕ) (x : X) (table : GroundValue → Option ℕ) (h : i < length xs) (at : x ≡ get_or xs i x) (l : Valued view xs i table) where
+    pub starts_wrong : starts_above_zero (view x) ≡ true → Contains (wrong_values [] (map view xs)) (init_name (view x))
+    starts_wrong = wrong_alone view unequal unequal_own unequal_is value_in revalues revalues_is starts_above_zero wrong_values wrong_step xs i x table h at l.checked
+
+    pub valued_otherwise : (g : GroundValue) (n : ℕ) → value_in (view x) ≡ Some (g, n) → at_odds unequal (table g) n ≡ true → Contains (wrong_values [] (map view xs)) (init_name (view x))
+    valued_otherwise = wrong_beside view unequal unequal_own unequal_is value_in revalues revalues_is starts_above_zero wrong_values wrong_step xs i x table h at l.checked
+
+    pub valued_none : starts_above_zero (view x) ≡ false → value_in (view x) ≡ None → Valued view xs (i + 1) table
+    valued_none fine none = record {
+      checked = checked_none view unequal unequal_own unequal_is value_in revalues revalues_is starts_above_zero wrong_values wrong_step xs i x table h at l.checked fine none;
+      has = λ g. holds_none same_ground ground_equiv ground_is unequal unequal_own unequal_is value_in table (seen_at view [] xs i) (view x) none l.has g
+          ∙ ap (λ s. lookup (same_ground g) (filter_map value_in s)) (sym (seen_more view [] xs i x h at));
+    }
+
+    pub valued_more : (next : GroundValue → Option ℕ) (g : GroundValue) (n : ℕ) → starts_above_zero (view x) ≡ false → value_in (view x) ≡ Some (g, n) → at_odds unequal (table g) n ≡ false
+        → ((q : GroundValue) → next q ≡ cond (same_ground g q) (Some n) (table q)) → Valued view xs (i + 1) next
+    valued_more next g n fine claims agrees grows = record {
+      checked = checked_more view unequal unequal_own unequal_is value_in revalues revalues_is starts_above_zero wrong_values wrong_step xs i x table h at l.checked next g n fine claims agrees grows;
+      has = λ q. holds_more same_ground ground_equiv ground_is unequal unequal_own unequal_is value_in table next (seen_at view [] xs i) (view x) g n claims l.has agrees grows q
+          ∙ ap (λ s. lookup (same_ground q) (filter_map value_in s)) (sym (seen_more view [] xs i x h at));
+    }
+
+  -- all have been looked at
+  pub all_valued : (i : ℕ) (es : List (GroundValue × ℕ)) → length xs ≤ i → Valued view xs i (told_by es) → HoldsValues (map view xs) es
+  all_valued i es past l = λ g. l.has g ∙ ap (λ ys. lookup (same_ground g) (filter_map value_in (map view ys))) (take_all i xs past)

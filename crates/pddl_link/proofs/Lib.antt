@@ -3,6 +3,7 @@ pub mod BelowRoot
 pub mod BoundTypes
 pub mod Capped
 pub mod Claims
+pub mod CostValues
 pub mod CyclicTypes
 pub mod EffectSizes
 pub mod FileWalks
@@ -32,3 +33,4 @@ pub mod TaskNames
 pub mod OkResults
 pub mod Entries
 pub mod FittingObjects
+pub mod LentNames

@@ -1,16 +1,20 @@
 -- Two linked files with tables of what they declare, and what is asked of the task that they make.
-use Rattle.std.specs.Prelude.{◌≡◌, ℕ, ◌+◌, Bool, cond, List, [], ◌∷◌, map}
+use Rattle.std.specs.Prelude.{◌≡◌, ℕ, ◌+◌, Bool, cond, List, [], ◌∷◌, map, Option}
 use Rattle.std.specs.Borrow.{Bor}
+use Rattle.std.specs.Map.{lookup}
 use Rattle.pddl_formula.specs.declared.type_names.Typed.{Typed}
 use Rattle.pddl_domain.specs.Declarations.{TypeValue}
 use Rattle.pddl_domain.specs.Domains.{DomainValue}
+use Rattle.pddl_problem.specs.Inits.{GroundValue}
 use Rattle.pddl_problem.specs.Problems.{ProblemValue}
 use Rattle.pddl_task.specs.Names.{Name}
 use Rattle.pddl_task.specs.Types.{pairs, fits}
 use Rattle.pddl_task.specs.Settings.{objects_of}
+use Rattle.pddl_task.specs.Faults.{same_ground}
 use Rattle.pddl_task.specs.Linked.{IsLinked}
 use Rattle.pddl_task.specs.Tasks.{TaskValue, task_of}
 use Rattle.pddl_link.specs.KnownNames.{signature_in, object_in}
+use Rattle.pddl_link.specs.Claims.{HoldsValues}
 
 -- a domain and a problem
 pub record Files : Type 0 where
@@ -33,10 +37,15 @@ places_from n test (x ∷ xs) = cond (test x) (n ∷ places_from (n + 1) test xs
 abbrev pub fitting_numbers : TaskValue → List Name → List ℕ
 fitting_numbers task types = places_from 0 (λ o. fits (pairs task.types) o.of types) task.objects
 
+-- the cost of a function of objects, where `:init` gives it one
+abbrev pub cost_of : TaskValue → GroundValue → Option ℕ
+cost_of task g = lookup (same_ground g) task.costs
+
 -- two files are linked, and the tables hold what they declare
 pub record AreTablesOf {A : Type 0} (d : DomainValue) (p : ProblemValue) (types : List TypeValue) (predicates : List (Bor (List ℕ) × Bor (List (Typed A))))
-    (objects : List (Bor (List ℕ) × Bor (List (List ℕ)))) : Type 0 where
+    (objects : List (Bor (List ℕ) × Bor (List (List ℕ)))) (values : List (GroundValue × ℕ)) : Type 0 where
   pub linked : IsLinked d p
   pub types_are : types ≡ d.types
   pub predicates_are : map signature_in predicates ≡ d.predicates
   pub objects_are : map object_in objects ≡ objects_of d p
+  pub values_are : HoldsValues p.init values

@@ -1,6 +1,6 @@
 //! Checks a domain, and a domain with a problem: the lowest fault that stands.
 
-ghost use Rattle.std.specs.Prelude.{◌≡◌, true, [], map};
+ghost use Rattle.std.specs.Prelude.{◌≡◌, true, [], map, IfOk};
 ghost use Rattle.std.specs.List.{flat_map};
 ghost use Rattle.pddl_domain.specs.Domains.{domain_view};
 ghost use Rattle.pddl_problem.specs.Inits.{init_view};
@@ -10,6 +10,7 @@ ghost use Rattle.pddl_task.specs.Settings.{in_domain, in_problem};
 ghost use Rattle.pddl_task.specs.Faults.{large_goals};
 ghost use Rattle.pddl_task.specs.Linked.{domain_faults};
 ghost use Rattle.pddl_link.specs.Passes.{Passes, Verdict};
+ghost use Rattle.pddl_link.specs.Claims.{HoldsValues};
 ghost use Rattle.pddl_link.specs.KnownNames.{setting_of};
 ghost use Rattle.pddl_link.specs.Parts.{words_of_both, last_domain_faults, last_faults, place_faults};
 
@@ -18,7 +19,7 @@ use crate::declared_types::domain_types_known;
 use crate::effect_costs::conditional_costs;
 use crate::fault::LinkFault;
 use crate::fractions::Fractions;
-use crate::init::{contradictions, cost_values};
+use crate::init::{Values, contradictions, cost_values};
 use crate::known::{Known, functions, predicates};
 use crate::misfits::Misfits;
 use crate::names::domain_names;
@@ -120,36 +121,39 @@ fn goal_size<'k, 'm, 'a, 'd, A: Allocator, B: Allocator>(
     }
 }
 
-/// Checks `:init`, the metric, costs, and the goal's size.
+/// Checks `:init`, the metric, costs, and the goal's size, and answers the values of functions of objects.
 fn check_init<'k, 'm, 'a, 'd, A: Allocator, B: Allocator>(
     alloc: &'a B,
     known: &Known<'k, 'm, 'a, A, B>,
     domain: &'d Domain<A>,
     problem: &'d Problem<A>,
-) -> Result<(), LinkFault<'d>>
+) -> Result<Values<'d, 'a, A, B>, LinkFault<'d>>
     requires { setting_of known.now ≡ in_problem (domain_view domain.now) (problem_view problem.now) }
-    ensures { Verdict (last_faults (domain_view domain.now) (problem_view problem.now)) result }
+    ensures verdict { Verdict (last_faults (domain_view domain.now) (problem_view problem.now)) result }
+    ensures values { IfOk result (λ values. HoldsValues (problem_view problem.now).init values.entries) }
 {
     contradictions(alloc, &problem.init)?;
     search_both(&Fractions, &Fractions, domain, problem, false)?;
-    cost_values(alloc, &problem.init)?;
+    let values = cost_values(alloc, &problem.init)?;
     object_fluents(domain)?;
     metric(&problem.metric)?;
     conditional_costs(domain)?;
-    goal_size(known, domain, problem)
+    goal_size(known, domain, problem)?;
+    Ok(values)
 }
 
-/// Checks what stands in places, and what is left.
+/// Checks what stands in places, and what is left, and answers the values of functions of objects.
 pub(crate) fn check_places<'k, 'm, 'a, 'd, A: Allocator, B: Allocator>(
     alloc: &'a B,
     inner: &Known<'k, 'm, 'a, A, B>,
     outer: &Known<'k, 'm, 'a, A, B>,
     domain: &'d Domain<A>,
     problem: &'d Problem<A>,
-) -> Result<(), LinkFault<'d>>
+) -> Result<Values<'d, 'a, A, B>, LinkFault<'d>>
     requires inner { setting_of inner.now ≡ in_domain (domain_view domain.now) }
     requires outer { setting_of outer.now ≡ in_problem (domain_view domain.now) (problem_view problem.now) }
-    ensures { Verdict (place_faults (domain_view domain.now) (problem_view problem.now)) result }
+    ensures verdict { Verdict (place_faults (domain_view domain.now) (problem_view problem.now)) result }
+    ensures values { IfOk result (λ values. HoldsValues (problem_view problem.now).init values.entries) }
 {
     let is_init_sound = is_sound_init(outer, &problem.init);
     search_both(

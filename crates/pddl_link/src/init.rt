@@ -1,9 +1,10 @@
 //! Atoms that hold and fail in `:init`, and functions of objects that have two values there.
 
-ghost use Rattle.std.specs.Prelude.{◌≡◌, [], map};
+ghost use Rattle.std.specs.Prelude.{◌≡◌, [], map, IfOk};
+ghost use Rattle.std.specs.List.{list_any};
 ghost use Rattle.pddl_problem.specs.Inits.{init_view};
 ghost use Rattle.pddl_task.specs.Faults.{contradicts, init_name, clashing, wrong_values, starts_above_zero};
-ghost use Rattle.pddl_link.specs.Claims.{literal_in, value_in};
+ghost use Rattle.pddl_link.specs.Claims.{literal_in, value_in, is_failure, HoldsValues};
 ghost use Rattle.pddl_link.specs.Passes.{Passes};
 
 use crate::fault::LinkFault;
@@ -12,6 +13,9 @@ use crate::hashed::Hashed;
 use indexmap::IndexMap;
 use pddl_problem::InitItem;
 use std::alloc::Allocator;
+
+/// Functions of objects, each with its value in billionths.
+pub(crate) type Values<'d, 'a, A, B> = IndexMap<Ground<'d, A>, u64, Hashed, &'a B>;
 
 /// The atom that an item of `:init` is about, and whether it holds there.
 fn literal<'d, A: Allocator>(item: &'d InitItem<A>) -> Option<(Ground<'d, A>, bool)>
@@ -65,13 +69,39 @@ fn starts_above_zero<A: Allocator>(item: &InitItem<A>) -> bool
     }
 }
 
-/// No atom holds and fails.
+/// Whether an item of `:init` says of an atom that it fails.
+fn is_failure<A: Allocator>(item: &InitItem<A>) -> bool
+    ensures { result ≡ is_failure (init_view item.now) }
+{
+    match item {
+        InitItem::Holds(_) => false,
+        InitItem::Fails(_) => true,
+        InitItem::Value(_, _) => false,
+    }
+}
+
+/// Whether some item of `:init` says so.
+fn some_failure<A: Allocator>(init: &[InitItem<A>]) -> bool
+    ensures { result ≡ list_any is_failure (map init_view init.now) }
+{
+    for item in init {
+        if is_failure(item) {
+            return true;
+        }
+    }
+    false
+}
+
+/// No atom holds and fails. Where no atom fails, nothing is looked up.
 pub(crate) fn contradictions<'d, 'a, A: Allocator, B: Allocator>(
     alloc: &'a B,
     init: &'d [InitItem<A>],
 ) -> Result<(), LinkFault<'d>>
     ensures { Passes 29 (clashing contradicts [] (map init_view init.now)) result }
 {
+    if !some_failure(init) {
+        return Ok(());
+    }
     let mut said: IndexMap<Ground<'d, A>, bool, Hashed, &'a B> = IndexMap::new(alloc);
     for item in init {
         if let Some((atom, holds)) = literal(item) {
@@ -84,14 +114,15 @@ pub(crate) fn contradictions<'d, 'a, A: Allocator, B: Allocator>(
     Ok(())
 }
 
-/// No function of objects has two values, and `total-cost` starts at none but 0.
+/// The values of functions of objects. None of them has two, and `total-cost` starts at none but 0.
 pub(crate) fn cost_values<'d, 'a, A: Allocator, B: Allocator>(
     alloc: &'a B,
     init: &'d [InitItem<A>],
-) -> Result<(), LinkFault<'d>>
-    ensures { Passes 31 (wrong_values [] (map init_view init.now)) result }
+) -> Result<Values<'d, 'a, A, B>, LinkFault<'d>>
+    ensures passes { Passes 31 (wrong_values [] (map init_view init.now)) result }
+    ensures values { IfOk result (λ values. HoldsValues (map init_view init.now) values.entries) }
 {
-    let mut values: IndexMap<Ground<'d, A>, u64, Hashed, &'a B> = IndexMap::new(alloc);
+    let mut values: Values<'d, 'a, A, B> = IndexMap::new(alloc);
     for item in init {
         if starts_above_zero(item) {
             return Err(LinkFault::CostValue(name_of(item)));
@@ -103,5 +134,5 @@ pub(crate) fn cost_values<'d, 'a, A: Allocator, B: Allocator>(
             }
         }
     }
-    Ok(())
+    Ok(values)
 }

@@ -58,12 +58,13 @@ pub fn link<'m, 'a, A: Allocator, B: Allocator>(
         functions: &functions,
         objects: &objects,
     };
-    check_places(alloc, &inner, &outer, domain, problem)?;
+    let values = check_places(alloc, &inner, &outer, domain, problem)?;
     Ok(Task {
         domain,
         problem,
         types,
         predicates,
         objects,
+        values,
     })
 }

@@ -1,6 +1,6 @@
 //! Linked tasks.
 
-ghost use Rattle.std.specs.Prelude.{◌≡◌, false, option_map, slice_get, position, bytes_eq, IfOk};
+ghost use Rattle.std.specs.Prelude.{◌≡◌, false, map, option_map, slice_get, position, bytes_eq, IfOk};
 ghost use Rattle.std.specs.Option.{option_map_or};
 ghost use Rattle.pddl_formula.specs.Formulas.{formula_view};
 ghost use Rattle.pddl_domain.specs.Actions.{action_view};
@@ -10,10 +10,12 @@ ghost use Rattle.pddl_task.specs.Types.{pairs, fits, is_subtype};
 ghost use Rattle.pddl_task.specs.GroundSize.{capped, formula_size, action_size};
 ghost use Rattle.pddl_task.specs.Linked.{IsLinked};
 ghost use Rattle.pddl_task.specs.Tasks.{task_count, predicate_names, object_names};
-ghost use Rattle.pddl_link.specs.TaskTables.{AreTablesOf, fitting_numbers};
+ghost use Rattle.pddl_link.specs.TaskTables.{AreTablesOf, fitting_numbers, cost_of};
 
 use crate::effect_size::action_ground_size;
 use crate::fitting::fitting_objects;
+use crate::ground::Ground;
+use crate::init::Values;
 use crate::known::{Objects, Signatures};
 use crate::object_counts::ObjectCounts;
 use crate::size::ground_size;
@@ -35,7 +37,8 @@ pub struct Task<'m, 'a, A: Allocator, B: Allocator> {
     pub(crate) types: Types<'m, 'a, A, B>,
     pub(crate) predicates: Signatures<'m, 'a, A, B>,
     pub(crate) objects: Objects<'m, 'a, A, B>,
-    ghost tables: { AreTablesOf (domain_view domain.now) (problem_view problem.now) types predicates.entries objects.entries },
+    pub(crate) values: Values<'m, 'a, A, B>,
+    ghost tables: { AreTablesOf (domain_view domain.now) (problem_view problem.now) types predicates.entries objects.entries values.entries },
 }
 
 impl<'m, 'a, A: Allocator, B: Allocator> Task<'m, 'a, A, B> {
@@ -108,6 +111,17 @@ impl<'m, 'a, A: Allocator, B: Allocator> Task<'m, 'a, A, B> {
             objects: &self.objects,
         };
         action_ground_size(&counts, action)
+    }
+
+    /// The cost that `:init` gives a function of these objects, or `None` where it gives none.
+    pub fn cost<'q>(&self, function: &'q [u8], objects: &'q [&'q [u8]]) -> Option<u64>
+        ensures { result ≡ cost_of (task_of_files self.now) (record { name = function.now; objects = map (λ o. o.now) objects.now }) }
+    {
+        let call = Ground::asked(function, objects);
+        match self.values.get(&call) {
+            Some(billionths) => Some(*billionths / 1_000_000_000),
+            None => None,
+        }
     }
 
     /// The name of the predicate of a number, or `None` past the last.

@@ -16,12 +16,12 @@ use Rattle.pddl_task.specs.Faults.{some_misfit}
 use Rattle.pddl_task.specs.Tasks.{TaskValue, object_names, task_count}
 use Rattle.pddl_plan_link.specs.StepFaults.{action_names, action_named, naming, has_arity, unknown_object, some_costless, some_increase, step_faults}
 use Rattle.pddl_plan_link.specs.LinkedSteps.{number_in}
-use Rattle.pddl_plan_link.specs.CostWords.{is_listed, is_valued, is_costless, given}
+use Rattle.pddl_plan_link.specs.GroundedCosts.{is_costless, given}
 use Rattle.pddl_plan_link.specs.declared.action_table.SizedAction.{SizedAction}
 use Rattle.pddl_plan_link.specs.StepTables.{named_action, named_in, some_unfit}
 use Rattle.pddl_plan_link.proofs.NamedActions.{Entry, none_named, number_found, IsFound, action_found}
 use Rattle.pddl_plan_link.proofs.NumberedObjects.{some_unknown, unfit_is}
-use Rattle.pddl_plan_link.proofs.StepTests.{IsFirst, unknown_first, arity_first, object_first, type_first, cost_first, size_first, none_stands, costs_are, is_large, is_not_large}
+use Rattle.pddl_plan_link.proofs.StepTests.{IsFirst, unknown_first, arity_first, object_first, type_first, cost_first, size_first, none_stands, is_large, is_not_large}
 
 pub as_long : {X Z : Type 0} (v : Vec X Z) (m : ℕ) → m ≡ vec_len v → m ≡ length v.items
 as_long v m is = omega (arith, v.ok.0, is)
@@ -97,14 +97,13 @@ module _ {A : Type 0} (task : TaskValue) (es : List (Entry A)) (s : StepValue) (
               pub type_differs : unfit ≡ true → IsFirst (step_faults task s) 43
               type_differs is = type_first task s a named arity known (sym misfit ∙ is)
 
-              -- some cost has no value, or all have one
-              module _ {C : Type 0} (keys : List (Vec (Bor (List ℕ)) C)) (valued : (ws : List Name) → is_listed keys ws ≡ is_valued task.costs ws) (ps : List (Typed A)) (os : List Name) (costless : Bool)
-                  (first_given : ps ≡ held.action.now.parameters.items) (second_given : os ≡ s.objects) (asked : costless ≡ some_increase (is_costless keys (given ps os)) a.effect) (fit : unfit ≡ false) where
+              -- some increase has no cost, or all have one
+              module _ (ps : List (Typed A)) (os : List Name) (costless : Bool) (first_given : ps ≡ held.action.now.parameters.items) (second_given : os ≡ s.objects)
+                  (asked : costless ≡ some_increase (is_costless task (given ps os)) a.effect) (fit : unfit ≡ false) where
                 costs : costless ≡ some_costless task s a
                 costs =
-                    asked ∙ ap (λ (xs : List (Typed A)). some_increase (is_costless keys (given xs os)) a.effect) first_given
-                    ∙ ap (λ ns. some_increase (is_costless keys (given held.action.now.parameters.items ns)) a.effect) second_given
-                    ∙ costs_are task keys (given held.action.now.parameters.items s.objects) a.effect valued
+                    asked ∙ ap (λ (xs : List (Typed A)). some_increase (is_costless task (given xs os)) a.effect) first_given
+                    ∙ ap (λ ns. some_increase (is_costless task (given held.action.now.parameters.items ns)) a.effect) second_given
 
                 pub cost_is_undefined : costless ≡ true → IsFirst (step_faults task s) 44
                 cost_is_undefined is = cost_first task s a named arity known (sym misfit ∙ fit) (sym costs ∙ is)

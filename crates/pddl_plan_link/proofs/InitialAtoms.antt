@@ -4,14 +4,14 @@ use Rattle.std.specs.Prelude.{Option, Some, None, is_some, position, slice_get, 
 use Rattle.std.specs.List.{list_all, filter_map, cons_option, AllByRecursion}
 use Rattle.std.specs.Cmp.Lexicographic.{bytes_decides}
 use Rattle.std.proofs.lemmas.List.{drop_all, append-nil}
-use Rattle.pddl_problem.specs.Inits.{GroundValue, InitValue, holds, fails, value, init_view}
+use Rattle.pddl_problem.specs.Inits.{GroundValue, InitValue, holds, init_view}
 use Rattle.pddl_problem.specs.declared.problem.InitItem.{InitItem}
 use Rattle.pddl_domain.specs.Domains.{DomainValue}
 use Rattle.pddl_problem.specs.Problems.{ProblemValue}
 use Rattle.pddl_task.specs.Names.{Name, is_in}
 use Rattle.pddl_task.specs.Linked.{IsLinked}
 use Rattle.pddl_task.specs.Tasks.{TaskValue, task_of, fact_in, predicate_names, object_names}
-use Rattle.pddl_task.specs.Known.{is_known, InitialIsKnown}
+use Rattle.pddl_task.specs.Known.{is_known}
 use Rattle.pddl_state.specs.Atoms.{AtomValue}
 use Rattle.pddl_task.proofs.KnownAtoms.{initial_is_known}
 use Rattle.pddl_link.proofs.ListTurns.{rest_is}

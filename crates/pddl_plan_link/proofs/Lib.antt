@@ -1,10 +1,9 @@
 pub mod Numbers
 pub mod NamedActions
 pub mod InitialAtoms
-pub mod FileTables
 pub mod GivenObjects
 pub mod NumberedObjects
-pub mod ValuedWords
+pub mod GivenCosts
 pub mod StepTests
 pub mod CheckedSteps
 pub mod HeldSteps

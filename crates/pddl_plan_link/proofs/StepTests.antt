@@ -1,20 +1,15 @@
 -- The faults of a step whose action is known, and where they stand.
 use Rattle.std.proofs.Common.{◌≡◌, ◌<◌, ◌≤◌, ℕ, Bool, true, false, not, ◌&&◌, List, [], ◌∷◌, ◌++◌, map, nat_lt, ap, ◌∙◌, arith}
-use Rattle.std.specs.Prelude.{Some, Vec, is_some}
+use Rattle.std.specs.Prelude.{Some, is_some}
 use Rattle.std.specs.Option.{option_map_or}
-use Rattle.std.specs.Borrow.{Bor}
 use Rattle.std.proofs.lemmas.Bool.Decides.{nat_tests}
 use Rattle.pddl_tree.specs.Plans.{StepValue}
 use Rattle.pddl_formula.specs.Terms.{name}
-use Rattle.pddl_effect.specs.Effects.{FunctionTermValue, EffectValue}
 use Rattle.pddl_domain.specs.Actions.{ActionValue}
-use Rattle.pddl_task.specs.Names.{Name}
 use Rattle.pddl_task.specs.Faults.{some_misfit}
 use Rattle.pddl_task.specs.GroundSize.{largest_size, capped, action_size}
 use Rattle.pddl_task.specs.Tasks.{TaskValue, task_count}
-use Rattle.pddl_task.specs.Known.{Valuation}
-use Rattle.pddl_plan_link.specs.StepFaults.{action_name, action_named, naming, has_arity, unknown_action, other_arity, unknown_object, unfit_object, cost_undefined, too_large, is_applied, some_costless, some_increase, grounded_call, has_cost, number_if, step_faults}
-use Rattle.pddl_plan_link.specs.CostWords.{words_of, is_listed, is_valued, is_costless}
+use Rattle.pddl_plan_link.specs.StepFaults.{action_name, action_named, naming, has_arity, unknown_action, other_arity, unknown_object, unfit_object, cost_undefined, too_large, is_applied, some_costless, number_if, step_faults}
 use Rattle.pddl_plan_link.proofs.Numbers.{is_found}
 
 -- ---- faults by their tests
@@ -79,15 +74,6 @@ module _ (task : TaskValue) (s : StepValue) (a : ActionValue) (named : action_na
 
           pub none_stands : large ≡ false → step_faults task s ≡ []
           none_stands is = after_costs ∙ ap (λ b. listed false false false false false b) is
-
--- ---- costs
-
--- function terms whose words are listed are those with a value
-pub costs_are : {C : Type 0} (task : TaskValue) (keys : List (Vec (Bor (List ℕ)) C)) (v : Valuation) (e : EffectValue) → ((ws : List Name) → is_listed keys ws ≡ is_valued task.costs ws)
-    → some_increase (is_costless keys v) e ≡ some_increase (λ f. not (has_cost task (grounded_call v f))) e
-costs_are task keys v e are =
-    let same : (f : FunctionTermValue) → is_costless keys v f ≡ not (has_cost task (grounded_call v f)) = λ f. ap not (are (words_of (grounded_call v f))) in
-    ap (λ (test : FunctionTermValue → Bool). some_increase test e) (λ i f. same f i)
 
 -- ---- sizes
 

@@ -1,7 +1,7 @@
 pub mod StepFaults
 pub mod LinkedSteps
 pub mod StepParts
-pub mod CostWords
+pub mod GroundedCosts
 pub mod StepTables
 pub mod StepVerdicts
 pub mod KnownSteps

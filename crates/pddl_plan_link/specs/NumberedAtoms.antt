@@ -1,5 +1,5 @@
 -- Ground atoms of a task by numbers (own). Predicates and objects are numbered from 0, in the order of the task.
-use Rattle.std.specs.Prelude.{◌≡◌, ℕ, List, map, Some, slice_get}
+use Rattle.std.specs.Prelude.{◌≡◌, List, map, Some, slice_get}
 use Rattle.pddl_problem.specs.Inits.{GroundValue}
 use Rattle.pddl_task.specs.Tasks.{TaskValue, predicate_names, object_names}
 use Rattle.pddl_state.specs.Atoms.{AtomValue}

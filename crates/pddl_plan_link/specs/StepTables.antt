@@ -1,5 +1,5 @@
--- What a plan's steps are looked up in: actions by name, objects by number, and functions of objects that have a value.
-use Rattle.std.specs.Prelude.{◌≡◌, ℕ, Bool, false, not, ◌||◌, List, ◌∷◌, map, Vec}
+-- What a plan's steps are looked up in: actions by name, and objects by number.
+use Rattle.std.specs.Prelude.{◌≡◌, ℕ, Bool, false, not, ◌||◌, List, ◌∷◌, map}
 use Rattle.std.specs.Borrow.{Bor}
 use Rattle.std.specs.List.{slice_get}
 use Rattle.std.specs.Option.{option_map_or}
@@ -10,7 +10,6 @@ use Rattle.pddl_task.specs.Types.{pairs, fits}
 use Rattle.pddl_task.specs.GroundSize.{capped, action_size}
 use Rattle.pddl_task.specs.Tasks.{TaskValue, task_count}
 use Rattle.pddl_plan_link.specs.declared.action_table.SizedAction.{SizedAction}
-use Rattle.pddl_plan_link.specs.CostWords.{is_listed, is_valued}
 
 -- ---- actions
 
@@ -27,6 +26,10 @@ named_action count a = record { name = a.name; action = a; size = capped (action
 abbrev pub named_in : {A : _} → Bor (List ℕ) × SizedAction A → NamedAction
 named_in e = record { name = e.0.now; action = action_view e.1.action.now; size = e.1.size }
 
+-- a table holds a task's actions
+abbrev pub AreActionsOf : {A : _} → TaskValue → List (Bor (List ℕ) × SizedAction A) → Type 0
+AreActionsOf task es = map named_in es ≡ map (named_action (task_count task)) task.actions
+
 -- ---- objects
 
 -- the object of a number fits a type
@@ -37,10 +40,3 @@ fits_number task number types = option_map_or (λ o. fits (pairs task.types) o.o
 abbrev pub some_unfit : TaskValue → List ℕ → List TypedValue → Bool
 some_unfit task (number ∷ numbers) (x ∷ xs) = not (fits_number task number x.of) || some_unfit task numbers xs
 some_unfit task _ _ = false
-
--- ---- all of them
-
--- the tables hold what the task says
-pub record AreOfTask {A C : Type 0} (task : TaskValue) (actions : List (Bor (List ℕ) × SizedAction A)) (valued : List (Vec (Bor (List ℕ)) C)) : Type 0 where
-  pub actions_are : map named_in actions ≡ map (named_action (task_count task)) task.actions
-  pub valued_are : (ws : List Name) → is_listed valued ws ≡ is_valued task.costs ws

@@ -9,7 +9,7 @@ ghost use Rattle.pddl_task.specs.Tasks.{object_names};
 ghost use Rattle.pddl_link.specs.LinkedTasks.{task_of_files};
 ghost use Rattle.pddl_plan_link.specs.StepFaults.{action_names, step_faults};
 ghost use Rattle.pddl_plan_link.specs.LinkedSteps.{number_in};
-ghost use Rattle.pddl_plan_link.specs.StepTables.{some_unfit, AreOfTask};
+ghost use Rattle.pddl_plan_link.specs.StepTables.{some_unfit, AreActionsOf};
 ghost use Rattle.pddl_plan_link.specs.StepVerdicts.{StepVerdict};
 
 use crate::fault::StepFault;
@@ -71,7 +71,7 @@ where
     B: Allocator,
     C: Allocator,
     D: Allocator,
-    requires { AreOfTask (task_of_files tables.now.task.now) tables.now.actions.entries tables.now.valued.keys }
+    requires { AreActionsOf (task_of_files tables.now.task.now) tables.now.actions.entries }
     ensures verdict { StepVerdict (step_faults (task_of_files tables.now.task.now) (step_view step.now)) place result }
     ensures action { IfOk result (λ n. n ≡ number_in (action_names (task_of_files tables.now.task.now)) step.now.action) }
     ensures objects { OnOk result (numbers.new.items ≡ map (number_in (object_names (task_of_files tables.now.task.now))) step.now.objects.items) }
@@ -91,9 +91,9 @@ where
     }
     let grounding = Grounding {
         alloc: tables.alloc,
+        task: tables.task,
         parameters: &action.parameters,
         objects: &step.objects,
-        valued: &tables.valued,
     };
     if some_costless(&grounding, &action.effect)? {
         return Err(StepFault::CostUndefined { step: place });

@@ -4,22 +4,32 @@ ghost use Rattle.std.specs.Prelude.{◌≡◌, map, IfOk};
 ghost use Rattle.pddl_formula.specs.Terms.{term_view};
 ghost use Rattle.pddl_effect.specs.Effects.{function_term_view, effect_view, effects_of};
 ghost use Rattle.pddl_task.specs.Known.{object_of, object_at};
-ghost use Rattle.pddl_plan_link.specs.StepFaults.{grounded_call, some_increase, some_increase_in};
-ghost use Rattle.pddl_plan_link.specs.CostWords.{words_of, words_in, is_costless, given};
+ghost use Rattle.pddl_link.specs.LinkedTasks.{task_of_files};
+ghost use Rattle.pddl_plan_link.specs.StepFaults.{some_increase, some_increase_in};
+ghost use Rattle.pddl_plan_link.specs.GroundedCosts.{words_in, is_costless, given};
 
-use crate::cost_table::Valued;
 use pddl_effect::{Amount, Effect, FunctionTerm};
 use pddl_formula::{Term, Typed};
+use pddl_link::Task;
 use pddl_tree::Name;
 use std::alloc::{AllocError, Allocator};
 
-/// Objects that are given for parameters, one after another, and the functions of objects that have a value.
+/// Objects of a task that are given for parameters, one after another.
 #[derive(Drop)]
-pub(crate) struct Grounding<'q, 'c, A: Allocator, D: Allocator, C: Allocator> {
+pub(crate) struct Grounding<
+    'q,
+    'm,
+    'a,
+    'c,
+    A: Allocator,
+    B: Allocator,
+    C: Allocator,
+    D: Allocator,
+> {
     pub alloc: &'c C,
+    pub task: &'q Task<'m, 'a, A, B>,
     pub parameters: &'q [Typed<A>],
     pub objects: &'q [Name<D>],
-    pub valued: &'q Valued<'q, 'c, C>,
 }
 
 /// The object that a parameter is given.
@@ -53,52 +63,52 @@ fn object_at<'q, A: Allocator, D: Allocator>(
     }
 }
 
-/// The words of the function of objects that a function term stands for.
+/// The objects that terms stand for.
 ///
 /// Fails where memory for them is refused.
-fn words_at<'q, 'c, A: Allocator, D: Allocator, C: Allocator>(
+fn objects_at<'q, 'c, A: Allocator, D: Allocator, C: Allocator>(
     alloc: &'c C,
     parameters: &[Typed<A>],
     objects: &'q [Name<D>],
-    call: &'q FunctionTerm<A>,
+    terms: &'q [Term<A>],
 ) -> Result<Vec<&'q [u8], &'c C>, AllocError>
-    ensures { IfOk result (λ words. words_in words ≡ words_of (grounded_call (given parameters.now objects.now) (function_term_view call.now))) }
+    ensures { IfOk result (λ words. words_in words ≡ map (object_at (given parameters.now objects.now)) (map term_view terms.now)) }
 {
     let mut words = Vec::new(alloc);
-    words.push(call.function.as_bytes())?;
-    for term in &call.terms {
+    for term in terms {
         words.push(object_at(parameters, objects, term))?;
     }
     Ok(words)
 }
 
-/// Whether the function of objects that a function term stands for has no value.
+/// Whether the function of objects that a function term stands for has no cost.
 ///
-/// Fails where memory for its words is refused.
-fn is_costless<'q, 'c, A: Allocator, D: Allocator, C: Allocator>(
-    grounding: &Grounding<'q, 'c, A, D, C>,
+/// Fails where memory for its objects is refused.
+fn is_costless<'q, 'm, 'a, 'c, A: Allocator, B: Allocator, C: Allocator, D: Allocator>(
+    grounding: &Grounding<'q, 'm, 'a, 'c, A, B, C, D>,
     call: &'q FunctionTerm<A>,
 ) -> Result<bool, AllocError>
-    ensures { IfOk result (λ yes. yes ≡ is_costless grounding.now.valued.now.keys (given grounding.now.parameters.now grounding.now.objects.now) (function_term_view call.now)) }
+    ensures { IfOk result (λ yes. yes ≡ is_costless (task_of_files grounding.now.task.now) (given grounding.now.parameters.now grounding.now.objects.now) (function_term_view call.now)) }
 {
-    let words = words_at(
+    let objects = objects_at(
         grounding.alloc,
         grounding.parameters,
         grounding.objects,
-        call,
+        &call.terms,
     )?;
-    Ok(!grounding.valued.contains(words.as_slice()))
+    let cost = grounding.task.cost(call.function.as_bytes(), &objects);
+    Ok(cost.is_none())
 }
 
-/// Whether some amount of an effect's increases has no value.
+/// Whether some amount of an effect's increases has no cost.
 ///
-/// Fails where memory for the words of an amount is refused.
+/// Fails where memory for the objects of an amount is refused.
 #[cycle(costs)]
-pub(crate) fn some_costless<'q, 'c, A: Allocator, D: Allocator, C: Allocator>(
-    grounding: &Grounding<'q, 'c, A, D, C>,
+pub(crate) fn some_costless<'q, 'm, 'a, 'c, A: Allocator, B: Allocator, C: Allocator, D: Allocator>(
+    grounding: &Grounding<'q, 'm, 'a, 'c, A, B, C, D>,
     effect: &'q Effect<A>,
 ) -> Result<bool, AllocError>
-    ensures { IfOk result (λ yes. yes ≡ some_increase (is_costless grounding.now.valued.now.keys (given grounding.now.parameters.now grounding.now.objects.now)) (effect_view effect.now)) }
+    ensures { IfOk result (λ yes. yes ≡ some_increase (is_costless (task_of_files grounding.now.task.now) (given grounding.now.parameters.now grounding.now.objects.now)) (effect_view effect.now)) }
 {
     match effect {
         Effect::And(parts) => Ok(some_costless_in(grounding, parts)?),
@@ -113,15 +123,15 @@ pub(crate) fn some_costless<'q, 'c, A: Allocator, D: Allocator, C: Allocator>(
     }
 }
 
-/// Whether some amount of these effects' increases has no value.
+/// Whether some amount of these effects' increases has no cost.
 ///
-/// Fails where memory for the words of an amount is refused.
+/// Fails where memory for the objects of an amount is refused.
 #[cycle(costs)]
-fn some_costless_in<'q, 'c, A: Allocator, D: Allocator, C: Allocator>(
-    grounding: &Grounding<'q, 'c, A, D, C>,
+fn some_costless_in<'q, 'm, 'a, 'c, A: Allocator, B: Allocator, C: Allocator, D: Allocator>(
+    grounding: &Grounding<'q, 'm, 'a, 'c, A, B, C, D>,
     effects: &'q Vec<Effect<A>, A>,
 ) -> Result<bool, AllocError>
-    ensures { IfOk result (λ yes. yes ≡ some_increase_in (is_costless grounding.now.valued.now.keys (given grounding.now.parameters.now grounding.now.objects.now)) (effects_of (map effect_view effects.now.items))) }
+    ensures { IfOk result (λ yes. yes ≡ some_increase_in (is_costless (task_of_files grounding.now.task.now) (given grounding.now.parameters.now grounding.now.objects.now)) (effects_of (map effect_view effects.now.items))) }
 {
     for effect in effects {
         if some_costless(grounding, effect)? {

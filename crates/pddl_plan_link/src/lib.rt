@@ -7,7 +7,6 @@
 
 mod action_table;
 mod checks;
-mod cost_table;
 mod fault;
 mod grounding;
 mod hashed;

@@ -1,4 +1,4 @@
-use Rattle.std.proofs.Common.{◌++◌, ◌+◌, [], ◌∷◌, ap, ◌∙◌, sym, subst}
+use Rattle.std.proofs.Common.{◌+◌, ◌∙◌, sym, subst}
 use Rattle.pddl_task.specs.Types.{pairs, fits}
 use Rattle.pddl_link.proofs.FittingObjects.{AreSplit, one_fits, one_does_not, none_there}
 use Rattle.pddl_link.proofs.fitting.fitting_objects.Goals as goal

@@ -3,9 +3,12 @@ use Rattle.std.specs.Prelude.{Contains}
 use Rattle.pddl_problem.specs.Inits.{init_view}
 use Rattle.pddl_task.specs.Faults.{contradicts, clashing}
 use Rattle.pddl_link.specs.Claims.{literal_in}
-use Rattle.pddl_link.proofs.InitClaims.{Checked, told_by, was_at_odds, checked_start, wrong_beside, checked_none, checked_more, opposite, opposite_own, opposite_is, contradicts_is, no_item, clashing_step}
+use Rattle.pddl_link.proofs.InitClaims.{Checked, told_by, was_at_odds, checked_start, wrong_beside, checked_none, checked_more, opposite, opposite_own, opposite_is, contradicts_is, no_item, clashing_step, no_failures}
 use Rattle.pddl_link.proofs.init.contradictions.Goals as goal
 use Rattle.pddl_link.proofs.init.contradictions.Goals.{in-Some+in_ok-insert+else-holds-before, in_default}
+
+pub returns-then-not-some_failure : goal.returns-then-not-some_failure
+returns-then-not-some_failure g c = no_failures [] (map init_view c.args.init.now) refl (sym c.some_failure.ensures ∙ c.if-not-some_failure.true)
 
 pub loop-item-init : goal.loop-item-init
 loop-item-init g c =

@@ -114,10 +114,10 @@ check_places-requires-clause-outer g c =
     told (c.in_ok-predicates.ensures ∙ ap (map predicate_view) c.deref-2.ensures.value)
     (c.in_ok-functions.ensures ∙ ap (λ fs. map item_of (map function_view fs)) c.deref-3.ensures.value) c.in_ok-objects.ensures.objects
 
-pub returns-in_err-check_places-clause-verdict : goal.returns-in_err-check_places-clause-verdict
-returns-in_err-check_places-clause-verdict g c =
-    let p = err_from_is_err_and c.from_residual-in_err-check_places.result c.from_residual-in_err-check_places.ensures.1 in
-    let e = c.in_err-check_places.field-0.0 in
+pub returns-in_err-values-clause-verdict : goal.returns-in_err-values-clause-verdict
+returns-in_err-values-clause-verdict g c =
+    let p = err_from_is_err_and c.from_residual-in_err-values.result c.from_residual-in_err-values.ensures.1 in
+    let e = c.in_err-values.field-0.0 in
     let told = c.in_ok-types.ensures ∙ ap (map type_view) c.deref.ensures.value in
     let none-20 = c.in_ok-domain_name.ensures in
     let none-21 = c.in_ok-type_twice.ensures in
@@ -125,7 +125,7 @@ returns-in_err-check_places-clause-verdict g c =
     let none-23 = subst (λ ts. unknown_among ts (domain_typed (domain_view c.args.domain.now)) ++ unknown_among ts (problem_typed (problem_view c.args.problem.now)) ≡ []) told c.in_ok-types_known.ensures in
     let none-24 = ap (λ ws. ws ++ problem_repeats (domain_view c.args.domain.now) (problem_view c.args.problem.now)) c.in_ok-constants.ensures.passes ∙ c.in_ok-objects.ensures.passes in
     let none-25 = c.in_ok-objects_have_one_type.ensures in
-    rw (p.1, p.2) (decided_after {T = Unit {0}} (fault 20 _ ∷ fault 21 _ ∷ fault 22 _ ∷ fault 23 _ ∷ fault 24 _ ∷ fault 25 _ ∷ []) (place_faults (domain_view c.args.domain.now) (problem_view c.args.problem.now)) (Err e) (none-20, (none-21, (none-22, (none-23, (none-24, (none-25, tt)))))) c.in_err-check_places.ensures)
+    rw (p.1, p.2) (decided_after {T = Unit {0}} (fault 20 _ ∷ fault 21 _ ∷ fault 22 _ ∷ fault 23 _ ∷ fault 24 _ ∷ fault 25 _ ∷ []) (place_faults (domain_view c.args.domain.now) (problem_view c.args.problem.now)) (Err e) (none-20, (none-21, (none-22, (none-23, (none-24, (none-25, tt)))))) c.in_err-values.ensures.verdict)
 
 pub returns-clause-verdict : goal.returns-clause-verdict
 returns-clause-verdict g c =
@@ -136,7 +136,7 @@ returns-clause-verdict g c =
     let none-23 = subst (λ ts. unknown_among ts (domain_typed (domain_view c.args.domain.now)) ++ unknown_among ts (problem_typed (problem_view c.args.problem.now)) ≡ []) told c.in_ok-types_known.ensures in
     let none-24 = ap (λ ws. ws ++ problem_repeats (domain_view c.args.domain.now) (problem_view c.args.problem.now)) c.in_ok-constants.ensures.passes ∙ c.in_ok-objects.ensures.passes in
     let none-25 = c.in_ok-objects_have_one_type.ensures in
-    decided_after {T = Unit {0}} (fault 20 _ ∷ fault 21 _ ∷ fault 22 _ ∷ fault 23 _ ∷ fault 24 _ ∷ fault 25 _ ∷ []) (place_faults (domain_view c.args.domain.now) (problem_view c.args.problem.now)) (Ok tt) (none-20, (none-21, (none-22, (none-23, (none-24, (none-25, tt)))))) c.in_ok-check_places.ensures
+    decided_after {T = Unit {0}} (fault 20 _ ∷ fault 21 _ ∷ fault 22 _ ∷ fault 23 _ ∷ fault 24 _ ∷ fault 25 _ ∷ []) (place_faults (domain_view c.args.domain.now) (problem_view c.args.problem.now)) (Ok tt) (none-20, (none-21, (none-22, (none-23, (none-24, (none-25, tt)))))) c.in_ok-values.ensures.verdict
 
 pub returns-in_err-functions-clause-verdict : goal.returns-in_err-functions-clause-verdict
 returns-in_err-functions-clause-verdict g c =
@@ -154,9 +154,10 @@ invariant_of-result g c =
     let none-25 = c.in_ok-objects_have_one_type.ensures in
     record {
       tables = record {
-        linked = decided_after {T = Unit {0}} (fault 20 _ ∷ fault 21 _ ∷ fault 22 _ ∷ fault 23 _ ∷ fault 24 _ ∷ fault 25 _ ∷ []) (place_faults (domain_view c.args.domain.now) (problem_view c.args.problem.now)) (Ok tt) (none-20, (none-21, (none-22, (none-23, (none-24, (none-25, tt)))))) c.in_ok-check_places.ensures;
+        linked = decided_after {T = Unit {0}} (fault 20 _ ∷ fault 21 _ ∷ fault 22 _ ∷ fault 23 _ ∷ fault 24 _ ∷ fault 25 _ ∷ []) (place_faults (domain_view c.args.domain.now) (problem_view c.args.problem.now)) (Ok tt) (none-20, (none-21, (none-22, (none-23, (none-24, (none-25, tt)))))) c.in_ok-values.ensures.verdict;
         types_are = told;
         predicates_are = c.in_ok-predicates.ensures ∙ ap (map predicate_view) c.deref-2.ensures.value;
         objects_are = c.in_ok-objects.ensures.objects;
+        values_are = c.in_ok-values.ensures.values;
       };
     }

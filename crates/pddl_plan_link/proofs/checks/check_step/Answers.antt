@@ -6,19 +6,19 @@ use Rattle.pddl_plan_link.proofs.checks.check_step.Goals as goal
 
 pub returns-in_default-clause-verdict : goal.returns-in_default-clause-verdict
 returns-in_default-clause-verdict g c =
-    (refl, action_unknown (task_of_files c.args.tables.now.task.now) c.args.tables.now.actions.entries (step_view c.args.step.now) c.as_bytes.result.now c.requires.actions_are c.as_bytes.ensures.value c.in_default.ensures.index)
+    (refl, action_unknown (task_of_files c.args.tables.now.task.now) c.args.tables.now.actions.entries (step_view c.args.step.now) c.as_bytes.result.now c.requires c.as_bytes.ensures.value c.in_default.ensures.index)
 
 pub returns-then-len-clause-verdict : goal.returns-then-len-clause-verdict
 returns-then-len-clause-verdict g c = (
   refl,
-  arity_differs (task_of_files c.args.tables.now.task.now) c.args.tables.now.actions.entries (step_view c.args.step.now) c.as_bytes.result.now c.requires.actions_are c.as_bytes.ensures.value
+  arity_differs (task_of_files c.args.tables.now.task.now) c.args.tables.now.actions.entries (step_view c.args.step.now) c.as_bytes.result.now c.requires c.as_bytes.ensures.value
       c.in-Some.number c.in-Some.field-0-1.now c.in-Some.found.now c.in-Some.ensures.index c.in-Some.ensures.entry c.len.result c.len-2.result (as_long c.args.step.now.objects c.len.result c.len.ensures) (as_long c.in-Some.found.now.action.now.parameters c.len-2.result c.len-2.ensures) c.if-len.true,
 )
 
 pub returns-then-not-branch-clause-verdict : goal.returns-then-not-branch-clause-verdict
 returns-then-not-branch-clause-verdict g c = (
   refl,
-  object_unknown (task_of_files c.args.tables.now.task.now) c.args.tables.now.actions.entries (step_view c.args.step.now) c.as_bytes.result.now c.requires.actions_are c.as_bytes.ensures.value
+  object_unknown (task_of_files c.args.tables.now.task.now) c.args.tables.now.actions.entries (step_view c.args.step.now) c.as_bytes.result.now c.requires c.as_bytes.ensures.value
       c.in-Some.number c.in-Some.field-0-1.now c.in-Some.found.now c.in-Some.ensures.index c.in-Some.ensures.entry c.len.result c.len-2.result (as_long c.args.step.now.objects c.len.result c.len.ensures) (as_long c.in-Some.found.now.action.now.parameters c.len-2.result c.len-2.ensures) c.if-len.false
       c.deref.result.now c.in_ok-number_objects.field-0 c.deref.ensures.value c.in_ok-number_objects.ensures.known c.if-not-branch.true,
 )
@@ -26,7 +26,7 @@ returns-then-not-branch-clause-verdict g c = (
 pub returns-then-some_unfit-clause-verdict : goal.returns-then-some_unfit-clause-verdict
 returns-then-some_unfit-clause-verdict g c = (
   refl,
-  type_differs (task_of_files c.args.tables.now.task.now) c.args.tables.now.actions.entries (step_view c.args.step.now) c.as_bytes.result.now c.requires.actions_are c.as_bytes.ensures.value
+  type_differs (task_of_files c.args.tables.now.task.now) c.args.tables.now.actions.entries (step_view c.args.step.now) c.as_bytes.result.now c.requires c.as_bytes.ensures.value
       c.in-Some.number c.in-Some.field-0-1.now c.in-Some.found.now c.in-Some.ensures.index c.in-Some.ensures.entry c.len.result c.len-2.result (as_long c.args.step.now.objects c.len.result c.len.ensures) (as_long c.in-Some.found.now.action.now.parameters c.len-2.result c.len-2.ensures) c.if-len.false
       c.deref.result.now c.in_ok-number_objects.field-0 c.deref.ensures.value c.in_ok-number_objects.ensures.known c.number_objects.new.numbers.items c.in_ok-number_objects.ensures.numbers c.if-not-branch.false
       c.deref-2.result.now c.deref-3.result.now c.some_unfit.result c.deref-2.ensures.value c.deref-3.ensures.value c.some_unfit.ensures c.if-some_unfit.true,
@@ -35,38 +35,38 @@ returns-then-some_unfit-clause-verdict g c = (
 pub returns-then-branch-clause-verdict : goal.returns-then-branch-clause-verdict
 returns-then-branch-clause-verdict g c = (
   refl,
-  cost_is_undefined (task_of_files c.args.tables.now.task.now) c.args.tables.now.actions.entries (step_view c.args.step.now) c.as_bytes.result.now c.requires.actions_are c.as_bytes.ensures.value
+  cost_is_undefined (task_of_files c.args.tables.now.task.now) c.args.tables.now.actions.entries (step_view c.args.step.now) c.as_bytes.result.now c.requires c.as_bytes.ensures.value
       c.in-Some.number c.in-Some.field-0-1.now c.in-Some.found.now c.in-Some.ensures.index c.in-Some.ensures.entry c.len.result c.len-2.result (as_long c.args.step.now.objects c.len.result c.len.ensures) (as_long c.in-Some.found.now.action.now.parameters c.len-2.result c.len-2.ensures) c.if-len.false
       c.deref.result.now c.in_ok-number_objects.field-0 c.deref.ensures.value c.in_ok-number_objects.ensures.known c.number_objects.new.numbers.items c.in_ok-number_objects.ensures.numbers c.if-not-branch.false
       c.deref-2.result.now c.deref-3.result.now c.some_unfit.result c.deref-2.ensures.value c.deref-3.ensures.value c.some_unfit.ensures
-      c.args.tables.now.valued.keys c.requires.valued_are c.deref-4.result.now c.deref-5.result.now c.in_ok-some_costless.field-0 c.deref-4.ensures.value c.deref-5.ensures.value c.in_ok-some_costless.ensures c.if-some_unfit.false c.if-branch.true,
+      c.deref-4.result.now c.deref-5.result.now c.in_ok-some_costless.field-0 c.deref-4.ensures.value c.deref-5.ensures.value c.in_ok-some_costless.ensures c.if-some_unfit.false c.if-branch.true,
 )
 
 pub returns-then-found-gt1000000-clause-verdict : goal.returns-then-found-gt1000000-clause-verdict
 returns-then-found-gt1000000-clause-verdict g c = (
   refl,
-  step_is_large (task_of_files c.args.tables.now.task.now) c.args.tables.now.actions.entries (step_view c.args.step.now) c.as_bytes.result.now c.requires.actions_are c.as_bytes.ensures.value
+  step_is_large (task_of_files c.args.tables.now.task.now) c.args.tables.now.actions.entries (step_view c.args.step.now) c.as_bytes.result.now c.requires c.as_bytes.ensures.value
       c.in-Some.number c.in-Some.field-0-1.now c.in-Some.found.now c.in-Some.ensures.index c.in-Some.ensures.entry c.len.result c.len-2.result (as_long c.args.step.now.objects c.len.result c.len.ensures) (as_long c.in-Some.found.now.action.now.parameters c.len-2.result c.len-2.ensures) c.if-len.false
       c.deref.result.now c.in_ok-number_objects.field-0 c.deref.ensures.value c.in_ok-number_objects.ensures.known c.number_objects.new.numbers.items c.in_ok-number_objects.ensures.numbers c.if-not-branch.false
       c.deref-2.result.now c.deref-3.result.now c.some_unfit.result c.deref-2.ensures.value c.deref-3.ensures.value c.some_unfit.ensures
-      c.args.tables.now.valued.keys c.requires.valued_are c.deref-4.result.now c.deref-5.result.now c.in_ok-some_costless.field-0 c.deref-4.ensures.value c.deref-5.ensures.value c.in_ok-some_costless.ensures c.if-some_unfit.false c.if-branch.false c.if-found-gt1000000.true,
+      c.deref-4.result.now c.deref-5.result.now c.in_ok-some_costless.field-0 c.deref-4.ensures.value c.deref-5.ensures.value c.in_ok-some_costless.ensures c.if-some_unfit.false c.if-branch.false c.if-found-gt1000000.true,
 )
 
 pub returns-clause-verdict : goal.returns-clause-verdict
 returns-clause-verdict g c =
-    step_is_good (task_of_files c.args.tables.now.task.now) c.args.tables.now.actions.entries (step_view c.args.step.now) c.as_bytes.result.now c.requires.actions_are c.as_bytes.ensures.value
+    step_is_good (task_of_files c.args.tables.now.task.now) c.args.tables.now.actions.entries (step_view c.args.step.now) c.as_bytes.result.now c.requires c.as_bytes.ensures.value
     c.in-Some.number c.in-Some.field-0-1.now c.in-Some.found.now c.in-Some.ensures.index c.in-Some.ensures.entry c.len.result c.len-2.result (as_long c.args.step.now.objects c.len.result c.len.ensures) (as_long c.in-Some.found.now.action.now.parameters c.len-2.result c.len-2.ensures) c.if-len.false
     c.deref.result.now c.in_ok-number_objects.field-0 c.deref.ensures.value c.in_ok-number_objects.ensures.known c.number_objects.new.numbers.items c.in_ok-number_objects.ensures.numbers c.if-not-branch.false
     c.deref-2.result.now c.deref-3.result.now c.some_unfit.result c.deref-2.ensures.value c.deref-3.ensures.value c.some_unfit.ensures
-    c.args.tables.now.valued.keys c.requires.valued_are c.deref-4.result.now c.deref-5.result.now c.in_ok-some_costless.field-0 c.deref-4.ensures.value c.deref-5.ensures.value c.in_ok-some_costless.ensures c.if-some_unfit.false c.if-branch.false c.if-found-gt1000000.false
+    c.deref-4.result.now c.deref-5.result.now c.in_ok-some_costless.field-0 c.deref-4.ensures.value c.deref-5.ensures.value c.in_ok-some_costless.ensures c.if-some_unfit.false c.if-branch.false c.if-found-gt1000000.false
 
 pub returns-clause-action : goal.returns-clause-action
 returns-clause-action g c =
-    number_is (task_of_files c.args.tables.now.task.now) c.args.tables.now.actions.entries (step_view c.args.step.now) c.as_bytes.result.now c.requires.actions_are c.as_bytes.ensures.value
+    number_is (task_of_files c.args.tables.now.task.now) c.args.tables.now.actions.entries (step_view c.args.step.now) c.as_bytes.result.now c.requires c.as_bytes.ensures.value
     c.in-Some.number c.in-Some.field-0-1.now c.in-Some.found.now c.in-Some.ensures.index c.in-Some.ensures.entry
 
 pub returns-clause-objects : goal.returns-clause-objects
 returns-clause-objects g c =
-    numbers_are (task_of_files c.args.tables.now.task.now) c.args.tables.now.actions.entries (step_view c.args.step.now) c.as_bytes.result.now c.requires.actions_are c.as_bytes.ensures.value
+    numbers_are (task_of_files c.args.tables.now.task.now) c.args.tables.now.actions.entries (step_view c.args.step.now) c.as_bytes.result.now c.requires c.as_bytes.ensures.value
     c.in-Some.number c.in-Some.field-0-1.now c.in-Some.found.now c.in-Some.ensures.index c.in-Some.ensures.entry c.len.result c.len-2.result (as_long c.args.step.now.objects c.len.result c.len.ensures) (as_long c.in-Some.found.now.action.now.parameters c.len-2.result c.len-2.ensures) c.if-len.false
     c.deref.result.now c.in_ok-number_objects.field-0 c.deref.ensures.value c.in_ok-number_objects.ensures.known c.number_objects.new.numbers.items c.in_ok-number_objects.ensures.numbers c.if-not-branch.false

@@ -18,7 +18,7 @@ loop-place-init g c =
     c.new-steps.result c.new-steps.ensures
 
 pub check_step-requires : goal.check_step-requires
-check_step-requires g c = rw c.in_ok-tables.ensures.task c.in_ok-tables.ensures.tables
+check_step-requires g c = rw c.in_ok-tables.ensures.task c.in_ok-tables.ensures.actions
 
 pub returns-in_err-action-clause-verdict : goal.returns-in_err-action-clause-verdict
 returns-in_err-action-clause-verdict g c =

@@ -1,5 +1,5 @@
 use Rattle.std.specs.Prelude.{Some, None}
-use Rattle.std.proofs.Common.{map, sym, ap, ◌∙◌}
+use Rattle.std.proofs.Common.{ap, ◌∙◌}
 use Rattle.pddl_domain.specs.Domains.{domain_view}
 use Rattle.pddl_problem.specs.Problems.{problem_view}
 use Rattle.pddl_task.specs.Types.{pairs, fits}
