@@ -3,9 +3,8 @@
 ghost use Rattle.std.specs.Prelude.{◌<◌};
 
 use crate::file_rows::{Row, check_fault};
-use crate::sample_files::LAMPS;
 use pddl_domain::{Domain, read_domain};
-use pddl_fakes::Refusing;
+use pddl_fakes::{LAMPS, Refusing};
 use pddl_file::FileFault;
 use pddl_text::TextFault;
 use std::process::Abort;

@@ -1,9 +1,7 @@
 //! Linked tasks: what their calls answer.
 
-use crate::format_rows::with_part;
-use crate::sample_files::{LAMPS, TWO};
 use pddl_domain::read_domain;
-use pddl_fakes::Refusing;
+use pddl_fakes::{LAMPS, Refusing, TWO, with_part};
 use pddl_formula::{TypeName, TypeNames};
 use pddl_link::link;
 use pddl_plan_link::initial_atoms;

@@ -5,10 +5,9 @@ ghost use Rattle.std.specs.Prelude.{◌<◌};
 use crate::formatting::{
     Row, check_row, check_rows, check_run, fails_at_each_read, fails_at_each_write, refuses_growths,
 };
-use crate::sample_files::{FLIPPED, FLIPS, IDLE, LAMPS, TWO};
 use pddl_commands::{Kind, Outcome};
 use pddl_domain::read_domain;
-use pddl_fakes::{Failure, FakeSink, Refusing};
+use pddl_fakes::{FLIPPED, FLIPS, Failure, FakeSink, IDLE, LAMPS, Refusing, TWO, with_part};
 use pddl_file_layout::{domain_text, problem_text, write_domain, write_problem};
 use pddl_problem::read_problem;
 use pddl_text::LONGEST;
@@ -214,17 +213,6 @@ const OTHER_TYPES: [(&str, &str); 2] = [
 
 /// The line of types in the domain of lamps.
 const TYPES: &str = "(:types lamp - object big - lamp)";
-
-/// A text with another part in place of the first such part.
-pub fn with_part<R: AllocGlobal>(
-    rt: &R,
-    text: &str,
-    part: &str,
-    other: &str,
-) -> Result<String, Fail> {
-    let (before, after) = text.split_once(part).ok_or("a text with the part")?;
-    Ok(format!(in rt.alloc(); "{before}{other}{after}")?)
-}
 
 #[test]
 fn formats_domains_and_problems(rt: HostRuntime) -> Result<(), Fail> {

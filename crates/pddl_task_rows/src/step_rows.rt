@@ -2,11 +2,8 @@
 //!
 //! What is wanted is worked out from the faults of steps, `crates/pddl_plan_link/specs/StepFaults.antt`.
 
-use crate::format_rows::with_part;
-use crate::problem_checks::large_condition;
-use crate::sample_files::{LAMPS, TWO};
 use pddl_domain::read_domain;
-use pddl_fakes::Refusing;
+use pddl_fakes::{LAMPS, Refusing, TWO, large_condition, with_part};
 use pddl_link::link;
 use pddl_plan_link::{StepFault, Steps, link_plan};
 use pddl_problem::read_problem;

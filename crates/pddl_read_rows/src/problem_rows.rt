@@ -3,8 +3,7 @@
 ghost use Rattle.std.specs.Prelude.{◌<◌};
 
 use crate::file_rows::{Row, check_fault};
-use crate::sample_files::TWO;
-use pddl_fakes::Refusing;
+use pddl_fakes::{Refusing, TWO};
 use pddl_file::FileFault;
 use pddl_problem::{Direction, InitItem, read_problem};
 use pddl_text::TextFault;

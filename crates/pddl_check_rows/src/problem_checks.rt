@@ -6,10 +6,10 @@ use crate::checking::{
     check_problem, problem_fails_at_each_read, problem_fails_at_each_write,
     problem_refuses_growths, problem_waits_for_each_read,
 };
-use crate::format_rows::with_part;
-use crate::sample_files::{FLIPPED, FLIPS, IDLE, LAMPS, TWO};
 use pddl_commands::{Outcome, RunFault, check_problem_file};
-use pddl_fakes::{Failure, FakeSink, FakeSource};
+use pddl_fakes::{
+    FLIPPED, FLIPS, Failure, FakeSink, FakeSource, IDLE, LAMPS, TWO, large_condition, with_part,
+};
 use std::process::Abort;
 use std::test::Fail;
 
@@ -519,32 +519,6 @@ fn finds_faults_of_sections(rt: HostRuntime) -> Result<(), Fail> {
         check_problem(&rt, &first, &second, line)?;
     }
     Ok(())
-}
-
-/// How often each quantifier over the first so many of five variables stands in a goal: with ten objects, and an atom of one
-/// variable in it, they have the sizes 21, 211, 2,111, 21,111 and 211,111.
-const QUANTIFIERS: [(&str, u32); 5] = [
-    ("(forall (?a) (p ?a))", 8),
-    ("(forall (?a ?b) (p ?a))", 6),
-    ("(forall (?a ?b ?c) (p ?a))", 3),
-    ("(forall (?a ?b ?c ?d) (p ?a))", 7),
-    ("(forall (?a ?b ?c ?d ?e) (p ?a))", 4),
-];
-
-/// All of these quantifiers and so many atoms: with eleven atoms the size is 1,000,000.
-pub fn large_condition<R: AllocGlobal>(rt: &R, atoms: u32) -> Result<String, Fail> {
-    let mut text = String::new(rt.alloc());
-    text.push_str("(and")?;
-    for (part, count) in QUANTIFIERS {
-        for _ in 0..count {
-            text.push_str(part)?;
-        }
-    }
-    for _ in 0..atoms {
-        text.push_str("(p o0)")?;
-    }
-    text.push_str(")")?;
-    Ok(text)
 }
 
 /// A problem of ten objects with this goal.

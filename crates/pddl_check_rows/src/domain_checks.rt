@@ -5,8 +5,8 @@
 use crate::checking::{
     check_domain, check_problem, domain_fails_at_each_read, domain_refuses_growths,
 };
-use crate::sample_files::{FLIPS, IDLE, LAMPS};
 use pddl_commands::Outcome;
+use pddl_fakes::{FLIPS, IDLE, LAMPS};
 use std::process::Abort;
 use std::test::Fail;
 
