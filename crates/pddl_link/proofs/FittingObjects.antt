@@ -10,21 +10,21 @@ use Rattle.pddl_link.proofs.ObjectCounts.{Object}
 use Rattle.pddl_link.proofs.Entries.{entry_left, past_end}
 
 -- those that are pushed, and those that are left from a place on, are all
-abbrev pub AreSplit : (TypedValue → Bool) → List Object → ℕ → List ℕ → Type 0
+abbrev pub AreSplit : {A : Type 0} → (TypedValue → Bool) → List (Object A) → ℕ → List ℕ → Type 0
 AreSplit test es i numbers = numbers ++ places_from i test (map object_in (drop i es)) ≡ places_from 0 test (map object_in es)
 
-module _ (test : TypedValue → Bool) (es : List Object) (i : ℕ) (numbers : List ℕ) where
+module _ {A : Type 0} (test : TypedValue → Bool) (es : List (Object A)) (i : ℕ) (numbers : List ℕ) where
   abbrev rest : List ℕ
   rest = places_from (i + 1) test (map object_in (drop (i + 1) es))
 
-  at_one : (e : Object) → Some e ≡ slice_get es i → places_from i test (map object_in (drop i es)) ≡ cond (test (object_in e)) (i ∷ rest) rest
+  at_one : (e : Object A) → Some e ≡ slice_get es i → places_from i test (map object_in (drop i es)) ≡ cond (test (object_in e)) (i ∷ rest) rest
   at_one e at = ap (λ xs. places_from i test (map object_in xs)) (entry_left es i e at)
 
-  pub one_fits : (e : Object) → test (object_in e) ≡ true → Some e ≡ slice_get es i → AreSplit test es i numbers → AreSplit test es (i + 1) (numbers ++ i ∷ [])
+  pub one_fits : (e : Object A) → test (object_in e) ≡ true → Some e ≡ slice_get es i → AreSplit test es i numbers → AreSplit test es (i + 1) (numbers ++ i ∷ [])
   one_fits e is at so_far =
       append_assoc numbers (i ∷ []) rest ∙ ap (λ b. numbers ++ cond b (i ∷ rest) rest) (sym is) ∙ ap (λ ns. numbers ++ ns) (sym (at_one e at)) ∙ so_far
 
-  pub one_does_not : (e : Object) → test (object_in e) ≡ false → Some e ≡ slice_get es i → AreSplit test es i numbers → AreSplit test es (i + 1) numbers
+  pub one_does_not : (e : Object A) → test (object_in e) ≡ false → Some e ≡ slice_get es i → AreSplit test es i numbers → AreSplit test es (i + 1) numbers
   one_does_not e is at so_far =
       ap (λ b. numbers ++ cond b (i ∷ rest) rest) (sym is) ∙ ap (λ ns. numbers ++ ns) (sym (at_one e at)) ∙ so_far
 

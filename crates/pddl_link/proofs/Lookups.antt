@@ -22,7 +22,7 @@ pub is_symbol : {A : Type 0} (es : List (Bor (List ℕ) × Bor (List (Typed A)))
 is_symbol [] n = refl
 is_symbol (e ∷ es) n = found_or (bytes_eq n e.0.now) e.1 (lookup (λ k. bytes_eq n k.now) es) ∙ ap (λ b. bytes_eq n e.0.now || b) (is_symbol es n)
 
-pub is_item : (es : List (Bor (List ℕ) × Bor (List (List ℕ)))) (n : Name) → is_some (lookup (λ k. bytes_eq n k.now) es) ≡ is_in (map item_of (map object_in es)) n
+pub is_item : {A : Type 0} (es : List (Bor (List ℕ) × Bor (Typed A))) (n : Name) → is_some (lookup (λ k. bytes_eq n k.now) es) ≡ is_in (map item_of (map object_in es)) n
 is_item [] n = refl
 is_item (e ∷ es) n = found_or (bytes_eq n e.0.now) e.1 (lookup (λ k. bytes_eq n k.now) es) ∙ ap (λ b. bytes_eq n e.0.now || b) (is_item es n)
 
@@ -50,11 +50,11 @@ signature_found {A} (e ∷ es) n =
     (find (λ s. bytes_eq n s.name) (map signature_in es)) (lookup (λ k. bytes_eq n k.now) es) refl (signature_found es n)
 
 -- the type of an object
-pub object_found : (es : List (Bor (List ℕ) × Bor (List (List ℕ)))) (n : Name)
-    → option_map primitives_of (find (is_named n) (map object_in es)) ≡ option_map (λ (ts : Bor (List (List ℕ))). ts.now) (lookup (λ k. bytes_eq n k.now) es)
+pub object_found : {A : Type 0} (es : List (Bor (List ℕ) × Bor (Typed A))) (n : Name)
+    → option_map primitives_of (find (is_named n) (map object_in es)) ≡ option_map (λ (t : Bor (Typed A)). t.now.types) (lookup (λ k. bytes_eq n k.now) es)
 object_found [] n = refl
-object_found (e ∷ es) n =
-    value_at primitives_of (λ (ts : Bor (List (List ℕ))). ts.now) (bytes_eq n e.0.now) (object_in e) e.1
+object_found {A} (e ∷ es) n =
+    value_at primitives_of (λ (t : Bor (Typed A)). t.now.types) (bytes_eq n e.0.now) (object_in e) e.1
     (find (is_named n) (map object_in es)) (lookup (λ k. bytes_eq n k.now) es) refl (object_found es n)
 
 -- ---- numbers of parameters

@@ -13,7 +13,7 @@ use Rattle.pddl_task.specs.Names.{Name, same_names, word_if, is_named, firsts}
 use Rattle.pddl_task.specs.Faults.{retyped}
 use Rattle.pddl_task.proofs.DistinctNames.{word_none}
 use Rattle.pddl_task.proofs.Lists.{append-none, bytes_same, nil_parts}
-use Rattle.pddl_link.specs.KnownNames.{object_in}
+use Rattle.pddl_link.specs.KnownNames.{AreNamed, object_in}
 use Rattle.pddl_link.proofs.Claims.{disagree, at_odds, Tells, tells_more, clash_told}
 use Rattle.pddl_link.proofs.SeenItems.{seen_at, seen_more, seen_bad, seen_good, seen_all}
 
@@ -190,37 +190,54 @@ tells_before before h = tells_all [] before (λ k v. sym (retypes_own v)) h
 
 -- ---- the entries of a map
 
-pub put_entry : (k : Bor (List ℕ)) (v : Bor (List (List ℕ))) (es : List (Bor (List ℕ) × Bor (List (List ℕ))))
+pub put_entry : {A : Type 0} (k : Bor (List ℕ)) (v : Bor (Typed A)) (es : List (Bor (List ℕ) × Bor (Typed A)))
     → map object_in (insert_entry (λ j l. bytes_eq j.now l.now) es k v) ≡ put (object_in (k, v)) (map object_in es)
 put_entry k v [] = refl
 put_entry k v (e ∷ es) = go (bytes_eq k.now e.0.now) (put_entry k v es)
   where
     go : (b : Bool) → map object_in (insert_entry (λ j l. bytes_eq j.now l.now) es k v) ≡ put (object_in (k, v)) (map object_in es)
         → map object_in (if b then (e.0, v) ∷ es else e ∷ insert_entry (λ j l. bytes_eq j.now l.now) es k v)
-        ≡ cond b (record { item = e.0.now; of = v.now } ∷ map object_in es) (object_in e ∷ put (object_in (k, v)) (map object_in es))
+        ≡ cond b (record { item = e.0.now; of = v.now.types } ∷ map object_in es) (object_in e ∷ put (object_in (k, v)) (map object_in es))
     go true later = refl
     go false later = ap (λ ys. object_in e ∷ ys) later
 
-type_entry : (es : List (Bor (List ℕ) × Bor (List (List ℕ)))) (n : Name) → type_in (map object_in es) n ≡ option_map (λ (b : Bor (List (List ℕ))). b.now) (lookup (λ k. bytes_eq n k.now) es)
-type_entry [] n = refl
-type_entry (e ∷ es) n = go (bytes_eq n e.0.now) (type_entry es n)
+-- what is put under its name leaves each under its own
+pub named_entry : {A : Type 0} (k : Bor (List ℕ)) (v : Bor (Typed A)) (es : List (Bor (List ℕ) × Bor (Typed A)))
+    → v.now.name ≡ k.now → AreNamed es → AreNamed (insert_entry (λ j l. bytes_eq j.now l.now) es k v)
+named_entry k v [] own named = ap (λ n. n ∷ []) own
+named_entry {A} k v (e ∷ es) own named = go (bytes_eq k.now e.0.now) (λ same. bytes_same k.now e.0.now same) (heads named) (named_entry k v es own (tails named))
   where
-    go : (b : Bool) → type_in (map object_in es) n ≡ option_map (λ (t : Bor (List (List ℕ))). t.now) (lookup (λ k. bytes_eq n k.now) es)
-        → cond b (Some e.1.now) (type_in (map object_in es) n) ≡ option_map (λ (t : Bor (List (List ℕ))). t.now) (cond b (Some e.1) (lookup (λ k. bytes_eq n k.now) es))
+    heads : map (λ (f : Bor (List ℕ) × Bor (Typed A)). f.1.now.name) (e ∷ es) ≡ map (λ f. f.0.now) (e ∷ es) → e.1.now.name ≡ e.0.now
+    heads h = ap (λ ns. get_or ns 0 e.0.now) h
+
+    tails : map (λ (f : Bor (List ℕ) × Bor (Typed A)). f.1.now.name) (e ∷ es) ≡ map (λ f. f.0.now) (e ∷ es) → AreNamed es
+    tails h = ap (λ ns. drop 1 ns) h
+
+    go : (b : Bool) → (b ≡ true → k.now ≡ e.0.now) → e.1.now.name ≡ e.0.now → AreNamed (insert_entry (λ j l. bytes_eq j.now l.now) es k v)
+        → AreNamed (if b then (e.0, v) ∷ es else e ∷ insert_entry (λ j l. bytes_eq j.now l.now) es k v)
+    go true same here later = ap (λ n. n ∷ map (λ f. f.1.now.name) es) (own ∙ same refl) ∙ ap (λ ns. e.0.now ∷ ns) (tails named)
+    go false same here later = ap (λ n. n ∷ map (λ f. f.1.now.name) (insert_entry (λ j l. bytes_eq j.now l.now) es k v)) here ∙ ap (λ ns. e.0.now ∷ ns) later
+
+type_entry : {A : Type 0} (es : List (Bor (List ℕ) × Bor (Typed A))) (n : Name) → type_in (map object_in es) n ≡ option_map (λ (b : Bor (Typed A)). b.now.types) (lookup (λ k. bytes_eq n k.now) es)
+type_entry [] n = refl
+type_entry {A} (e ∷ es) n = go (bytes_eq n e.0.now) (type_entry es n)
+  where
+    go : (b : Bool) → type_in (map object_in es) n ≡ option_map (λ (t : Bor (Typed A)). t.now.types) (lookup (λ k. bytes_eq n k.now) es)
+        → cond b (Some e.1.now.types) (type_in (map object_in es) n) ≡ option_map (λ (t : Bor (Typed A)). t.now.types) (cond b (Some e.1) (lookup (λ k. bytes_eq n k.now) es))
     go true later = refl
     go false later = later
 
-unwrap_now : (o : Option (Bor (List (List ℕ)))) (d : Bor (List (List ℕ))) → (unwrap_or o d).now ≡ unwrap_or (option_map (λ (b : Bor (List (List ℕ))). b.now) o) d.now
+unwrap_now : {A : Type 0} (o : Option (Bor (Typed A))) (d : Bor (Typed A)) → (unwrap_or o d).now.types ≡ unwrap_or (option_map (λ (b : Bor (Typed A)). b.now.types) o) d.now.types
 unwrap_now None d = refl
 unwrap_now (Some b) d = refl
 
 -- what an insertion answers tells whether the table has another type
-pub odds_of : (es : List (Bor (List ℕ) × Bor (List (List ℕ)))) (n : Name) (t : List Name) (old : Option (Bor (List (List ℕ)))) (types given : Bor (List (List ℕ))) (same b : Bool)
-    → old ≡ lookup (λ k. bytes_eq n k.now) es → types ≡ unwrap_or old given → given.now ≡ t → same ≡ same_names types.now t → not same ≡ b → at_odds retypes (type_in (map object_in es) n) t ≡ b
-odds_of es n t old types given same b old_is types_is given_is same_is odds =
-    ap (λ o. at_odds retypes o t) (type_entry es n ∙ ap (option_map (λ (c : Bor (List (List ℕ))). c.now)) (sym old_is))
-    ∙ ap (λ d. not (same_names (unwrap_or (option_map (λ (c : Bor (List (List ℕ))). c.now) old) d) t)) (sym given_is)
-    ∙ ap (λ u. not (same_names u t)) (sym (ap (λ (c : Bor (List (List ℕ))). c.now) types_is ∙ unwrap_now old given))
+pub odds_of : {A : Type 0} (es : List (Bor (List ℕ) × Bor (Typed A))) (n : Name) (t : List Name) (old : Option (Bor (Typed A))) (first given : Bor (Typed A)) (same b : Bool)
+    → old ≡ lookup (λ k. bytes_eq n k.now) es → first ≡ unwrap_or old given → given.now.types ≡ t → same ≡ same_names first.now.types t → not same ≡ b → at_odds retypes (type_in (map object_in es) n) t ≡ b
+odds_of {A} es n t old first given same b old_is first_is given_is same_is odds =
+    ap (λ o. at_odds retypes o t) (type_entry es n ∙ ap (option_map (λ (c : Bor (Typed A)). c.now.types)) (sym old_is))
+    ∙ ap (λ d. not (same_names (unwrap_or (option_map (λ (c : Bor (Typed A)). c.now.types) old) d) t)) (sym given_is)
+    ∙ ap (λ u. not (same_names u t)) (sym (ap (λ (c : Bor (Typed A)). c.now.types) first_is ∙ unwrap_now old given))
     ∙ ap not (sym same_is)
     ∙ odds
 

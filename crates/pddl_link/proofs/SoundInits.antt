@@ -28,22 +28,22 @@ use Rattle.pddl_link.proofs.Slots.{misfit_is, has_found, slots_left, slots_end}
 
 -- ---- objects and their slots
 
-known_found : (es : List Object) (n : Name) (types : Bor (List (List ℕ))) → Some types ≡ lookup (λ k. bytes_eq n k.now) es
+known_found : {A : Type 0} (es : List (Object A)) (n : Name) (listed : Bor (Typed A)) → Some listed ≡ lookup (λ k. bytes_eq n k.now) es
     → word_if (not (is_in (map item_of (map object_in es)) n)) n ≡ []
-known_found es n types found = ap (λ b. word_if (not b) n) (sym (is_item es n) ∙ ap is_some (sym found))
+known_found es n listed found = ap (λ b. word_if (not b) n) (sym (is_item es n) ∙ ap is_some (sym found))
 
-fitting_found : (ps : List TypeValue) (es : List Object) (n : Name) (types : Bor (List (List ℕ))) (slot : TypedValue) → Some types ≡ lookup (λ k. bytes_eq n k.now) es
-    → fits ps types.now slot.of ≡ true → is_misfit ps (find (is_named n) (map object_in es)) slot ≡ false
-fitting_found ps es n types slot found fit =
-    sym (misfit_is ps (find (is_named n) (map object_in es)) (Some types.now) slot (ap (option_map (λ (t : Bor (List (List ℕ))). t.now)) found ∙ sym (object_found es n))) ∙ ap not fit
+fitting_found : {A : Type 0} (ps : List TypeValue) (es : List (Object A)) (n : Name) (listed : Bor (Typed A)) (slot : TypedValue) → Some listed ≡ lookup (λ k. bytes_eq n k.now) es
+    → fits ps listed.now.types slot.of ≡ true → is_misfit ps (find (is_named n) (map object_in es)) slot ≡ false
+fitting_found {A} ps es n listed slot found fit =
+    sym (misfit_is ps (find (is_named n) (map object_in es)) (Some listed.now.types) slot (ap (option_map (λ (t : Bor (Typed A)). t.now.types)) found ∙ sym (object_found es n))) ∙ ap not fit
 
 -- an object that is looked up, and fits
-pub object_sound : (s : Setting) (es : List Object) (n m : Name) (types : Bor (List (List ℕ))) (slot : TypedValue) → map object_in es ≡ s.objects → n ≡ m
-    → Some types ≡ lookup (λ k. bytes_eq n k.now) es → fits s.pairs types.now slot.of ≡ true → IsSoundObject s m slot
-object_sound s es n m types slot held named found fit = record {
-  known = ap (λ os. word_if (not (is_in (map item_of os) m)) m) (sym held) ∙ ap (λ k. word_if (not (is_in (map item_of (map object_in es)) k)) k) (sym named) ∙ known_found es n types found;
+pub object_sound : {A : Type 0} (s : Setting) (es : List (Object A)) (n m : Name) (listed : Bor (Typed A)) (slot : TypedValue) → map object_in es ≡ s.objects → n ≡ m
+    → Some listed ≡ lookup (λ k. bytes_eq n k.now) es → fits s.pairs listed.now.types slot.of ≡ true → IsSoundObject s m slot
+object_sound s es n m listed slot held named found fit = record {
+  known = ap (λ os. word_if (not (is_in (map item_of os) m)) m) (sym held) ∙ ap (λ k. word_if (not (is_in (map item_of (map object_in es)) k)) k) (sym named) ∙ known_found es n listed found;
   fitting = ap (λ os. is_misfit s.pairs (find (is_named m) os) slot) (sym held) ∙ ap (λ k. is_misfit s.pairs (find (is_named k) (map object_in es)) slot) (sym named)
-      ∙ fitting_found s.pairs es n types slot found fit;
+      ∙ fitting_found s.pairs es n listed slot found fit;
 }
 
 module _ {Y : Type 0} (s : Setting) (view : Y → TypedValue) (ns : List Name) (ys : List Y) (i : ℕ) (same : length ns ≡ length ys) where

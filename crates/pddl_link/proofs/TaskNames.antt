@@ -5,30 +5,35 @@ use Rattle.std.specs.Borrow.{Bor}
 use Rattle.std.specs.List.{slice_get, position_or_len}
 use Rattle.std.specs.Map.{keys_of}
 use Rattle.std.specs.Option.{option_map_or}
+use Rattle.std.proofs.lemmas.Option.{slice_get-map}
 use Rattle.pddl_formula.specs.declared.type_names.Typed.{Typed}
 use Rattle.pddl_formula.specs.TypedLists.{TypedValue}
-use Rattle.pddl_domain.specs.Declarations.{Signature}
+use Rattle.pddl_domain.specs.declared.domain.DeclaredPredicate.{DeclaredPredicate}
+use Rattle.pddl_domain.specs.Declarations.{Signature, predicate_view}
 use Rattle.pddl_task.specs.Names.{Name, item_of}
 use Rattle.pddl_task.specs.Settings.{symbol_of}
-use Rattle.pddl_link.specs.KnownNames.{signature_in, object_in}
+use Rattle.pddl_link.specs.KnownNames.{AreNamed, signature_in, object_in}
 
-symbols : {A : Type 0} (es : List (Bor (List ℕ) × Bor (List (Typed A)))) (i : ℕ) → slice_get (map symbol_of (map signature_in es)) i ≡ option_map (λ e. e.0.now) (slice_get es i)
-symbols [] i = refl
-symbols (e ∷ es) zero = refl
-symbols (e ∷ es) (suc i) = symbols es i
+-- the name of a predicate
+pub symbol_at : {A : Type 0} (xs : List (DeclaredPredicate A)) (signatures : List Signature) (i : ℕ)
+    → map predicate_view xs ≡ signatures → option_map (λ x. x.predicate) (slice_get xs i) ≡ slice_get (map symbol_of signatures) i
+symbol_at {A} xs signatures i same =
+    sym (slice_get-map (λ x. x.predicate) xs i) ∙ ap (λ ns. slice_get ns i) (symbols xs ∙ ap (map symbol_of) same)
+  where
+    symbols : (xs : List (DeclaredPredicate A)) → map (λ x. x.predicate) xs ≡ map symbol_of (map predicate_view xs)
+    symbols [] = refl
+    symbols (x ∷ xs) = ap (λ ns. x.predicate ∷ ns) (symbols xs)
 
-items : (es : List (Bor (List ℕ) × Bor (List (List ℕ)))) (i : ℕ) → slice_get (map item_of (map object_in es)) i ≡ option_map (λ e. e.0.now) (slice_get es i)
-items [] i = refl
-items (e ∷ es) zero = refl
-items (e ∷ es) (suc i) = items es i
+-- the name of an object, as it is listed
+items : {A : Type 0} (es : List (Bor (List ℕ) × Bor (Typed A))) → map item_of (map object_in es) ≡ map (λ e. e.0.now) es
+items [] = refl
+items (e ∷ es) = ap (λ ns. e.0.now ∷ ns) (items es)
 
-pub symbol_at : {A : Type 0} (es : List (Bor (List ℕ) × Bor (List (Typed A)))) (signatures : List Signature) (i : ℕ) (found : Option (Bor (List ℕ) × Bor (List (Typed A))))
-    → map signature_in es ≡ signatures → found ≡ slice_get es i → option_map (λ e. e.0.now) found ≡ slice_get (map symbol_of signatures) i
-symbol_at es signatures i found same at = ap (option_map (λ e. e.0.now)) at ∙ sym (symbols es i) ∙ ap (λ ss. slice_get (map symbol_of ss) i) same
-
-pub item_at : (es : List (Bor (List ℕ) × Bor (List (List ℕ)))) (objects : List TypedValue) (i : ℕ) (found : Option (Bor (List ℕ) × Bor (List (List ℕ))))
-    → map object_in es ≡ objects → found ≡ slice_get es i → option_map (λ e. e.0.now) found ≡ slice_get (map item_of objects) i
-item_at es objects i found same at = ap (option_map (λ e. e.0.now)) at ∙ sym (items es i) ∙ ap (λ os. slice_get (map item_of os) i) same
+pub item_at : {A : Type 0} (es : List (Bor (List ℕ) × Bor (Typed A))) (objects : List TypedValue) (i : ℕ) (found : Option (Bor (List ℕ) × Bor (Typed A)))
+    → map object_in es ≡ objects → AreNamed es → found ≡ slice_get es i → option_map (λ e. e.1.now.name) found ≡ slice_get (map item_of objects) i
+item_at es objects i found same named at =
+    ap (option_map (λ e. e.1.now.name)) at ∙ sym (slice_get-map (λ e. e.1.now.name) es i)
+    ∙ ap (λ ns. slice_get ns i) (named ∙ sym (items es) ∙ ap (map item_of) same)
 
 -- ---- the number of a name
 
@@ -51,7 +56,7 @@ module _ {V Y : Type 0} (see : Bor (List ℕ) × V → Y) (key : Y → Name) (sa
       ∙ ap (λ l. cond (nat_lt (position_or_len (bytes_eq n) (map key (map see es))) l) (Some (position_or_len (bytes_eq n) (map key (map see es)))) None) (as_many es)
       ∙ ap (λ zs. position (bytes_eq n) (map key zs)) is
 
-pub object_number : (es : List (Bor (List ℕ) × Bor (List (List ℕ)))) (objects : List TypedValue) (n : Name) (found : Option ℕ)
+pub object_number : {A : Type 0} (es : List (Bor (List ℕ) × Bor (Typed A))) (objects : List TypedValue) (n : Name) (found : Option ℕ)
     → map object_in es ≡ objects → found ≡ position (λ k. bytes_eq n k.now) (keys_of es) → found ≡ position (bytes_eq n) (map item_of objects)
 object_number = place_at object_in item_of (λ e. refl)
 
@@ -66,6 +71,6 @@ asked_at see test b [] i found at = ap (λ f. option_map_or (λ e. test (see e))
 asked_at see test b (e ∷ es) zero found at = ap (λ f. option_map_or (λ e. test (see e)) f b) at
 asked_at see test b (e ∷ es) (suc i) found at = asked_at see test b es i found at
 
-pub fits_at : (test : TypedValue → Bool) (es : List (Bor (List ℕ) × Bor (List (List ℕ)))) (objects : List TypedValue) (i : ℕ) (found : Option (Bor (List ℕ) × Bor (List (List ℕ))))
+pub fits_at : {A : Type 0} (test : TypedValue → Bool) (es : List (Bor (List ℕ) × Bor (Typed A))) (objects : List TypedValue) (i : ℕ) (found : Option (Bor (List ℕ) × Bor (Typed A)))
     → map object_in es ≡ objects → found ≡ slice_get es i → option_map_or (λ e. test (object_in e)) found false ≡ option_map_or test (slice_get objects i) false
 fits_at test es objects i found same at = asked_at object_in test false es i found at ∙ ap (λ os. option_map_or test (slice_get os i) false) same

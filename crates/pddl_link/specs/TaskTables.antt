@@ -13,7 +13,7 @@ use Rattle.pddl_task.specs.Settings.{objects_of}
 use Rattle.pddl_task.specs.Faults.{same_ground}
 use Rattle.pddl_task.specs.Linked.{IsLinked}
 use Rattle.pddl_task.specs.Tasks.{TaskValue, task_of}
-use Rattle.pddl_link.specs.KnownNames.{signature_in, object_in}
+use Rattle.pddl_link.specs.KnownNames.{AreNamed, signature_in, object_in}
 use Rattle.pddl_link.specs.Claims.{HoldsValues}
 
 -- a domain and a problem
@@ -43,9 +43,10 @@ cost_of task g = lookup (same_ground g) task.costs
 
 -- two files are linked, and the tables hold what they declare
 pub record AreTablesOf {A : Type 0} (d : DomainValue) (p : ProblemValue) (types : List TypeValue) (predicates : List (Bor (List ℕ) × Bor (List (Typed A))))
-    (objects : List (Bor (List ℕ) × Bor (List (List ℕ)))) (values : List (GroundValue × ℕ)) : Type 0 where
+    (objects : List (Bor (List ℕ) × Bor (Typed A))) (values : List (GroundValue × ℕ)) : Type 0 where
   pub linked : IsLinked d p
   pub types_are : types ≡ d.types
   pub predicates_are : map signature_in predicates ≡ d.predicates
   pub objects_are : map object_in objects ≡ objects_of d p
+  pub objects_named : AreNamed objects
   pub values_are : HoldsValues p.init values

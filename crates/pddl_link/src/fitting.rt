@@ -24,8 +24,8 @@ pub(crate) fn fitting_objects<'m, 'a, 'b, A: Allocator, B: Allocator, C: Allocat
     let mut numbers = Vec::new(alloc);
     for number in 0..objects.len() {
         match objects.get_index(number) {
-            Some((_, own)) => {
-                if types.fits(*own, slot) {
+            Some((_, object)) => {
+                if types.fits(&object.types, slot) {
                     numbers.push(number)?;
                 }
             }

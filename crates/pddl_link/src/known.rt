@@ -12,14 +12,14 @@ use crate::hashed::Hashed;
 use crate::types::Types;
 use indexmap::IndexMap;
 use pddl_domain::{DeclaredFunction, DeclaredPredicate};
-use pddl_formula::{TypeNames, Typed};
+use pddl_formula::Typed;
 use std::alloc::{AllocError, Allocator};
 
 /// Predicates or functions by name, each with its parameters.
 pub(crate) type Signatures<'m, 'a, A, B> = IndexMap<&'m [u8], &'m [Typed<A>], Hashed, &'a B>;
 
-/// Objects by name, each with its type.
-pub(crate) type Objects<'m, 'a, A, B> = IndexMap<&'m [u8], &'m TypeNames<A>, Hashed, &'a B>;
+/// Objects by name, each as it is listed with its type.
+pub(crate) type Objects<'m, 'a, A, B> = IndexMap<&'m [u8], &'m Typed<A>, Hashed, &'a B>;
 
 /// What may be named: types, predicates and functions with their parameters, and objects with their types.
 #[derive(Drop)]

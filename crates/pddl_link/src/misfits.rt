@@ -36,7 +36,7 @@ fn is_object_misfit<'t, 'm, 'a, A: Allocator, B: Allocator>(
     ensures { result ≡ is_misfit (pairs known.now.types.now) (typed_term (setting_of known.now) [] (name object.now)) (typed_view slot.now) }
 {
     match known.objects.get(object.as_bytes()) {
-        Some(types) => !known.types.fits(*types, &slot.types),
+        Some(listed) => !known.types.fits(&listed.types, &slot.types),
         None => false,
     }
 }

@@ -9,7 +9,7 @@ ghost use Rattle.pddl_task.specs.Names.{firsts};
 ghost use Rattle.pddl_task.specs.Settings.{objects_of};
 ghost use Rattle.pddl_task.specs.Faults.{repeated_in_actions, domain_repeats, problem_repeats};
 ghost use Rattle.pddl_link.specs.Passes.{Passes};
-ghost use Rattle.pddl_link.specs.KnownNames.{object_in};
+ghost use Rattle.pddl_link.specs.KnownNames.{AreNamed, object_in};
 
 use crate::fault::LinkFault;
 use crate::hashed::Hashed;
@@ -69,6 +69,7 @@ pub(crate) fn problem_names<'m, 'a, A: Allocator, B: Allocator>(
     requires { domain_repeats (domain_view domain.now) ≡ [] }
     ensures passes { Passes 24 (problem_repeats (domain_view domain.now) (problem_view problem.now)) result }
     ensures objects { IfOk result (λ objects. map object_in objects.entries ≡ objects_of (domain_view domain.now) (problem_view problem.now)) }
+    ensures names { IfOk result (λ objects. AreNamed objects.entries) }
 {
     let mut objects: Objects<'m, 'a, A, B> = IndexMap::new(alloc);
     list_objects(&mut objects, &domain.constants)?;

@@ -1,9 +1,8 @@
 //! How many objects fit a type.
 
-use crate::hashed::Hashed;
+use crate::known::Objects;
 use crate::size::FittingCount;
 use crate::types::Types;
-use indexmap::IndexMap;
 use pddl_formula::TypeNames;
 use std::alloc::Allocator;
 
@@ -11,7 +10,7 @@ use std::alloc::Allocator;
 #[derive(Drop)]
 pub(crate) struct ObjectCounts<'t, 'm, 'a, A: Allocator, B: Allocator> {
     pub types: &'t Types<'m, 'a, A, B>,
-    pub objects: &'t IndexMap<&'m [u8], &'m TypeNames<A>, Hashed, &'a B>,
+    pub objects: &'t Objects<'m, 'a, A, B>,
 }
 
 impl<'t, 'm, 'a, A: Allocator, B: Allocator> FittingCount<A> for ObjectCounts<'t, 'm, 'a, A, B> {
@@ -27,7 +26,7 @@ impl<'t, 'm, 'a, A: Allocator, B: Allocator> FittingCount<A> for ObjectCounts<'t
         for place in 0..self.objects.len() {
             match self.objects.get_index(place) {
                 Some((_, object)) => {
-                    if self.types.fits(*object, types) {
+                    if self.types.fits(&object.types, types) {
                         count += 1;
                     }
                 }

@@ -4,12 +4,11 @@ ghost use Rattle.std.specs.Prelude.{◌≡◌, [], ◌++◌, List, map, OnOk};
 ghost use Rattle.pddl_formula.specs.TypedLists.{TypedValue, typed_view};
 ghost use Rattle.pddl_task.specs.Names.{same_names, firsts};
 ghost use Rattle.pddl_task.specs.Faults.{retyped};
-ghost use Rattle.pddl_link.specs.KnownNames.{object_in};
+ghost use Rattle.pddl_link.specs.KnownNames.{AreNamed, object_in};
 ghost use Rattle.pddl_link.specs.Passes.{Passes};
 
 use crate::fault::LinkFault;
-use crate::hashed::Hashed;
-use indexmap::IndexMap;
+use crate::known::Objects;
 use pddl_formula::{TypeNames, Typed};
 use std::alloc::Allocator;
 
@@ -32,18 +31,17 @@ fn same_types<A: Allocator, B: Allocator>(first: &TypeNames<A>, second: &TypeNam
 
 /// Adds constants or objects to those that were listed before, where no name has two types. One that is there adds nothing.
 pub(crate) fn list_objects<'m, 'a, A: Allocator, B: Allocator>(
-    objects: &mut IndexMap<&'m [u8], &'m TypeNames<A>, Hashed, &'a B>,
+    objects: &mut Objects<'m, 'a, A, B>,
     listed: &'m [Typed<A>],
 ) -> Result<(), LinkFault<'m>>
     ensures passes { (before : List TypedValue) → retyped [] before ≡ [] → map object_in objects.old.entries ≡ firsts before → Passes 24 (retyped before (map typed_view listed.now)) result }
     ensures lists { OnOk result ((before : List TypedValue) → retyped [] before ≡ [] → map object_in objects.old.entries ≡ firsts before → map object_in objects.new.entries ≡ firsts (before ++ map typed_view listed.now)) }
+    ensures names { OnOk result (AreNamed objects.old.entries → AreNamed objects.new.entries) }
 {
     for object in listed {
         let name = object.name.as_bytes();
-        let types = objects
-            .insert(name, &object.types)?
-            .unwrap_or(&object.types);
-        if !same_types(types, &object.types) {
+        let before = objects.insert(name, object)?.unwrap_or(object);
+        if !same_types(&before.types, &object.types) {
             return Err(LinkFault::NameTwice(name));
         }
     }

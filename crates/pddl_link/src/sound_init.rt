@@ -24,7 +24,7 @@ fn is_sound_object<'t, 'm, 'a, A: Allocator, B: Allocator>(
     ensures { result ≡ true → IsSoundObject (setting_of known.now) object.now (typed_view slot.now) }
 {
     match known.objects.get(object.as_bytes()) {
-        Some(types) => known.types.fits(*types, &slot.types),
+        Some(listed) => known.types.fits(&listed.types, &slot.types),
         None => false,
     }
 }

@@ -73,7 +73,7 @@ impl<'m, 'a, A: Allocator, B: Allocator> Task<'m, 'a, A, B> {
             (slice_get (task_of_files self.now).objects object) false }
     {
         match self.objects.get_index(object) {
-            Some((_, own)) => self.types.fits(*own, types),
+            Some((_, listed)) => self.types.fits(&listed.types, types),
             None => false,
         }
     }
@@ -125,21 +125,21 @@ impl<'m, 'a, A: Allocator, B: Allocator> Task<'m, 'a, A, B> {
     }
 
     /// The name of the predicate of a number, or `None` past the last.
-    pub fn predicate_name(&self, number: usize) -> Option<&[u8]>
+    pub fn predicate_name(&self, number: usize) -> Option<&Name<A>>
         ensures { option_map (λ name. name.now) result ≡ slice_get (predicate_names (task_of_files self.now)) number }
     {
-        match self.predicates.get_index(number) {
-            Some((name, _)) => Some(*name),
+        match self.domain.predicates.get(number) {
+            Some(declared) => Some(declared.predicate.as_name()),
             None => None,
         }
     }
 
     /// The name of the object of a number, or `None` past the last.
-    pub fn object_name(&self, number: usize) -> Option<&[u8]>
+    pub fn object_name(&self, number: usize) -> Option<&Name<A>>
         ensures { option_map (λ name. name.now) result ≡ slice_get (object_names (task_of_files self.now)) number }
     {
         match self.objects.get_index(number) {
-            Some((name, _)) => Some(*name),
+            Some((_, listed)) => Some(&listed.name),
             None => None,
         }
     }

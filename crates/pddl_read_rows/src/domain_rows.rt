@@ -419,24 +419,46 @@ const LAMPS_AGAIN: &str = "(define (domain Lamps)
   (:types lamp - object big - lamp)
   (:requirements :ADL :action-costs))";
 
-/// The parts of the domain of lamps.
-fn check_lamps<R: Abort, A: std::alloc::Allocator>(rt: &R, domain: &Domain<A>) -> Result<(), Fail> {
-    assert_eq!(rt; domain.name.as_bytes(), b"lamps".as_slice());
+/// The requirements of the domain of lamps.
+fn check_requirements<R: Abort, A: std::alloc::Allocator>(
+    rt: &R,
+    domain: &Domain<A>,
+) -> Result<(), Fail> {
     assert_eq!(rt; domain.requirements.len(), 2);
     assert_eq!(rt; domain.requirements[0].as_bytes(), b"adl".as_slice());
     assert_eq!(rt;
         domain.requirements[1].as_bytes(),
         b"action-costs".as_slice()
     );
+    Ok(())
+}
+
+/// Its types.
+fn check_types<R: Abort, A: std::alloc::Allocator>(rt: &R, domain: &Domain<A>) -> Result<(), Fail> {
     assert_eq!(rt; domain.types.len(), 2);
     assert_eq!(rt; domain.types[0].name.as_bytes(), b"lamp".as_slice());
     assert_eq!(rt; domain.types[0].parent.as_bytes(), b"object".as_slice());
     assert_eq!(rt; domain.types[1].name.as_bytes(), b"big".as_slice());
     assert_eq!(rt; domain.types[1].parent.as_bytes(), b"lamp".as_slice());
-    assert!(rt; domain.constants.is_empty());
+    Ok(())
+}
+
+/// Its predicates.
+fn check_predicates<R: Abort, A: std::alloc::Allocator>(
+    rt: &R,
+    domain: &Domain<A>,
+) -> Result<(), Fail> {
     assert_eq!(rt; domain.predicates.len(), 2);
     assert_eq!(rt; domain.predicates[1].predicate.as_bytes(), b"ok".as_slice());
     assert_eq!(rt; domain.predicates[1].parameters.len(), 1);
+    Ok(())
+}
+
+/// Its functions.
+fn check_functions<R: Abort, A: std::alloc::Allocator>(
+    rt: &R,
+    domain: &Domain<A>,
+) -> Result<(), Fail> {
     assert_eq!(rt; domain.functions.len(), 2);
     assert_eq!(rt;
         domain.functions[0].name.as_bytes(),
@@ -447,6 +469,14 @@ fn check_lamps<R: Abort, A: std::alloc::Allocator>(rt: &R, domain: &Domain<A>) -
         b"number".as_slice()
     );
     assert_eq!(rt; domain.functions[1].parameters.len(), 1);
+    Ok(())
+}
+
+/// Its actions.
+fn check_actions<R: Abort, A: std::alloc::Allocator>(
+    rt: &R,
+    domain: &Domain<A>,
+) -> Result<(), Fail> {
     assert_eq!(rt; domain.actions.len(), 3);
     assert_eq!(rt; domain.actions[0].name.as_bytes(), b"light".as_slice());
     assert_eq!(rt; domain.actions[0].parameters.len(), 1);
@@ -454,6 +484,17 @@ fn check_lamps<R: Abort, A: std::alloc::Allocator>(rt: &R, domain: &Domain<A>) -
     assert_eq!(rt; domain.actions[2].name.as_bytes(), b"dark".as_slice());
     assert!(rt; domain.actions[2].parameters.is_empty());
     Ok(())
+}
+
+/// All parts of the domain of lamps.
+fn check_lamps<R: Abort, A: std::alloc::Allocator>(rt: &R, domain: &Domain<A>) -> Result<(), Fail> {
+    assert_eq!(rt; domain.name.as_bytes(), b"lamps".as_slice());
+    check_requirements(rt, domain)?;
+    check_types(rt, domain)?;
+    assert!(rt; domain.constants.is_empty());
+    check_predicates(rt, domain)?;
+    check_functions(rt, domain)?;
+    check_actions(rt, domain)
 }
 
 #[test]

@@ -5,8 +5,11 @@ ghost use Rattle.std.specs.Prelude.{◌<◌};
 use crate::file_rows::{Row, check_fault};
 use pddl_fakes::{Refusing, TWO};
 use pddl_file::FileFault;
-use pddl_problem::{Direction, InitItem, read_problem};
+use pddl_formula::Typed;
+use pddl_problem::{Direction, InitItem, Metric, Problem, read_problem};
 use pddl_text::TextFault;
+use std::alloc::Allocator;
+use std::process::Abort;
 use std::test::Fail;
 
 /// Texts that are refused as problems. Sections begin at byte 20.
@@ -157,28 +160,31 @@ fn refuses_problems(rt: HostRuntime) -> Result<(), Fail> {
     Ok(())
 }
 
-#[test]
-fn reads_the_parts_of_a_problem(rt: HostRuntime) -> Result<(), Fail> {
-    let alloc = rt.alloc();
-    let two = read_problem(&alloc, TWO.as_bytes()).ok().ok_or("two")?;
-    assert_eq!(rt; two.name.as_bytes(), b"two".as_slice());
-    assert_eq!(rt; two.domain.as_bytes(), b"lamps".as_slice());
-    assert!(rt; two.requirements.is_empty());
-    assert_eq!(rt; two.objects.len(), 2);
-    assert_eq!(rt; two.objects[1].name.as_bytes(), b"b".as_slice());
+/// The objects of the problem of lamps.
+fn check_objects<R: Abort, A: Allocator>(rt: &R, objects: &[Typed<A>]) -> Result<(), Fail> {
+    assert_eq!(rt; objects.len(), 2);
+    assert_eq!(rt; objects[1].name.as_bytes(), b"b".as_slice());
     assert_eq!(rt;
-        two.objects[1].types.as_slice()[0].as_bytes(),
+        objects[1].types.as_slice()[0].as_bytes(),
         b"big".as_slice()
     );
-    assert_eq!(rt; two.init.len(), 4);
-    assert!(rt; matches!(&two.init[0], InitItem::Holds(_)));
-    let InitItem::Value(function, number) = &two.init[3] else {
+    Ok(())
+}
+
+/// The last item of its `:init`.
+fn check_value<R: Abort, A: Allocator>(rt: &R, item: &InitItem<A>) -> Result<(), Fail> {
+    let InitItem::Value(function, number) = item else {
         return Err("a value")?;
     };
     assert_eq!(rt; function.function.as_bytes(), b"price".as_slice());
     assert_eq!(rt; function.objects.len(), 1);
     assert_eq!(rt; number.billionths(), 4_000_000_000);
-    let Some(metric) = &two.metric else {
+    Ok(())
+}
+
+/// Its metric.
+fn check_metric<R: Abort, A: Allocator>(rt: &R, metric: Option<&Metric<A>>) -> Result<(), Fail> {
+    let Some(metric) = metric else {
         return Err("a metric")?;
     };
     assert!(rt; matches!(metric.direction, Direction::Minimize));
@@ -187,6 +193,25 @@ fn reads_the_parts_of_a_problem(rt: HostRuntime) -> Result<(), Fail> {
         b"total-cost".as_slice()
     );
     Ok(())
+}
+
+/// All its parts.
+fn check_two<R: Abort, A: Allocator>(rt: &R, two: &Problem<A>) -> Result<(), Fail> {
+    assert_eq!(rt; two.name.as_bytes(), b"two".as_slice());
+    assert_eq!(rt; two.domain.as_bytes(), b"lamps".as_slice());
+    assert!(rt; two.requirements.is_empty());
+    check_objects(rt, &two.objects)?;
+    assert_eq!(rt; two.init.len(), 4);
+    assert!(rt; matches!(&two.init[0], InitItem::Holds(_)));
+    check_value(rt, &two.init[3])?;
+    check_metric(rt, two.metric.as_ref())
+}
+
+#[test]
+fn reads_the_parts_of_a_problem(rt: HostRuntime) -> Result<(), Fail> {
+    let alloc = rt.alloc();
+    let two = read_problem(&alloc, TWO.as_bytes()).ok().ok_or("two")?;
+    check_two(&rt, &two)
 }
 
 /// Problems that are read.

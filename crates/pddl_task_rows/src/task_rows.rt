@@ -3,7 +3,7 @@
 use pddl_domain::read_domain;
 use pddl_fakes::{LAMPS, Refusing, TWO, with_part};
 use pddl_formula::{TypeName, TypeNames};
-use pddl_link::link;
+use pddl_link::{Task, link};
 use pddl_plan_link::initial_atoms;
 use pddl_problem::read_problem;
 use pddl_state::Atom;
@@ -11,6 +11,14 @@ use pddl_tree::Name;
 use std::alloc::Allocator;
 use std::process::Abort;
 use std::test::Fail;
+
+/// The bytes of a name, where there is one.
+fn bytes_of<A: Allocator>(name: Option<&Name<A>>) -> Option<&[u8]> {
+    match name {
+        Some(name) => Some(name.as_bytes()),
+        None => None,
+    }
+}
 
 #[test]
 fn numbers_what_a_task_names(rt: HostRuntime) -> Result<(), Fail> {
@@ -26,16 +34,16 @@ fn numbers_what_a_task_names(rt: HostRuntime) -> Result<(), Fail> {
     let task = link(&alloc, &domain, &problem).ok().ok_or("a task")?;
     // Constants come first.
     for (number, name) in [(0, b"b".as_slice()), (1, b"a".as_slice())] {
-        assert_eq!(rt; task.object_name(number), Some(name));
+        assert_eq!(rt; bytes_of(task.object_name(number)), Some(name));
         assert_eq!(rt; task.object_number(name), Some(number));
     }
-    assert_eq!(rt; task.object_name(2), None);
+    assert!(rt; task.object_name(2).is_none());
     assert_eq!(rt; task.object_number(b"on"), None);
     for (number, name) in [(0, b"on".as_slice()), (1, b"ok".as_slice())] {
-        assert_eq!(rt; task.predicate_name(number), Some(name));
+        assert_eq!(rt; bytes_of(task.predicate_name(number)), Some(name));
         assert_eq!(rt; task.predicate_number(name), Some(number));
     }
-    assert_eq!(rt; task.predicate_name(2), None);
+    assert!(rt; task.predicate_name(2).is_none());
     assert_eq!(rt; task.predicate_number(b"price"), None);
     assert_eq!(rt; task.domain().actions.len(), 3);
     assert_eq!(rt; task.problem().init.len(), 4);
@@ -138,6 +146,48 @@ fn numbers_the_initial_atoms(rt: HostRuntime) -> Result<(), Fail> {
     let refusing = Refusing::each(rt.alloc());
     assert!(rt; initial_atoms(&refusing, &task).is_err());
     Ok(())
+}
+
+/// The cost of a function of these objects is the wanted one.
+fn check_cost<'q, R: Abort + AllocGlobal, A: Allocator, B: Allocator>(
+    rt: &R,
+    task: &Task<'_, '_, A, B>,
+    function: &'q [u8],
+    objects: &'q [&'q [u8]],
+    want: Option<u64>,
+) -> Result<(), Fail> {
+    assert_eq!(rt; task.cost(function, objects), want);
+    Ok(())
+}
+
+/// The costs of a lamp `a`, whose price is given twice, and a big lamp `b`.
+fn check_costs<R: Abort + AllocGlobal, A: Allocator, B: Allocator>(
+    rt: &R,
+    task: &Task<'_, '_, A, B>,
+) -> Result<(), Fail> {
+    let (a, b, c) = (b"a".as_slice(), b"b".as_slice(), b"c".as_slice());
+    check_cost(rt, task, b"price", &[a], Some(3))?;
+    check_cost(rt, task, b"price", &[b], Some(4))?;
+    check_cost(rt, task, b"total-cost", &[], Some(0))?;
+    check_cost(rt, task, b"price", &[c], None)?;
+    check_cost(rt, task, b"price", &[], None)?;
+    check_cost(rt, task, b"price", &[a, b], None)?;
+    check_cost(rt, task, b"ok", &[a], None)
+}
+
+#[test]
+fn finds_costs(rt: HostRuntime) -> Result<(), Fail> {
+    let alloc = rt.alloc();
+    let text = with_part(
+        &rt,
+        TWO,
+        "(= (price a) 3)",
+        "(= total-cost 0) (= (PRICE A) 3.0) (= (price a) 3)",
+    )?;
+    let domain = read_domain(&alloc, LAMPS.as_bytes()).ok().ok_or("lamps")?;
+    let problem = read_problem(&alloc, text.as_bytes()).ok().ok_or("two")?;
+    let task = link(&alloc, &domain, &problem).ok().ok_or("a task")?;
+    check_costs(&rt, &task)
 }
 
 /// Goals, and their ground sizes over one lamp and no big one.

@@ -13,11 +13,11 @@ loop-number-preserved g c =
       | in-Some+then-fits+in_ok-push-in-Some w ↦
           subst (λ v. AreSplit (λ o. fits (pairs c.args.types.now) o.of c.args.slot.now) rows (i + 1) v.items) (sym w.numbers-is)
           (subst (AreSplit (λ o. fits (pairs c.args.types.now) o.of c.args.slot.now) rows (i + 1)) (sym w.in_ok-push-in-Some.ensures.items)
-          (one_fits (λ o. fits (pairs c.args.types.now) o.of c.args.slot.now) rows i numbers (w.in-Some.field-0-0.now, w.in-Some.own.now)
+          (one_fits (λ o. fits (pairs c.args.types.now) o.of c.args.slot.now) rows i numbers (w.in-Some.field-0-0.now, w.in-Some.object.now)
           (sym w.fits.ensures ∙ w.if-fits.true) w.in-Some.ensures.entry c.loop-number.invariant))
       | in-Some+else-fits w ↦
           subst (λ v. AreSplit (λ o. fits (pairs c.args.types.now) o.of c.args.slot.now) rows (i + 1) v.items) (sym w.numbers-is)
-          (one_does_not (λ o. fits (pairs c.args.types.now) o.of c.args.slot.now) rows i numbers (w.in-Some.field-0-0.now, w.in-Some.own.now)
+          (one_does_not (λ o. fits (pairs c.args.types.now) o.of c.args.slot.now) rows i numbers (w.in-Some.field-0-0.now, w.in-Some.object.now)
           (sym w.fits.ensures ∙ w.if-fits.false) w.in-Some.ensures.entry c.loop-number.invariant)
       | in-None w ↦
           subst (λ v. AreSplit (λ o. fits (pairs c.args.types.now) o.of c.args.slot.now) rows (i + 1) v.items) (sym w.numbers-is)

@@ -158,6 +158,7 @@ invariant_of-result g c =
         types_are = told;
         predicates_are = c.in_ok-predicates.ensures ∙ ap (map predicate_view) c.deref-2.ensures.value;
         objects_are = c.in_ok-objects.ensures.objects;
+        objects_named = c.in_ok-objects.ensures.names;
         values_are = c.in_ok-values.ensures.values;
       };
     }

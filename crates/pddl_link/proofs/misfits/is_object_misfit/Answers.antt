@@ -1,6 +1,5 @@
-use Rattle.std.proofs.Common.{◌∙◌, ap, sym, not, map, Some, None, List, ℕ}
+use Rattle.std.proofs.Common.{◌∙◌, ap, sym, not, map, Some, None}
 use Rattle.std.specs.Prelude.{find, option_map}
-use Rattle.std.specs.Borrow.{Bor}
 use Rattle.std.specs.Option.{option_copied}
 use Rattle.pddl_formula.specs.TypedLists.{typed_view}
 use Rattle.pddl_task.specs.Names.{is_named}
@@ -18,8 +17,8 @@ returns-in-Some g c =
     let slot = typed_view c.args.slot.now in
     let n = c.as_bytes.result.now in
     ap not c.fits.ensures
-    ∙ misfit_is ps (find (is_named n) (map object_in es)) (Some c.in-Some.types.now.now) slot
-    (ap (option_map (λ (t : Bor (List (List ℕ))). t.now)) (sym (ap option_copied c.in-Some.is) ∙ c.get.ensures.value) ∙ sym (object_found es n))
+    ∙ misfit_is ps (find (is_named n) (map object_in es)) (Some c.in-Some.listed.now.now.types) slot
+    (ap (option_map (λ t. t.now.types)) (sym (ap option_copied c.in-Some.is) ∙ c.get.ensures.value) ∙ sym (object_found es n))
     ∙ ap (λ m. is_misfit ps (find (is_named m) (map object_in es)) slot) c.as_bytes.ensures.value
 
 pub returns-in-None : goal.returns-in-None
@@ -29,5 +28,5 @@ returns-in-None g c =
     let slot = typed_view c.args.slot.now in
     let n = c.as_bytes.result.now in
     misfit_is ps (find (is_named n) (map object_in es)) None slot
-    (ap (option_map (λ (t : Bor (List (List ℕ))). t.now)) (sym (ap option_copied c.in-None.is) ∙ c.get.ensures.value) ∙ sym (object_found es n))
+    (ap (option_map (λ t. t.now.types)) (sym (ap option_copied c.in-None.is) ∙ c.get.ensures.value) ∙ sym (object_found es n))
     ∙ ap (λ m. is_misfit ps (find (is_named m) (map object_in es)) slot) c.as_bytes.ensures.value

@@ -1,4 +1,4 @@
-use Rattle.std.proofs.Common.{[], map, refl, ap, ◌∙◌, Err}
+use Rattle.std.proofs.Common.{[], map, refl, ap, sym, subst, ◌∙◌, Err}
 use Rattle.std.specs.List.{flat_map}
 use Rattle.std.proofs.lemmas.Result.{err_from_is_err_and}
 use Rattle.pddl_formula.specs.TypedLists.{typed_view}
@@ -6,7 +6,7 @@ use Rattle.pddl_domain.specs.Domains.{domain_view}
 use Rattle.pddl_problem.specs.Problems.{problem_view}
 use Rattle.pddl_task.specs.Places.{problem_places}
 use Rattle.pddl_task.specs.Faults.{repeated_at, retyped, problem_repeats}
-use Rattle.pddl_link.specs.KnownNames.{object_in}
+use Rattle.pddl_link.specs.KnownNames.{AreNamed, object_in}
 use Rattle.pddl_link.proofs.ActionNames.{no_constant_retyped, listed_read, objects_read, none_of_two}
 use Rattle.pddl_link.proofs.Verdicts.{not_found}
 use Rattle.pddl_link.proofs.Walks.{pass_front, pass_back}
@@ -60,3 +60,7 @@ returns-clause-objects g c =
     let listed = c.in_ok-list_objects.ensures.lists [] refl (ap (map object_in) c.new-objects.ensures.empty) in
     c.in_ok-list_objects-2.ensures.lists constants none listed
     ∙ objects_read c.args.domain.now c.args.problem.now c.deref.result.now c.deref-2.result.now c.deref.ensures.value c.deref-2.ensures.value
+
+pub returns-clause-names : goal.returns-clause-names
+returns-clause-names g c =
+    c.in_ok-list_objects-2.ensures.names (c.in_ok-list_objects.ensures.names (subst AreNamed (sym c.new-objects.ensures.empty) refl))

@@ -7,8 +7,12 @@ use Rattle.pddl_link.proofs.task.Task.object_name.Goals as goal
 
 pub returns-in-Some : goal.returns-in-Some
 returns-in-Some g c =
-    item_at c.args.self.now.objects.entries (objects_of (domain_view c.args.self.now.domain.now) (problem_view c.args.self.now.problem.now)) c.args.number (Some (c.in-Some.name.now, c.in-Some.field-0-1.now)) c.args.self.now.tables.objects_are c.in-Some.ensures.entry
+    let t = c.args.self.now in
+    item_at t.objects.entries (objects_of (domain_view t.domain.now) (problem_view t.problem.now)) c.args.number (Some (c.in-Some.field-0-0.now, c.in-Some.listed.now))
+    t.tables.objects_are t.tables.objects_named c.in-Some.ensures.entry
 
 pub returns-in-None : goal.returns-in-None
 returns-in-None g c =
-    item_at c.args.self.now.objects.entries (objects_of (domain_view c.args.self.now.domain.now) (problem_view c.args.self.now.problem.now)) c.args.number None c.args.self.now.tables.objects_are c.in-None.ensures.entry
+    let t = c.args.self.now in
+    item_at t.objects.entries (objects_of (domain_view t.domain.now) (problem_view t.problem.now)) c.args.number None
+    t.tables.objects_are t.tables.objects_named c.in-None.ensures.entry
