@@ -4,6 +4,8 @@
 #![tactic(auto)]
 
 #[cfg(test)]
+mod reading;
+#[cfg(test)]
 mod step_rows;
 #[cfg(test)]
 mod task_rows;

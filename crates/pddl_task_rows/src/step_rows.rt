@@ -2,13 +2,12 @@
 //!
 //! What is wanted is worked out from the faults of steps, `crates/pddl_plan_link/specs/StepFaults.antt`.
 
-use pddl_domain::read_domain;
+use crate::reading::{domain_of, plan_of, problem_of, task_of};
 use pddl_fakes::{LAMPS, Refusing, TWO, large_condition, with_part};
-use pddl_link::link;
+use pddl_link::Task;
 use pddl_plan_link::{StepFault, Steps, link_plan};
-use pddl_problem::read_problem;
 use pddl_text::Fixed;
-use pddl_tree::read_plan;
+use pddl_tree::Plan;
 use std::alloc::Allocator;
 use std::process::Abort;
 use std::test::Fail;
@@ -34,6 +33,20 @@ fn number_of(fault: &StepFault) -> Answer {
     }
 }
 
+/// What `link_plan` answers for a task and a text that is read.
+fn answered<R: Abort + AllocGlobal, A: Allocator, B: Allocator>(
+    rt: &R,
+    task: &Task<'_, '_, A, B>,
+    text: &str,
+) -> Result<Answer, Fail> {
+    let alloc = rt.alloc();
+    let plan = plan_of(&alloc, text)?;
+    match link_plan(&alloc, task, &plan) {
+        Ok(steps) => Ok(Answer::Linked(steps.len())),
+        Err(fault) => Ok(number_of(&fault)),
+    }
+}
+
 /// What `link_plan` answers for three texts that are read, of which the first two link.
 fn linked<R: Abort + AllocGlobal>(
     rt: &R,
@@ -42,19 +55,10 @@ fn linked<R: Abort + AllocGlobal>(
     plan: &str,
 ) -> Result<Answer, Fail> {
     let alloc = rt.alloc();
-    let domain = read_domain(&alloc, domain.as_bytes())
-        .ok()
-        .ok_or("a domain")?;
-    let problem = read_problem(&alloc, problem.as_bytes())
-        .ok()
-        .ok_or("a problem")?;
-    let plan = read_plan(&alloc, plan.as_bytes()).ok().ok_or("a plan")?;
-    let task = link(&alloc, &domain, &problem).ok().ok_or("a task")?;
-    let answer = match link_plan(&alloc, &task, &plan) {
-        Ok(steps) => Answer::Linked(steps.len()),
-        Err(fault) => number_of(&fault),
-    };
-    Ok(answer)
+    let domain = domain_of(&alloc, domain)?;
+    let problem = problem_of(&alloc, problem)?;
+    let task = task_of(&alloc, &domain, &problem)?;
+    answered(rt, &task, plan)
 }
 
 /// Plans for the lamps `a` and `b`, of which `b` is a big one.
@@ -147,32 +151,44 @@ fn check_step<'b, R: Abort + AllocGlobal, B: Allocator>(
     Ok(())
 }
 
-#[test]
-fn numbers_actions_and_objects(rt: HostRuntime) -> Result<(), Fail> {
+/// The numbers of three timed steps.
+fn check_timed_steps<R: Abort + AllocGlobal, A: Allocator, B: Allocator>(
+    rt: &R,
+    task: &Task<'_, '_, A, B>,
+) -> Result<(), Fail> {
     let alloc = rt.alloc();
-    let domain = read_domain(&alloc, LAMPS.as_bytes()).ok().ok_or("lamps")?;
-    let problem = read_problem(&alloc, TWO.as_bytes()).ok().ok_or("two")?;
-    let plan = read_plan(&alloc, b"1.5: (light b) 0: (dark) 0: (check a)")
-        .ok()
-        .ok_or("a plan")?;
-    let task = link(&alloc, &domain, &problem).ok().ok_or("a task")?;
-    let steps = link_plan(&alloc, &task, &plan).ok().ok_or("steps")?;
+    let plan = plan_of(&alloc, "1.5: (light b) 0: (dark) 0: (check a)")?;
+    let Ok(steps) = link_plan(&alloc, task, &plan) else {
+        return Err("steps")?;
+    };
     assert_eq!(rt; steps.len(), 3);
     assert!(rt; steps.get(3).is_none());
-    check_step(&rt, &steps, 0, 0, &[1], Fixed::new(1_500_000_000))?;
-    check_step(&rt, &steps, 1, 2, &[], Fixed::new(0))?;
-    check_step(&rt, &steps, 2, 1, &[0], Fixed::new(0))
+    check_step(rt, &steps, 0, 0, &[1], Fixed::new(1_500_000_000))?;
+    check_step(rt, &steps, 1, 2, &[], Fixed::new(0))?;
+    check_step(rt, &steps, 2, 1, &[0], Fixed::new(0))
+}
+
+/// The numbers of a plain step.
+fn check_plain_step<R: Abort + AllocGlobal, A: Allocator, B: Allocator>(
+    rt: &R,
+    task: &Task<'_, '_, A, B>,
+) -> Result<(), Fail> {
+    let alloc = rt.alloc();
+    let plan = plan_of(&alloc, "(light b)")?;
+    let Ok(steps) = link_plan(&alloc, task, &plan) else {
+        return Err("steps")?;
+    };
+    check_step(rt, &steps, 0, 0, &[1], None)
 }
 
 #[test]
-fn gives_plain_steps_no_moment(rt: HostRuntime) -> Result<(), Fail> {
+fn numbers_actions_and_objects(rt: HostRuntime) -> Result<(), Fail> {
     let alloc = rt.alloc();
-    let domain = read_domain(&alloc, LAMPS.as_bytes()).ok().ok_or("lamps")?;
-    let problem = read_problem(&alloc, TWO.as_bytes()).ok().ok_or("two")?;
-    let plan = read_plan(&alloc, b"(light b)").ok().ok_or("a plan")?;
-    let task = link(&alloc, &domain, &problem).ok().ok_or("a task")?;
-    let steps = link_plan(&alloc, &task, &plan).ok().ok_or("steps")?;
-    check_step(&rt, &steps, 0, 0, &[1], None)
+    let domain = domain_of(&alloc, LAMPS)?;
+    let problem = problem_of(&alloc, TWO)?;
+    let task = task_of(&alloc, &domain, &problem)?;
+    check_timed_steps(&rt, &task)?;
+    check_plain_step(&rt, &task)
 }
 
 #[test]
@@ -203,18 +219,15 @@ fn keeps_the_limit_of_steps(rt: HostRuntime) -> Result<(), Fail> {
     Ok(())
 }
 
-#[test]
-fn refuses_each_growth_of_a_plan(rt: HostRuntime) -> Result<(), Fail> {
-    let alloc = rt.alloc();
-    let domain = read_domain(&alloc, LAMPS.as_bytes()).ok().ok_or("lamps")?;
-    let problem = read_problem(&alloc, TWO.as_bytes()).ok().ok_or("two")?;
-    let plan = read_plan(&alloc, b"(check a)(light a)(light b)(dark)")
-        .ok()
-        .ok_or("a plan")?;
-    let task = link(&alloc, &domain, &problem).ok().ok_or("a task")?;
+/// Refuses each growth in turn while a plan of four steps is linked.
+fn refuses_growths<R: Abort + AllocGlobal, A: Allocator, B: Allocator, C: Allocator>(
+    rt: &R,
+    task: &Task<'_, '_, A, B>,
+    plan: &Plan<C>,
+) -> Result<(), Fail> {
     for n in 1..1000 {
         let refusing = Refusing::nth(rt.alloc(), n);
-        match link_plan(&refusing, &task, &plan) {
+        match link_plan(&refusing, task, plan) {
             Ok(steps) => assert_eq!(rt; steps.len(), 4, "growth {n}"),
             Err(fault) => {
                 assert_eq!(rt; number_of(&fault), Answer::Fault(0, None), "growth {n}");
@@ -230,4 +243,14 @@ fn refuses_each_growth_of_a_plan(rt: HostRuntime) -> Result<(), Fail> {
         }
     }
     Err("no run without a refusal")?
+}
+
+#[test]
+fn refuses_each_growth_of_a_plan(rt: HostRuntime) -> Result<(), Fail> {
+    let alloc = rt.alloc();
+    let domain = domain_of(&alloc, LAMPS)?;
+    let problem = problem_of(&alloc, TWO)?;
+    let plan = plan_of(&alloc, "(check a)(light a)(light b)(dark)")?;
+    let task = task_of(&alloc, &domain, &problem)?;
+    refuses_growths(&rt, &task, &plan)
 }

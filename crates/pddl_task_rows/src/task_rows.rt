@@ -1,11 +1,11 @@
 //! Linked tasks: what their calls answer.
 
-use pddl_domain::read_domain;
+use crate::reading::{domain_of, problem_of, task_of};
+use pddl_domain::Domain;
 use pddl_fakes::{LAMPS, Refusing, TWO, with_part};
 use pddl_formula::{TypeName, TypeNames};
-use pddl_link::{Task, link};
+use pddl_link::Task;
 use pddl_plan_link::initial_atoms;
-use pddl_problem::read_problem;
 use pddl_state::Atom;
 use pddl_tree::Name;
 use std::alloc::Allocator;
@@ -20,18 +20,11 @@ fn bytes_of<A: Allocator>(name: Option<&Name<A>>) -> Option<&[u8]> {
     }
 }
 
-#[test]
-fn numbers_what_a_task_names(rt: HostRuntime) -> Result<(), Fail> {
-    let alloc = rt.alloc();
-    let domain = with_part(
-        &rt,
-        LAMPS,
-        "(:predicates",
-        "(:constants b - big) (:predicates",
-    )?;
-    let domain = read_domain(&alloc, domain.as_bytes()).ok().ok_or("lamps")?;
-    let problem = read_problem(&alloc, TWO.as_bytes()).ok().ok_or("two")?;
-    let task = link(&alloc, &domain, &problem).ok().ok_or("a task")?;
+/// The numbers of the objects and predicates of the lamps, where `b` is a constant.
+fn check_numbers<R: Abort, A: Allocator, B: Allocator>(
+    rt: &R,
+    task: &Task<'_, '_, A, B>,
+) -> Result<(), Fail> {
     // Constants come first.
     for (number, name) in [(0, b"b".as_slice()), (1, b"a".as_slice())] {
         assert_eq!(rt; bytes_of(task.object_name(number)), Some(name));
@@ -50,6 +43,21 @@ fn numbers_what_a_task_names(rt: HostRuntime) -> Result<(), Fail> {
     Ok(())
 }
 
+#[test]
+fn numbers_what_a_task_names(rt: HostRuntime) -> Result<(), Fail> {
+    let alloc = rt.alloc();
+    let domain = with_part(
+        &rt,
+        LAMPS,
+        "(:predicates",
+        "(:constants b - big) (:predicates",
+    )?;
+    let domain = domain_of(&alloc, &domain)?;
+    let problem = problem_of(&alloc, TWO)?;
+    let task = task_of(&alloc, &domain, &problem)?;
+    check_numbers(&rt, &task)
+}
+
 /// Two types, and whether the first is a subtype of the second among those of the lamps.
 const SUBTYPES: [(&str, &str, bool); 9] = [
     ("big", "big", true),
@@ -63,16 +71,33 @@ const SUBTYPES: [(&str, &str, bool); 9] = [
     ("big", "small", false),
 ];
 
+/// What a task of the lamps says of two types.
+fn check_subtype<R: Abort + AllocGlobal, A: Allocator, B: Allocator>(
+    rt: &R,
+    task: &Task<'_, '_, A, B>,
+    sub: &str,
+    over: &str,
+    want: bool,
+) -> Result<(), Fail> {
+    let alloc = rt.alloc();
+    let Some(below) = Name::new(alloc, sub.as_bytes())? else {
+        return Err("a name")?;
+    };
+    let Some(above) = Name::new(alloc, over.as_bytes())? else {
+        return Err("a name")?;
+    };
+    assert_eq!(rt; task.is_a(&below, &above), want, "{sub} {over}");
+    Ok(())
+}
+
 #[test]
 fn tells_subtypes(rt: HostRuntime) -> Result<(), Fail> {
     let alloc = rt.alloc();
-    let domain = read_domain(&alloc, LAMPS.as_bytes()).ok().ok_or("lamps")?;
-    let problem = read_problem(&alloc, TWO.as_bytes()).ok().ok_or("two")?;
-    let task = link(&alloc, &domain, &problem).ok().ok_or("a task")?;
+    let domain = domain_of(&alloc, LAMPS)?;
+    let problem = problem_of(&alloc, TWO)?;
+    let task = task_of(&alloc, &domain, &problem)?;
     for (sub, over, want) in SUBTYPES {
-        let below = Name::new(alloc, sub.as_bytes())?.ok_or("a name")?;
-        let above = Name::new(alloc, over.as_bytes())?.ok_or("a name")?;
-        assert_eq!(rt; task.is_a(&below, &above), want, "{sub} {over}");
+        check_subtype(&rt, &task, sub, over, want)?;
     }
     Ok(())
 }
@@ -87,17 +112,14 @@ fn type_of<'a, B: Allocator>(alloc: &'a B, names: &[&str]) -> Result<TypeNames<&
     Ok(TypeNames::new(types).ok_or("types")?)
 }
 
-/// The numbers of the objects that fit a type, of a lamp, a big one, and one without a type.
-fn check_fitting<R: Abort + AllocGlobal>(
+/// The numbers of the objects of a task of the lamps that fit a type; there are three.
+fn check_fitting<R: Abort + AllocGlobal, A: Allocator, B: Allocator>(
     rt: &R,
+    task: &Task<'_, '_, A, B>,
     names: &[&str],
     want: &[usize],
 ) -> Result<(), Fail> {
     let alloc = rt.alloc();
-    let text = with_part(rt, TWO, "b - big", "b - big c")?;
-    let domain = read_domain(&alloc, LAMPS.as_bytes()).ok().ok_or("lamps")?;
-    let problem = read_problem(&alloc, text.as_bytes()).ok().ok_or("two")?;
-    let task = link(&alloc, &domain, &problem).ok().ok_or("a task")?;
     let types = type_of(&alloc, names)?;
     let fitting = task.fitting(&alloc, &types)?;
     assert_eq!(rt; fitting.as_slice(), want);
@@ -109,12 +131,25 @@ fn check_fitting<R: Abort + AllocGlobal>(
     Ok(())
 }
 
+/// The objects that fit types, of a lamp, a big one, and one without a type.
+fn check_objects<R: Abort + AllocGlobal, A: Allocator, B: Allocator>(
+    rt: &R,
+    task: &Task<'_, '_, A, B>,
+) -> Result<(), Fail> {
+    check_fitting(rt, task, &["big"], &[1])?;
+    check_fitting(rt, task, &["lamp"], &[0, 1])?;
+    check_fitting(rt, task, &["object"], &[0, 1, 2])?;
+    check_fitting(rt, task, &["big", "lamp"], &[0, 1])
+}
+
 #[test]
 fn finds_fitting_objects(rt: HostRuntime) -> Result<(), Fail> {
-    check_fitting(&rt, &["big"], &[1])?;
-    check_fitting(&rt, &["lamp"], &[0, 1])?;
-    check_fitting(&rt, &["object"], &[0, 1, 2])?;
-    check_fitting(&rt, &["big", "lamp"], &[0, 1])
+    let alloc = rt.alloc();
+    let text = with_part(&rt, TWO, "b - big", "b - big c")?;
+    let domain = domain_of(&alloc, LAMPS)?;
+    let problem = problem_of(&alloc, &text)?;
+    let task = task_of(&alloc, &domain, &problem)?;
+    check_objects(&rt, &task)
 }
 
 /// The atom of a number has these numbers.
@@ -131,21 +166,30 @@ fn check_atom<R: Abort + AllocGlobal, B: Allocator>(
     Ok(())
 }
 
+/// The numbers of four initial atoms of the lamps.
+fn check_atoms<R: Abort + AllocGlobal, A: Allocator, B: Allocator>(
+    rt: &R,
+    task: &Task<'_, '_, A, B>,
+) -> Result<(), Fail> {
+    let alloc = rt.alloc();
+    let atoms = initial_atoms(&alloc, task)?;
+    assert_eq!(rt; atoms.len(), 4);
+    for (number, predicate, object) in [(0, 1, 0), (1, 0, 1), (2, 1, 1), (3, 1, 1)] {
+        check_atom(rt, &atoms, number, predicate, &[object])?;
+    }
+    let refusing = Refusing::each(rt.alloc());
+    assert!(rt; initial_atoms(&refusing, task).is_err());
+    Ok(())
+}
+
 #[test]
 fn numbers_the_initial_atoms(rt: HostRuntime) -> Result<(), Fail> {
     let alloc = rt.alloc();
     let text = with_part(&rt, TWO, "(ok b)", "(on b) (not (on a)) (ok b) (ok b)")?;
-    let domain = read_domain(&alloc, LAMPS.as_bytes()).ok().ok_or("lamps")?;
-    let problem = read_problem(&alloc, text.as_bytes()).ok().ok_or("two")?;
-    let task = link(&alloc, &domain, &problem).ok().ok_or("a task")?;
-    let atoms = initial_atoms(&alloc, &task)?;
-    assert_eq!(rt; atoms.len(), 4);
-    for (number, predicate, object) in [(0, 1, 0), (1, 0, 1), (2, 1, 1), (3, 1, 1)] {
-        check_atom(&rt, &atoms, number, predicate, &[object])?;
-    }
-    let refusing = Refusing::each(rt.alloc());
-    assert!(rt; initial_atoms(&refusing, &task).is_err());
-    Ok(())
+    let domain = domain_of(&alloc, LAMPS)?;
+    let problem = problem_of(&alloc, &text)?;
+    let task = task_of(&alloc, &domain, &problem)?;
+    check_atoms(&rt, &task)
 }
 
 /// The cost of a function of these objects is the wanted one.
@@ -184,9 +228,9 @@ fn finds_costs(rt: HostRuntime) -> Result<(), Fail> {
         "(= (price a) 3)",
         "(= total-cost 0) (= (PRICE A) 3.0) (= (price a) 3)",
     )?;
-    let domain = read_domain(&alloc, LAMPS.as_bytes()).ok().ok_or("lamps")?;
-    let problem = read_problem(&alloc, text.as_bytes()).ok().ok_or("two")?;
-    let task = link(&alloc, &domain, &problem).ok().ok_or("a task")?;
+    let domain = domain_of(&alloc, LAMPS)?;
+    let problem = problem_of(&alloc, &text)?;
+    let task = task_of(&alloc, &domain, &problem)?;
     check_costs(&rt, &task)
 }
 
@@ -197,19 +241,29 @@ const SIZES: [(&str, u32); 3] = [
     ("(forall () (on a))", 2),
 ];
 
+/// The ground size of a goal over one lamp and no big one.
+fn check_size<'a, R: Abort + AllocGlobal, B: Allocator>(
+    rt: &R,
+    alloc: &'a B,
+    domain: &Domain<&'a B>,
+    goal: &str,
+    size: u32,
+) -> Result<(), Fail> {
+    let text = format!(in rt.alloc();
+        "(define (problem p) (:domain lamps) (:objects a - lamp) (:init) (:goal {goal}))"
+    )?;
+    let problem = problem_of(alloc, &text)?;
+    let task = task_of(alloc, domain, &problem)?;
+    assert_eq!(rt; task.ground_size(&problem.goal), size, "{goal}");
+    Ok(())
+}
+
 #[test]
 fn measures_formulas(rt: HostRuntime) -> Result<(), Fail> {
     let alloc = rt.alloc();
-    let domain = read_domain(&alloc, LAMPS.as_bytes()).ok().ok_or("lamps")?;
+    let domain = domain_of(&alloc, LAMPS)?;
     for (goal, size) in SIZES {
-        let text = format!(in alloc;
-            "(define (problem p) (:domain lamps) (:objects a - lamp) (:init) (:goal {goal}))"
-        )?;
-        let problem = read_problem(&alloc, text.as_bytes())
-            .ok()
-            .ok_or("a problem")?;
-        let task = link(&alloc, &domain, &problem).ok().ok_or("a task")?;
-        assert_eq!(rt; task.ground_size(&problem.goal), size, "{goal}");
+        check_size(&rt, &alloc, &domain, goal, size)?;
     }
     Ok(())
 }
