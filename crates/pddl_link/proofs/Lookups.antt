@@ -1,5 +1,5 @@
 -- Names that are looked up.
-use Rattle.std.proofs.Common.{◌≡◌, ℕ, ◌+◌, ◌<◌, Bool, true, false, ◌||◌, not, cond, List, [], ◌∷◌, ◌++◌, map, length, get_or, drop, ◌==◌, Option, Some, None, refl, ap, sym, ◌∙◌, bytes_eq, add-one, drop-cons}
+use Rattle.std.proofs.Common.{◌≡◌, ℕ, ◌+◌, ◌<◌, Bool, true, false, ◌||◌, not, cond, List, [], ◌∷◌, ◌++◌, map, length, get_or, drop, ◌==◌, Option, Some, None, refl, ap, sym, ◌∙◌, bytes_eq}
 use Rattle.std.specs.Prelude.{is_some, find, option_map}
 use Rattle.std.specs.Borrow.{Bor}
 use Rattle.std.specs.List.{flat_map}
@@ -13,6 +13,7 @@ use Rattle.pddl_task.specs.Names.{Name, is_in, is_named, item_of}
 use Rattle.pddl_task.specs.Settings.{symbol_of}
 use Rattle.pddl_task.specs.Faults.{primitives_of, takes_others}
 use Rattle.pddl_link.specs.KnownNames.{signature_in, object_in}
+use Rattle.pddl_link.proofs.ListPasses.{views_drop}
 
 found_or : {X : Type 0} (b : Bool) (x : X) (o : Option X) → is_some (cond b (Some x) o) ≡ b || is_some o
 found_or true x o = refl
@@ -77,13 +78,6 @@ takes_found {A} es n ts o is =
 
 -- ---- what stands in lists, in turn
 
-views_front : {X Y : Type 0} (view : X → Y) (xs : List X) (i : ℕ) (x : X) → i < length xs → map view (drop i xs) ≡ view (get_or xs i x) ∷ map view (drop (i + 1) xs)
-views_front view xs i x h = rw (add-one, drop-cons xs i x) refl
-
--- what is left of a list: its first, and the rest
-pub views_left : {X Y : Type 0} (view : X → Y) (xs : List X) (i : ℕ) (x : X) → i < length xs → x ≡ get_or xs i x → map view (drop i xs) ≡ view x ∷ map view (drop (i + 1) xs)
-views_left view xs i x h is = views_front view xs i x h ∙ ap (λ y. view y ∷ map view (drop (i + 1) xs)) (sym is)
-
 pub words_left : {X Y : Type 0} (word : Y → List Name) (view : X → Y) (xs : List X) (i : ℕ) (x : X) → i < length xs → x ≡ get_or xs i x
     → flat_map word (map view (drop i xs)) ≡ word (view x) ++ flat_map word (map view (drop (i + 1) xs))
-words_left word view xs i x h is = ap (flat_map word) (views_left view xs i x h is)
+words_left word view xs i x h is = ap (flat_map word) (views_drop view xs i x h is)

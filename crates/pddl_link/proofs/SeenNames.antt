@@ -1,5 +1,5 @@
 -- Names that are seen one after another.
-use Rattle.std.proofs.Common.{◌≡◌, ℕ, ◌+◌, ◌<◌, Bool, true, false, ◌||◌, not, cond, List, [], ◌∷◌, ◌++◌, length, get_or, drop, map, refl, ap, sym, ◌∙◌, subst, arith, add-one, drop-cons, bytes_eq}
+use Rattle.std.proofs.Common.{◌≡◌, ℕ, ◌+◌, ◌<◌, Bool, true, false, ◌||◌, not, cond, List, [], ◌∷◌, ◌++◌, length, get_or, drop, map, refl, ap, sym, ◌∙◌, subst, arith, bytes_eq}
 use Rattle.std.specs.Prelude.{Contains, Option, Some, None, MatchOption}
 use Rattle.std.specs.Borrow.{Bor}
 use Rattle.std.specs.List.{list_any}
@@ -11,6 +11,7 @@ use Rattle.pddl_domain.specs.declared.domain.DeclaredFunction.{DeclaredFunction}
 use Rattle.pddl_domain.specs.Declarations.{type_view, predicate_view, function_view}
 use Rattle.pddl_task.specs.Settings.{symbol_of}
 use Rattle.pddl_task.specs.Names.{Name, is_in, word_if, repeated, item_of}
+use Rattle.pddl_link.proofs.ListPasses.{views_drop}
 
 -- the texts that references lend
 abbrev pub texts : List (Bor (List ℕ)) → List (List ℕ)
@@ -38,19 +39,13 @@ not_off a b h k = grind arith
 pub not_on : (a b : Bool) → a ≡ not b → a ≡ true → b ≡ false
 not_on a b h k = grind arith
 
-front : {X : Type 0} (name : X → Name) (xs : List X) (i : ℕ) (x : X) → i < length xs → map name (drop i xs) ≡ name (get_or xs i x) ∷ map name (drop (i + 1) xs)
-front name xs i x h = rw (add-one, drop-cons xs i x) refl
-
-names_drop : {X : Type 0} (name : X → Name) (xs : List X) (i : ℕ) (x : X) → i < length xs → x ≡ get_or xs i x → map name (drop i xs) ≡ name x ∷ map name (drop (i + 1) xs)
-names_drop name xs i x h at = front name xs i x h ∙ ap (λ y. name y ∷ map name (drop (i + 1) xs)) (sym at)
-
 -- a name that was in a set of the names so far is a repetition
 pub seen_again : {X : Type 0} (name : X → Name) (xs : List X) (i : ℕ) (x : X) (keys : List (Bor (List ℕ))) (key : Bor (List ℕ)) (whole : List Name) (is_new : Bool)
     → i < length xs → x ≡ get_or xs i x → key.now ≡ name x → repeated (texts keys) (map name (drop i xs)) ≡ whole
     → is_new ≡ not (list_any (λ k. bytes_eq key.now k.now) keys) → is_new ≡ false → Contains whole key.now
 seen_again name xs i x keys key whole is_new h at same inv told off =
     subst (λ n. Contains whole n) (sym same)
-    (again (texts keys) (map name (drop (i + 1) xs)) whole (name x) (sym (ap (repeated (texts keys)) (names_drop name xs i x h at)) ∙ inv)
+    (again (texts keys) (map name (drop (i + 1) xs)) whole (name x) (sym (ap (repeated (texts keys)) (views_drop name xs i x h at)) ∙ inv)
     (is_in-texts keys (name x) ∙ ap (λ n. list_any (λ k. bytes_eq n k.now) keys) (sym same) ∙ not_off is_new (list_any (λ k. bytes_eq key.now k.now) keys) told off))
 
 -- another one is added to them
@@ -63,7 +58,7 @@ seen_fresh name xs i x keys next key whole is_new h at same inv told on is =
     let now : texts next ≡ texts keys ++ name x ∷ [] =
     ap texts (is ∙ ap (λ b. cond b keys (keys ++ key ∷ [])) none) ∙ texts-push keys key ∙ ap (λ n. texts keys ++ n ∷ []) same in
     ap (λ ks. repeated ks (map name (drop (i + 1) xs))) now
-    ∙ fresh (texts keys) (map name (drop (i + 1) xs)) whole (name x) (sym (ap (repeated (texts keys)) (names_drop name xs i x h at)) ∙ inv)
+    ∙ fresh (texts keys) (map name (drop (i + 1) xs)) whole (name x) (sym (ap (repeated (texts keys)) (views_drop name xs i x h at)) ∙ inv)
     (is_in-texts keys (name x) ∙ ap (λ n. list_any (λ k. bytes_eq n k.now) keys) (sym same) ∙ none)
 
 -- what a search for one answers

@@ -17,7 +17,8 @@ numbers_of n [] f from c = absurd (omega (arith, c.1))
 numbers_of n (g ∷ fs) f from (zero, low, is) = subst (λ h. n ≤ h.number) is from.0
 numbers_of n (g ∷ fs) f from (suc i, low, is) = numbers_of n fs f from.1 (i, omega arith, is)
 
-none_behind : (before fs : List Fault) → NoneStands before → NoneStands fs → NoneStands (before ++ fs)
+-- where none of the first faults stands, and none of those after them, none does
+pub none_behind : (before fs : List Fault) → NoneStands before → NoneStands fs → NoneStands (before ++ fs)
 none_behind [] fs none more = more
 none_behind (f ∷ before) fs none more = (none.0, none_behind before fs none.1 more)
 

@@ -1,4 +1,4 @@
--- Faults that are looked for part by part, or last.
+-- Faults that are looked for part by part.
 use Rattle.std.specs.Prelude.{not, List, [], ◌∷◌, ◌++◌, filter}
 use Rattle.std.specs.List.{flat_map}
 use Rattle.pddl_formula.specs.TypedLists.{TypedValue}
@@ -9,12 +9,26 @@ use Rattle.pddl_task.specs.Names.{Name, is_in}
 use Rattle.pddl_task.specs.Types.{types_of}
 use Rattle.pddl_task.specs.Places.{Place, domain_places, problem_places}
 use Rattle.pddl_task.specs.Settings.{in_domain, in_problem}
-use Rattle.pddl_task.specs.Faults.{primitives_of, unknown_at, arity_at, misfit_at, fraction_at, contradictions, cost_values, object_fluents, other_metrics, conditional_costs, large_goals}
+use Rattle.pddl_task.specs.Faults.{primitives_of, domain_names, types_twice, type_cycles, unknown_types, domain_typed, problem_typed, domain_repeats, problem_repeats, object_types, unknown_at, arity_at, misfit_at, fraction_at, contradictions, cost_values, object_fluents, other_metrics, conditional_costs, large_goals}
 use Rattle.pddl_task.specs.Linked.{Fault, fault}
 
 -- of typed names and variables, the primitive types that are none of these types
 abbrev pub unknown_among : List TypeValue → List TypedValue → List Name
 unknown_among declared xs = filter (λ t. not (is_in (types_of declared) t)) (flat_map primitives_of xs)
+
+-- the faults of a domain and a problem that are looked for first, up to those of types
+abbrev pub type_faults : DomainValue → ProblemValue → List Fault
+type_faults d p =
+    fault 20 (domain_names d p) ∷
+    fault 21 (types_twice d) ∷
+    fault 22 (type_cycles d) ∷
+    fault 23 (unknown_types d (domain_typed d) ++ unknown_types d (problem_typed p)) ∷ []
+
+-- then those of names
+abbrev pub name_faults : DomainValue → ProblemValue → List Fault
+name_faults d p =
+    fault 24 (domain_repeats d ++ problem_repeats d p) ∷
+    fault 25 (object_types d.constants ++ object_types p.objects) ∷ []
 
 -- the words of the places of a domain and a problem, looked for in two ways
 abbrev pub words_of_both : (Place → List Name) → (Place → List Name) → DomainValue → ProblemValue → List Name

@@ -3,7 +3,7 @@ use Rattle.std.proofs.lemmas.List.{drop_all}
 use Rattle.pddl_domain.specs.Actions.{action_view}
 use Rattle.pddl_task.specs.Tasks.{task_count}
 use Rattle.pddl_link.specs.LinkedTasks.{task_of_files}
-use Rattle.pddl_link.proofs.Lookups.{views_left}
+use Rattle.pddl_link.proofs.ListPasses.{views_drop}
 use Rattle.pddl_link.proofs.SignatureTables.{held_more, held_all}
 use Rattle.pddl_plan_link.specs.StepTables.{named_action, named_in}
 use Rattle.pddl_plan_link.proofs.NamedActions.{name_in, is_named, held_start, entry_is}
@@ -20,7 +20,7 @@ loop-action-preserved g c =
     let i = c.loop-action.action-index in
     let x = c.action-item.result in
     held_more named_in name_in is_named c.loop-action.table c.insert.new.self (map named (map action_view xs)) (map named (map action_view (drop i xs))) (map named (map action_view (drop (i + 1) xs)))
-    (named (action_view x)) c.as_bytes.result c.sized_action.result (ap (map named) (views_left action_view xs i x c.loop-action-test.true c.action-item.is))
+    (named (action_view x)) c.as_bytes.result c.sized_action.result (ap (map named) (views_drop action_view xs i x c.loop-action-test.true c.action-item.is))
     (entry_is (task_count (task_of_files c.args.task.now)) c.as_bytes.result c.sized_action.result x c.as_bytes.ensures.value c.sized_action.ensures.action c.sized_action.ensures.size) refl c.loop-action.invariant c.in_ok-insert.ensures.entries
 
 pub returns : goal.returns
