@@ -51,6 +51,13 @@ impl<A: Allocator> FakeSink<A> {
         FakeSink::new(alloc, usize::MAX, 0, Failure::Answers)
     }
 
+    /// How many writes failed.
+    pub fn failures(&self) -> u64
+        ensures { result ≡ ⟦<FakeSink<A> as Sink>⟧.failures self.now }
+    {
+        self.failures
+    }
+
     /// What was taken.
     pub fn held(&self) -> &[u8]
         ensures { ⟦<FakeSink<A> as Sink>⟧.contents self.now ≡ Some result.now }

@@ -43,6 +43,13 @@ impl<'a> FakeSource<'a> {
         FakeSource::new(text, usize::MAX, 0)
     }
 
+    /// How many reads failed.
+    pub fn failures(&self) -> u64
+        ensures { result ≡ ⟦<FakeSource<'a> as Source>⟧.failures self.now }
+    {
+        self.failures
+    }
+
     /// What is left of the text.
     pub fn left(&self) -> &'a [u8]
         ensures { ⟦<FakeSource<'a> as Source>⟧.remaining self.now ≡ Some result.now }

@@ -1,0 +1,174 @@
+//! What a task answers to a line.
+
+use super::lines::Lines;
+use super::numbers::past_objects;
+use super::values::text_of;
+use crate::row::Asked;
+use pddl_commands::Outcome;
+use pddl_formula::{TypeName, TypeNames};
+use pddl_link::Task;
+use pddl_tree::Name;
+use std::alloc::Allocator;
+
+/// Adds a name, and the number of the object and of the predicate of that name.
+fn add_named<A: Allocator, C: Allocator, B: Allocator>(
+    task: &Task<'_, '_, A, C>,
+    name: &str,
+    lines: &mut Lines<'_, B>,
+) {
+    let name = name.as_bytes();
+    lines.word(name);
+    lines.place_or_none(task.object_number(name));
+    lines.place_or_none(task.predicate_number(name));
+}
+
+/// Adds whether the first of two types is a subtype of the second.
+fn add_is_a<A: Allocator, C: Allocator, B: Allocator>(
+    alloc: &B,
+    task: &Task<'_, '_, A, C>,
+    line: &str,
+    lines: &mut Lines<'_, B>,
+) {
+    let (sub, over) = line.split_once(' ').unwrap_or((line, ""));
+    let sub = lines.kept(Name::new(alloc, sub.as_bytes()));
+    let over = lines.kept(Name::new(alloc, over.as_bytes()));
+    if let (Some(sub), Some(over)) = (&sub, &over) {
+        lines.shown(&task.is_a(sub, over));
+    }
+}
+
+/// Adds the primitive of a name, if it has one, to those of a type.
+fn add_primitive<'a, B: Allocator>(
+    name: Option<Name<&'a B>>,
+    types: &mut Vec<TypeName<&'a B>, &'a B>,
+    lines: &mut Lines<'_, B>,
+) {
+    if let Some(primitive) = name.and_then(TypeName::new) {
+        if types.push(primitive).is_err() {
+            lines.refuse();
+        }
+    }
+}
+
+/// Adds the primitives of a line to those of a type.
+fn add_primitives<'a, B: Allocator>(
+    alloc: &'a B,
+    line: &str,
+    types: &mut Vec<TypeName<&'a B>, &'a B>,
+    lines: &mut Lines<'_, B>,
+) {
+    for word in line.split(' ') {
+        let name = lines.kept(Name::new(alloc, word.as_bytes()));
+        add_primitive(name, types, lines);
+    }
+}
+
+/// Adds the numbers of the objects that fit, as they are told one by one.
+fn add_fits<A: Allocator, C: Allocator, N: Allocator, B: Allocator>(
+    task: &Task<'_, '_, A, C>,
+    types: &TypeNames<N>,
+    lines: &mut Lines<'_, B>,
+) {
+    for number in 0..past_objects(task) {
+        if task.object_fits(number, types) {
+            lines.number(number as u64);
+        }
+    }
+}
+
+/// Adds the numbers of the objects that fit a type, as a list and one by one.
+fn add_fitting_of<A: Allocator, C: Allocator, B: Allocator>(
+    alloc: &B,
+    task: &Task<'_, '_, A, C>,
+    types: Option<TypeNames<&B>>,
+    lines: &mut Lines<'_, B>,
+) {
+    let Some(types) = &types else {
+        return;
+    };
+    match task.fitting(alloc, types) {
+        Ok(numbers) => lines.numbers(&numbers),
+        Err(_) => lines.refuse(),
+    }
+    lines.word(b"-");
+    add_fits(task, types, lines);
+}
+
+/// Adds the numbers of the objects that fit the type that has the primitives of a line.
+fn add_fitting<A: Allocator, C: Allocator, B: Allocator>(
+    alloc: &B,
+    task: &Task<'_, '_, A, C>,
+    line: &str,
+    lines: &mut Lines<'_, B>,
+) {
+    let mut types = Vec::new(alloc);
+    add_primitives(alloc, line, &mut types, lines);
+    add_fitting_of(alloc, task, TypeNames::new(types), lines);
+}
+
+/// Adds the words of a line to others.
+fn add_words<'t, B: Allocator>(
+    line: &'t str,
+    words: &mut Vec<&'t [u8], &B>,
+    lines: &mut Lines<'_, B>,
+) {
+    for word in line.split(' ') {
+        if words.push(word.as_bytes()).is_err() {
+            lines.refuse();
+        }
+    }
+}
+
+/// Adds the cost of a function of objects, or `none`.
+fn add_cost_of<A: Allocator, C: Allocator, B: Allocator>(
+    task: &Task<'_, '_, A, C>,
+    words: &[&[u8]],
+    lines: &mut Lines<'_, B>,
+) {
+    if let Some((function, objects)) = words.split_first() {
+        lines.number_or_none(task.cost(function, objects));
+    }
+}
+
+/// Adds the cost of the function of objects that a line names.
+fn add_cost<A: Allocator, C: Allocator, B: Allocator>(
+    alloc: &B,
+    task: &Task<'_, '_, A, C>,
+    line: &str,
+    lines: &mut Lines<'_, B>,
+) {
+    let mut words = Vec::new(alloc);
+    add_words(line, &mut words, lines);
+    add_cost_of(task, &words, lines);
+}
+
+/// Adds what a task answers to a line.
+fn add_answer<A: Allocator, C: Allocator, B: Allocator>(
+    alloc: &B,
+    asked: Asked,
+    task: &Task<'_, '_, A, C>,
+    line: &str,
+    lines: &mut Lines<'_, B>,
+) {
+    match asked {
+        Asked::Names => add_named(task, line, lines),
+        Asked::Subtypes => add_is_a(alloc, task, line, lines),
+        Asked::Fitting => add_fitting(alloc, task, line, lines),
+        Asked::Costs => add_cost(alloc, task, line, lines),
+    }
+    lines.end();
+}
+
+/// Adds what a task answers to each line.
+pub fn add_answers<A: Allocator, C: Allocator, B: Allocator>(
+    alloc: &B,
+    asked: Asked,
+    task: &Task<'_, '_, A, C>,
+    text: &[u8],
+    lines: &mut Lines<'_, B>,
+) -> Outcome {
+    for line in text_of(text).lines() {
+        add_answer(alloc, asked, task, line, lines);
+    }
+    Outcome::Good
+}

@@ -1,0 +1,83 @@
+//! Problems.
+
+use super::domain::{add_name, add_requirements};
+use super::faults::add_file_fault;
+use super::lines::Lines;
+use super::plan::add_each;
+use super::types::add_typed;
+use pddl_commands::Outcome;
+use pddl_problem::{Direction, Fact, GroundFunction, InitItem, Metric, Problem, read_problem};
+use std::alloc::Allocator;
+
+/// Adds a fact behind a word.
+fn add_fact<A: Allocator, B: Allocator>(word: &[u8], fact: &Fact<A>, lines: &mut Lines<'_, B>) {
+    lines.word(word);
+    lines.word(fact.predicate.as_bytes());
+    add_each(&fact.objects, lines)
+}
+
+/// Adds a function of objects behind a word.
+fn add_function<A: Allocator, B: Allocator>(
+    word: &[u8],
+    function: &GroundFunction<A>,
+    lines: &mut Lines<'_, B>,
+) {
+    lines.word(word);
+    lines.word(function.function.as_bytes());
+    add_each(&function.objects, lines)
+}
+
+/// Adds what an item of `:init` says.
+fn add_item<A: Allocator, B: Allocator>(item: &InitItem<A>, lines: &mut Lines<'_, B>) {
+    match item {
+        InitItem::Holds(fact) => add_fact(b"holds", fact, lines),
+        InitItem::Fails(fact) => add_fact(b"fails", fact, lines),
+        InitItem::Value(function, value) => {
+            lines.word(b"value");
+            lines.number(value.billionths());
+            add_function(b"of", function, lines);
+        }
+    }
+    lines.end();
+}
+
+/// Adds a line for each item of `:init`.
+fn add_init<A: Allocator, B: Allocator>(items: &[InitItem<A>], lines: &mut Lines<'_, B>) {
+    for item in items {
+        add_item(item, lines);
+    }
+}
+
+/// Adds a metric, if there is one.
+fn add_metric<A: Allocator, B: Allocator>(metric: Option<&Metric<A>>, lines: &mut Lines<'_, B>) {
+    let Some(metric) = metric else {
+        return;
+    };
+    match metric.direction {
+        Direction::Minimize => add_function(b"minimize", &metric.function, lines),
+        Direction::Maximize => add_function(b"maximize", &metric.function, lines),
+    }
+    lines.end();
+}
+
+/// Adds a problem's parts.
+fn add_parts<A: Allocator, B: Allocator>(
+    problem: &Problem<A>,
+    lines: &mut Lines<'_, B>,
+) -> Outcome {
+    add_name(b"problem", &problem.name, lines);
+    add_name(b"domain", &problem.domain, lines);
+    add_requirements(&problem.requirements, lines);
+    add_typed(b"object", &problem.objects, lines);
+    add_init(&problem.init, lines);
+    add_metric(problem.metric.as_ref(), lines);
+    Outcome::Good
+}
+
+/// Adds the parts of the problem that a text spells.
+pub fn add_problem<B: Allocator>(alloc: &B, text: &[u8], lines: &mut Lines<'_, B>) -> Outcome {
+    match read_problem(alloc, text) {
+        Ok(problem) => add_parts(&problem, lines),
+        Err(fault) => add_file_fault(&fault, lines),
+    }
+}

@@ -1,0 +1,106 @@
+//! Words and items of texts.
+
+use super::faults::add_text_fault;
+use super::lines::Lines;
+use pddl_commands::Outcome;
+use pddl_text::{Item, TextFault, Token, items_of, lex, lists};
+use std::alloc::Allocator;
+
+/// Adds a word's kind, its span and its bytes.
+fn add_token<B: Allocator>(token: &Token<'_>, lines: &mut Lines<'_, B>) {
+    lines.shown(&token.kind);
+    lines.span(token.span);
+    lines.word(token.text);
+    lines.end();
+}
+
+/// Adds a line for each word.
+fn add_tokens<B: Allocator>(tokens: &[Token<'_>], lines: &mut Lines<'_, B>) -> Outcome {
+    for token in tokens {
+        add_token(token, lines);
+    }
+    Outcome::Good
+}
+
+/// Adds a line for each word of a text.
+pub fn add_words<B: Allocator>(alloc: &B, text: &[u8], lines: &mut Lines<'_, B>) -> Outcome {
+    match lex(alloc, text) {
+        Ok(tokens) => add_tokens(&tokens, lines),
+        Err(fault) => add_text_fault(fault, lines),
+    }
+}
+
+/// Adds a word, or a list's span and how many items it has.
+fn add_item<A: Allocator, B: Allocator>(item: &Item<'_, A>, lines: &mut Lines<'_, B>) {
+    match item {
+        Item::Word(token) => add_token(token, lines),
+        Item::List(items, span) => {
+            lines.word(b"List");
+            lines.span(*span);
+            lines.word(b"of");
+            lines.number(items.len() as u64);
+            lines.end();
+        }
+    }
+}
+
+/// Adds a line for each item of a list, behind a dash.
+fn add_inner<A: Allocator, B: Allocator>(item: &Item<'_, A>, lines: &mut Lines<'_, B>) {
+    if let Item::List(items, _) = item {
+        for inner in items {
+            lines.word(b"-");
+            add_item(inner, lines);
+        }
+    }
+}
+
+/// Adds a line for each item, and for each of those in it.
+fn add_all<A: Allocator, B: Allocator>(items: &[Item<'_, A>], lines: &mut Lines<'_, B>) -> Outcome {
+    for item in items {
+        add_item(item, lines);
+        add_inner(item, lines);
+    }
+    Outcome::Good
+}
+
+/// Adds the lines for the items of a text.
+pub fn add_items<B: Allocator>(alloc: &B, text: &[u8], lines: &mut Lines<'_, B>) -> Outcome {
+    match items_of(alloc, text) {
+        Ok(items) => add_all(&items, lines),
+        Err(fault) => add_text_fault(fault, lines),
+    }
+}
+
+/// Adds the lines for the items of words.
+fn add_nested<B: Allocator>(alloc: &B, tokens: &[Token<'_>], lines: &mut Lines<'_, B>) -> Outcome {
+    match lists(alloc, tokens) {
+        Ok(items) => add_all(&items, lines),
+        Err(fault) => add_text_fault(fault, lines),
+    }
+}
+
+/// Adds the lines for the items of a text's words.
+pub fn add_lists<B: Allocator>(alloc: &B, text: &[u8], lines: &mut Lines<'_, B>) -> Outcome {
+    match lex(alloc, text) {
+        Ok(tokens) => add_nested(alloc, &tokens, lines),
+        Err(fault) => add_text_fault(fault, lines),
+    }
+}
+
+/// Adds what is said of a fault.
+fn add_message<B: Allocator>(fault: TextFault, lines: &mut Lines<'_, B>) -> Outcome {
+    if fault == TextFault::Memory {
+        lines.refuse();
+    }
+    lines.said(&fault);
+    lines.end();
+    Outcome::Refused
+}
+
+/// Adds what is said of the fault in a text, if there is one.
+pub fn add_fault<B: Allocator>(alloc: &B, text: &[u8], lines: &mut Lines<'_, B>) -> Outcome {
+    match items_of(alloc, text) {
+        Ok(_) => Outcome::Good,
+        Err(fault) => add_message(fault, lines),
+    }
+}

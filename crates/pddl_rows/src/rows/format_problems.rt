@@ -1,0 +1,145 @@
+//! What `format problem` prints.
+
+pub static FORMAT_PROBLEMS: &str = r"row problem 1
+copy two
+file
+copy two
+good format problem
+
+row problem 2
+copy flipped
+file
+copy flipped
+good format problem
+
+row problem 3
+file (define (problem p) (:domain d) (:init))
+| problem: fault 14 Missing :goal
+refused format problem
+
+row problem 4
+file (define (problem p))
+| problem: fault 14 Missing :domain
+refused format problem
+
+row problem 5
+file (define (problem p) (:domain d) (:goal ()))
+| problem: fault 14 Missing :init
+refused format problem
+
+row problem 6
+file (define (problem p) (:domain d) (:init (AT 5 (p))) (:goal ()))
+| problem: fault 12 Unsupported at at 1:40
+refused format problem
+
+row problem 7
+file (define (problem p) (:goal ()) (:init (At truck Depot)) (:domain d))
+| (define (problem p)
+|   (:domain d)
+|   (:init (at truck depot))
+|   (:goal (and))
+| )
+good format problem
+
+row problem 8
+file (define (problem p) (:domain d) (:init (= (f a) b)) (:goal ()))
+| problem: fault 11 Section at 1:33
+refused format problem
+
+row problem 9
+| (define (problem p) (:domain d) (:init)
+file (:domain e))
+| problem: fault 13 Twice :domain at 2:1
+refused format problem
+
+row problem 10
+file (define (problem p) (:init (not (p)) (= (f a) 02.50) (= f 0)) (:domain d) (:goal (p)) (:metric MAXIMIZE f))
+| (define (problem p)
+|   (:domain d)
+|   (:init (not (p)) (= (f a) 2.5) (= (f) 0))
+|   (:goal (p))
+|   (:metric maximize (f))
+| )
+good format problem
+
+row problem 11
+file (define (domain d))
+| problem: fault 10 Head at 1:1
+refused format problem
+
+row problem 12
+file (define (problem p) ?)
+| problem: fault 2 Stray at 1:21
+refused format problem
+
+row problem 13
+file ((
+| problem: fault 7 Unclosed at 1:1
+refused format problem
+
+row two lamps spelled otherwise 1
+copy two
+change (:objects a - lamp b - big) => (:objects a -lamp ; a comment\nb -big)
+file
+copy two
+good format problem
+
+row two lamps spelled otherwise 2
+copy two
+change (:metric minimize (total-cost)) => (:metric minimize total-cost)
+file
+copy two
+good format problem
+
+row two lamps spelled otherwise 3
+copy two
+change (= (price a) 3) => (= (PRICE A) 03.0)
+file
+copy two
+good format problem
+
+row the deepest goal
+part (define (problem p) (:domain d) (:init) (:goal\s
+times 125 (and\s
+part (and)
+times 125 )
+file ))
+| (define (problem p)
+|   (:domain d)
+|   (:init)
+part   (:goal\s
+times 125 (and\s
+part (and)
+times 125 )
+| )
+| )
+good format problem
+
+row a goal one level deeper
+part (define (problem p) (:domain d) (:init) (:goal\s
+times 126 (and\s
+part (and)
+times 126 )
+file ))
+| problem: fault 6 TooDeep at 1:678
+refused format problem
+
+row a text that is too long
+times 16777217 \s
+file
+| problem: fault 1 TooLong
+once refused format problem
+
+row a problem without a domain, whose growths are refused
+growths 5
+file (define (problem p) (:init))
+| problem: fault 14 Missing :domain
+refused format problem
+
+row two lamps whose growths are refused
+growths 5
+copy two
+file
+copy two
+good format problem
+";

@@ -1,0 +1,341 @@
+//! What `problem` prints.
+
+pub static PROBLEMS: &str = r"row files 1
+copy lamps
+file
+copy two
+file
+| good: problem two
+good problem
+
+row files 2
+copy flips
+file
+copy flipped
+file
+| good: problem w1
+good problem
+
+row files 3
+copy flips
+file
+copy two
+file
+| link: fault 20 DomainName lamps
+refused problem
+
+row files 4
+copy lamps
+file
+file (define (problem p) (:domain lamps) (:init))
+| problem: fault 14 Missing :goal
+refused problem
+
+row files 5
+copy idle
+file
+file (define (problem p) (:domain d) (:init))
+| problem: fault 14 Missing :goal
+refused problem
+
+row files 6
+copy idle
+file
+file (define (problem p) (:domain d) (:init (q)) (:goal (r)))
+| link: fault 23 UnknownType lamp
+refused problem
+
+row files 7
+file (define (domain d) x)
+file &
+| domain: fault 11 Section at 1:20
+refused problem
+
+row files 8
+file (define (domain d) x)
+file (define (problem p) (:domain e) (:init) (:goal (and)))
+| domain: fault 11 Section at 1:20
+refused problem
+
+row files 9
+copy two
+file
+copy lamps
+file
+| domain: fault 10 Head at 1:1
+refused problem
+
+row files 10
+copy lamps
+file
+copy lamps
+file
+| problem: fault 10 Head at 1:1
+refused problem
+
+row files 11
+copy lamps
+file
+file
+| problem: fault 10 Head at 1:1
+refused problem
+
+row sections 1
+file (define (domain d) (:types t) (:constants c - t))
+file (define (problem p) (:domain d) (:objects c - t) (:init) (:goal (= c c)))
+| good: problem p
+good problem
+
+row sections 2
+file (define (domain d) (:types t) (:constants c - t))
+file (define (problem p) (:domain d) (:objects c) (:init) (:goal (and)))
+| link: fault 24 NameTwice c
+refused problem
+
+row sections 3
+file (define (domain d) (:predicates (p ?x)) (:constants c))
+file (define (problem p) (:domain d) (:init (p c)) (:goal (p c)))
+| good: problem p
+good problem
+
+row sections 4
+file (define (domain d) (:predicates (p ?x)) (:action n :effect (p a)))
+file (define (problem p) (:domain d) (:objects a) (:init) (:goal (and)))
+| link: fault 26 UnknownName a
+refused problem
+
+row sections 5
+file (define (domain d) (:predicates (p ?x - u)))
+file (define (problem p) (:domain d) (:objects a - v) (:init) (:goal (and)))
+| link: fault 23 UnknownType u
+refused problem
+
+row sections 6
+file (define (domain d) (:predicates (p ?x)))
+file (define (problem p) (:domain d) (:objects a - v) (:init) (:goal (exists (?x - w) (and))))
+| link: fault 23 UnknownType v
+refused problem
+
+row sections 7
+file (define (domain d) (:action n) (:action n))
+file (define (problem p) (:domain d) (:objects a - t a) (:init) (:goal (and)))
+| link: fault 23 UnknownType t
+refused problem
+
+row sections 8
+file (define (domain d) (:types t) (:action n) (:action n))
+file (define (problem p) (:domain d) (:objects a - t a) (:init) (:goal (and)))
+| link: fault 24 NameTwice n
+refused problem
+
+row sections 9
+file (define (domain d) (:types s t) (:constants c - (either s t)))
+file (define (problem p) (:domain d) (:objects a - (either t s)) (:init) (:goal (and)))
+| link: fault 25 ObjectTypes c
+refused problem
+
+row sections 10
+file (define (domain d) (:action n :effect (q)))
+file (define (problem p) (:domain d) (:init (r)) (:goal (s)))
+| link: fault 26 UnknownName q
+refused problem
+
+row sections 11
+file (define (domain d) (:action n))
+file (define (problem p) (:domain d) (:init (r)) (:goal (s)))
+| link: fault 26 UnknownName r
+refused problem
+
+row sections 12
+file (define (domain d) (:action n))
+file (define (problem p) (:domain d) (:goal (s)) (:init (not (r))))
+| link: fault 26 UnknownName r
+refused problem
+
+row sections 13
+file (define (domain d) (:predicates (p)))
+file (define (problem p) (:domain d) (:init) (:goal (p)) (:metric minimize (total-cost)))
+| link: fault 26 UnknownName total-cost
+refused problem
+
+row sections 14
+file (define (domain d) (:functions (total-cost ?x)))
+file (define (problem p) (:domain d) (:init) (:goal (and)) (:metric minimize total-cost))
+| link: fault 27 Arity total-cost
+refused problem
+
+row sections 15
+file (define (domain d) (:functions (total-cost) - object))
+file (define (problem p) (:domain d) (:init) (:goal (and)) (:metric maximize total-cost))
+| link: fault 32 ObjectFluent total-cost
+refused problem
+
+row sections 16
+file (define (domain d) (:predicates (p ?x) (q)) (:action n :precondition (p)))
+file (define (problem p) (:domain d) (:objects a) (:init (q a)) (:goal (and)))
+| link: fault 27 Arity p
+refused problem
+
+row sections 17
+file (define (domain d) (:types t) (:predicates (p ?x - t)))
+file (define (problem p) (:domain d) (:objects a) (:init (p a)) (:goal (and)))
+| link: fault 28 ArgumentType p
+refused problem
+
+row sections 18
+file (define (domain d) (:types t) (:predicates (p ?x - t)))
+file (define (problem p) (:domain d) (:objects a) (:init (not (p a))) (:goal (and)))
+| link: fault 28 ArgumentType p
+refused problem
+
+row sections 19
+file (define (domain d) (:types t) (:predicates (p ?x - t)))
+file (define (problem p) (:domain d) (:objects a) (:init) (:goal (not (p a))))
+| link: fault 28 ArgumentType p
+refused problem
+
+row sections 20
+file (define (domain d) (:types t) (:predicates (p ?x - t)))
+file (define (problem p) (:domain d) (:init) (:goal (forall (?x) (p ?x))))
+| link: fault 28 ArgumentType p
+refused problem
+
+row sections 21
+file (define (domain d) (:types t) (:predicates (p ?x - t)))
+file (define (problem p) (:domain d) (:init) (:goal (exists (?x - t) (forall (?x) (p ?x)))))
+| link: fault 28 ArgumentType p
+refused problem
+
+row sections 22
+file (define (domain d) (:types t) (:predicates (p ?x - t)))
+file (define (problem p) (:domain d) (:init) (:goal (forall (?x) (exists (?x - t) (p ?x)))))
+| good: problem p
+good problem
+
+row sections 23
+file (define (domain d) (:types t) (:functions (f ?x - t)))
+file (define (problem p) (:domain d) (:objects a) (:init (= (f a) 1)) (:goal (and)))
+| link: fault 28 ArgumentType f
+refused problem
+
+row sections 24
+file (define (domain d) (:types a - b b - c) (:predicates (p ?x - c)))
+file (define (problem p) (:domain d) (:objects o - a) (:init (p o)) (:goal (and)))
+| good: problem p
+good problem
+
+row sections 25
+file (define (domain d) (:types a - b b - c) (:predicates (p ?x - a)))
+file (define (problem p) (:domain d) (:objects o - b) (:init (p o)) (:goal (and)))
+| link: fault 28 ArgumentType p
+refused problem
+
+row sections 26
+file (define (domain d) (:predicates (p ?x ?y)))
+file (define (problem p) (:domain d) (:objects a b) (:init (p a b) (not (p b a))) (:goal (and)))
+| good: problem p
+good problem
+
+row sections 27
+file (define (domain d) (:predicates (p ?x) (q ?x)))
+file (define (problem p) (:domain d) (:objects a) (:init (p a) (not (q a))) (:goal (and)))
+| good: problem p
+good problem
+
+row sections 28
+file (define (domain d) (:functions (f ?x) (g ?x)))
+file (define (problem p) (:domain d) (:objects a b) (:init (= (f a) 1) (= (g a) 2) (= (f b) 3)) (:goal (and)))
+| good: problem p
+good problem
+
+row sections 29
+file (define (domain d) (:functions (f)) (:predicates (p)))
+file (define (problem p) (:domain d) (:init (p) (not (p)) (= (f) 1.5)) (:goal (and)))
+| link: fault 29 InitContradiction p
+refused problem
+
+row sections 30
+file (define (domain d) (:functions (total-cost)) (:action n :effect (increase total-cost 1.5)))
+file (define (problem p) (:domain d) (:init (= total-cost 2)) (:goal (and)))
+| link: fault 30 FractionalCost total-cost
+refused problem
+
+row sections 31
+file (define (domain d) (:functions (f) (total-cost)) (:action n :effect (forall (?x) (increase total-cost 1))))
+file (define (problem p) (:domain d) (:init (= f 1) (= f 2)) (:goal (and)) (:metric maximize f))
+| link: fault 31 CostValue f
+refused problem
+
+row sections 32
+file (define (domain d) (:functions (total-cost)) (:action n :effect (forall (?x) (increase total-cost 1))))
+file (define (problem p) (:domain d) (:init) (:goal (and)) (:metric maximize total-cost))
+| link: fault 33 Metric
+refused problem
+
+row the largest goal
+file (define (domain t) (:predicates (p ?x)))
+part (define (problem tens) (:domain t) (:objects o0 o1 o2 o3 o4 o5 o6 o7 o8 o9) (:init) (:goal\s
+copy large
+times 11 (p o0)
+file )))
+| good: problem tens
+good problem
+
+row a goal with an atom more
+file (define (domain t) (:predicates (p ?x)))
+part (define (problem tens) (:domain t) (:objects o0 o1 o2 o3 o4 o5 o6 o7 o8 o9) (:init) (:goal\s
+copy large
+times 12 (p o0)
+file )))
+| link: fault 35 GoalTooLarge
+refused problem
+
+row nothing is read behind a domain with a section that fits no rule
+file (define (domain d) x)
+copy two
+file
+| domain: fault 11 Section at 1:20
+unread refused problem
+
+row nothing is read behind a domain that is not closed
+file (define (domain d)
+copy two
+file
+| domain: fault 7 Unclosed at 1:1
+unread refused problem
+
+row nothing is read behind a domain with a stray byte
+file &
+copy two
+file
+| domain: fault 2 Stray at 1:1
+unread refused problem
+
+# The name that is printed stands in the problem.
+row a problem is read behind a domain that does not link
+copy idle
+file
+copy two
+file
+| link: fault 20 DomainName lamps
+refused problem
+
+row two lamps whose growths are refused
+growths 20
+copy lamps
+file
+copy two
+file
+| good: problem two
+good problem
+
+row a contradiction, whose growths are refused
+growths 20
+copy lamps
+file
+copy two
+change (ok b) => (ok b) (not (ok a))
+file
+| link: fault 29 InitContradiction ok
+refused problem
+";

@@ -1,0 +1,164 @@
+//! Terms that do not fit what is declared, of a domain alone and with a problem that adds no fault.
+
+pub static TERMS: &str = r"row terms 1
+file (define (domain d) (:predicates (p ?x)) (:action n :precondition (p)))
+| link: fault 27 Arity p
+refused domain
+copy bare
+file
+| link: fault 27 Arity p
+refused problem
+
+row terms 2
+file (define (domain d) (:predicates (p)) (:constants c) (:action n :effect (p c)))
+| link: fault 27 Arity p
+refused domain
+copy bare
+file
+| link: fault 27 Arity p
+refused problem
+
+row terms 3
+file (define (domain d) (:predicates (p)) (:constants c) (:action n :effect (not (p c))))
+| link: fault 27 Arity p
+refused domain
+copy bare
+file
+| link: fault 27 Arity p
+refused problem
+
+row terms 4
+file (define (domain d) (:predicates (p ?x)) (:action n :effect (when (p) (and))))
+| link: fault 27 Arity p
+refused domain
+copy bare
+file
+| link: fault 27 Arity p
+refused problem
+
+row terms 5
+file (define (domain d) (:predicates (p ?x)) (:action n :effect (forall (?y) (when (and) (p ?y ?y)))))
+| link: fault 27 Arity p
+refused domain
+copy bare
+file
+| link: fault 27 Arity p
+refused problem
+
+row terms 6
+file (define (domain d) (:functions (total-cost ?x)) (:action n :effect (increase total-cost 1)))
+| link: fault 27 Arity total-cost
+refused domain
+copy bare
+file
+| link: fault 27 Arity total-cost
+refused problem
+
+row terms 7
+file (define (domain d) (:functions (total-cost) (f ?x)) (:action n :effect (increase total-cost (f))))
+| link: fault 27 Arity f
+refused domain
+copy bare
+file
+| link: fault 27 Arity f
+refused problem
+
+row terms 8
+file (define (domain d) (:functions (total-cost) (f ?x)) (:action n :effect (increase total-cost f)))
+| link: fault 27 Arity f
+refused domain
+copy bare
+file
+| link: fault 27 Arity f
+refused problem
+
+row terms 9
+file (define (domain d) (:types t) (:constants c) (:predicates (p ?x - t)) (:action n :effect (p c)))
+| link: fault 28 ArgumentType p
+refused domain
+copy bare
+file
+| link: fault 28 ArgumentType p
+refused problem
+
+row terms 10
+file (define (domain d) (:types t) (:predicates (p ?x - t)) (:action n :parameters (?y) :precondition (p ?y)))
+| link: fault 28 ArgumentType p
+refused domain
+copy bare
+file
+| link: fault 28 ArgumentType p
+refused problem
+
+row terms 11
+file (define (domain d) (:types t) (:predicates (p ?x - t)) (:action n :parameters (?y) :effect (not (p ?y))))
+| link: fault 28 ArgumentType p
+refused domain
+copy bare
+file
+| link: fault 28 ArgumentType p
+refused problem
+
+row terms 12
+file (define (domain d) (:types t) (:predicates (p ?x - t)) (:action n :parameters (?y) :effect (when (p ?y) (and))))
+| link: fault 28 ArgumentType p
+refused domain
+copy bare
+file
+| link: fault 28 ArgumentType p
+refused problem
+
+row terms 13
+file (define (domain d) (:types t) (:predicates (p ?x - t)) (:action n :effect (forall (?y) (p ?y))))
+| link: fault 28 ArgumentType p
+refused domain
+copy bare
+file
+| link: fault 28 ArgumentType p
+refused problem
+
+row terms 14
+file (define (domain d) (:types t) (:predicates (p ?x - t)) (:action n :parameters (?y - t) :precondition (exists (?y) (p ?y))))
+| link: fault 28 ArgumentType p
+refused domain
+copy bare
+file
+| link: fault 28 ArgumentType p
+refused problem
+
+row terms 15
+file (define (domain d) (:types t) (:predicates (p ?x ?y - t)) (:action n :parameters (?x - t ?y) :precondition (p ?x ?y)))
+| link: fault 28 ArgumentType p
+refused domain
+copy bare
+file
+| link: fault 28 ArgumentType p
+refused problem
+
+row terms 16
+file (define (domain d) (:types a b) (:predicates (p ?x - a)) (:action n :parameters (?y - (either a b)) :precondition (p ?y)))
+| link: fault 28 ArgumentType p
+refused domain
+copy bare
+file
+| link: fault 28 ArgumentType p
+refused problem
+
+row terms 17
+file (define (domain d) (:types a - b b - c) (:predicates (p ?x - a)) (:action n :parameters (?y - c) :precondition (p ?y)))
+| link: fault 28 ArgumentType p
+refused domain
+copy bare
+file
+| link: fault 28 ArgumentType p
+refused problem
+
+row terms 18
+file (define (domain d) (:types t) (:functions (total-cost) (f ?x - t)) (:action n :parameters (?y) :effect (increase total-cost (f ?y))))
+| link: fault 28 ArgumentType f
+refused domain
+copy bare
+file
+| link: fault 28 ArgumentType f
+refused problem
+";

@@ -1,0 +1,145 @@
+//! One run of a row's command.
+
+use crate::layouts::{write_file, write_read};
+use crate::listing::list;
+use crate::report::report;
+use crate::row::{Command, Files, Row};
+use crate::trouble::{Setting, Trouble};
+use pddl_commands::{Outcome, RunFault, check_domain_file, check_problem_file, format, status};
+use pddl_fakes::{FakeSink, FakeSource, Refusing};
+use pddl_text::Sink;
+use std::alloc::Allocator;
+
+/// What a run shows.
+#[derive(Clone, Copy, Debug, PartialEq, Eq)]
+pub enum Seen {
+    /// The answer or the text is not the row's, or not that of the call that failed.
+    Wrong,
+    /// A call failed, or a growth was refused, and the answer says so.
+    Failed,
+    /// Nothing failed.
+    Calm,
+}
+
+/// The readers of a row's files.
+#[derive(Drop)]
+struct Sources<'r> {
+    first: FakeSource<'r>,
+    second: FakeSource<'r>,
+    third: FakeSource<'r>,
+}
+
+/// Readers of these files that behave so.
+fn sources_of(files: Files<'_>, setting: Setting) -> Sources<'_> {
+    let size = setting.read_size.max(1);
+    Sources {
+        first: FakeSource::new(files.first, size, setting.failing_first),
+        second: FakeSource::new(files.second, size, setting.failing_second),
+        third: FakeSource::new(files.third, size, setting.failing_third),
+    }
+}
+
+/// What failed in a run.
+#[derive(Clone, Copy)]
+struct Failures {
+    reads: u64,
+    writes: u64,
+    refused: bool,
+    /// Whether a file was read though one before it could not be, or though the row says that none reads it.
+    strays: bool,
+}
+
+/// Whether some of the text was read.
+fn is_read(source: &FakeSource<'_>, text: &[u8]) -> bool {
+    source.left().len() != text.len()
+}
+
+/// What failed, by the readers, and what is known of the writer and of memory.
+fn failures_of(row: Row<'_>, sources: &Sources<'_>, writes: u64, refused: bool) -> Failures {
+    let first = sources.first.failures();
+    let second = sources.second.failures();
+    let no_second = first != 0 || row.ending.is_unread;
+    let no_third = first != 0 || second != 0;
+    Failures {
+        reads: first
+            .saturating_add(second)
+            .saturating_add(sources.third.failures()),
+        writes,
+        refused,
+        strays: no_second && is_read(&sources.second, row.files.second)
+            || no_third && is_read(&sources.third, row.files.third),
+    }
+}
+
+/// Whether the answer and what was printed are those that the row has where this failed.
+fn is_right(
+    row: Row<'_>,
+    ended: &Result<Outcome, RunFault>,
+    printed: &[u8],
+    failed: Failures,
+) -> bool {
+    let want = row.printed;
+    match ended {
+        Ok(_) => {
+            status(ended) == row.ending.status
+                && printed == want
+                && failed.reads == 0
+                && failed.writes == 0
+        }
+        Err(RunFault::Memory) => failed.refused && printed.is_empty(),
+        Err(RunFault::ReadFailed) => failed.reads == 1 && printed.is_empty(),
+        Err(RunFault::WriteFailed) => {
+            failed.writes == 1 && want.starts_with(printed) && printed.len() < want.len()
+        }
+    }
+}
+
+/// What a run shows in which this failed.
+fn shown_by(is_right: bool, failed: Failures) -> Seen {
+    if !is_right || failed.strays {
+        Seen::Wrong
+    } else if failed.refused || failed.reads != 0 || failed.writes != 0 {
+        Seen::Failed
+    } else {
+        Seen::Calm
+    }
+}
+
+/// Runs the row's command over these readers, this memory and this writer.
+fn called<B: Allocator, W: Sink>(
+    memory: &B,
+    row: Row<'_>,
+    sources: &mut Sources<'_>,
+    out: &mut W,
+) -> Result<Outcome, RunFault> {
+    match row.ending.command {
+        Command::Format(kind) => format(memory, kind, &mut sources.first, out),
+        Command::Domain => check_domain_file(memory, &mut sources.first, out),
+        Command::Problem => {
+            check_problem_file(memory, &mut sources.first, &mut sources.second, out)
+        }
+        Command::Read => write_read(memory, &mut sources.first, row.files.second, out),
+        Command::Write(layout, kind) => write_file(memory, layout, kind, row.files.first, out),
+        Command::List(listing) => list(memory, listing, row.files, out),
+    }
+}
+
+/// Runs the row where the call of this number fails, and says what differs.
+pub fn run<R: Print + AllocGlobal>(rt: &R, row: Row<'_>, trouble: Trouble, number: u64) -> Seen {
+    let setting = trouble.at(number);
+    let memory = Refusing::nth(rt.alloc(), setting.refused_growth);
+    let mut sources = sources_of(row.files, setting);
+    let mut out = FakeSink::new(
+        rt.alloc(),
+        setting.write_size.max(1),
+        setting.failing_write,
+        setting.failure,
+    );
+    let ended = called(&memory, row, &mut sources, &mut out);
+    let failed = failures_of(row, &sources, out.failures(), memory.has_refused());
+    let seen = shown_by(is_right(row, &ended, out.held(), failed), failed);
+    if seen == Seen::Wrong {
+        report(rt, row, trouble, number, &ended, out.held());
+    }
+    seen
+}

@@ -1,0 +1,117 @@
+//! Each text of rows holds, and has as many rows as here.
+
+mod devices;
+
+use crate::holding::all_hold;
+use crate::rows;
+use std::test::Fail;
+
+#[test]
+fn changed_problems(rt: HostRuntime) -> Result<(), Fail> {
+    all_hold(&rt, rows::CHANGED_PROBLEMS, 56)
+}
+
+#[test]
+fn costs(rt: HostRuntime) -> Result<(), Fail> {
+    all_hold(&rt, rows::COSTS, 22)
+}
+
+#[test]
+fn domains(rt: HostRuntime) -> Result<(), Fail> {
+    all_hold(&rt, rows::DOMAINS, 14)
+}
+
+#[test]
+fn format_domains(rt: HostRuntime) -> Result<(), Fail> {
+    all_hold(&rt, rows::FORMAT_DOMAINS, 44)
+}
+
+#[test]
+fn format_plans(rt: HostRuntime) -> Result<(), Fail> {
+    all_hold(&rt, rows::FORMAT_PLANS, 55)
+}
+
+#[test]
+fn format_problems(rt: HostRuntime) -> Result<(), Fail> {
+    all_hold(&rt, rows::FORMAT_PROBLEMS, 21)
+}
+
+#[test]
+fn good_domains(rt: HostRuntime) -> Result<(), Fail> {
+    all_hold(&rt, rows::GOOD_DOMAINS, 42)
+}
+
+#[test]
+fn items(rt: HostRuntime) -> Result<(), Fail> {
+    all_hold(&rt, rows::ITEMS, 40)
+}
+
+#[test]
+fn layouts(rt: HostRuntime) -> Result<(), Fail> {
+    all_hold(&rt, rows::LAYOUTS, 6)
+}
+
+#[test]
+fn problems(rt: HostRuntime) -> Result<(), Fail> {
+    all_hold(&rt, rows::PROBLEMS, 51)
+}
+
+#[test]
+fn read_domains(rt: HostRuntime) -> Result<(), Fail> {
+    all_hold(&rt, rows::READ_DOMAINS, 98)
+}
+
+#[test]
+fn read_plans(rt: HostRuntime) -> Result<(), Fail> {
+    all_hold(&rt, rows::READ_PLANS, 7)
+}
+
+#[test]
+fn read_problems(rt: HostRuntime) -> Result<(), Fail> {
+    all_hold(&rt, rows::READ_PROBLEMS, 45)
+}
+
+#[test]
+fn reading(rt: HostRuntime) -> Result<(), Fail> {
+    all_hold(&rt, rows::READING, 15)
+}
+
+#[test]
+fn steps(rt: HostRuntime) -> Result<(), Fail> {
+    all_hold(&rt, rows::STEPS, 30)
+}
+
+#[test]
+fn tasks(rt: HostRuntime) -> Result<(), Fail> {
+    all_hold(&rt, rows::TASKS, 9)
+}
+
+#[test]
+fn terms(rt: HostRuntime) -> Result<(), Fail> {
+    all_hold(&rt, rows::TERMS, 36)
+}
+
+#[test]
+fn twice(rt: HostRuntime) -> Result<(), Fail> {
+    all_hold(&rt, rows::TWICE, 36)
+}
+
+#[test]
+fn types(rt: HostRuntime) -> Result<(), Fail> {
+    all_hold(&rt, rows::TYPES, 56)
+}
+
+#[test]
+fn unknown(rt: HostRuntime) -> Result<(), Fail> {
+    all_hold(&rt, rows::UNKNOWN, 54)
+}
+
+#[test]
+fn values(rt: HostRuntime) -> Result<(), Fail> {
+    all_hold(&rt, rows::VALUES, 18)
+}
+
+#[test]
+fn words(rt: HostRuntime) -> Result<(), Fail> {
+    all_hold(&rt, rows::WORDS, 61)
+}

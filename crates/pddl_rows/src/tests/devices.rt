@@ -1,0 +1,201 @@
+//! Readers, writers and memory, where no row of a text can say what they do.
+
+use pddl_fakes::{FakeSource, Refusing};
+use pddl_text::{
+    FromRead, Item, SourceFault, Span, TextFault, ToWrite, Token, TokenKind, WriteFault, lex,
+    lists, read_all, write_text,
+};
+use std::alloc::Global;
+use std::test::Fail;
+
+/// Twenty bytes.
+static TEXT: &[u8] = b"(light a)\n(light b)\n";
+
+/// How many bytes are left of the text, so many of which are read at a time, where it is longer than the limit.
+fn left_past(alloc: Global, size: usize, limit: usize) -> Option<usize> {
+    let mut source = FakeSource::new(TEXT, size.max(1), 0);
+    match read_all(alloc, &mut source, limit) {
+        Err(SourceFault::TooLong) => Some(source.left().len()),
+        _ => None,
+    }
+}
+
+/// Sizes of pieces, limits, and how many of the twenty bytes are then left.
+static PAST: [(usize, usize, usize); 5] = [
+    (1, 7, 12),
+    (3, 7, 11),
+    (5, 10, 5),
+    (4096, 0, 0),
+    (3, 0, 17),
+];
+
+#[test]
+fn reads_no_more_than_shows_that_a_text_is_too_long(rt: HostRuntime) -> Result<(), Fail> {
+    for (size, limit, left) in PAST.iter() {
+        assert_eq!(rt;
+            left_past(rt.alloc(), *size, *limit),
+            Some(*left),
+            "{size} {limit}"
+        );
+    }
+    Ok(())
+}
+
+/// How many bytes are read behind a read that fails, of so many bytes at a time.
+fn read_behind(alloc: Global, size: usize, number: u64) -> Option<usize> {
+    let mut source = FakeSource::new(TEXT, size.max(1), number);
+    match read_all(alloc, &mut source, 100) {
+        Err(SourceFault::ReadFailed) => {}
+        _ => return None,
+    }
+    match read_all(alloc, &mut source, 100) {
+        Ok(text) => Some(text.len()),
+        Err(_) => None,
+    }
+}
+
+/// Sizes of pieces, which read fails, and how many of the twenty bytes can still be read; none where no read fails.
+static BEHIND: [(usize, u64, Option<usize>); 12] = [
+    (1, 1, Some(20)),
+    (1, 8, Some(13)),
+    (1, 21, Some(0)),
+    (1, 22, None),
+    (3, 2, Some(17)),
+    (3, 7, Some(2)),
+    (3, 8, Some(0)),
+    (3, 9, None),
+    (5, 4, Some(5)),
+    (5, 6, None),
+    (4096, 2, Some(0)),
+    (4096, 3, None),
+];
+
+#[test]
+fn reads_on_behind_a_read_that_fails(rt: HostRuntime) -> Result<(), Fail> {
+    for (size, number, left) in BEHIND.iter() {
+        assert_eq!(rt;
+            read_behind(rt.alloc(), *size, *number),
+            *left,
+            "{size} {number}"
+        );
+    }
+    Ok(())
+}
+
+/// Whether nothing but the empty text is read where each growth is refused.
+fn reads_nothing_without_memory(alloc: Global) -> bool {
+    let none = Refusing::each(alloc);
+    let text = read_all(&none, &mut FakeSource::new(TEXT, 3, 0), 100);
+    let empty = read_all(&none, &mut FakeSource::new(b"", 3, 0), 100);
+    matches!(text, Err(SourceFault::Memory)) && empty.is_ok()
+}
+
+/// Whether a stray byte, and that there is no word, are found where each growth is refused.
+fn finds_words_without_memory(alloc: Global) -> bool {
+    let none = Refusing::each(alloc);
+    let stray = lex(&none, b"&").err();
+    let nothing = lex(&none, b" ; nothing");
+    stray == Some(TextFault::Stray { at: 0 }) && nothing.is_ok() && !none.has_refused()
+}
+
+#[test]
+fn goes_without_memory_where_it_can(rt: HostRuntime) -> Result<(), Fail> {
+    assert!(rt; reads_nothing_without_memory(rt.alloc()));
+    assert!(rt; finds_words_without_memory(rt.alloc()));
+    Ok(())
+}
+
+/// Whether twenty and then a hundred bytes are written into memory, or a growth was refused and a write then failed.
+fn writes_into_memory(alloc: &Refusing<Global>) -> bool {
+    let mut out = ToWrite::new(Vec::new(alloc));
+    let first = write_text(&mut out, TEXT);
+    let second = write_text(&mut out, &[b'x'; 100]);
+    let text = out.into_inner();
+    if alloc.has_refused() {
+        first.is_err() || second.is_err()
+    } else {
+        text.starts_with(TEXT) && text.len() == 120
+    }
+}
+
+#[test]
+fn writes_into_memory_with_each_growth_refused_in_turn(rt: HostRuntime) -> Result<(), Fail> {
+    for number in 1..1000 {
+        let alloc = Refusing::nth(rt.alloc(), number);
+        assert!(rt; writes_into_memory(&alloc), "growth {number}");
+        if !alloc.has_refused() {
+            assert!(rt; number > 2, "only {number} growths");
+            return Ok(());
+        }
+    }
+    Err("no run without a refusal")?
+}
+
+/// Whether a reader of std gives the whole text, and nothing is left.
+fn reads_by_std(alloc: Global) -> bool {
+    let mut source = FromRead::new(TEXT);
+    let is_whole = match read_all(alloc, &mut source, 20) {
+        Ok(text) => text.as_slice() == TEXT,
+        Err(_) => false,
+    };
+    is_whole && source.into_inner().is_empty()
+}
+
+/// Whether a writer of std with room for five bytes takes these, and then fails.
+fn writes_by_std() -> bool {
+    let mut room = [0; 5];
+    let mut sink = ToWrite::new(room.as_mut_slice());
+    let wrote = write_text(&mut sink, TEXT);
+    wrote == Err(WriteFault::WriteFailed) && room.as_slice() == b"(ligh".as_slice()
+}
+
+#[test]
+fn reads_and_writes_over_the_devices_of_std(rt: HostRuntime) -> Result<(), Fail> {
+    assert!(rt; reads_by_std(rt.alloc()));
+    assert!(rt; writes_by_std());
+    Ok(())
+}
+
+/// Words of two texts: an opening and a name of the first, and the closing of the second, which is behind a blank.
+static WORDS: [Token; 3] = [
+    Token {
+        kind: TokenKind::Open,
+        text: b"(",
+        span: Span { start: 0, end: 1 },
+    },
+    Token {
+        kind: TokenKind::Name,
+        text: b"a",
+        span: Span { start: 1, end: 2 },
+    },
+    Token {
+        kind: TokenKind::Close,
+        text: b")",
+        span: Span { start: 1, end: 2 },
+    },
+];
+
+/// The span of the list that these words form.
+fn list_of(alloc: Global, words: &[Token<'_>]) -> Option<Span> {
+    match lists(&alloc, words) {
+        Ok(items) => match items.first() {
+            Some(Item::List(_, span)) => Some(*span),
+            _ => None,
+        },
+        Err(_) => None,
+    }
+}
+
+#[test]
+fn lists_words_of_two_texts(rt: HostRuntime) -> Result<(), Fail> {
+    let span = list_of(rt.alloc(), &WORDS);
+    assert_eq!(rt; span, Some(Span { start: 0, end: 2 }));
+    Ok(())
+}
+
+#[test]
+fn says_that_memory_was_refused(rt: HostRuntime) -> Result<(), Fail> {
+    let shown = format!(in rt.alloc(); "{}", TextFault::Memory)?;
+    assert_eq!(rt; shown.as_str(), "memory was refused");
+    Ok(())
+}
