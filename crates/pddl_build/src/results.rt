@@ -1,0 +1,55 @@
+//! Parts as they were read, put together.
+
+ghost use Rattle.std.specs.Prelude.{◌≡◌};
+ghost use Rattle.pddl_build.specs.Results.{right_of, both_of, Boxes, BothBoxed};
+
+use std::alloc::{AllocError, Allocator};
+
+/// The value, where what was done with it went right; `None` where it went wrong.
+///
+/// Fails as what was done with it failed.
+pub fn if_right<T: Drop, E: Drop>(value: T, right: Result<bool, E>) -> Result<Option<T>, E>
+    ensures { result ≡ right_of value right }
+{
+    if right? { Ok(Some(value)) } else { Ok(None) }
+}
+
+/// Two values, or `None` where one of them is missing.
+///
+/// Fails as the first failed, or else as the second did.
+pub fn both<T: Drop, U: Drop, E: Drop>(
+    first: Result<Option<T>, E>,
+    second: Result<Option<U>, E>,
+) -> Result<Option<(T, U)>, E>
+    ensures { result ≡ both_of first second }
+{
+    Ok(first?.zip(second?))
+}
+
+/// The value in a box, or `None` where it is missing.
+///
+/// Fails as the value failed, and where memory for the box is refused.
+pub fn boxed<'a, T: Drop, B: Allocator>(
+    alloc: &'a B,
+    value: Result<Option<T>, AllocError>,
+) -> Result<Option<Box<T, &'a B>>, AllocError>
+    ensures { Boxes value result }
+{
+    let Some(value) = value? else {
+        return Ok(None);
+    };
+    Ok(Some(Box::new(alloc, value)?))
+}
+
+/// Two values, the second in a box, or `None` where one of them is missing.
+///
+/// Fails as the first failed, or else as the second did, and where memory for the box is refused.
+pub fn both_boxed<'a, T: Drop, U: Drop, B: Allocator>(
+    alloc: &'a B,
+    first: Result<Option<T>, AllocError>,
+    second: Result<Option<U>, AllocError>,
+) -> Result<Option<(T, Box<U, &'a B>)>, AllocError>
+    ensures { BothBoxed first second result }
+{
+    both(first, boxed(alloc, second))
+}
