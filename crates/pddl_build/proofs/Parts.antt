@@ -2,7 +2,7 @@
 use Rattle.std.proofs.Common.{◌≡◌, ◌++◌, ◌∷◌, [], List, Bool, true, false, Option, Some, None, Result, Ok, Err, Box, IfOk, OnOk, if◌then◌else◌, option_map, refl, ap, ap₂, ◌∙◌}
 use Rattle.std.specs.Option.{option_zip}
 use Rattle.std.specs.Result.{result_and}
-use Rattle.pddl_build.specs.Results.{right_of, both_of, Boxes, BothBoxed, PushesFound}
+use Rattle.pddl_build.specs.Results.{right_of, map_found, both_of, Boxes, BothBoxed, BothInBoxes, PushesFound}
 
 -- a value that was filled: each answer of what filled it is one of the value
 pub right_reads : {T E : Type 0} (value : T) (right : Result Bool E) {P : Bool → Type 0} (Q : Option T → Type 0)
@@ -15,6 +15,14 @@ pub made_reads : {T U E P : Type 0} (value : T) (made : Result U E) (Q : T → T
 made_reads value (Ok u) Q done is = is done
 made_reads value (Err e) Q done is = tt
 
+-- what is made of a value that was read: g sees the value, h what it is a part of, and f what is made
+pub found_reads : {T U X Y E : Type 0} (make : T → U) (f : U → Y) (g : T → X) (h : X → Y) → ((x : T) → f (make x) ≡ h (g x))
+    → (value : Result (Option T) E) (made : Result (Option U) E) (o : Option X) → made ≡ map_found make value → IfOk value (λ a. option_map g a ≡ o)
+    → IfOk made (λ found. option_map f found ≡ option_map h o)
+found_reads make f g h same (Ok None) made o is read = rw is (ap (option_map h) read)
+found_reads make f g h same (Ok (Some x)) made o is read = rw is (ap Some (same x) ∙ ap (option_map h) read)
+found_reads make f g h same (Err e) made o is read = rw is tt
+
 zip_map : {T U X Y : Type 0} (f : T → X) (g : U → Y) (a : Option T) (b : Option U)
     → option_map (λ p. (f p.0, g p.1)) (option_zip a b) ≡ option_zip (option_map f a) (option_map g b)
 zip_map f g None b = refl
@@ -22,12 +30,12 @@ zip_map f g (Some x) None = refl
 zip_map f g (Some x) (Some y) = refl
 
 module _ {T U X Y E : Type 0} (f : T → X) (g : U → Y) where
-  pub both_reads : (first : Result (Option T) E) (second : Result (Option U) E) (o : Option X) (p : Option Y)
-      → IfOk first (λ a. option_map f a ≡ o) → IfOk second (λ b. option_map g b ≡ p)
-      → IfOk (both_of first second) (λ found. option_map (λ q. (f q.0, g q.1)) found ≡ option_zip o p)
-  both_reads (Ok a) (Ok b) o p one two = zip_map f g a b ∙ ap₂ option_zip one two
-  both_reads (Ok a) (Err e) o p one two = two
-  both_reads (Err e) second o p one two = one
+  pub both_reads : (first : Result (Option T) E) (second : Result (Option U) E) (pair : Result (Option (T × U)) E) (o : Option X) (p : Option Y)
+      → IfOk first (λ a. option_map f a ≡ o) → IfOk second (λ b. option_map g b ≡ p) → pair ≡ both_of first second
+      → IfOk pair (λ found. option_map (λ q. (f q.0, g q.1)) found ≡ option_zip o p)
+  both_reads (Ok a) (Ok b) pair o p one two is = rw is (zip_map f g a b ∙ ap₂ option_zip one two)
+  both_reads (Ok a) (Err e) pair o p one two is = rw is tt
+  both_reads (Err e) second pair o p one two is = rw is tt
 
 pub boxed_reads : {T X A E : Type 0} (f : T → X) (value : Result (Option T) E) (box : Result (Option (Box T A)) E) (o : Option X)
     → IfOk value (λ a. option_map f a ≡ o) → Boxes value box → IfOk box (λ found. option_map (λ b. f b.value) found ≡ o)
@@ -41,7 +49,13 @@ pub both_boxed_reads : {T U X Y A E : Type 0} (f : T → X) (g : U → Y) (first
     (o : Option X) (p : Option Y) → IfOk first (λ a. option_map f a ≡ o) → IfOk second (λ b. option_map g b ≡ p) → BothBoxed first second made
     → IfOk made (λ found. option_map (λ q. (f q.0, g q.1.value)) found ≡ option_zip o p)
 both_boxed_reads f g first second made o p one two (box, boxes, same) =
-    rw same (both_reads f (λ b. g b.value) first box o p one (boxed_reads g second box p two boxes))
+    both_reads f (λ b. g b.value) first box made o p one (boxed_reads g second box p two boxes) same
+
+pub both_in_boxes_reads : {T U X Y A E : Type 0} (f : T → X) (g : U → Y) (first : Result (Option T) E) (second : Result (Option U) E) (made : Result (Option (Box T A × Box U A)) E)
+    (o : Option X) (p : Option Y) → IfOk first (λ a. option_map f a ≡ o) → IfOk second (λ b. option_map g b ≡ p) → BothInBoxes first second made
+    → IfOk made (λ found. option_map (λ q. (f q.0.value, g q.1.value)) found ≡ option_zip o p)
+both_in_boxes_reads f g first second made o p one two (box, boxes, rest) =
+    both_boxed_reads (λ b. f b.value) g box second made o p (boxed_reads f first box o one boxes) two rest
 
 -- ---- values put behind others
 

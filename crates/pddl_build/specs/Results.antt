@@ -7,6 +7,11 @@ abbrev pub right_of : {T E : Type 0} → T → Result Bool E → Result (Option 
 right_of value (Ok right) = Ok (if right then Some value else None)
 right_of value (Err e) = Err e
 
+-- what is made of the value, if there is one
+abbrev pub map_found : {T U E : Type 0} → (T → U) → Result (Option T) E → Result (Option U) E
+map_found make (Ok value) = Ok (option_map make value)
+map_found make (Err e) = Err e
+
 -- two values, or none where one of them is missing
 abbrev pub both_of : {T U E : Type 0} → Result (Option T) E → Result (Option U) E → Result (Option (T × U)) E
 both_of (Ok first) (Ok second) = Ok (option_zip first second)
@@ -22,6 +27,10 @@ Boxes (Err e) result = result ≡ Err e
 -- two values, the second in a box
 abbrev pub BothBoxed : {T U A E : Type 0} → Result (Option T) E → Result (Option U) E → Result (Option (T × Box U A)) E → Type 0
 BothBoxed {A = A} first second result = (box : Result (Option (Box _ A)) _) × Boxes second box × (result ≡ both_of first box)
+
+-- two values, each in a box
+abbrev pub BothInBoxes : {T U A E : Type 0} → Result (Option T) E → Result (Option U) E → Result (Option (Box T A × Box U A)) E → Type 0
+BothInBoxes {A = A} first second result = (box : Result (Option (Box _ A)) _) × Boxes first box × BothBoxed box second result
 
 -- the list with the value behind it, if there is one, unless memory was refused
 abbrev pub PushesFound : {T E : Type 0} → List T → Result (Option T) E → List T → Result Bool E → Type 0

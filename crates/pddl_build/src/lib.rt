@@ -8,5 +8,5 @@
 mod results;
 mod slots;
 
-pub use results::{both, both_boxed, boxed, if_right};
+pub use results::{both, both_boxed, both_in_boxes, boxed, if_right};
 pub use slots::{fill, push_found};

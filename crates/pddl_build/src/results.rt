@@ -1,7 +1,7 @@
 //! Parts as they were read, put together.
 
 ghost use Rattle.std.specs.Prelude.{◌≡◌};
-ghost use Rattle.pddl_build.specs.Results.{right_of, both_of, Boxes, BothBoxed};
+ghost use Rattle.pddl_build.specs.Results.{right_of, both_of, Boxes, BothBoxed, BothInBoxes};
 
 use std::alloc::{AllocError, Allocator};
 
@@ -39,6 +39,20 @@ pub fn boxed<'a, T: Drop, B: Allocator>(
         return Ok(None);
     };
     Ok(Some(Box::new(alloc, value)?))
+}
+
+/// Two values, each in a box, or `None` where one of them is missing.
+///
+/// Fails as the first failed, or else as the second did, and where memory for a box is refused.
+pub fn both_in_boxes<'a, T: Drop, U: Drop, B: Allocator>(
+    alloc: &'a B,
+    first: Result<Option<T>, AllocError>,
+    second: Result<Option<U>, AllocError>,
+) -> Result<Option<(Box<T, &'a B>, Box<U, &'a B>)>, AllocError>
+    ensures { BothInBoxes first second result }
+{
+    let first = boxed(alloc, first);
+    both_boxed(alloc, first, second)
 }
 
 /// Two values, the second in a box, or `None` where one of them is missing.

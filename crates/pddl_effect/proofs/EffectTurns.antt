@@ -1,24 +1,29 @@
 -- What effects of lists are, and what effects look like without memory.
-use Rattle.std.proofs.Common.{◌≡◌, ◌≤◌, ◌<◌, List, [], ◌∷◌, map, length, get_or, Vec, Box, refl, sym, ap, ap₂, ◌∙◌, arith}
-use Rattle.std.specs.Prelude.{Option, Some, None, option_map, option_and_then}
+use Rattle.std.proofs.Common.{◌≡◌, ◌-◌, ◌≤◌, ◌<◌, List, [], ◌∷◌, map, length, get_or, take, drop, Vec, Box, refl, sym, ap, ap₂, ◌∙◌, arith}
+use Rattle.std.specs.Prelude.{Bool, Option, Some, None, option_map, option_and_then, if◌then◌else◌}
+use Rattle.std.specs.Option.{option_zip}
+use Rattle.std.proofs.lemmas.List.{take_all}
 use Rattle.pddl_text.specs.declared.item.Item.{Item}
 use Rattle.pddl_text.specs.Spelling.{Word}
 use Rattle.pddl_text.specs.Trees.{Tree, leaf}
 use Rattle.pddl_tree.specs.Words.{list}
 use Rattle.pddl_tree.specs.ItemTrees.{item_tree, item_trees}
+use Rattle.pddl_formula.specs.declared.head.Head.{Head}
+use Rattle.pddl_formula.specs.declared.head.Head.TheVariants as heads
 use Rattle.pddl_formula.specs.declared.type_names.Typed.{Typed}
 use Rattle.pddl_formula.specs.declared.term.Atom.{Atom}
 use Rattle.pddl_formula.specs.declared.formula.Formula.{Formula}
 use Rattle.pddl_formula.specs.Terms.{AtomValue, atom_view}
 use Rattle.pddl_formula.specs.TypedLists.{TypedValue, typed_view}
 use Rattle.pddl_formula.specs.Formulas.{FormulaValue, formula_view}
-use Rattle.pddl_formula.specs.Reading.{atom_at, variables_at, formula_at, behind, only, quantified}
+use Rattle.pddl_formula.specs.Reading.{atom_of_list, atom_at, head_at, variables_at, formula_at, behind, only, quantified}
+use Rattle.pddl_effect.specs.declared.amount.Amount.{Amount}
 use Rattle.pddl_effect.specs.declared.effect.Effect.{Effect}
 use Rattle.pddl_effect.specs.declared.effect.Effect.TheOpen.{Effect-F}
-use Rattle.pddl_effect.specs.declared.effect.Effect.TheVariants.{And, Forall, When, Del, rolls-And, rolls-Forall, rolls-When, rolls-Del}
+use Rattle.pddl_effect.specs.declared.effect.Effect.TheVariants.{And, Forall, When, Add, Del, Increase, rolls-And, rolls-Forall, rolls-When, rolls-Add, rolls-Del, rolls-Increase}
 use Rattle.pddl_effect.specs.declared.effect.Effect.TheFolds.{fold-roll-Effect}
-use Rattle.pddl_effect.specs.Effects.{EffectValue, conjunction, universal, conditional, deletion, effects_of, effect_step, effect_view}
-use Rattle.pddl_effect.specs.EffectReading.{conditional_of, effect_at, whole_effect_at}
+use Rattle.pddl_effect.specs.Effects.{EffectValue, conjunction, universal, conditional, addition, deletion, increase, effects_of, amount_view, effect_step, effect_view}
+use Rattle.pddl_effect.specs.EffectReading.{conditional_of, increase_of, is_total_cost_at, amount_at, effect_by, effect_of_list, effect_at, whole_effect_at}
 use Rattle.pddl_effect.proofs.EffectLaws.{effect_at_leaf}
 
 -- ---- effects without memory
@@ -33,6 +38,12 @@ module _ {A : Type 0} where
   pub view_when : (f : Formula A) (p : Box (Effect A) A) → effect_view (When f p) ≡ conditional (formula_view f) (effect_view p.value)
   view_when f p = ap effect_view (sym (rolls-When f p)) ∙ fold-roll-Effect _ EffectValue effect_step (Effect-F.When f p)
 
+  pub view_add : (a : Atom A) → effect_view (Add a) ≡ addition (atom_view a)
+  view_add a = ap effect_view (sym (rolls-Add a)) ∙ fold-roll-Effect _ EffectValue effect_step (Effect-F.Add a)
+
+  pub view_increase : (a : Amount A) → effect_view (Increase a) ≡ increase (amount_view a)
+  view_increase a = ap effect_view (sym (rolls-Increase a)) ∙ fold-roll-Effect _ EffectValue effect_step (Effect-F.Increase a)
+
   pub view_del : (a : Atom A) → effect_view (Del a) ≡ deletion (atom_view a)
   view_del a = ap effect_view (sym (rolls-Del a)) ∙ fold-roll-Effect _ EffectValue effect_step (Effect-F.Del a)
 
@@ -46,50 +57,72 @@ whole_effect_at_list (t ∷ ts) some = refl
 pub whole_effect_at_leaf : (w : Word) → whole_effect_at (leaf w) ≡ None
 whole_effect_at_leaf w = effect_at_leaf w
 
--- ---- lists of one
+-- ---- lists by their heads
 
-one_tree : {A : Type 0} (xs : List (Item A)) (d : Item A) → 1 ≤ length xs → length xs < 2 → item_trees xs ≡ item_tree (get_or xs 0 d) ∷ []
-one_tree [] d low high = absurd (omega (arith, low))
-one_tree (x ∷ []) d low high = refl
-one_tree (x ∷ y ∷ xs) d low high = absurd (omega (arith, high))
+module _ {A : Type 0} where
+  pub by_head : (xs : List (Item A)) (h : Item A) (k : Head) → 0 < length xs → h ≡ get_or xs 0 h → k ≡ head_at (item_tree h)
+      → effect_of_list (item_trees xs) (map effect_at (item_trees xs)) ≡ effect_by k (item_tree h) (behind (item_trees xs)) (behind (map effect_at (item_trees xs)))
+  by_head [] h k some first is = absurd (omega (arith, some))
+  by_head (x ∷ xs) h k some first is = rw (is, first) refl
 
-pub deletion_is : {A : Type 0} (xs : List (Item A)) (x : Item A) (a : AtomValue) → 1 ≤ length xs → length xs < 2 → x ≡ get_or xs 0 x
-    → Some a ≡ atom_at (item_tree x) → Some (deletion a) ≡ option_map deletion (only (map atom_at (item_trees xs)))
-deletion_is {A} xs x a low high is some =
-    let whole : item_trees xs ≡ item_tree x ∷ [] = one_tree xs x low high ∙ ap (λ (i : Item A). item_tree i ∷ []) (sym is) in
-    ap (option_map deletion) some ∙ sym (ap (λ (ts : List Tree). option_map deletion (only (map atom_at ts))) whole)
+  pub by_name : (xs : List (Item A)) (h : Item A) → 0 < length xs → h ≡ get_or xs 0 h → heads.Name ≡ head_at (item_tree h)
+      → effect_of_list (item_trees xs) (map effect_at (item_trees xs)) ≡ option_map addition (atom_of_list (item_trees xs))
+  by_name [] h some first is = absurd (omega (arith, some))
+  by_name (x ∷ xs) h some first is = by_head (x ∷ xs) h heads.Name some first is ∙ ap (λ (i : Item A). option_map addition (atom_of_list (item_tree i ∷ item_trees xs))) first
+
+  -- the trees behind the head, as a call takes them
+  rest_is : (xs : List (Item A)) → behind (item_trees xs) ≡ item_trees (take (length xs - 1) (drop 1 xs))
+  rest_is [] = refl
+  rest_is (x ∷ xs) = ap item_trees (sym (take_all (length (x ∷ xs) - 1) xs (omega arith)))
+
+  pub by_not : (xs : List (Item A)) (h : Item A) → 0 < length xs → h ≡ get_or xs 0 h → heads.Not ≡ head_at (item_tree h)
+      → effect_of_list (item_trees xs) (map effect_at (item_trees xs)) ≡ option_map deletion (only (map atom_at (item_trees (take (length xs - 1) (drop 1 xs)))))
+  by_not xs h some first is = by_head xs h heads.Not some first is ∙ ap (λ ts. option_map deletion (only (map atom_at ts))) (rest_is xs)
+
+  pub by_increase : (xs : List (Item A)) (h : Item A) → 0 < length xs → h ≡ get_or xs 0 h → heads.Increase ≡ head_at (item_tree h)
+      → effect_of_list (item_trees xs) (map effect_at (item_trees xs)) ≡ option_map increase (increase_of (item_trees (take (length xs - 1) (drop 1 xs))))
+  by_increase xs h some first is = by_head xs h heads.Increase some first is ∙ ap (λ ts. option_map increase (increase_of ts)) (rest_is xs)
+
+-- ---- lists of one and of two
+
+pub only_is : {A : Type 0} (xs : List (Item A)) (x : Item A) → 1 ≤ length xs → length xs < 2 → x ≡ get_or xs 0 x
+    → only (map atom_at (item_trees xs)) ≡ atom_at (item_tree x)
+only_is [] x low high is = absurd (omega (arith, low))
+only_is {A} (y ∷ []) x low high is = ap (λ (i : Item A). atom_at (item_tree i)) (sym is)
+only_is (y ∷ z ∷ xs) x low high is = absurd (omega (arith, high))
+
+pub increase_is : {A : Type 0} (xs : List (Item A)) (x y : Item A) (b : Bool) → 2 ≤ length xs → length xs < 3 → x ≡ get_or xs 0 x → y ≡ get_or xs 1 y
+    → b ≡ is_total_cost_at (item_tree x) → increase_of (item_trees xs) ≡ (if b then amount_at (item_tree y) else None)
+increase_is [] x y b low high first second cost = absurd (omega (arith, low))
+increase_is (u ∷ []) x y b low high first second cost = absurd (omega (arith, low))
+increase_is (u ∷ v ∷ []) x y b low high first second cost = rw (cost, first, second) refl
+increase_is (u ∷ v ∷ w ∷ xs) x y b low high first second cost = absurd (omega (arith, high))
 
 -- ---- lists of three
 
-trees_behind : {A : Type 0} (xs : List (Item A)) (d e : Item A) → 3 ≤ length xs → length xs < 4
-    → behind (item_trees xs) ≡ item_tree (get_or xs 1 d) ∷ item_tree (get_or xs 2 e) ∷ []
-trees_behind [] d e low high = absurd (omega (arith, low))
-trees_behind (x ∷ []) d e low high = absurd (omega (arith, low))
-trees_behind (x ∷ y ∷ []) d e low high = absurd (omega (arith, low))
-trees_behind (x ∷ y ∷ z ∷ []) d e low high = refl
-trees_behind (x ∷ y ∷ z ∷ w ∷ xs) d e low high = absurd (omega (arith, high))
+three : {A : Type 0} (xs : List (Item A)) (x y : Item A) → 3 ≤ length xs → length xs < 4 → x ≡ get_or xs 1 x → y ≡ get_or xs 2 y
+    → (h : Item A) × (xs ≡ h ∷ x ∷ y ∷ [])
+three [] x y low high first second = absurd (omega (arith, low))
+three (a ∷ []) x y low high first second = absurd (omega (arith, low))
+three (a ∷ b ∷ []) x y low high first second = absurd (omega (arith, low))
+three {A} (a ∷ b ∷ c ∷ []) x y low high first second = (a, sym (ap₂ (λ (i j : Item A). a ∷ i ∷ j ∷ []) first second))
+three (a ∷ b ∷ c ∷ d ∷ xs) x y low high first second = absurd (omega (arith, high))
 
-effects_behind : (ts : List Tree) → behind (map effect_at ts) ≡ map effect_at (behind ts)
-effects_behind [] = refl
-effects_behind (t ∷ ts) = refl
+-- two values, and what is made of them
+made_of_two : {X Y Z : Type 0} (make : X → Y → Z) (o : Option X) (p : Option Y)
+    → option_and_then (λ x. option_map (make x) p) o ≡ option_map (λ q. make q.0 q.1) (option_zip o p)
+made_of_two make None p = refl
+made_of_two make (Some x) None = refl
+made_of_two make (Some x) (Some y) = refl
 
 module _ {A : Type 0} (xs : List (Item A)) (x y : Item A) (low : 3 ≤ length xs) (high : length xs < 4) (first : x ≡ get_or xs 1 x) (second : y ≡ get_or xs 2 y) where
-  trees : behind (item_trees xs) ≡ item_tree x ∷ item_tree y ∷ []
-  trees = trees_behind xs x y low high ∙ ap₂ (λ (i j : Item A). item_tree i ∷ item_tree j ∷ []) (sym first) (sym second)
-
-  effects : behind (map effect_at (item_trees xs)) ≡ effect_at (item_tree x) ∷ effect_at (item_tree y) ∷ []
-  effects = effects_behind (item_trees xs) ∙ ap (map effect_at) trees
+  items_are : (h : Item A) × (xs ≡ h ∷ x ∷ y ∷ [])
+  items_are = three xs x y low high first second
 
   -- variables, and an effect
-  pub universal_is : (o : Option (List TypedValue)) (p : Option EffectValue) → o ≡ variables_at (item_tree x) → p ≡ effect_at (item_tree y)
-      → option_and_then (λ vs. option_map (universal vs) p) o ≡ quantified universal (behind (item_trees xs)) (behind (map effect_at (item_trees xs)))
-  universal_is o p variables body =
-      ap₂ (λ (q : Option EffectValue) (r : Option (List TypedValue)). option_and_then (λ vs. option_map (universal vs) q) r) body variables
-      ∙ sym (ap₂ (quantified universal) trees effects)
+  pub universal_is : quantified universal (behind (item_trees xs)) (behind (map effect_at (item_trees xs))) ≡ option_map (λ p. universal p.0 p.1) (option_zip (variables_at (item_tree x)) (effect_at (item_tree y)))
+  universal_is = rw items_are.1 (made_of_two universal (variables_at (item_tree x)) (effect_at (item_tree y)))
 
   -- a condition, and an effect
-  pub conditional_is : (o : Option FormulaValue) (p : Option EffectValue) → o ≡ formula_at (item_tree x) → p ≡ effect_at (item_tree y)
-      → option_and_then (λ f. option_map (conditional f) p) o ≡ conditional_of (behind (item_trees xs)) (behind (map effect_at (item_trees xs)))
-  conditional_is o p condition body =
-      ap₂ (λ (q : Option EffectValue) (r : Option FormulaValue). option_and_then (λ f. option_map (conditional f) q) r) body condition
-      ∙ sym (ap₂ conditional_of trees effects)
+  pub conditional_is : conditional_of (behind (item_trees xs)) (behind (map effect_at (item_trees xs))) ≡ option_map (λ p. conditional p.0 p.1) (option_zip (formula_at (item_tree x)) (effect_at (item_tree y)))
+  conditional_is = rw items_are.1 (made_of_two conditional (formula_at (item_tree x)) (effect_at (item_tree y)))

@@ -1,14 +1,17 @@
 //! Amounts of increases read from items.
 
-ghost use Rattle.std.specs.Prelude.{◌≡◌, ℕ, [], IfOk, MatchOption, map, option_map, option_and_then};
+ghost use Rattle.std.specs.Prelude.{◌≡◌, ℕ, [], IfOk, MatchOption, option_map, option_and_then};
+ghost use Rattle.pddl_build.specs.Results.{map_found, both_of};
 ghost use Rattle.pddl_tree.specs.ItemTrees.{item_tree, item_trees};
 ghost use Rattle.pddl_tree.specs.TreeReading.{name_at};
 ghost use Rattle.pddl_formula.specs.Reading.{term_at};
 ghost use Rattle.pddl_effect.specs.Effects.{FunctionTermValue, AmountValue, function_term_view, amount_view, IsFunctionTerm, IsNumber, IsAmount};
+ghost use Rattle.pddl_effect.specs.StaticNames.{static_function_of};
 ghost use Rattle.pddl_effect.specs.EffectReading.{call_of_list, static_term, function_term_at, number_at, amount_at};
 
 use crate::amount::{Amount, FunctionTerm, StaticFunction};
-use pddl_formula::{name_of, terms_of};
+use pddl_build::both;
+use pddl_formula::{Term, name_of, terms_of};
 use pddl_text::{Fixed, Item, TokenKind, value_of};
 use std::alloc::{AllocError, Allocator};
 
@@ -87,6 +90,19 @@ fn item_function_term<'a, B: Allocator>(
     }
 }
 
+/// The function whose name an item is.
+fn static_function_of<'a, B: Allocator>(
+    alloc: &'a B,
+    item: &Item<'_, &'a B>,
+) -> Result<Option<StaticFunction<&'a B>>, AllocError>
+    ensures { IfOk result (λ found. found ≡ option_and_then static_function_of (name_at (item_tree item.now))) }
+{
+    let Some(name) = name_of(alloc, item)? else {
+        return Ok(None);
+    };
+    Ok(StaticFunction::new(name))
+}
+
 /// The function whose bare name an item is.
 fn bare_function<'a, B: Allocator>(
     alloc: &'a B,
@@ -94,10 +110,7 @@ fn bare_function<'a, B: Allocator>(
 ) -> Result<Option<FunctionTerm<&'a B>>, AllocError>
     ensures { IfOk result (λ found. option_map function_term_view found ≡ option_and_then static_term (option_map (λ f. (f, [])) (name_at (item_tree item.now)))) }
 {
-    let Some(name) = name_of(alloc, item)? else {
-        return Ok(None);
-    };
-    let Some(function) = StaticFunction::new(name) else {
+    let Some(function) = static_function_of(alloc, item)? else {
         return Ok(None);
     };
     let terms = Vec::new(alloc);
@@ -114,13 +127,17 @@ fn list_function_term<'a, B: Allocator>(
     let [head, terms @ ..] = items else {
         return Ok(None);
     };
-    let Some(name) = name_of(alloc, head)? else {
-        return Ok(None);
-    };
-    let Some(terms) = terms_of(alloc, terms)? else {
-        return Ok(None);
-    };
-    let Some(function) = StaticFunction::new(name) else {
+    function_term(static_function_of(alloc, head), terms_of(alloc, terms))
+}
+
+/// A function and its arguments, if both were read.
+fn function_term<A: Allocator>(
+    function: Result<Option<StaticFunction<A>>, AllocError>,
+    terms: Result<Option<Vec<Term<A>, A>>, AllocError>,
+) -> Result<Option<FunctionTerm<A>>, AllocError>
+    ensures { result ≡ map_found (λ p. record { function = p.0; terms = p.1 }) (both_of function terms) }
+{
+    let Some((function, terms)) = both(function, terms)? else {
         return Ok(None);
     };
     Ok(Some(FunctionTerm { function, terms }))

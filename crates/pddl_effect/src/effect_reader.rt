@@ -4,14 +4,20 @@ ghost use Rattle.std.specs.Prelude.{◌≡◌, IfOk, MatchOption, map, option_ma
 ghost use Rattle.pddl_text.specs.Trees.{Tree};
 ghost use Rattle.pddl_tree.specs.ItemTrees.{item_tree, item_trees};
 ghost use Rattle.pddl_tree.specs.TreeReading.{all_of};
-ghost use Rattle.pddl_formula.specs.Reading.{atom_at, atom_of_list, behind, only, quantified};
-ghost use Rattle.pddl_effect.specs.Effects.{EffectValue, conjunction, universal, addition, deletion, increase, effects_of, amount_view, effect_view, IsEffect, IsWholeEffect};
+ghost use Rattle.pddl_build.specs.Results.{map_found, both_of};
+ghost use Rattle.pddl_formula.specs.Reading.{atom_at, behind, only, quantified};
+ghost use Rattle.pddl_effect.specs.declared.effect.Effect.TheVariants as cases;
+ghost use Rattle.pddl_effect.specs.Effects.{EffectValue, universal, deletion, increase, effect_view, IsEffect, IsWholeEffect};
 ghost use Rattle.pddl_effect.specs.EffectReading.{increase_of, conditional_of, effect_of_list, effect_at, whole_effect_at};
 
+use crate::amount::Amount;
 use crate::amount_reader::amount_of;
 use crate::effect::Effect;
 use crate::increase::is_total_cost;
-use pddl_formula::{Head, atom_of, atom_of_list, formula_of, head_of, variables_of};
+use pddl_build::{both, boxed};
+use pddl_formula::{
+    Atom, Formula, Head, Typed, atom_of, atom_of_list, formula_of, head_of, variables_of,
+};
 use pddl_text::Item;
 use std::alloc::{AllocError, Allocator};
 
@@ -90,11 +96,11 @@ fn list_effect<'a, B: Allocator>(
     match items {
         [] => Ok(None),
         [head, rest @ ..] => match head_of(head) {
-            Head::And => Ok(conjunction(effects_of(alloc, items)?)),
+            Head::And => conjunction(effects_of(alloc, items)),
             Head::Forall => universal_of(alloc, items),
             Head::When => conditional_of(alloc, items),
             Head::Not => deletion_of(alloc, rest),
-            Head::Name => addition_of(alloc, items),
+            Head::Name => addition(atom_of_list(alloc, items)),
             Head::Increase => increase_of(alloc, rest),
             Head::Or | Head::Imply | Head::Exists | Head::Equal | Head::Nothing => Ok(None),
         },
@@ -129,13 +135,8 @@ fn universal_of<'a, B: Allocator>(
     let [_, variables, body] = items else {
         return Ok(None);
     };
-    let Some(variables) = variables_of(alloc, variables)? else {
-        return Ok(None);
-    };
-    let Some(body) = item_effect(alloc, body)? else {
-        return Ok(None);
-    };
-    Ok(Some(Effect::Forall(variables, Box::new(alloc, body)?)))
+    let body = boxed(alloc, item_effect(alloc, body));
+    universal(variables_of(alloc, variables), body)
 }
 
 #[cycle(effect)]
@@ -148,23 +149,8 @@ fn conditional_of<'a, B: Allocator>(
     let [_, condition, body] = items else {
         return Ok(None);
     };
-    let Some(condition) = formula_of(alloc, condition)? else {
-        return Ok(None);
-    };
-    let Some(body) = item_effect(alloc, body)? else {
-        return Ok(None);
-    };
-    Ok(Some(Effect::When(condition, Box::new(alloc, body)?)))
-}
-
-/// The conjunction of effects, if they were read.
-fn conjunction<A: Allocator>(effects: Option<Vec<Effect<A>, A>>) -> Option<Effect<A>>
-    ensures { option_map effect_view result ≡ option_map (λ es. conjunction (effects_of es)) (option_map (λ v. map effect_view v.items) effects) }
-{
-    let Some(effects) = effects else {
-        return None;
-    };
-    Some(Effect::And(effects))
+    let body = boxed(alloc, item_effect(alloc, body));
+    conditional(formula_of(alloc, condition), body)
 }
 
 /// The deletion of the one atom that these items spell.
@@ -177,23 +163,7 @@ fn deletion_of<'a, B: Allocator>(
     let [item] = items else {
         return Ok(None);
     };
-    let Some(atom) = atom_of(alloc, item)? else {
-        return Ok(None);
-    };
-    Ok(Some(Effect::Del(atom)))
-}
-
-/// The addition of the atom of a list of these items.
-fn addition_of<'a, B: Allocator>(
-    alloc: &'a B,
-    items: &[Item<'_, &'a B>],
-) -> Result<Option<Effect<&'a B>>, AllocError>
-    ensures { IfOk result (λ found. option_map effect_view found ≡ option_map addition (atom_of_list (item_trees items.now))) }
-{
-    let Some(atom) = atom_of_list(alloc, items)? else {
-        return Ok(None);
-    };
-    Ok(Some(Effect::Add(atom)))
+    deletion(atom_of(alloc, item))
 }
 
 /// The increase of the total cost by the amount behind it.
@@ -209,7 +179,72 @@ fn increase_of<'a, B: Allocator>(
     if !is_total_cost(cost) {
         return Ok(None);
     }
-    let Some(amount) = amount_of(alloc, amount)? else {
+    increase(amount_of(alloc, amount))
+}
+
+fn conjunction<A: Allocator>(
+    effects: Result<Option<Vec<Effect<A>, A>>, AllocError>,
+) -> Result<Option<Effect<A>>, AllocError>
+    ensures { result ≡ map_found cases.And effects }
+{
+    let Some(effects) = effects? else {
+        return Ok(None);
+    };
+    Ok(Some(Effect::And(effects)))
+}
+
+fn universal<A: Allocator>(
+    variables: Result<Option<Vec<Typed<A>, A>>, AllocError>,
+    body: Result<Option<Box<Effect<A>, A>>, AllocError>,
+) -> Result<Option<Effect<A>>, AllocError>
+    ensures { result ≡ map_found (λ p. cases.Forall p.0 p.1) (both_of variables body) }
+{
+    let Some((variables, body)) = both(variables, body)? else {
+        return Ok(None);
+    };
+    Ok(Some(Effect::Forall(variables, body)))
+}
+
+fn conditional<A: Allocator>(
+    condition: Result<Option<Formula<A>>, AllocError>,
+    body: Result<Option<Box<Effect<A>, A>>, AllocError>,
+) -> Result<Option<Effect<A>>, AllocError>
+    ensures { result ≡ map_found (λ p. cases.When p.0 p.1) (both_of condition body) }
+{
+    let Some((condition, body)) = both(condition, body)? else {
+        return Ok(None);
+    };
+    Ok(Some(Effect::When(condition, body)))
+}
+
+fn addition<A: Allocator>(
+    atom: Result<Option<Atom<A>>, AllocError>,
+) -> Result<Option<Effect<A>>, AllocError>
+    ensures { result ≡ map_found cases.Add atom }
+{
+    let Some(atom) = atom? else {
+        return Ok(None);
+    };
+    Ok(Some(Effect::Add(atom)))
+}
+
+fn deletion<A: Allocator>(
+    atom: Result<Option<Atom<A>>, AllocError>,
+) -> Result<Option<Effect<A>>, AllocError>
+    ensures { result ≡ map_found cases.Del atom }
+{
+    let Some(atom) = atom? else {
+        return Ok(None);
+    };
+    Ok(Some(Effect::Del(atom)))
+}
+
+fn increase<A: Allocator>(
+    amount: Result<Option<Amount<A>>, AllocError>,
+) -> Result<Option<Effect<A>>, AllocError>
+    ensures { result ≡ map_found cases.Increase amount }
+{
+    let Some(amount) = amount? else {
         return Ok(None);
     };
     Ok(Some(Effect::Increase(amount)))

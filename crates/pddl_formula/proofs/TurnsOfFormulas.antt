@@ -1,18 +1,26 @@
 -- What formulas of lists are, and what formulas look like without memory.
-use Rattle.std.proofs.Common.{◌≡◌, ◌≤◌, ◌<◌, List, [], ◌∷◌, map, length, get_or, Vec, Box, refl, sym, ap, ap₂, ◌∙◌, arith}
+use Rattle.std.proofs.Common.{◌≡◌, ◌-◌, ◌≤◌, ◌<◌, List, [], ◌∷◌, map, length, get_or, take, drop, Vec, Box, refl, sym, ap, ap₂, ◌∙◌, arith}
 use Rattle.std.specs.Prelude.{Option, Some, None, option_map, option_and_then}
+use Rattle.std.specs.Option.{option_zip}
+use Rattle.std.proofs.lemmas.List.{take_all}
 use Rattle.pddl_text.specs.declared.item.Item.{Item}
 use Rattle.pddl_text.specs.Spelling.{Word}
 use Rattle.pddl_text.specs.Trees.{Tree, leaf, trees_of}
 use Rattle.pddl_tree.specs.Words.{list}
 use Rattle.pddl_tree.specs.ItemTrees.{item_tree, item_trees}
 use Rattle.pddl_tree.proofs.TreeLists.{list_of_trees_of}
-use Rattle.pddl_formula.specs.Formulas.{FormulaValue, negation, implication, conjunction, disjunction, existential, universal, formula_step, formula_view, formulas_of}
+use Rattle.pddl_formula.specs.Terms.{term_view, atom_view}
+use Rattle.pddl_formula.specs.Formulas.{FormulaValue, atom, equal, negation, implication, conjunction, disjunction, existential, universal, formula_step, formula_view, formulas_of}
 use Rattle.pddl_formula.specs.TypedLists.{TypedValue, typed_view}
-use Rattle.pddl_formula.specs.Reading.{behind, only, two, quantified, variables_at, formula_at, formulas_at, formula_of_list, condition_at}
+use Rattle.pddl_formula.specs.Reading.{term_at, atom_of_list, equality_of, head_at, formula_by, behind, only, two, bound, quantified, variables_at, formula_at, formulas_at, formula_of_list, condition_at}
+use Rattle.pddl_formula.specs.declared.term.Term.{Term}
+use Rattle.pddl_formula.specs.declared.term.Atom.{Atom}
 use Rattle.pddl_formula.specs.declared.type_names.Typed.{Typed}
+use Rattle.pddl_formula.specs.declared.head.Head.{Head}
+use Rattle.pddl_formula.specs.declared.head.Head.TheVariants as heads
 use Rattle.pddl_formula.specs.declared.formula.Formula.{Formula}
 use Rattle.pddl_formula.specs.declared.formula.Formula.TheOpen.{Formula-F}
+use Rattle.pddl_formula.specs.declared.formula.Formula.TheVariants as cases
 use Rattle.pddl_formula.specs.declared.formula.Formula.TheVariants.{Not, Imply, And, Or, Exists, Forall, rolls-Not, rolls-Imply, rolls-And, rolls-Or, rolls-Exists, rolls-Forall}
 use Rattle.pddl_formula.specs.declared.formula.Formula.TheFolds.{fold-roll-Formula}
 
@@ -60,73 +68,83 @@ module _ {A : Type 0} where
   pub view_forall : (v : Vec (Typed A) A) (p : Box (Formula A) A) → formula_view (Forall v p) ≡ universal (map typed_view v.items) (formula_view p.value)
   view_forall v p = ap formula_view (sym (rolls-Forall v p)) ∙ fold-roll-Formula _ FormulaValue formula_step (Formula-F.Forall v p)
 
--- ---- lists of two
+  pub view_atom : (a : Atom A) → formula_view (cases.Atom a) ≡ atom (atom_view a)
+  view_atom a = ap formula_view (sym (cases.rolls-Atom a)) ∙ fold-roll-Formula _ FormulaValue formula_step (Formula-F.Atom a)
 
-behind_first : {A : Type 0} (xs : List (Item A)) (d : Item A) → 2 ≤ length xs → length xs < 3
-    → behind (map formula_at (item_trees xs)) ≡ formula_at (item_tree (get_or xs 1 d)) ∷ []
-behind_first [] d low high = absurd (omega (arith, low))
-behind_first (x ∷ []) d low high = absurd (omega (arith, low))
-behind_first (x ∷ y ∷ []) d low high = refl
-behind_first (x ∷ y ∷ z ∷ xs) d low high = absurd (omega (arith, high))
+  pub view_equal : (x y : Term A) → formula_view (cases.Equal x y) ≡ equal (term_view x) (term_view y)
+  view_equal x y = ap formula_view (sym (cases.rolls-Equal x y)) ∙ fold-roll-Formula _ FormulaValue formula_step (Formula-F.Equal x y)
 
-pub not_of : {A : Type 0} (xs : List (Item A)) (x : Item A) (f : FormulaValue) → 2 ≤ length xs → length xs < 3 → x ≡ get_or xs 1 x
-    → Some f ≡ formula_at (item_tree x) → Some (negation f) ≡ option_map negation (only (behind (map formula_at (item_trees xs))))
-not_of xs x f low high is some =
-    let whole : behind (map formula_at (item_trees xs)) ≡ Some f ∷ [] =
-    behind_first xs x low high ∙ ap (λ (i : Item _). formula_at (item_tree i) ∷ []) (sym is) ∙ ap (λ (o : Option FormulaValue). o ∷ []) (sym some) in
-    rw whole refl
+-- ---- lists by their heads
 
--- ---- lists of three
+module _ {A : Type 0} where
+  pub by_head : (xs : List (Item A)) (h : Item A) (k : Head) → 0 < length xs → h ≡ get_or xs 0 h → k ≡ head_at (item_tree h)
+      → formula_of_list (item_trees xs) (map formula_at (item_trees xs)) ≡ formula_by k (item_tree h) (behind (item_trees xs)) (behind (map formula_at (item_trees xs)))
+  by_head [] h k some first is = absurd (omega (arith, some))
+  by_head (x ∷ xs) h k some first is = rw (is, first) refl
 
-behind_two : {A : Type 0} (xs : List (Item A)) (d e : Item A) → 3 ≤ length xs → length xs < 4
-    → behind (map formula_at (item_trees xs)) ≡ formula_at (item_tree (get_or xs 1 d)) ∷ formula_at (item_tree (get_or xs 2 e)) ∷ []
-behind_two [] d e low high = absurd (omega (arith, low))
-behind_two (x ∷ []) d e low high = absurd (omega (arith, low))
-behind_two (x ∷ y ∷ []) d e low high = absurd (omega (arith, low))
-behind_two (x ∷ y ∷ z ∷ []) d e low high = refl
-behind_two (x ∷ y ∷ z ∷ w ∷ xs) d e low high = absurd (omega (arith, high))
+  pub by_name : (xs : List (Item A)) (h : Item A) → 0 < length xs → h ≡ get_or xs 0 h → heads.Name ≡ head_at (item_tree h)
+      → formula_of_list (item_trees xs) (map formula_at (item_trees xs)) ≡ option_map atom (atom_of_list (item_trees xs))
+  by_name [] h some first is = absurd (omega (arith, some))
+  by_name (x ∷ xs) h some first is = by_head (x ∷ xs) h heads.Name some first is ∙ ap (λ (i : Item A). option_map atom (atom_of_list (item_tree i ∷ item_trees xs))) first
 
-trees_behind : {A : Type 0} (xs : List (Item A)) (d e : Item A) → 3 ≤ length xs → length xs < 4
-    → behind (item_trees xs) ≡ item_tree (get_or xs 1 d) ∷ item_tree (get_or xs 2 e) ∷ []
-trees_behind [] d e low high = absurd (omega (arith, low))
-trees_behind (x ∷ []) d e low high = absurd (omega (arith, low))
-trees_behind (x ∷ y ∷ []) d e low high = absurd (omega (arith, low))
-trees_behind (x ∷ y ∷ z ∷ []) d e low high = refl
-trees_behind (x ∷ y ∷ z ∷ w ∷ xs) d e low high = absurd (omega (arith, high))
+  pub by_equal : (xs : List (Item A)) (h : Item A) → 0 < length xs → h ≡ get_or xs 0 h → heads.Equal ≡ head_at (item_tree h)
+      → formula_of_list (item_trees xs) (map formula_at (item_trees xs)) ≡ equality_of (item_trees (take (length xs - 1) (drop 1 xs)))
+  by_equal [] h some first is = absurd (omega (arith, some))
+  by_equal (x ∷ xs) h some first is = by_head (x ∷ xs) h heads.Equal some first is ∙ ap (λ (ys : List (Item A)). equality_of (item_trees ys)) (sym (take_all (length (x ∷ xs) - 1) xs (omega arith)))
+
+-- ---- lists of two and of three
+
+pub only_is : {A : Type 0} (xs : List (Item A)) (x : Item A) → 2 ≤ length xs → length xs < 3 → x ≡ get_or xs 1 x
+    → only (behind (map formula_at (item_trees xs))) ≡ formula_at (item_tree x)
+only_is [] x low high is = absurd (omega (arith, low))
+only_is (h ∷ []) x low high is = absurd (omega (arith, low))
+only_is {A} (h ∷ y ∷ []) x low high is = ap (λ (i : Item A). formula_at (item_tree i)) (sym is)
+only_is (h ∷ y ∷ z ∷ xs) x low high is = absurd (omega (arith, high))
+
+pub two_zip : {X : Type 0} (o p : Option X) → two (o ∷ p ∷ []) ≡ option_zip o p
+two_zip None p = refl
+two_zip (Some x) None = refl
+two_zip (Some x) (Some y) = refl
+
+pub two_terms : {A : Type 0} (xs : List (Item A)) (x y : Item A) → 2 ≤ length xs → length xs < 3 → x ≡ get_or xs 0 x → y ≡ get_or xs 1 y
+    → two (map term_at (item_trees xs)) ≡ option_zip (term_at (item_tree x)) (term_at (item_tree y))
+two_terms [] x y low high first second = absurd (omega (arith, low))
+two_terms (a ∷ []) x y low high first second = absurd (omega (arith, low))
+two_terms {A} (a ∷ b ∷ []) x y low high first second = rw (first, second) (two_zip (term_at (item_tree a)) (term_at (item_tree b)))
+two_terms (a ∷ b ∷ c ∷ xs) x y low high first second = absurd (omega (arith, high))
+
+bound_zip : (o : Option (List TypedValue)) (p : Option FormulaValue) → option_and_then (λ xs. option_map (bound xs) p) o ≡ option_zip o p
+bound_zip None p = refl
+bound_zip (Some xs) None = refl
+bound_zip (Some xs) (Some f) = refl
+
+bound_made : (make : List TypedValue → FormulaValue → FormulaValue) (o : Option (List TypedValue)) (p : Option FormulaValue)
+    → option_map (λ b. make b.0 b.1) (option_and_then (λ xs. option_map (bound xs) p) o) ≡ option_and_then (λ xs. option_map (make xs) p) o
+bound_made make None p = refl
+bound_made make (Some xs) None = refl
+bound_made make (Some xs) (Some f) = refl
+
+-- what is made of variables and the formula that they are bound in
+pub quantified_made : (make : List TypedValue → FormulaValue → FormulaValue) (ts : List Tree) (os : List (Option FormulaValue))
+    → option_map (λ b. make b.0 b.1) (quantified bound ts os) ≡ quantified make ts os
+quantified_made make [] os = refl
+quantified_made make (vs ∷ ts) [] = refl
+quantified_made make (vs ∷ ts) (o ∷ os) = bound_made make (variables_at vs) (only os)
+
+three : {A : Type 0} (xs : List (Item A)) (x y : Item A) → 3 ≤ length xs → length xs < 4 → x ≡ get_or xs 1 x → y ≡ get_or xs 2 y
+    → (h : Item A) × (xs ≡ h ∷ x ∷ y ∷ [])
+three [] x y low high first second = absurd (omega (arith, low))
+three (a ∷ []) x y low high first second = absurd (omega (arith, low))
+three (a ∷ b ∷ []) x y low high first second = absurd (omega (arith, low))
+three {A} (a ∷ b ∷ c ∷ []) x y low high first second = (a, sym (ap₂ (λ (i j : Item A). a ∷ i ∷ j ∷ []) first second))
+three (a ∷ b ∷ c ∷ d ∷ xs) x y low high first second = absurd (omega (arith, high))
 
 module _ {A : Type 0} (xs : List (Item A)) (x y : Item A) (low : 3 ≤ length xs) (high : length xs < 4) (first : x ≡ get_or xs 1 x) (second : y ≡ get_or xs 2 y) where
-  formulas_behind : (o p : Option FormulaValue) → o ≡ formula_at (item_tree x) → p ≡ formula_at (item_tree y)
-      → behind (map formula_at (item_trees xs)) ≡ o ∷ p ∷ []
-  formulas_behind o p left right =
-      behind_two xs x y low high
-      ∙ ap₂ (λ (q r : Option FormulaValue). q ∷ r ∷ []) (ap (λ (i : Item A). formula_at (item_tree i)) (sym first) ∙ sym left) (ap (λ (i : Item A). formula_at (item_tree i)) (sym second) ∙ sym right)
+  items_are : (h : Item A) × (xs ≡ h ∷ x ∷ y ∷ [])
+  items_are = three xs x y low high first second
 
-  pub imply_of : (f g : FormulaValue) → Some f ≡ formula_at (item_tree x) → Some g ≡ formula_at (item_tree y)
-      → Some (implication f g) ≡ option_map (λ p. implication p.0 p.1) (two (behind (map formula_at (item_trees xs))))
-  imply_of f g left right = rw (formulas_behind (Some f) (Some g) left right) refl
+  pub two_is : two (behind (map formula_at (item_trees xs))) ≡ option_zip (formula_at (item_tree x)) (formula_at (item_tree y))
+  two_is = rw items_are.1 (two_zip (formula_at (item_tree x)) (formula_at (item_tree y)))
 
-  pub imply_stop : (f : FormulaValue) → Some f ≡ formula_at (item_tree x) → None ≡ formula_at (item_tree y)
-      → None ≡ option_map (λ p. implication p.0 p.1) (two (behind (map formula_at (item_trees xs))))
-  imply_stop f left right = rw (formulas_behind (Some f) None left right) refl
-
-  -- variables, and what they bind in
-  quantified_by : (make : List TypedValue → FormulaValue → FormulaValue) (o : Option (List TypedValue)) (p : Option FormulaValue)
-      → o ≡ variables_at (item_tree x) → p ≡ formula_at (item_tree y)
-      → quantified make (behind (item_trees xs)) (behind (map formula_at (item_trees xs))) ≡ option_and_then (λ vs. option_map (make vs) p) o
-  quantified_by make o p variables body =
-      let there : variables_at (item_tree (get_or xs 1 x)) ≡ o = ap (λ (i : Item A). variables_at (item_tree i)) (sym first) ∙ sym variables in
-      rw (trees_behind xs x y low high, formulas_behind (formula_at (item_tree x)) p refl body, there) refl
-
-  pub quantified_of : (make : List TypedValue → FormulaValue → FormulaValue) (vs : List TypedValue) (f : FormulaValue)
-      → Some vs ≡ variables_at (item_tree x) → Some f ≡ formula_at (item_tree y)
-      → Some (make vs f) ≡ quantified make (behind (item_trees xs)) (behind (map formula_at (item_trees xs)))
-  quantified_of make vs f variables body = sym (quantified_by make (Some vs) (Some f) variables body)
-
-  pub quantified_stop : (make : List TypedValue → FormulaValue → FormulaValue) (vs : List TypedValue)
-      → Some vs ≡ variables_at (item_tree x) → None ≡ formula_at (item_tree y)
-      → None ≡ quantified make (behind (item_trees xs)) (behind (map formula_at (item_trees xs)))
-  quantified_stop make vs variables body = sym (quantified_by make (Some vs) None variables body)
-
-  pub quantified_none : (make : List TypedValue → FormulaValue → FormulaValue) → None ≡ variables_at (item_tree x)
-      → None ≡ quantified make (behind (item_trees xs)) (behind (map formula_at (item_trees xs)))
-  quantified_none make variables = sym (quantified_by make None (formula_at (item_tree y)) variables refl)
+  pub bound_is : quantified bound (behind (item_trees xs)) (behind (map formula_at (item_trees xs))) ≡ option_zip (variables_at (item_tree x)) (formula_at (item_tree y))
+  bound_is = rw items_are.1 (bound_zip (variables_at (item_tree x)) (formula_at (item_tree y)))

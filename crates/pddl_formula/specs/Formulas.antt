@@ -1,9 +1,10 @@
 -- Formulas, and the trees that spell them (Kovacs, `<GD>`, without preferences and comparisons).
-use Rattle.std.specs.Prelude.{◌≡◌, ◌⊎◌, List, [], ◌∷◌, map, codes}
+use Rattle.std.specs.Prelude.{◌≡◌, ◌⊎◌, List, [], ◌∷◌, Vec, Box, map, codes}
 use Rattle.pddl_text.specs.Trees.{Tree}
 use Rattle.pddl_tree.specs.Words.{list, IsWord, IsEqualSign}
 use Rattle.pddl_formula.specs.Terms.{TermValue, AtomValue, term_view, atom_view, IsTerm, IsAtom}
 use Rattle.pddl_formula.specs.TypedLists.{TypedValue, typed_view, IsVariableList}
+use Rattle.pddl_formula.specs.declared.type_names.Typed.{Typed}
 use Rattle.pddl_formula.specs.declared.formula.Formula.{Formula}
 use Rattle.pddl_formula.specs.declared.formula.Formula.TheOpen.{Formula-F}
 use Rattle.pddl_formula.specs.declared.formula.Formula.TheFolds.{fold-Formula}
@@ -45,6 +46,10 @@ formula_step (Formula-F.Forall xs f) = universal (map typed_view xs.items) f.val
 -- a formula of the program without where it lies in memory
 abbrev pub formula_view : {A : _} → Formula A → FormulaValue
 formula_view = fold-Formula _ FormulaValue formula_step
+
+-- variables of the program, and the formula that they are bound in, likewise
+abbrev pub bound_view : {A : _} → Vec (Typed A) A × Box (Formula A) A → List TypedValue × FormulaValue
+bound_view b = (map typed_view b.0.items, formula_view b.1.value)
 
 -- ---- which trees spell them
 

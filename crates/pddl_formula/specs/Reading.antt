@@ -134,8 +134,12 @@ two (o ∷ []) = None
 two (o ∷ p ∷ []) = pair_of o p
 two (o ∷ p ∷ q ∷ os) = None
 
+-- variables, and what they are bound in
+abbrev pub bound : {F : Type 0} → List TypedValue → F → List TypedValue × F
+bound xs f = (xs, f)
+
 -- typed variables in parentheses, and the one value behind them
-abbrev pub quantified : {F : Type 0} → (List TypedValue → F → F) → List Tree → List (Option F) → Option F
+abbrev pub quantified : {F G : Type 0} → (List TypedValue → F → G) → List Tree → List (Option F) → Option G
 quantified make [] os = None
 quantified make (vs ∷ ts) [] = None
 quantified make (vs ∷ ts) (o ∷ os) = option_and_then (λ xs. option_map (make xs) (only os)) (variables_at vs)

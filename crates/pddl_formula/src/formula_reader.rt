@@ -3,15 +3,23 @@
 ghost use Rattle.std.specs.Prelude.{◌≡◌, IfOk, map, option_map};
 ghost use Rattle.pddl_tree.specs.ItemTrees.{item_tree, item_trees};
 ghost use Rattle.pddl_tree.specs.TreeReading.{all_of};
-ghost use Rattle.pddl_formula.specs.Formulas.{formula_view, atom, negation, implication, conjunction, disjunction, existential, universal, formulas_of};
-ghost use Rattle.pddl_formula.specs.Reading.{atom_of_list, behind, only, two, quantified, equality_of, formula_of_list, formula_at, condition_at};
+ghost use Rattle.pddl_build.specs.Results.{map_found, both_of};
+ghost use Rattle.pddl_formula.specs.declared.formula.Formula.TheVariants as cases;
+ghost use Rattle.pddl_formula.specs.Formulas.{formula_view, bound_view, negation, implication};
+ghost use Rattle.pddl_formula.specs.Reading.{behind, only, two, bound, quantified, equality_of, formula_of_list, formula_at, condition_at};
 
 use crate::formula::Formula;
 use crate::head::{Head, head_of};
+use crate::term::{Atom, Term};
 use crate::term_reader::{atom_of_list, term_of};
+use crate::type_names::Typed;
 use crate::typed_reader::variables_of;
+use pddl_build::{both, both_in_boxes, boxed};
 use pddl_text::Item;
 use std::alloc::{AllocError, Allocator};
+
+/// Variables, and the formula that they are bound in.
+type Bound<A> = (Vec<Typed<A>, A>, Box<Formula<A>, A>);
 
 /// The formula that an item spells, or `None` where it spells none (Kovacs, `<GD>` without preferences and comparisons;
 /// that reserved words name no predicate is own).
@@ -41,13 +49,13 @@ fn list_formula_of<'a, B: Allocator>(
     match items {
         [] => Ok(None),
         [head, rest @ ..] => match head_of(head) {
-            Head::And => Ok(conjunction(formulas_of(alloc, items)?)),
-            Head::Or => Ok(disjunction(formulas_of(alloc, items)?)),
+            Head::And => conjunction(formulas_of(alloc, items)),
+            Head::Or => disjunction(formulas_of(alloc, items)),
             Head::Not => negation_of(alloc, items),
             Head::Imply => implication_of(alloc, items),
-            Head::Exists => existential_of(alloc, items),
-            Head::Forall => universal_of(alloc, items),
-            Head::Name => atomic_of(alloc, items),
+            Head::Exists => existential(bound_of(alloc, items)),
+            Head::Forall => universal(bound_of(alloc, items)),
+            Head::Name => atomic(atom_of_list(alloc, items)),
             Head::Equal => equality_of(alloc, rest),
             Head::When | Head::Increase | Head::Nothing => Ok(None),
         },
@@ -82,10 +90,7 @@ fn negation_of<'a, B: Allocator>(
     let [_, item] = items else {
         return Ok(None);
     };
-    let Some(formula) = formula_of(alloc, item)? else {
-        return Ok(None);
-    };
-    Ok(Some(Formula::Not(Box::new(alloc, formula)?)))
+    negation(boxed(alloc, formula_of(alloc, item)))
 }
 
 #[cycle(formula)]
@@ -98,85 +103,120 @@ fn implication_of<'a, B: Allocator>(
     let [_, left, right] = items else {
         return Ok(None);
     };
-    let Some(left) = formula_of(alloc, left)? else {
+    implication(both_in_boxes(alloc, formula_of(alloc, left), formula_of(alloc, right)))
+}
+
+/// The variables behind the head of a list, and the formula that they are bound in.
+#[cycle(formula)]
+fn bound_of<'a, B: Allocator>(
+    alloc: &'a B,
+    items: &[Item<'_, &'a B>],
+) -> Result<Option<Bound<&'a B>>, AllocError>
+    ensures { IfOk result (λ found. option_map bound_view found ≡ quantified bound (behind (item_trees items.now)) (behind (map formula_at (item_trees items.now)))) }
+{
+    let [_, variables, body] = items else {
         return Ok(None);
     };
-    let Some(right) = formula_of(alloc, right)? else {
+    let body = boxed(alloc, formula_of(alloc, body));
+    bind(variables_of(alloc, variables), body)
+}
+
+/// Variables, and the formula that they are bound in, if both were read.
+fn bind<A: Allocator>(
+    variables: Result<Option<Vec<Typed<A>, A>>, AllocError>,
+    body: Result<Option<Box<Formula<A>, A>>, AllocError>,
+) -> Result<Option<Bound<A>>, AllocError>
+    ensures { result ≡ both_of variables body }
+{
+    both(variables, body)
+}
+
+fn conjunction<A: Allocator>(
+    formulas: Result<Option<Vec<Formula<A>, A>>, AllocError>,
+) -> Result<Option<Formula<A>>, AllocError>
+    ensures { result ≡ map_found cases.And formulas }
+{
+    let Some(formulas) = formulas? else {
         return Ok(None);
     };
-    let left = Box::new(alloc, left)?;
-    let right = Box::new(alloc, right)?;
+    Ok(Some(Formula::And(formulas)))
+}
+
+fn disjunction<A: Allocator>(
+    formulas: Result<Option<Vec<Formula<A>, A>>, AllocError>,
+) -> Result<Option<Formula<A>>, AllocError>
+    ensures { result ≡ map_found cases.Or formulas }
+{
+    let Some(formulas) = formulas? else {
+        return Ok(None);
+    };
+    Ok(Some(Formula::Or(formulas)))
+}
+
+fn negation<A: Allocator>(
+    formula: Result<Option<Box<Formula<A>, A>>, AllocError>,
+) -> Result<Option<Formula<A>>, AllocError>
+    ensures { result ≡ map_found cases.Not formula }
+{
+    let Some(formula) = formula? else {
+        return Ok(None);
+    };
+    Ok(Some(Formula::Not(formula)))
+}
+
+fn implication<A: Allocator>(
+    sides: Result<Option<(Box<Formula<A>, A>, Box<Formula<A>, A>)>, AllocError>,
+) -> Result<Option<Formula<A>>, AllocError>
+    ensures { result ≡ map_found (λ p. cases.Imply p.0 p.1) sides }
+{
+    let Some((left, right)) = sides? else {
+        return Ok(None);
+    };
     Ok(Some(Formula::Imply(left, right)))
 }
 
-#[cycle(formula)]
-fn existential_of<'a, B: Allocator>(
-    alloc: &'a B,
-    items: &[Item<'_, &'a B>],
-) -> Result<Option<Formula<&'a B>>, AllocError>
-    ensures { IfOk result (λ formula. option_map formula_view formula ≡ quantified existential (behind (item_trees items.now)) (behind (map formula_at (item_trees items.now)))) }
+fn existential<A: Allocator>(
+    binding: Result<Option<Bound<A>>, AllocError>,
+) -> Result<Option<Formula<A>>, AllocError>
+    ensures { result ≡ map_found (λ p. cases.Exists p.0 p.1) binding }
 {
-    let [_, variables, body] = items else {
+    let Some((variables, body)) = binding? else {
         return Ok(None);
     };
-    let Some(variables) = variables_of(alloc, variables)? else {
-        return Ok(None);
-    };
-    let Some(body) = formula_of(alloc, body)? else {
-        return Ok(None);
-    };
-    Ok(Some(Formula::Exists(variables, Box::new(alloc, body)?)))
+    Ok(Some(Formula::Exists(variables, body)))
 }
 
-#[cycle(formula)]
-fn universal_of<'a, B: Allocator>(
-    alloc: &'a B,
-    items: &[Item<'_, &'a B>],
-) -> Result<Option<Formula<&'a B>>, AllocError>
-    ensures { IfOk result (λ formula. option_map formula_view formula ≡ quantified universal (behind (item_trees items.now)) (behind (map formula_at (item_trees items.now)))) }
+fn universal<A: Allocator>(
+    binding: Result<Option<Bound<A>>, AllocError>,
+) -> Result<Option<Formula<A>>, AllocError>
+    ensures { result ≡ map_found (λ p. cases.Forall p.0 p.1) binding }
 {
-    let [_, variables, body] = items else {
+    let Some((variables, body)) = binding? else {
         return Ok(None);
     };
-    let Some(variables) = variables_of(alloc, variables)? else {
-        return Ok(None);
-    };
-    let Some(body) = formula_of(alloc, body)? else {
-        return Ok(None);
-    };
-    Ok(Some(Formula::Forall(variables, Box::new(alloc, body)?)))
+    Ok(Some(Formula::Forall(variables, body)))
 }
 
-/// The conjunction of formulas, if they were read.
-fn conjunction<A: Allocator>(formulas: Option<Vec<Formula<A>, A>>) -> Option<Formula<A>>
-    ensures { option_map formula_view result ≡ option_map (λ fs. conjunction (formulas_of fs)) (option_map (λ v. map formula_view v.items) formulas) }
+fn atomic<A: Allocator>(
+    atom: Result<Option<Atom<A>>, AllocError>,
+) -> Result<Option<Formula<A>>, AllocError>
+    ensures { result ≡ map_found cases.Atom atom }
 {
-    let Some(formulas) = formulas else {
-        return None;
-    };
-    Some(Formula::And(formulas))
-}
-
-/// The disjunction of formulas, if they were read.
-fn disjunction<A: Allocator>(formulas: Option<Vec<Formula<A>, A>>) -> Option<Formula<A>>
-    ensures { option_map formula_view result ≡ option_map (λ fs. disjunction (formulas_of fs)) (option_map (λ v. map formula_view v.items) formulas) }
-{
-    let Some(formulas) = formulas else {
-        return None;
-    };
-    Some(Formula::Or(formulas))
-}
-
-fn atomic_of<'a, B: Allocator>(
-    alloc: &'a B,
-    items: &[Item<'_, &'a B>],
-) -> Result<Option<Formula<&'a B>>, AllocError>
-    ensures { IfOk result (λ formula. option_map formula_view formula ≡ option_map atom (atom_of_list (item_trees items.now))) }
-{
-    let Some(atom) = atom_of_list(alloc, items)? else {
+    let Some(atom) = atom? else {
         return Ok(None);
     };
     Ok(Some(Formula::Atom(atom)))
+}
+
+fn equality<A: Allocator>(
+    terms: Result<Option<(Term<A>, Term<A>)>, AllocError>,
+) -> Result<Option<Formula<A>>, AllocError>
+    ensures { result ≡ map_found (λ p. cases.Equal p.0 p.1) terms }
+{
+    let Some((left, right)) = terms? else {
+        return Ok(None);
+    };
+    Ok(Some(Formula::Equal(left, right)))
 }
 
 /// The equality of two terms.
@@ -189,13 +229,7 @@ fn equality_of<'a, B: Allocator>(
     let [left, right] = items else {
         return Ok(None);
     };
-    let Some(left) = term_of(alloc, left)? else {
-        return Ok(None);
-    };
-    let Some(right) = term_of(alloc, right)? else {
-        return Ok(None);
-    };
-    Ok(Some(Formula::Equal(left, right)))
+    equality(both(term_of(alloc, left), term_of(alloc, right)))
 }
 
 /// The condition that an item spells, or `None` where it spells none: a formula, or `()`, which is the empty conjunction

@@ -1,9 +1,14 @@
 use Rattle.std.proofs.Common.{arith}
+use Rattle.pddl_build.proofs.Parts.{found_reads}
+use Rattle.pddl_tree.specs.ItemTrees.{item_tree}
 use Rattle.pddl_formula.specs.Terms.{atom_view}
-use Rattle.pddl_effect.proofs.EffectTurns.{view_del, deletion_is}
+use Rattle.pddl_formula.specs.Reading.{atom_at}
+use Rattle.pddl_effect.specs.declared.effect.Effect.TheVariants as cases
+use Rattle.pddl_effect.specs.Effects.{deletion, effect_view}
+use Rattle.pddl_effect.proofs.EffectTurns.{view_del, only_is}
 use Rattle.pddl_effect.proofs.effect_reader.deletion_of.Goals as goal
 
 pub returns : goal.returns
 returns g c =
-    rw (view_del c.in-Some.atom)
-    (deletion_is c.args.items.now c.item-item.result (atom_view c.in-Some.atom) (omega arith) (omega arith) c.item-item.is (rw c.in-Some.is at c.in_ok-atom.ensures))
+    rw (only_is c.args.items.now c.item-item.result (omega arith) (omega arith) c.item-item.is)
+    (found_reads cases.Del effect_view atom_view deletion view_del c.atom_of.result c.deletion.result (atom_at (item_tree c.item-item.result)) c.deletion.ensures c.atom_of.ensures)

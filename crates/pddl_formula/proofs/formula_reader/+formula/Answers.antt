@@ -1,14 +1,18 @@
-use Rattle.std.proofs.Common.{◌<◌, ◌≤◌, length, map, ap, ◌∙◌, refl, arith}
+use Rattle.std.proofs.Common.{◌<◌, ◌≤◌, length, map, sym, ap, ◌∙◌, refl, arith}
 use Rattle.std.proofs.lemmas.List.{map_push}
 use Rattle.pddl_text.specs.Spelling.{view}
 use Rattle.pddl_text.specs.Trees.{unplaced}
 use Rattle.pddl_tree.specs.ItemTrees.{item_tree, item_trees}
 use Rattle.pddl_tree.proofs.TreeLists.{item_tree_list, item_tree_word}
-use Rattle.pddl_formula.specs.Formulas.{formula_view, existential, universal}
+use Rattle.pddl_formula.specs.Formulas.{formula_view, bound_view, atom, negation, implication, conjunction, disjunction, existential, universal, formulas_of}
 use Rattle.pddl_formula.specs.TypedLists.{typed_view}
-use Rattle.pddl_formula.specs.Reading.{formula_at}
+use Rattle.pddl_formula.specs.Reading.{formula_at, variables_at, behind}
+use Rattle.pddl_formula.specs.Terms.{atom_view}
+use Rattle.pddl_formula.specs.declared.head.Head.TheVariants as heads
 use Rattle.pddl_formula.proofs.Turns.{each_on, each_end}
-use Rattle.pddl_formula.proofs.TurnsOfFormulas.{formula_at_list, formula_at_leaf, view_not, view_imply, view_exists, view_forall, not_of, imply_of, imply_stop, quantified_of, quantified_stop, quantified_none}
+use Rattle.pddl_build.proofs.Parts.{found_reads, both_reads, boxed_reads, both_in_boxes_reads}
+use Rattle.pddl_formula.specs.declared.formula.Formula.TheVariants as cases
+use Rattle.pddl_formula.proofs.TurnsOfFormulas.{formula_at_list, formula_at_leaf, view_atom, view_not, view_imply, view_and, view_or, view_exists, view_forall, only_is, two_is, bound_is, quantified_made, by_head, by_name, by_equal}
 use Rattle.pddl_formula.proofs.formula_reader.+formula.Goals as goal
 
 pub formula_of-returns-in-List : goal.formula_of-returns-in-List
@@ -35,50 +39,56 @@ formulas_of-returns g t c =
 
 pub negation_of-returns : goal.negation_of-returns
 negation_of-returns g t c =
-    rw (view_not c.in_ok-new.field-0, c.in_ok-new.ensures.ok)
-    (not_of c.args.items.now c.item-item.result (formula_view c.in-Some.formula) (omega arith) (omega arith) c.item-item.is (rw c.in-Some.is at c.in_ok-formula.ensures))
-
-pub implication_of-returns-in_default-3 : goal.implication_of-returns-in_default-3
-implication_of-returns-in_default-3 g t c =
-    imply_stop c.args.items.now c.left-item.result c.right-item.result (omega arith) (omega arith) c.left-item.is c.right-item.is
-    (formula_view c.in-Some.left) (rw c.in-Some.is at c.in_ok-left.ensures) (rw c.in_default-3.is at c.in_ok-right.ensures)
+    let item = c.item-item.result in
+    rw (only_is c.args.items.now item (omega arith) (omega arith) c.item-item.is)
+    (found_reads cases.Not formula_view (λ b. formula_view b.value) negation view_not c.boxed.result c.negation.result (formula_at (item_tree item)) c.negation.ensures
+    (boxed_reads formula_view c.formula_of.result c.boxed.result (formula_at (item_tree item)) c.formula_of.ensures c.boxed.ensures))
 
 pub implication_of-returns : goal.implication_of-returns
 implication_of-returns g t c =
-    rw (view_imply c.in_ok-left-2.left c.in_ok-right-2.right, c.in_ok-left-2.ensures.ok, c.in_ok-right-2.ensures.ok)
-    (imply_of c.args.items.now c.left-item.result c.right-item.result (omega arith) (omega arith) c.left-item.is c.right-item.is
-    (formula_view c.in-Some.left) (formula_view c.in-Some-2.right) (rw c.in-Some.is at c.in_ok-left.ensures) (rw c.in-Some-2.is at c.in_ok-right.ensures))
+    let left = c.left-item.result in
+    let right = c.right-item.result in
+    rw (two_is c.args.items.now left right (omega arith) (omega arith) c.left-item.is c.right-item.is)
+    (found_reads (λ p. cases.Imply p.0 p.1) formula_view (λ p. (formula_view p.0.value, formula_view p.1.value)) (λ p. implication p.0 p.1) (λ p. view_imply p.0 p.1)
+    c.both_in_boxes.result c.implication.result _ c.implication.ensures
+    (both_in_boxes_reads formula_view formula_view c.formula_of.result c.formula_of-2.result c.both_in_boxes.result (formula_at (item_tree left)) (formula_at (item_tree right))
+    c.formula_of.ensures c.formula_of-2.ensures c.both_in_boxes.ensures))
 
-pub existential_of-returns-in_default-2 : goal.existential_of-returns-in_default-2
-existential_of-returns-in_default-2 g t c =
-    quantified_none c.args.items.now c.variables-item.result c.body-item.result (omega arith) (omega arith) c.variables-item.is c.body-item.is existential
-    (rw c.in_default-2.is at c.in_ok-variables.ensures)
+pub bound_of-returns : goal.bound_of-returns
+bound_of-returns g t c =
+    let variables = c.variables-item.result in
+    let body = c.body-item.result in
+    rw (bound_is c.args.items.now variables body (omega arith) (omega arith) c.variables-item.is c.body-item.is)
+    (both_reads (λ v. map typed_view v.items) (λ b. formula_view b.value) c.variables_of.result c.boxed-body.result c.bind.result (variables_at (item_tree variables)) (formula_at (item_tree body))
+    c.variables_of.ensures (boxed_reads formula_view c.formula_of.result c.boxed-body.result (formula_at (item_tree body)) c.formula_of.ensures c.boxed-body.ensures) c.bind.ensures)
 
-pub existential_of-returns-in_default-3 : goal.existential_of-returns-in_default-3
-existential_of-returns-in_default-3 g t c =
-    quantified_stop c.args.items.now c.variables-item.result c.body-item.result (omega arith) (omega arith) c.variables-item.is c.body-item.is existential
-    (map typed_view c.in-Some.variables.items) (rw c.in-Some.is at c.in_ok-variables.ensures) (rw c.in_default-3.is at c.in_ok-body.ensures)
+pub list_formula_of-returns-in-And : goal.list_formula_of-returns-in-And
+list_formula_of-returns-in-And g t c =
+    rw (by_head c.args.items.now c.head-item.result heads.And (omega arith) c.head-item.is (sym c.in-And.is ∙ c.head_of.ensures))
+    (found_reads cases.And formula_view (λ v. map formula_view v.items) (λ fs. conjunction (formulas_of fs)) view_and c.formulas_of.result c.conjunction.result _ c.conjunction.ensures c.formulas_of.ensures)
 
-pub existential_of-returns : goal.existential_of-returns
-existential_of-returns g t c =
-    let p = c.in_ok-new.field-0 in
-    rw (view_exists c.in-Some.variables p, c.in_ok-new.ensures.ok)
-    (quantified_of c.args.items.now c.variables-item.result c.body-item.result (omega arith) (omega arith) c.variables-item.is c.body-item.is existential
-    (map typed_view c.in-Some.variables.items) (formula_view c.in-Some-2.body) (rw c.in-Some.is at c.in_ok-variables.ensures) (rw c.in-Some-2.is at c.in_ok-body.ensures))
+pub list_formula_of-returns-in-Or : goal.list_formula_of-returns-in-Or
+list_formula_of-returns-in-Or g t c =
+    rw (by_head c.args.items.now c.head-item.result heads.Or (omega arith) c.head-item.is (sym c.in-Or.is ∙ c.head_of.ensures))
+    (found_reads cases.Or formula_view (λ v. map formula_view v.items) (λ fs. disjunction (formulas_of fs)) view_or c.formulas_of-in-Or.result c.disjunction.result _ c.disjunction.ensures c.formulas_of-in-Or.ensures)
 
-pub universal_of-returns-in_default-2 : goal.universal_of-returns-in_default-2
-universal_of-returns-in_default-2 g t c =
-    quantified_none c.args.items.now c.variables-item.result c.body-item.result (omega arith) (omega arith) c.variables-item.is c.body-item.is universal
-    (rw c.in_default-2.is at c.in_ok-variables.ensures)
+pub list_formula_of-returns-in-Exists : goal.list_formula_of-returns-in-Exists
+list_formula_of-returns-in-Exists g t c =
+    rw (by_head c.args.items.now c.head-item.result heads.Exists (omega arith) c.head-item.is (sym c.in-Exists.is ∙ c.head_of.ensures),
+    ← quantified_made existential (behind (item_trees c.args.items.now)) (behind (map formula_at (item_trees c.args.items.now))))
+    (found_reads (λ p. cases.Exists p.0 p.1) formula_view bound_view (λ b. existential b.0 b.1) (λ p. view_exists p.0 p.1) c.bound_of.result c.existential.result _ c.existential.ensures c.bound_of.ensures)
 
-pub universal_of-returns-in_default-3 : goal.universal_of-returns-in_default-3
-universal_of-returns-in_default-3 g t c =
-    quantified_stop c.args.items.now c.variables-item.result c.body-item.result (omega arith) (omega arith) c.variables-item.is c.body-item.is universal
-    (map typed_view c.in-Some.variables.items) (rw c.in-Some.is at c.in_ok-variables.ensures) (rw c.in_default-3.is at c.in_ok-body.ensures)
+pub list_formula_of-returns-in-Forall : goal.list_formula_of-returns-in-Forall
+list_formula_of-returns-in-Forall g t c =
+    rw (by_head c.args.items.now c.head-item.result heads.Forall (omega arith) c.head-item.is (sym c.in-Forall.is ∙ c.head_of.ensures),
+    ← quantified_made universal (behind (item_trees c.args.items.now)) (behind (map formula_at (item_trees c.args.items.now))))
+    (found_reads (λ p. cases.Forall p.0 p.1) formula_view bound_view (λ b. universal b.0 b.1) (λ p. view_forall p.0 p.1) c.bound_of-in-Forall.result c.universal.result _ c.universal.ensures c.bound_of-in-Forall.ensures)
 
-pub universal_of-returns : goal.universal_of-returns
-universal_of-returns g t c =
-    let p = c.in_ok-new.field-0 in
-    rw (view_forall c.in-Some.variables p, c.in_ok-new.ensures.ok)
-    (quantified_of c.args.items.now c.variables-item.result c.body-item.result (omega arith) (omega arith) c.variables-item.is c.body-item.is universal
-    (map typed_view c.in-Some.variables.items) (formula_view c.in-Some-2.body) (rw c.in-Some.is at c.in_ok-variables.ensures) (rw c.in-Some-2.is at c.in_ok-body.ensures))
+pub list_formula_of-returns-in-Name : goal.list_formula_of-returns-in-Name
+list_formula_of-returns-in-Name g t c =
+    rw (by_name c.args.items.now c.head-item.result (omega arith) c.head-item.is (sym c.in-Name.is ∙ c.head_of.ensures))
+    (found_reads cases.Atom formula_view atom_view atom view_atom c.atom_of_list.result c.atomic.result _ c.atomic.ensures c.atom_of_list.ensures)
+
+pub list_formula_of-returns-in-Equal : goal.list_formula_of-returns-in-Equal
+list_formula_of-returns-in-Equal g t c =
+    rw (by_equal c.args.items.now c.head-item.result (omega arith) c.head-item.is (sym c.in-Equal.is ∙ c.head_of.ensures)) c.equality_of.ensures
