@@ -5,8 +5,10 @@
 //! read, to a function of this crate, where an owned value is opaque, and keeps one way out itself.
 #![tactic(auto)]
 
+mod found;
 mod results;
 mod slots;
 
+pub use found::{append_found, fill_found, fill_list, set_found, set_list};
 pub use results::{both, both_boxed, both_in_boxes, boxed, if_right};
 pub use slots::{fill, push_found};

@@ -5,3 +5,4 @@ pub mod DeclarationTurns
 pub mod SlotLaws
 pub mod DomainTurns
 pub mod DomainTextLaws
+mod Results

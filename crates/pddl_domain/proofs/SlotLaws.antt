@@ -1,8 +1,9 @@
 -- The fields of an action, read one after the other, are those that are read all together.
-use Rattle.std.proofs.Common.{◌≡◌, ℕ, ◌+◌, ◌<◌, ◌≤◌, List, [], ◌∷◌, length, drop, get_or, refl, sym, ap, ◌∙◌, arith}
+use Rattle.std.proofs.Common.{◌≡◌, ℕ, ◌<◌, ◌≤◌, ◌==◌, Bool, List, [], ◌∷◌, length, drop, get_or, refl, sym, ap, ◌∙◌, arith}
+use Rattle.std.specs.Bool.{then_some}
 use Rattle.std.specs.Prelude.{Option, Some, None, option_map, option_and_then}
 use Rattle.std.specs.List.{flat_map}
-use Rattle.std.proofs.lemmas.List.{drop_all, drop-drop, drop-map, length-drop, length-map}
+use Rattle.std.specs.Option.{option_zip}
 use Rattle.pddl_text.specs.declared.item.Item.{Item}
 use Rattle.pddl_text.specs.Trees.{Tree}
 use Rattle.pddl_tree.specs.ItemTrees.{item_tree, item_trees}
@@ -13,7 +14,7 @@ use Rattle.pddl_formula.specs.Formulas.{FormulaValue, conjunction, no_formulas}
 use Rattle.pddl_effect.specs.Effects.{EffectValue, conjunction as all_effects, no_effects}
 use Rattle.pddl_domain.specs.Actions.{ActionValue, Field, parameters, precondition, effect, parameters_in, preconditions_in, effects_in}
 use Rattle.pddl_domain.specs.DomainReading.{field_at, fields_at, only_or, assembled, action_of}
-use Rattle.pddl_domain.specs.Slots.{SlotValues, no_slots, with_field, after_field, slots_from, given_or, action_by}
+use Rattle.pddl_domain.specs.Slots.{SlotValues, no_slots, after_field, slots_from, given_or, action_by}
 
 -- ---- all fields together
 
@@ -90,7 +91,7 @@ module _ (name : List ℕ) where
 
   one_more : (ts : List Tree) → ((o : Option (List TypedValue)) (p : Option FormulaValue) (q : Option EffectValue) → Reads o p q ts)
       → (o : Option (List TypedValue)) (p : Option FormulaValue) (q : Option EffectValue) (field : Option Field)
-      → option_map (action_by name) (option_and_then (λ f. option_and_then (λ next. slots_from next ts) (with_field (slots o p q) f)) field)
+      → option_map (action_by name) (option_and_then (λ next. slots_from next ts) (after_field (slots o p q) field))
       ≡ option_and_then (assembled_behind name o p q) (both field (fields_at ts))
   one_more ts others o p q None = refl
   one_more ts others None p q (Some (parameters xs)) = others (Some xs) p q ∙ list_on xs p q (fields_at ts)
@@ -111,62 +112,53 @@ module _ (name : List ℕ) where
 
 -- ---- one field after the other
 
-field_more : (s next : SlotValues) (ts : List Tree) → Some next ≡ after_field s ts → slots_from s ts ≡ slots_from next (drop 2 ts)
+-- the first two items are a field
+first_field : {A : Type 0} (s : SlotValues) (xs : List (Item A)) (key t : Item A) → 2 ≤ length xs → key ≡ get_or xs 0 key → t ≡ get_or xs 1 t
+    → slots_from s (item_trees xs) ≡ option_and_then (λ next. slots_from next (item_trees (drop 2 xs))) (after_field s (field_at (item_tree key) (item_tree t)))
 unfolding slots_from
-field_more s next [] e = absurd (cc)
-field_more s next (key ∷ []) e = absurd (cc)
-field_more s next (key ∷ t ∷ ts) e = field_given (field_at key t) e
-  where
-    field_given : (field : Option Field) → Some next ≡ option_and_then (with_field s) field
-        → option_and_then (λ f. option_and_then (λ n. slots_from n ts) (with_field s f)) field ≡ slots_from next ts
-    field_given None e = absurd (cc)
-    field_given (Some f) e = ap (option_and_then (λ n. slots_from n ts)) (sym e)
+first_field s [] key t two first second = absurd (omega (arith, two))
+first_field s (x ∷ []) key t two first second = absurd (omega (arith, two))
+first_field s (x ∷ y ∷ xs) key t two first second = rw (first, second) refl
 
-field_none : (s : SlotValues) (ts : List Tree) → 0 < length ts → None ≡ after_field s ts → None ≡ slots_from s ts
+-- no two items are left
+few_left : {A : Type 0} (s : SlotValues) (xs : List (Item A)) (empty : Bool) → length xs < 2 → empty ≡ (length xs == 0) → then_some empty s ≡ slots_from s (item_trees xs)
 unfolding slots_from
-field_none s [] some e = absurd (omega (arith, some))
-field_none s (key ∷ []) some e = refl
-field_none s (key ∷ t ∷ ts) some e = field_given (field_at key t) e
-  where
-    field_given : (field : Option Field) → None ≡ option_and_then (with_field s) field
-        → None ≡ option_and_then (λ f. option_and_then (λ n. slots_from n ts) (with_field s f)) field
-    field_given None e = refl
-    field_given (Some f) e = ap (option_and_then (λ n. slots_from n ts)) e
+few_left s [] empty few is = rw is refl
+few_left s (x ∷ []) empty few is = rw is refl
+few_left s (x ∷ y ∷ xs) empty few is = absurd (omega (arith, few))
 
-no_field : (s : SlotValues) (ts : List Tree) → ts ≡ [] → Some s ≡ slots_from s ts
-unfolding slots_from
-no_field s ts e = ap (slots_from s) (sym e)
+module _ {A : Type 0} (s : SlotValues) (xs : List (Item A)) (whole : Option SlotValues) (so_far : slots_from s (item_trees xs) ≡ whole) where
+  module _ (key t : Item A) (two : 2 ≤ length xs) (first : key ≡ get_or xs 0 key) (second : t ≡ get_or xs 1 t) where
+    pub fields_on : (next : SlotValues) (rest : List (Item A)) → Some next ≡ after_field s (field_at (item_tree key) (item_tree t)) → rest ≡ drop 2 xs
+        → slots_from next (item_trees rest) ≡ whole
+    fields_on next rest e is =
+        ap (λ ys. slots_from next (item_trees ys)) is ∙ ap (option_and_then (λ n. slots_from n (item_trees (drop 2 xs)))) e ∙ sym (first_field s xs key t two first second) ∙ so_far
 
-module _ {A : Type 0} (xs : List (Item A)) (i : ℕ) (s : SlotValues) (whole : Option SlotValues) (so_far : slots_from s (item_trees (drop i xs)) ≡ whole) where
-  pub slots_on : (next : SlotValues) → Some next ≡ after_field s (item_trees (drop i xs)) → slots_from next (item_trees (drop (i + 2) xs)) ≡ whole
-  slots_on next e =
-      ap (slots_from next) (ap item_trees (sym (drop-drop 2 i xs)) ∙ sym (drop-map item_tree 2 (drop i xs))) ∙ sym (field_more s next (item_trees (drop i xs)) e) ∙ so_far
+    pub fields_stop : None ≡ after_field s (field_at (item_tree key) (item_tree t)) → None ≡ whole
+    fields_stop e = ap (option_and_then (λ n. slots_from n (item_trees (drop 2 xs)))) e ∙ sym (first_field s xs key t two first second) ∙ so_far
 
-  pub slots_stop : i < length xs → None ≡ after_field s (item_trees (drop i xs)) → None ≡ whole
-  slots_stop below e =
-      field_none s (item_trees (drop i xs)) (omega (arith, below, length-map (drop i xs) item_tree, length-drop i xs)) e ∙ so_far
-
-  pub slots_end : length xs ≤ i → Some s ≡ whole
-  slots_end past = no_field s (item_trees (drop i xs)) (ap item_trees (drop_all i xs past)) ∙ so_far
-
--- ---- the first field
-
-pub no_pair : {A : Type 0} (s : SlotValues) (xs : List (Item A)) → length xs < 2 → None ≡ after_field s (item_trees xs)
-no_pair s [] lt = refl
-no_pair s (x ∷ []) lt = refl
-no_pair s (x ∷ y ∷ ys) lt = absurd (omega (arith, lt))
-
-pub first_field : {A : Type 0} (s : SlotValues) (xs : List (Item A)) (d e : Item A) (field : Option Field) → 2 ≤ length xs
-    → field ≡ field_at (item_tree (get_or xs 0 d)) (item_tree (get_or xs 1 e)) → option_and_then (with_field s) field ≡ after_field s (item_trees xs)
-first_field s [] d e field le is = absurd (omega (arith, le))
-first_field s (x ∷ []) d e field le is = absurd (omega (arith, le))
-first_field s (x ∷ y ∷ ys) d e field le is = ap (option_and_then (with_field s)) is
+  pub fields_end : (empty : Bool) → length xs < 2 → empty ≡ (length xs == 0) → then_some empty s ≡ whole
+  fields_end empty few is = few_left s xs empty few is ∙ so_far
 
 -- ---- the action
 
-pub titled : {A : Type 0} (xs rest : List (Item A)) (d : Item A) (name : List ℕ) → 1 ≤ length xs → Some name ≡ name_at (item_tree (get_or xs 0 d)) → rest ≡ drop 1 xs
-    → option_map (action_by name) (slots_from no_slots (item_trees rest)) ≡ action_of (item_trees xs)
-titled [] rest d name le e is = absurd (omega (arith, le))
-titled (x ∷ xs) rest d name le e is =
-    by_slots name (item_trees rest) ∙ ap (λ ys. option_and_then (assembled name) (fields_at (item_trees ys))) is
-    ∙ ap (option_and_then (λ n. option_and_then (assembled n) (fields_at (item_trees xs)))) e
+zipped : (o : Option (List ℕ)) (slots : Option SlotValues) → option_map (λ q. action_by q.0 q.1) (option_zip o slots) ≡ option_and_then (λ n. option_map (action_by n) slots) o
+zipped None slots = refl
+zipped (Some n) None = refl
+zipped (Some n) (Some s) = refl
+
+by_both : (o : Option (List ℕ)) (ts : List Tree) → option_and_then (λ n. option_map (action_by n) (slots_from no_slots ts)) o ≡ option_and_then (λ n. option_and_then (assembled n) (fields_at ts)) o
+by_both None ts = refl
+by_both (Some n) ts = by_slots n ts
+
+titled_by : {A : Type 0} (xs rest : List (Item A)) (title : Item A) → 1 ≤ length xs → title ≡ get_or xs 0 title → rest ≡ drop 1 xs
+    → option_and_then (λ n. option_and_then (assembled n) (fields_at (item_trees rest))) (name_at (item_tree title)) ≡ action_of (item_trees xs)
+titled_by [] rest title le is behind = absurd (omega (arith, le))
+titled_by (x ∷ xs) rest title le is behind = rw (is, behind) refl
+
+-- the name and the slots that the items give
+pub titled : {A : Type 0} (xs rest : List (Item A)) (title : Item A) → 1 ≤ length xs → title ≡ get_or xs 0 title → rest ≡ drop 1 xs → (both : Option (List ℕ × SlotValues))
+    → both ≡ option_zip (name_at (item_tree title)) (slots_from no_slots (item_trees rest)) → option_map (λ q. action_by q.0 q.1) both ≡ action_of (item_trees xs)
+titled xs rest title le is behind both e =
+    ap (option_map (λ q. action_by q.0 q.1)) e ∙ zipped (name_at (item_tree title)) (slots_from no_slots (item_trees rest))
+    ∙ by_both (name_at (item_tree title)) (item_trees rest) ∙ titled_by xs rest title le is behind

@@ -1,6 +1,7 @@
 //! Actions read from items.
 
 ghost use Rattle.std.specs.Prelude.{◌≡◌, [], IfOk, map, option_map};
+ghost use Rattle.std.specs.Bool.{then_some};
 ghost use Rattle.pddl_tree.specs.ItemTrees.{item_tree, item_trees};
 ghost use Rattle.pddl_formula.specs.TypedLists.{typed_view};
 ghost use Rattle.pddl_formula.specs.Formulas.{conjunction, no_formulas, formula_view};
@@ -9,22 +10,15 @@ ghost use Rattle.pddl_formula.specs.Reading.{variables_at, condition_at};
 ghost use Rattle.pddl_effect.specs.EffectReading.{whole_effect_at};
 ghost use Rattle.pddl_domain.specs.Actions.{parameters, precondition, effect, action_view};
 ghost use Rattle.pddl_domain.specs.DomainReading.{field_at, action_of};
-ghost use Rattle.pddl_domain.specs.Slots.{field_view, slots_view, no_slots, with_field, after_field, slots_from, given_or, action_by};
+ghost use Rattle.pddl_domain.specs.Slots.{slots_view, no_slots, slots_from, AddsField, given_or, action_by};
 
 use crate::domain::Action;
+use pddl_build::{both, fill_found, fill_list, if_right};
 use pddl_effect::{Effect, whole_effect_of};
 use pddl_formula::{Formula, Typed, condition_of, is_keyword_item, name_of, variables_of};
 use pddl_text::Item;
 use pddl_tree::Name;
 use std::alloc::{AllocError, Allocator};
-
-/// A field of an action.
-#[derive(Drop)]
-enum Field<A: Allocator> {
-    Parameters(Vec<Typed<A>, A>),
-    Precondition(Formula<A>),
-    Effect(Effect<A>),
-}
 
 /// The fields of an action that stood so far.
 #[derive(Drop)]
@@ -34,113 +28,86 @@ struct Slots<A: Allocator> {
     effect: Option<Effect<A>>,
 }
 
-fn parameters_of<'a, B: Allocator>(
-    alloc: &'a B,
-    item: &Item<'_, &'a B>,
-) -> Result<Option<Field<&'a B>>, AllocError>
-    ensures { IfOk result (λ found. option_map field_view found ≡ option_map parameters (variables_at (item_tree item.now))) }
+/// No field stood.
+fn no_slots<A: Allocator>() -> Slots<A>
+    ensures { slots_view result ≡ no_slots }
 {
-    let Some(parameters) = variables_of(alloc, item)? else {
-        return Ok(None);
-    };
-    Ok(Some(Field::Parameters(parameters)))
+    Slots {
+        parameters: None,
+        precondition: None,
+        effect: None,
+    }
 }
 
-fn precondition_of<'a, B: Allocator>(
+/// Adds the parameters that an item is.
+fn add_parameters<'a, B: Allocator>(
     alloc: &'a B,
+    slots: &mut Slots<&'a B>,
     item: &Item<'_, &'a B>,
-) -> Result<Option<Field<&'a B>>, AllocError>
-    ensures { IfOk result (λ found. option_map field_view found ≡ option_map precondition (condition_at (item_tree item.now))) }
+) -> Result<bool, AllocError>
+    ensures { IfOk result (AddsField (option_map parameters (variables_at (item_tree item.now))) (slots_view slots.old) (slots_view slots.new)) }
 {
-    let Some(condition) = condition_of(alloc, item)? else {
-        return Ok(None);
-    };
-    Ok(Some(Field::Precondition(condition)))
+    fill_list(&mut slots.parameters, variables_of(alloc, item))
 }
 
-fn effect_of<'a, B: Allocator>(
+/// Adds the precondition that an item is.
+fn add_precondition<'a, B: Allocator>(
     alloc: &'a B,
+    slots: &mut Slots<&'a B>,
     item: &Item<'_, &'a B>,
-) -> Result<Option<Field<&'a B>>, AllocError>
-    ensures { IfOk result (λ found. option_map field_view found ≡ option_map effect (whole_effect_at (item_tree item.now))) }
+) -> Result<bool, AllocError>
+    ensures { IfOk result (AddsField (option_map precondition (condition_at (item_tree item.now))) (slots_view slots.old) (slots_view slots.new)) }
 {
-    let Some(effect) = whole_effect_of(alloc, item)? else {
-        return Ok(None);
-    };
-    Ok(Some(Field::Effect(effect)))
+    fill_found(&mut slots.precondition, condition_of(alloc, item))
 }
 
-/// The field that a keyword and the item behind it are.
-fn field_of<'a, B: Allocator>(
+/// Adds the effect that an item is.
+fn add_effect<'a, B: Allocator>(
     alloc: &'a B,
+    slots: &mut Slots<&'a B>,
+    item: &Item<'_, &'a B>,
+) -> Result<bool, AllocError>
+    ensures { IfOk result (AddsField (option_map effect (whole_effect_at (item_tree item.now))) (slots_view slots.old) (slots_view slots.new)) }
+{
+    fill_found(&mut slots.effect, whole_effect_of(alloc, item))
+}
+
+/// Adds the field that a keyword and the item behind it are; true exactly where they are one that did not stand before.
+fn add_field<'a, B: Allocator>(
+    alloc: &'a B,
+    slots: &mut Slots<&'a B>,
     keyword: &Item<'_, &'a B>,
     item: &Item<'_, &'a B>,
-) -> Result<Option<Field<&'a B>>, AllocError>
-    ensures { IfOk result (λ found. option_map field_view found ≡ field_at (item_tree keyword.now) (item_tree item.now)) }
+) -> Result<bool, AllocError>
+    ensures { IfOk result (AddsField (field_at (item_tree keyword.now) (item_tree item.now)) (slots_view slots.old) (slots_view slots.new)) }
 {
     if is_keyword_item(keyword, b":parameters") {
-        parameters_of(alloc, item)
+        add_parameters(alloc, slots, item)
     } else if is_keyword_item(keyword, b":precondition") {
-        precondition_of(alloc, item)
+        add_precondition(alloc, slots, item)
     } else if is_keyword_item(keyword, b":effect") {
-        effect_of(alloc, item)
+        add_effect(alloc, slots, item)
     } else {
-        Ok(None)
+        Ok(false)
     }
 }
 
-/// These fields and one more, or `None` where it stood before.
-fn with_field<A: Allocator>(slots: Slots<A>, field: Field<A>) -> Option<Slots<A>>
-    ensures { option_map slots_view result ≡ with_field (slots_view slots) (field_view field) }
-{
-    let Slots {
-        parameters,
-        precondition,
-        effect,
-    } = slots;
-    match field {
-        Field::Parameters(list) => match parameters {
-            Some(_) => None,
-            None => Some(Slots {
-                parameters: Some(list),
-                precondition,
-                effect,
-            }),
-        },
-        Field::Precondition(condition) => match precondition {
-            Some(_) => None,
-            None => Some(Slots {
-                parameters,
-                precondition: Some(condition),
-                effect,
-            }),
-        },
-        Field::Effect(outcome) => match effect {
-            Some(_) => None,
-            None => Some(Slots {
-                parameters,
-                precondition,
-                effect: Some(outcome),
-            }),
-        },
-    }
-}
-
-/// These fields and the one with which some items begin.
-fn after_field<'a, B: Allocator>(
+/// Adds the fields that some items are, two items each; true exactly where they are fields, none of which stood before.
+fn add_fields<'a, B: Allocator>(
     alloc: &'a B,
-    slots: Slots<&'a B>,
+    slots: &mut Slots<&'a B>,
     items: &[Item<'_, &'a B>],
-) -> Result<Option<Slots<&'a B>>, AllocError>
-    ensures { IfOk result (λ found. option_map slots_view found ≡ after_field (slots_view slots.entry) (item_trees items.now)) }
+) -> Result<bool, AllocError>
+    ensures { IfOk result (λ right. then_some right (slots_view slots.new) ≡ slots_from (slots_view slots.old) (item_trees items.now)) }
 {
-    let [keyword, item, ..] = items else {
-        return Ok(None);
-    };
-    let Some(field) = field_of(alloc, keyword, item)? else {
-        return Ok(None);
-    };
-    Ok(with_field(slots, field))
+    let mut rest = items;
+    while let [keyword, item, others @ ..] = rest {
+        if !add_field(alloc, slots, keyword, item)? {
+            return Ok(false);
+        }
+        rest = others;
+    }
+    Ok(rest.is_empty())
 }
 
 /// The fields that some items are, two items each.
@@ -150,20 +117,9 @@ fn slots_of<'a, B: Allocator>(
 ) -> Result<Option<Slots<&'a B>>, AllocError>
     ensures { IfOk result (λ found. option_map slots_view found ≡ slots_from no_slots (item_trees items.now)) }
 {
-    let mut slots = Slots {
-        parameters: None,
-        precondition: None,
-        effect: None,
-    };
-    let mut at = 0;
-    while at < items.len() {
-        let Some(next) = after_field(alloc, slots, items.split_at(at).1)? else {
-            return Ok(None);
-        };
-        slots = next;
-        at += 2;
-    }
-    Ok(Some(slots))
+    let mut slots = no_slots();
+    let right = add_fields(alloc, &mut slots, items);
+    if_right(slots, right)
 }
 
 /// These parameters, or none.
@@ -228,11 +184,8 @@ pub fn action_of<'a, B: Allocator>(
     let [title, rest @ ..] = items else {
         return Ok(None);
     };
-    let Some(name) = name_of(alloc, title)? else {
-        return Ok(None);
-    };
-    let Some(slots) = slots_of(alloc, rest)? else {
-        return Ok(None);
-    };
-    Ok(Some(action_by(alloc, name, slots)))
+    match both(name_of(alloc, title), slots_of(alloc, rest))? {
+        Some((name, slots)) => Ok(Some(action_by(alloc, name, slots))),
+        None => Ok(None),
+    }
 }

@@ -1,58 +1,29 @@
 //! Domains read from texts.
 
-ghost use Rattle.std.specs.Prelude.{◌≡◌, ◌≢◌, ◌≤◌, ◌++◌, ℕ, List, Some, length, map, IfOk, IfErr, OnOk, MatchResult};
+ghost use Rattle.std.specs.Prelude.{◌≡◌, ◌≢◌, ◌≤◌, ℕ, List, [], Some, length, IfOk, IfErr, MatchResult};
 ghost use Rattle.pddl_text.specs.Items.{items_view};
 ghost use Rattle.pddl_text.specs.declared.fault.TextFault.TheVariants.{Memory};
 ghost use Rattle.pddl_file.specs.declared.fault.FileFault.{FileFault};
 ghost use Rattle.pddl_file.specs.declared.fault.FileFault.TheVariants.{Text};
-ghost use Rattle.pddl_file.specs.FileReading.{RefusesFile};
+ghost use Rattle.pddl_file.specs.FileReading.{RefusesSections, RefusesFile};
 ghost use Rattle.pddl_file.specs.Places.{file_place};
 ghost use Rattle.pddl_domain.specs.Domains.{DomainValue, domain_view, SpellsDomain, DomainStands};
 ghost use Rattle.pddl_domain.specs.DomainReading.{domain_of};
-ghost use Rattle.pddl_domain.specs.Sections.{section_view, domain_answer, AnswersDomain, with_part};
+ghost use Rattle.pddl_domain.specs.Sections.{domain_verdict, AddsParts, domain_answer, AnswersDomain};
 
 use crate::domain::Domain;
-use crate::section_reader::{Section, sections_of};
+use crate::section_reader::add_sections;
 use pddl_file::FileFault;
 use pddl_sections::open_file;
 use pddl_text::{Item, LONGEST, items_of};
 use pddl_tree::Name;
-use std::alloc::{AllocError, Allocator};
+use std::alloc::Allocator;
 
-/// Moves elements behind others.
-fn append<T: Drop, A: Allocator>(to: &mut Vec<T, A>, from: Vec<T, A>) -> Result<(), AllocError>
-    ensures { OnOk result (to.new.items ≡ to.old.items ++ from.items) }
+/// The domain of this name that has nothing.
+fn empty_domain<'a, B: Allocator>(alloc: &'a B, name: Name<&'a B>) -> Domain<&'a B>
+    ensures { domain_view result ≡ domain_of name.entry [] }
 {
-    let mut from = from;
-    to.append(&mut from)
-}
-
-/// Adds what a section says.
-fn add_section<A: Allocator>(domain: &mut Domain<A>, section: Section<A>) -> Result<(), AllocError>
-    ensures { OnOk result (domain_view domain.new ≡ with_part (domain_view domain.old) (section_view section)) }
-{
-    match section {
-        Section::Requirements(flags) => append(&mut domain.requirements, flags),
-        Section::Types(types) => append(&mut domain.types, types),
-        Section::Constants(constants) => append(&mut domain.constants, constants),
-        Section::Predicates(predicates) => append(&mut domain.predicates, predicates),
-        Section::Functions(functions) => append(&mut domain.functions, functions),
-        Section::Action(action) => {
-            domain.actions.push(action)?;
-            Ok(())
-        }
-    }
-}
-
-/// The domain of this name and these sections.
-fn domain_of<'a, B: Allocator>(
-    alloc: &'a B,
-    name: Name<&'a B>,
-    sections: Vec<Section<&'a B>, &'a B>,
-) -> Result<Domain<&'a B>, AllocError>
-    ensures { IfOk result (λ domain. domain_view domain ≡ domain_of name.entry (map section_view sections.entry.items)) }
-{
-    let mut domain = Domain {
+    Domain {
         name,
         requirements: Vec::new(alloc),
         types: Vec::new(alloc),
@@ -60,11 +31,21 @@ fn domain_of<'a, B: Allocator>(
         predicates: Vec::new(alloc),
         functions: Vec::new(alloc),
         actions: Vec::new(alloc),
-    };
-    for section in sections {
-        add_section(&mut domain, section)?;
     }
-    Ok(domain)
+}
+
+/// The domain of this name whose sections some items are.
+fn domain_of<'a, B: Allocator>(
+    alloc: &'a B,
+    name: Name<&'a B>,
+    sections: &[Item<'_, &'a B>],
+) -> Result<Domain<&'a B>, FileFault>
+    ensures domain { IfOk result (λ domain. AddsParts (items_view sections.now) (domain_of name.entry []) (domain_view domain)) }
+    ensures refused { IfErr result (λ fault. RefusesSections fault (domain_verdict (items_view sections.now))) }
+{
+    let mut domain = empty_domain(alloc, name);
+    let added = add_sections(alloc, &mut domain, sections);
+    added.and(Ok(domain))
 }
 
 /// The domain that some items are.
@@ -79,8 +60,7 @@ fn domain_at<'a, B: Allocator>(
         Ok(opening) => opening,
         Err(span) => return Err(FileFault::Head { span }),
     };
-    let sections = sections_of(alloc, opening.sections)?;
-    Ok(domain_of(alloc, opening.name, sections)?)
+    domain_of(alloc, opening.name, opening.sections)
 }
 
 /// The domain that a text spells: `(define (domain NAME) section*)`, with sections of requirements, types, constants,

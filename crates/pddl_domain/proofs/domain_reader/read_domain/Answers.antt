@@ -1,5 +1,4 @@
 use Rattle.std.proofs.Common.{◌≡◌, sym, ap, subst}
-use Rattle.std.specs.Prelude.{Result, Ok, Err, IfOk, IfErr, MatchResult}
 use Rattle.std.proofs.lemmas.Result.{err_from_is_err_and}
 use Rattle.pddl_text.specs.Items.{items_view}
 use Rattle.pddl_text.specs.Texts.{HasItems}
@@ -8,20 +7,9 @@ use Rattle.pddl_file.specs.declared.fault.FileFault.TheVariants.{Text}
 use Rattle.pddl_file.specs.FileReading.{RefusesFile}
 use Rattle.pddl_domain.specs.Domains.{domain_view, SpellsDomain, DomainStands}
 use Rattle.pddl_domain.specs.Sections.{domain_answer, AnswersDomain}
+use Rattle.pddl_domain.proofs.Results.{if_ok, if_err, match_both}
 use Rattle.pddl_domain.proofs.DomainTextLaws.{read_spells, read_only, refused_only, refused_stands}
 use Rattle.pddl_domain.proofs.domain_reader.read_domain.Goals as goal
-
-if_ok : {A E : Type 0} (P Q : A → Type 0) (r : Result A E) → ((a : A) → P a → Q a) → IfOk r P → IfOk r Q
-if_ok P Q (Ok a) on h = on a h
-if_ok P Q (Err e) on h = h
-
-if_err : {A E : Type 0} (P Q : E → Type 0) (r : Result A E) → ((e : E) → P e → Q e) → IfErr r P → IfErr r Q
-if_err P Q (Ok a) on h = h
-if_err P Q (Err e) on h = on e h
-
-match_both : {A E : Type 0} (P : A → Type 0) (Q : E → Type 0) (r : Result A E) → IfOk r P → IfErr r Q → MatchResult r P Q
-match_both P Q (Ok a) ok err = ok
-match_both P Q (Err e) ok err = err
 
 pub returns-in_err-items-clause-only : goal.returns-in_err-items-clause-only
 returns-in_err-items-clause-only g c = λ domain spells.
