@@ -17,13 +17,6 @@ module _ {T V P S E : Type 0} (view : T → V) (part : V → P) (read : Option V
   filled_part old new (Ok None) right make next is reads (put, done) = rw (done, sym reads) refl
   filled_part old new (Err e) right make next is reads (put, done) = rw done tt
 
-  pub set_part : (old new : Option T) (value : Result (Option T) E) (right : Result Bool E) (make : Option V → S) (next : P → S)
-      → ((y : V) → next (part y) ≡ make (Some y)) → IfOk value (λ v. option_map view v ≡ read) → SetsFound old value new right
-      → IfOk right (λ b. then_some b (make (option_map view new)) ≡ option_map next (option_map part read))
-  set_part old new (Ok (Some x)) right make next is reads (put, done) = rw (done, put, sym reads) (ap Some (sym (is (view x))))
-  set_part old new (Ok None) right make next is reads (put, done) = rw (done, sym reads) refl
-  set_part old new (Err e) right make next is reads (put, done) = rw done tt
-
   pub pushed_part : (old new : List T) (value : Result (Option T) E) (right : Result Bool E) (make : List V → S) (next : P → S)
       → ((y : V) → next (part y) ≡ make (map view old ++ y ∷ [])) → IfOk value (λ v. option_map view v ≡ read) → PushesFound old value new right
       → IfOk right (λ b. then_some b (make (map view new)) ≡ option_map next (option_map part read))
@@ -31,6 +24,14 @@ module _ {T V P S E : Type 0} (view : T → V) (part : V → P) (read : Option V
   pushed_part old new (Ok (Some x)) (Err e) make next is reads done = tt
   pushed_part old new (Ok None) right make next is reads (put, done) = rw (done, sym reads) refl
   pushed_part old new (Err e) right make next is reads (put, done) = rw done tt
+
+-- the value is kept in its slot as K
+pub set_part : {T V K P S E : Type 0} (view : T → V) (keep : T → K) (part : V → P) (read : Option V) (old new : Option T) (value : Result (Option T) E) (right : Result Bool E)
+    (make : Option K → S) (next : P → S) → ((x : T) → next (part (view x)) ≡ make (Some (keep x))) → IfOk value (λ v. option_map view v ≡ read) → SetsFound old value new right
+    → IfOk right (λ b. then_some b (make (option_map keep new)) ≡ option_map next (option_map part read))
+set_part view keep part read old new (Ok (Some x)) right make next is reads (put, done) = rw (done, put, sym reads) (ap Some (sym (is x)))
+set_part view keep part read old new (Ok None) right make next is reads (put, done) = rw (done, sym reads) refl
+set_part view keep part read old new (Err e) right make next is reads (put, done) = rw done tt
 
 -- likewise a list of values, whose view goes over both halves of a list
 pub appended_part : {T V A P S E : Type 0} (view : List T → List V) (part : List V → P) (read : Option (List V)) → ((xs ys : List T) → view (xs ++ ys) ≡ view xs ++ view ys)

@@ -19,7 +19,7 @@ use Rattle.pddl_file.proofs.KeywordLaws.{key_reads}
 use Rattle.pddl_file.proofs.SectionTurns.{sections_on, sections_end}
 use Rattle.pddl_problem.specs.Problems.{Part, domain, requirements, objects, init, goal, metric, domains_in, requirements_in, objects_in, init_in, goals_in, metrics_in, part_key, required}
 use Rattle.pddl_problem.specs.ProblemReading.{part_at, problem_readers}
-use Rattle.pddl_problem.specs.Slots.{SlotsValue, no_slots, fill, Slot, Holds, HoldVerdict, or_nothing, has_slot}
+use Rattle.pddl_problem.specs.Slots.{SlotsValue, no_slots, fill, FillsPart, Slot, Holds, HoldVerdict, or_nothing, has_slot}
 use Rattle.pddl_problem.proofs.PartLaws.{part_reads}
 
 -- ---- one slot
@@ -117,11 +117,18 @@ key_is x k t part key =
 
 -- ---- the sections so far
 
--- the slots hold those found, and with those that are left the verdict is this one
-pub record SoFar (seen : Seen) (s : SlotsValue) (rest : List Placed) (whole : Verdict Part SectionKeyword Mark Seen) : Type 0 where
+-- with the sections that are left the verdict is this one, and slots that were empty before hold those found
+pub record SoFar (before : SlotsValue) (seen : Seen) (s : SlotsValue) (rest : List Placed) (whole : Verdict Part SectionKeyword Mark Seen) : Type 0 where
   pub found : List Part
   pub goes : verdict problem_readers seen found rest ≡ whole
-  pub hold : Holds seen s found
+  pub hold : before ≡ no_slots → Holds seen s found
+
+pub so_far_start : (before : SlotsValue) (seen : Seen) (rest : List Placed) → seen ≡ nothing_seen → SoFar before seen before rest (verdict problem_readers nothing_seen [] rest)
+so_far_start before seen rest none = record {
+  found = [];
+  goes = ap (λ n. verdict problem_readers n [] rest) none;
+  hold = λ empty. subst (λ t. Holds seen t []) (sym empty) (subst (λ n. Holds n no_slots []) (sym none) hold_nothing);
+}
 
 -- a section that goes on has this keyword, which was not seen, and this value
 go_says : (key : Option SectionKeyword) (part : Option Part) (seen : Seen) (p : Placed) (x : Part) (k : SectionKeyword) → key_turn problem_readers key seen part p ≡ go x k
@@ -137,28 +144,30 @@ go_says (Some l) (Some y) seen p x k e =
           (ap Some key, ap (has_seen seen) (sym key) ∙ h.0, ap Some part))
     ]
 
-module _ {A : Type 0} (seen : Seen) (s : SlotsValue) (xs : List (Item A)) (i : ℕ) (whole : Verdict Part SectionKeyword Mark Seen)
-    (so_far : SoFar seen s (items_view (drop i xs)) whole) where
+module _ {A : Type 0} (before : SlotsValue) (seen : Seen) (s : SlotsValue) (xs : List (Item A)) (i : ℕ) (whole : Verdict Part SectionKeyword Mark Seen)
+    (so_far : SoFar before seen s (items_view (drop i xs)) whole) where
   -- no section is left
-  pub so_far_end : length xs ≤ i → HoldVerdict s whole
-  so_far_end past = record {
+  pub so_far_end : length xs ≤ i → before ≡ no_slots → HoldVerdict s whole
+  so_far_end past empty = record {
     seen = seen;
     parts = so_far.found;
     is = sections_end problem_readers seen so_far.found xs i whole so_far.goes past;
-    hold = so_far.hold;
+    hold = so_far.hold empty;
   }
 
   -- this section goes on
-  pub so_far_on : (item : Item A) → i < length xs → item ≡ get_or xs i item → (x : Part) (k : SectionKeyword) (next : Seen) (filled : SlotsValue)
-      → turn problem_readers seen (item_view item) ≡ go x k → next ≡ with_seen seen k → filled ≡ fill s x → SoFar next filled (items_view (drop (i + 1) xs)) whole
-  so_far_on item below at x k next filled goes noted filled_is =
-      let says = go_says (key_at (item_tree item)) (part_at (item_tree item)) seen (item_view item) x k goes in
+  pub so_far_on : (item : Item A) → i < length xs → item ≡ get_or xs i item → (k : SectionKeyword) (next : Seen) (after : SlotsValue)
+      → FillsPart (turn problem_readers seen (item_view item)) s after k → next ≡ with_seen seen k → SoFar before next after (items_view (drop (i + 1) xs)) whole
+  so_far_on item below at k next after fills noted =
+      let x = fills.part in
+      let says = go_says (key_at (item_tree item)) (part_at (item_tree item)) seen (item_view item) x k fills.is in
       let key : part_key x ≡ k = key_is x k (item_tree item) (sym says.2) (sym says.0) in
-      let held = hold_more x seen s so_far.found (sym (ap (has_seen seen) key ∙ says.1)) so_far.hold in
+      let unseen = sym (ap (has_seen seen) key ∙ says.1) in
       record {
         found = so_far.found ++ x ∷ [];
-        goes = sections_on problem_readers seen so_far.found xs i whole so_far.goes item below at x k next (so_far.found ++ x ∷ []) goes noted refl;
-        hold = subst (λ n. Holds n filled (so_far.found ++ x ∷ [])) (sym (noted ∙ ap (with_seen seen) (sym key))) (subst (λ t. Holds (with_seen seen (part_key x)) t (so_far.found ++ x ∷ [])) (sym filled_is) held);
+        goes = sections_on problem_readers seen so_far.found xs i whole so_far.goes item below at x k next (so_far.found ++ x ∷ []) fills.is noted refl;
+        hold = λ empty. subst (λ n. Holds n after (so_far.found ++ x ∷ [])) (sym (noted ∙ ap (with_seen seen) (sym key)))
+            (subst (λ t. Holds (with_seen seen (part_key x)) t (so_far.found ++ x ∷ [])) (sym fills.made) (hold_more x seen s so_far.found unseen (so_far.hold empty)));
       }
 
 -- the required sections that are missing are those whose slots are empty

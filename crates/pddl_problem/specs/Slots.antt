@@ -1,9 +1,10 @@
 -- The sections of a problem as the code holds them. No public contract names these.
 use Rattle.std.specs.Prelude.{◌≡◌, ℕ, List, [], ◌∷◌, map, Bool, true, false, Option, Some, None, is_some, option_map, option_to_list}
+use Rattle.std.specs.Bool.{then_some}
 use Rattle.std.specs.List.{flat_map}
 use Rattle.pddl_formula.specs.TypedLists.{TypedValue, typed_view}
 use Rattle.pddl_formula.specs.Formulas.{FormulaValue, formula_view}
-use Rattle.pddl_sections.specs.Verdicts.{Verdict, fine}
+use Rattle.pddl_sections.specs.Verdicts.{Turn, go, Verdict, fine}
 use Rattle.pddl_sections.specs.Answers.{first_missing}
 use Rattle.pddl_file.specs.declared.keyword.SectionKeyword.{SectionKeyword}
 use Rattle.pddl_file.specs.declared.keyword.SectionKeyword.TheVariants as keys
@@ -13,18 +14,7 @@ use Rattle.pddl_file.specs.declared.fault.FileFault.{FileFault}
 use Rattle.pddl_file.specs.declared.fault.FileFault.TheVariants as faults
 use Rattle.pddl_problem.specs.Inits.{InitValue, MetricValue, init_view, metric_view}
 use Rattle.pddl_problem.specs.Problems.{ProblemValue, Part, domain, requirements, objects, init, goal, metric, domains_in, requirements_in, objects_in, init_in, goals_in, metrics_in, required}
-use Rattle.pddl_problem.specs.declared.section.Section.{Section}
-use Rattle.pddl_problem.specs.declared.section.Section.TheVariants as sections
 use Rattle.pddl_problem.specs.declared.section.Slots.{Slots}
-
--- a section of the program without where it lies in memory
-abbrev pub part_view : {A : _} → Section A → Part
-part_view (sections.Domain n) = domain n
-part_view (sections.Requirements v) = requirements v.items
-part_view (sections.Objects v) = objects (map typed_view v.items)
-part_view (sections.Init v) = init (map init_view v.items)
-part_view (sections.Goal f) = goal (formula_view f)
-part_view (sections.Metric m) = metric (metric_view m)
 
 -- what each section that stood adds to the problem
 pub record SlotsValue : Type 0 where
@@ -35,7 +25,7 @@ pub record SlotsValue : Type 0 where
   pub goal : Option (List FormulaValue)
   pub metric : Option (List MetricValue)
 
--- the program's, likewise
+-- that of the program, without where it lies in memory
 abbrev pub slots_view : {A : _} → Slots A → SlotsValue
 slots_view s = record {
   domain = option_map (λ n. n ∷ []) s.domain;
@@ -58,6 +48,16 @@ fill s (objects xs) = record s { objects = Some xs }
 fill s (init xs) = record s { init = Some xs }
 fill s (goal f) = record s { goal = Some (f ∷ []) }
 fill s (metric m) = record s { metric = Some (m ∷ []) }
+
+-- the section, if there is one, fills its slot, and it is right exactly where there is one
+abbrev pub Fills : Option Part → SlotsValue → SlotsValue → Bool → Type 0
+Fills part before after filled = then_some filled after ≡ option_map (fill before) part
+
+-- what one section says is a section of this keyword, which fills its slot
+pub record FillsPart (says : Turn Part SectionKeyword Mark) (before after : SlotsValue) (key : SectionKeyword) : Type 0 where
+  pub part : Part
+  pub is : says ≡ go part key
+  pub made : after ≡ fill before part
 
 -- a slot holds what its sections add, and is empty where none stood
 abbrev pub Slot : {X : Type 0} → Bool → Option (List X) → List X → Type 0

@@ -1,21 +1,21 @@
 //! Problems read from texts.
 
-ghost use Rattle.std.specs.Prelude.{◌≡◌, ◌≢◌, ◌≤◌, ℕ, List, Some, IfOk, IfErr, MatchResult, length, option_map, codes};
+ghost use Rattle.std.specs.Prelude.{◌≡◌, ◌≢◌, ◌≤◌, ℕ, List, Some, None, IfOk, IfErr, MatchResult, length, option_map, codes};
 ghost use Rattle.pddl_text.specs.Items.{items_view};
 ghost use Rattle.pddl_text.specs.declared.fault.TextFault.TheVariants.{Memory};
-ghost use Rattle.pddl_sections.specs.Answers.{file_answer};
+ghost use Rattle.pddl_sections.specs.Answers.{first_missing, file_answer};
 ghost use Rattle.pddl_file.specs.declared.fault.FileFault.{FileFault};
 ghost use Rattle.pddl_file.specs.declared.fault.FileFault.TheVariants.{Text};
 ghost use Rattle.pddl_file.specs.FileReading.{RefusesFile};
 ghost use Rattle.pddl_file.specs.Places.{file_place};
 ghost use Rattle.pddl_problem.specs.Problems.{ProblemValue, problem_view, required, AreProblem, SpellsProblem, ProblemStands};
 ghost use Rattle.pddl_problem.specs.ProblemReading.{problem_readers};
-ghost use Rattle.pddl_problem.specs.Slots.{slots_view, or_nothing, MakesUp, SaysMissing};
+ghost use Rattle.pddl_problem.specs.Slots.{slots_view, or_nothing, MakesUp, has_slot, SaysMissing};
 
 use crate::problem::Problem;
 use crate::section::Slots;
 use crate::section_reader::sections_of;
-use pddl_file::{FileFault, SectionKeyword};
+use pddl_file::FileFault;
 use pddl_sections::open_file;
 use pddl_text::{Item, LONGEST, items_of};
 use pddl_tree::Name;
@@ -31,6 +31,26 @@ fn or_nothing<'a, T, B: Allocator>(alloc: &'a B, listed: Option<Vec<T, &'a B>>) 
     }
 }
 
+/// The problem of this name that the sections make up, none of which is missing.
+fn problem_by<'a, B: Allocator>(
+    alloc: &'a B,
+    name: Name<&'a B>,
+    slots: Slots<&'a B>,
+) -> Problem<&'a B>
+    requires { first_missing (has_slot (slots_view slots)) required ≡ None }
+    ensures { MakesUp (slots_view slots.entry) name.entry (problem_view result) }
+{
+    Problem {
+        name,
+        domain: slots.domain.unwrap(),
+        requirements: or_nothing(alloc, slots.requirements),
+        objects: or_nothing(alloc, slots.objects),
+        init: slots.init.unwrap(),
+        goal: slots.goal.unwrap(),
+        metric: slots.metric,
+    }
+}
+
 /// The problem of this name that the sections make up, or the first that is missing of the domain, `:init` and the goal.
 fn made_up<'a, B: Allocator>(
     alloc: &'a B,
@@ -40,37 +60,10 @@ fn made_up<'a, B: Allocator>(
     ensures problem { IfOk result (λ problem. MakesUp (slots_view slots.entry) name.entry (problem_view problem)) }
     ensures missing { IfErr result (λ fault. SaysMissing fault (slots_view slots.entry)) }
 {
-    let Slots {
-        domain,
-        requirements,
-        objects,
-        init,
-        goal,
-        metric,
-    } = slots;
-    let Some(domain) = domain else {
-        let keyword = SectionKeyword::Domain;
-        return Err(FileFault::Missing { keyword });
-    };
-    let Some(init) = init else {
-        let keyword = SectionKeyword::Init;
-        return Err(FileFault::Missing { keyword });
-    };
-    let Some(goal) = goal else {
-        let keyword = SectionKeyword::Goal;
-        return Err(FileFault::Missing { keyword });
-    };
-    let requirements = or_nothing(alloc, requirements);
-    let objects = or_nothing(alloc, objects);
-    Ok(Problem {
-        name,
-        domain,
-        requirements,
-        objects,
-        init,
-        goal,
-        metric,
-    })
+    match slots.first_missing() {
+        Some(keyword) => Err(FileFault::Missing { keyword }),
+        None => Ok(problem_by(alloc, name, slots)),
+    }
 }
 
 /// The problem that some items are.

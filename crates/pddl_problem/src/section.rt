@@ -1,23 +1,15 @@
-//! Sections of problems, and what those that stood say.
+//! What the sections of a problem that stood said.
 
 ghost use Rattle.std.specs.Prelude.{◌≡◌};
-ghost use Rattle.pddl_problem.specs.Slots.{part_view, slots_view, no_slots, fill};
+ghost use Rattle.pddl_sections.specs.Answers.{first_missing};
+ghost use Rattle.pddl_problem.specs.Problems.{required};
+ghost use Rattle.pddl_problem.specs.Slots.{slots_view, no_slots, has_slot};
 
 use crate::problem::{InitItem, Metric};
+use pddl_file::SectionKeyword;
 use pddl_formula::{Formula, Typed};
 use pddl_tree::Name;
 use std::alloc::Allocator;
-
-/// A section of a problem.
-#[derive(Drop)]
-pub enum Section<A: Allocator> {
-    Domain(Name<A>),
-    Requirements(Vec<Name<A>, A>),
-    Objects(Vec<Typed<A>, A>),
-    Init(Vec<InitItem<A>, A>),
-    Goal(Formula<A>),
-    Metric(Metric<A>),
-}
 
 /// The sections that stood, each at most once.
 #[derive(Drop)]
@@ -45,19 +37,18 @@ impl<A: Allocator> Slots<A> {
         }
     }
 
-    /// What stood, and this section.
-    pub fn with(self, section: Section<A>) -> Slots<A>
-        ensures { slots_view result ≡ fill (slots_view self) (part_view section) }
+    /// The first section that is missing of the domain, `:init` and the goal.
+    pub fn first_missing(&self) -> Option<SectionKeyword>
+        ensures { result ≡ first_missing (has_slot (slots_view self.now)) required }
     {
-        let mut slots = self;
-        match section {
-            Section::Domain(name) => slots.domain = Some(name),
-            Section::Requirements(flags) => slots.requirements = Some(flags),
-            Section::Objects(objects) => slots.objects = Some(objects),
-            Section::Init(items) => slots.init = Some(items),
-            Section::Goal(goal) => slots.goal = Some(goal),
-            Section::Metric(metric) => slots.metric = Some(metric),
+        if self.domain.is_none() {
+            Some(SectionKeyword::Domain)
+        } else if self.init.is_none() {
+            Some(SectionKeyword::Init)
+        } else if self.goal.is_none() {
+            Some(SectionKeyword::Goal)
+        } else {
+            None
         }
-        slots
     }
 }

@@ -5,8 +5,8 @@ use Rattle.pddl_file.specs.WordReading.{nothing_seen}
 use Rattle.pddl_problem.specs.ProblemReading.{problem_readers}
 use Rattle.pddl_problem.specs.Slots.{slots_view}
 use Rattle.pddl_problem.proofs.SlotLaws.{SoFar}
-use Rattle.pddl_problem.proofs.section_reader.sections_of.Given as goal
+use Rattle.pddl_problem.proofs.section_reader.read_sections.Given as goal
 
 -- the slots hold the sections so far, and with those that are left the verdict is that on all
 abbrev pub invariant-loop-item : goal.invariant-loop-item
-invariant-loop-item g l = SoFar l.seen (slots_view l.slots) (items_view (drop l.item-index l.items)) (verdict problem_readers nothing_seen [] (items_view l.items))
+invariant-loop-item g l = SoFar (slots_view l.initial.slots) l.seen (slots_view l.slots) (items_view (drop l.item-index l.items)) (verdict problem_readers nothing_seen [] (items_view l.items))
