@@ -23,6 +23,12 @@ found_reads make f g h same (Ok None) made o is read = rw is (ap (option_map h) 
 found_reads make f g h same (Ok (Some x)) made o is read = rw is (ap Some (same x) ∙ ap (option_map h) read)
 found_reads make f g h same (Err e) made o is read = rw is tt
 
+-- a value that contracts see as it is
+pub plain_reads : {T E : Type 0} (value : Result (Option T) E) (o : Option T) → IfOk value (λ a. a ≡ o) → IfOk value (λ a. option_map (λ x. x) a ≡ o)
+plain_reads (Ok None) o is = is
+plain_reads (Ok (Some x)) o is = is
+plain_reads (Err e) o is = is
+
 zip_map : {T U X Y : Type 0} (f : T → X) (g : U → Y) (a : Option T) (b : Option U)
     → option_map (λ p. (f p.0, g p.1)) (option_zip a b) ≡ option_zip (option_map f a) (option_map g b)
 zip_map f g None b = refl

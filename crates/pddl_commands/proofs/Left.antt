@@ -5,10 +5,11 @@ use Rattle.pddl_text.specs.declared.fault.TextFault.TheVariants as texts
 use Rattle.pddl_tree.specs.declared.fault.ReadFault.TheVariants as plans
 use Rattle.pddl_file.specs.declared.fault.FileFault.TheVariants as files
 use Rattle.pddl_domain.specs.Domains.{DomainValue, SpellsDomain}
-use Rattle.pddl_commands.specs.declared.kind.Kind.{Kind}
-use Rattle.pddl_commands.specs.declared.kind.Kind.TheVariants.{Domain, Problem, Plan}
+use Rattle.pddl_kind.specs.declared.Kind.{Kind}
+use Rattle.pddl_kind.specs.declared.Kind.TheVariants.{Domain, Problem, Plan}
 use Rattle.pddl_commands.specs.Lines.{text_fault_name, IsFaultLine}
-use Rattle.pddl_commands.specs.Formats.{kind_word, IsLeft, IsRefused}
+use Rattle.pddl_kind.specs.Kinds.{kind_word}
+use Rattle.pddl_commands.specs.Formats.{IsLeft, IsRefused}
 use Rattle.pddl_commands.specs.Checks.{IsNoDomain}
 
 -- a text that was read to its end

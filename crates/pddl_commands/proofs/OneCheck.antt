@@ -11,7 +11,7 @@ use Rattle.pddl_task.proofs.LowestFault.{one_lowest, none_stand}
 use Rattle.pddl_link.specs.declared.fault.LinkFault.{LinkFault}
 use Rattle.pddl_link.specs.declared.fault.LinkFault.TheVariants as links
 use Rattle.pddl_link.specs.Passes.{fault_of}
-use Rattle.pddl_commands.specs.declared.kind.Kind.TheVariants.{Domain, Problem}
+use Rattle.pddl_kind.specs.declared.Kind.TheVariants.{Domain, Problem}
 use Rattle.pddl_commands.specs.declared.outcome.Outcome.{Outcome}
 use Rattle.pddl_commands.specs.declared.outcome.Outcome.TheVariants.{Good, Invalid, Refused}
 use Rattle.pddl_commands.specs.Formats.{IsRefused}

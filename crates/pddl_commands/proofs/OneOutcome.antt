@@ -17,12 +17,13 @@ use Rattle.pddl_problem.proofs.ProblemTexts.{one_problem, one_fault as one_probl
 use Rattle.pddl_layout.specs.PlanLayout.{plan_text}
 use Rattle.pddl_file_layout.specs.DomainLayout.{domain_text}
 use Rattle.pddl_file_layout.specs.ProblemLayout.{problem_text}
-use Rattle.pddl_commands.specs.declared.kind.Kind.{Kind}
-use Rattle.pddl_commands.specs.declared.kind.Kind.TheVariants.{Domain, Problem, Plan}
+use Rattle.pddl_kind.specs.declared.Kind.{Kind}
+use Rattle.pddl_kind.specs.declared.Kind.TheVariants.{Domain, Problem, Plan}
 use Rattle.pddl_commands.specs.declared.outcome.Outcome.{Outcome}
 use Rattle.pddl_commands.specs.declared.outcome.Outcome.TheVariants.{Good, Invalid, Refused}
 use Rattle.pddl_commands.specs.Lines.{fault_name, file_fault_name}
-use Rattle.pddl_commands.specs.Formats.{kind_word, IsPrinted, IsPlanRefused, IsFileRefused, IsCanonical, IsRefused, IsFormatted}
+use Rattle.pddl_kind.specs.Kinds.{kind_word}
+use Rattle.pddl_commands.specs.Formats.{IsPrinted, IsPlanRefused, IsFileRefused, IsCanonical, IsRefused, IsFormatted}
 use Rattle.pddl_commands.proofs.FaultLines.{one_line}
 
 -- ---- one canonical text

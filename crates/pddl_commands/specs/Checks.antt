@@ -6,7 +6,7 @@ use Rattle.pddl_task.specs.Linked.{Fault, faults, domain_faults, IsLowest, IsLin
 use Rattle.pddl_link.specs.declared.fault.LinkFault.{LinkFault}
 use Rattle.pddl_link.specs.declared.fault.LinkFault.TheVariants as links
 use Rattle.pddl_link.specs.Passes.{fault_of}
-use Rattle.pddl_commands.specs.declared.kind.Kind.TheVariants.{Domain, Problem}
+use Rattle.pddl_kind.specs.declared.Kind.TheVariants.{Domain, Problem}
 use Rattle.pddl_commands.specs.declared.outcome.Outcome.{Outcome}
 use Rattle.pddl_commands.specs.declared.outcome.Outcome.TheVariants.{Good, Invalid, Refused}
 use Rattle.pddl_commands.specs.Lines.{link_fault_name, IsFaultLine}

@@ -1,6 +1,6 @@
 -- What a command reads from a file. Own.
 use Rattle.std.specs.Prelude.{◌≡◌, ℕ, List, Bool, true, Option}
-use Rattle.pddl_commands.specs.declared.kind.Kind.{Kind}
+use Rattle.pddl_kind.specs.declared.Kind.{Kind}
 use Rattle.pddl_commands.specs.declared.reading.Content.{Content}
 use Rattle.pddl_commands.specs.declared.reading.Content.TheVariants.{Text, TooLong}
 use Rattle.pddl_commands.specs.Formats.{IsLeft, IsRefused}

@@ -13,17 +13,12 @@ use Rattle.pddl_problem.specs.Problems.{SpellsProblem, ProblemStands}
 use Rattle.pddl_layout.specs.PlanLayout.{plan_text}
 use Rattle.pddl_file_layout.specs.DomainLayout.{domain_text}
 use Rattle.pddl_file_layout.specs.ProblemLayout.{problem_text}
-use Rattle.pddl_commands.specs.declared.kind.Kind.{Kind}
-use Rattle.pddl_commands.specs.declared.kind.Kind.TheVariants.{Domain, Problem, Plan}
+use Rattle.pddl_kind.specs.declared.Kind.{Kind}
+use Rattle.pddl_kind.specs.Kinds.{kind_word}
+use Rattle.pddl_kind.specs.declared.Kind.TheVariants.{Domain, Problem, Plan}
 use Rattle.pddl_commands.specs.declared.outcome.Outcome.{Outcome}
 use Rattle.pddl_commands.specs.declared.outcome.Outcome.TheVariants.{Good, Invalid, Refused}
 use Rattle.pddl_commands.specs.Lines.{fault_name, file_fault_name, IsFaultLine}
-
--- what a file is called in the line that refuses it
-abbrev pub kind_word : Kind → List ℕ
-kind_word Domain = codes "domain"
-kind_word Problem = codes "problem"
-kind_word Plan = codes "plan"
 
 -- some value spells the text, and its canonical text is printed
 pub record IsPrinted {V : Type 0} (Spells : V → List ℕ → Type 0) (layout : V → List ℕ) (text printed : List ℕ) : Type 0 where

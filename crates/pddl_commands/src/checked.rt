@@ -3,13 +3,14 @@
 ghost use Rattle.std.specs.Prelude.{◌≡◌, ◌≢◌, [], codes, None, IfOk};
 ghost use Rattle.pddl_domain.specs.Domains.{domain_view};
 ghost use Rattle.pddl_problem.specs.Problems.{problem_view};
+ghost use Rattle.pddl_task.specs.Linked.{faults};
 ghost use Rattle.pddl_link.specs.declared.fault.LinkFault.TheVariants as links;
+ghost use Rattle.pddl_link.specs.Passes.{Verdict};
 ghost use Rattle.pddl_commands.specs.Checks.{good_line, IsDomainJudged, IsProblemJudged, IsDomainChecked, ForProblem};
 ghost use Rattle.pddl_commands.specs.Lines.{link_fault_name, IsFaultLine};
 
 use crate::fault_names::link_fault_name;
-use crate::formatted::{Formatted, refused_file};
-use crate::kind::Kind;
+use crate::formatted::{Formatted, refused_domain, refused_problem};
 use crate::line::fault_line;
 use crate::outcome::Outcome;
 use pddl_domain::{Domain, read_domain};
@@ -48,6 +49,29 @@ fn link_line<'a, B: Allocator>(
     }
 }
 
+/// The line of a good domain or problem, and the outcome.
+fn good<'a, B: Allocator>(
+    alloc: &'a B,
+    word: &[u8],
+    name: &[u8],
+) -> Result<Formatted<'a, B>, AllocError>
+    ensures { IfOk result (λ answer. (answer.1 ≡ Outcome.Good) × (answer.0.items ≡ good_line word.now name.now)) }
+{
+    Ok((good_line(alloc, word, name)?, Outcome::Good))
+}
+
+/// The line of a fault of linking, and the outcome.
+fn refused<'a, B: Allocator>(
+    alloc: &'a B,
+    fault: &LinkFault,
+) -> Result<Formatted<'a, B>, AllocError>
+    ensures refused { IfOk result (λ answer. answer.1 ≡ Outcome.Refused) }
+    ensures no_memory { IfOk result (λ _. fault.now ≢ links.Memory) }
+    ensures line { IfOk result (λ answer. IsFaultLine (codes "link") [] (link_fault_name fault.now) None answer.0.items) }
+{
+    Ok((link_line(alloc, fault)?, Outcome::Refused))
+}
+
 /// What is printed for a domain, and the outcome.
 fn judged_domain<'a, A: Allocator, B: Allocator>(
     alloc: &'a B,
@@ -56,15 +80,21 @@ fn judged_domain<'a, A: Allocator, B: Allocator>(
     ensures { IfOk result (λ answer. IsDomainJudged (domain_view domain.now) answer.0.items answer.1) }
 {
     match check_domain(alloc, domain) {
-        Ok(()) => {
-            let line = good_line(alloc, b"domain", domain.name.as_bytes())?;
-            Ok((line, Outcome::Good))
-        }
-        Err(fault) => {
-            let line = link_line(alloc, &fault)?;
-            Ok((line, Outcome::Refused))
-        }
+        Ok(()) => good(alloc, b"domain", domain.name.as_bytes()),
+        Err(fault) => refused(alloc, &fault),
     }
+}
+
+/// Checks that a domain and a problem link; their task is not kept.
+fn check_problem<'d, 'a, A: Allocator, B: Allocator>(
+    alloc: &'a B,
+    domain: &'d Domain<A>,
+    problem: &'d Problem<A>,
+) -> Result<(), LinkFault<'d>>
+    ensures { Verdict (faults (domain_view domain.now) (problem_view problem.now)) result }
+{
+    link(alloc, domain, problem)?;
+    Ok(())
 }
 
 /// What is printed for a problem with its domain, and the outcome.
@@ -75,15 +105,9 @@ fn judged_problem<'a, A: Allocator, B: Allocator>(
 ) -> Result<Formatted<'a, B>, AllocError>
     ensures { IfOk result (λ answer. IsProblemJudged (domain_view domain.now) (problem_view problem.now) answer.0.items answer.1) }
 {
-    match link(alloc, domain, problem) {
-        Ok(_) => {
-            let line = good_line(alloc, b"problem", problem.name.as_bytes())?;
-            Ok((line, Outcome::Good))
-        }
-        Err(fault) => {
-            let line = link_line(alloc, &fault)?;
-            Ok((line, Outcome::Refused))
-        }
+    match check_problem(alloc, domain, problem) {
+        Ok(()) => good(alloc, b"problem", problem.name.as_bytes()),
+        Err(fault) => refused(alloc, &fault),
     }
 }
 
@@ -96,10 +120,7 @@ pub fn checked_domain<'a, B: Allocator>(
 {
     match read_domain(alloc, text) {
         Ok(domain) => judged_domain(alloc, &domain),
-        Err(fault) => {
-            let line = refused_file(alloc, Kind::Domain, text, &fault)?;
-            Ok((line, Outcome::Refused))
-        }
+        Err(fault) => refused_domain(alloc, text, &fault),
     }
 }
 
@@ -113,9 +134,6 @@ pub fn checked_problem<'a, B: Allocator>(
 {
     match read_problem(alloc, text) {
         Ok(problem) => judged_problem(alloc, domain, &problem),
-        Err(fault) => {
-            let line = refused_file(alloc, Kind::Problem, text, &fault)?;
-            Ok((line, Outcome::Refused))
-        }
+        Err(fault) => refused_problem(alloc, text, &fault),
     }
 }

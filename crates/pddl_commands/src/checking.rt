@@ -9,11 +9,11 @@ ghost use Rattle.pddl_commands.specs.Formats.{IsLeft};
 ghost use Rattle.pddl_commands.specs.Checks.{ForProblem, IsProblemJudged, IsDomainChecked, IsProblemChecked, IsNoDomain, AreAlike};
 
 use crate::checked::{checked_domain, checked_problem};
-use crate::formatted::{Formatted, refused_file};
-use crate::kind::Kind;
+use crate::formatted::{Formatted, refused_domain};
 use crate::outcome::{Outcome, RunFault};
 use crate::reading::{Content, read_file};
 use pddl_domain::{Domain, read_domain};
+use pddl_kind::Kind;
 use pddl_text::{Sink, Source, write_text};
 use std::alloc::Allocator;
 
@@ -79,8 +79,8 @@ fn read_both<'a, B: Allocator, S: Source, T: Source>(
         Content::Text(text) => match read_domain(alloc, &text) {
             Ok(read) => read_problem_checked(alloc, &read, problem),
             Err(fault) => {
-                let line = refused_file(alloc, Kind::Domain, &text, &fault)?;
-                Ok((line, Outcome::Refused))
+                let refused = refused_domain(alloc, &text, &fault)?;
+                Ok(refused)
             }
         },
         Content::TooLong(line) => Ok((line, Outcome::Refused)),

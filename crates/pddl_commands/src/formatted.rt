@@ -1,22 +1,25 @@
 //! What `format` prints for a text.
 
 ghost use Rattle.std.specs.Prelude.{◌≡◌, ◌≢◌, ◌≤◌, ◌<◌, ℕ, List, Some, length, IfOk};
+ghost use Rattle.pddl_domain.specs.Domains.{DomainStands};
+ghost use Rattle.pddl_problem.specs.Problems.{ProblemStands};
 ghost use Rattle.pddl_text.specs.declared.fault.TextFault.TheVariants.{Memory};
 ghost use Rattle.pddl_tree.specs.PlanTexts.{PlanStands};
 ghost use Rattle.pddl_file.specs.declared.fault.FileFault.TheVariants.{Text};
 ghost use Rattle.pddl_file.specs.Places.{file_place};
-ghost use Rattle.pddl_commands.specs.declared.kind.Kind.{Kind};
+ghost use Rattle.pddl_kind.specs.declared.Kind.{Kind};
+ghost use Rattle.pddl_kind.specs.Kinds.{kind_word};
 ghost use Rattle.pddl_commands.specs.Faults.{is_memory, is_file_memory};
-ghost use Rattle.pddl_commands.specs.Formats.{kind_word, IsRefused, IsFormatted};
+ghost use Rattle.pddl_commands.specs.Formats.{IsRefused, IsFormatted};
 ghost use Rattle.pddl_commands.specs.Lines.{file_fault_name, IsFaultLine};
 
 use crate::fault_names::{fault_name, file_fault_name, text_fault_name};
-use crate::kind::Kind;
 use crate::line::fault_line;
 use crate::outcome::Outcome;
 use pddl_domain::read_domain;
 use pddl_file::FileFault;
 use pddl_file_layout::{domain_text, problem_text};
+use pddl_kind::Kind;
 use pddl_layout::plan_text;
 use pddl_problem::read_problem;
 use pddl_text::{LONGEST, TextFault};
@@ -68,7 +71,7 @@ fn refused_plan<'a, B: Allocator>(
 }
 
 /// The line of a domain or a problem that is refused for a fault.
-pub fn refused_file<'a, B: Allocator>(
+fn refused_file<'a, B: Allocator>(
     alloc: &'a B,
     kind: Kind,
     text: &[u8],
@@ -85,6 +88,41 @@ pub fn refused_file<'a, B: Allocator>(
     fault_line(alloc, kind.word(), text, file_fault_name(fault), place)
 }
 
+/// What is printed for a domain's text in which a fault stands, and the outcome.
+pub fn refused_domain<'a, B: Allocator>(
+    alloc: &'a B,
+    text: &[u8],
+    fault: &FileFault,
+) -> Result<Formatted<'a, B>, AllocError>
+    requires { DomainStands fault.now text.now }
+    ensures { IfOk result (λ answer. (answer.1 ≡ Outcome.Refused) × IsRefused Kind.Domain text.now answer.0.items) }
+{
+    let line = refused_file(alloc, Kind::Domain, text, fault)?;
+    Ok((line, Outcome::Refused))
+}
+
+/// What is printed for a problem's text in which a fault stands, and the outcome.
+pub fn refused_problem<'a, B: Allocator>(
+    alloc: &'a B,
+    text: &[u8],
+    fault: &FileFault,
+) -> Result<Formatted<'a, B>, AllocError>
+    requires { ProblemStands fault.now text.now }
+    ensures { IfOk result (λ answer. (answer.1 ≡ Outcome.Refused) × IsRefused Kind.Problem text.now answer.0.items) }
+{
+    let line = refused_file(alloc, Kind::Problem, text, fault)?;
+    Ok((line, Outcome::Refused))
+}
+
+/// A text that is printed for a good file, and the outcome.
+fn good<'a, B: Allocator>(
+    printed: Result<Vec<u8, &'a B>, AllocError>,
+) -> Result<Formatted<'a, B>, AllocError>
+    ensures { IfOk result (λ answer. (answer.1 ≡ Outcome.Good) × (printed.entry ≡ Ok answer.0)) }
+{
+    Ok((printed?, Outcome::Good))
+}
+
 /// What is printed for a domain's text, and the outcome.
 fn formatted_domain<'a, B: Allocator>(
     alloc: &'a B,
@@ -93,14 +131,8 @@ fn formatted_domain<'a, B: Allocator>(
     ensures { IfOk result (λ answer. IsFormatted Kind.Domain text.now answer.0.items answer.1) }
 {
     match read_domain(alloc, text) {
-        Ok(domain) => {
-            let printed = domain_text(alloc, &domain)?;
-            Ok((printed, Outcome::Good))
-        }
-        Err(fault) => {
-            let line = refused_file(alloc, Kind::Domain, text, &fault)?;
-            Ok((line, Outcome::Refused))
-        }
+        Ok(domain) => good(domain_text(alloc, &domain)),
+        Err(fault) => refused_domain(alloc, text, &fault),
     }
 }
 
@@ -112,14 +144,8 @@ fn formatted_problem<'a, B: Allocator>(
     ensures { IfOk result (λ answer. IsFormatted Kind.Problem text.now answer.0.items answer.1) }
 {
     match read_problem(alloc, text) {
-        Ok(problem) => {
-            let printed = problem_text(alloc, &problem)?;
-            Ok((printed, Outcome::Good))
-        }
-        Err(fault) => {
-            let line = refused_file(alloc, Kind::Problem, text, &fault)?;
-            Ok((line, Outcome::Refused))
-        }
+        Ok(problem) => good(problem_text(alloc, &problem)),
+        Err(fault) => refused_problem(alloc, text, &fault),
     }
 }
 
@@ -131,10 +157,7 @@ fn formatted_plan<'a, B: Allocator>(
     ensures { IfOk result (λ answer. IsFormatted Kind.Plan text.now answer.0.items answer.1) }
 {
     match read_plan(alloc, text) {
-        Ok(plan) => {
-            let printed = plan_text(alloc, &plan)?;
-            Ok((printed, Outcome::Good))
-        }
+        Ok(plan) => good(plan_text(alloc, &plan)),
         Err(fault) => refused_plan(alloc, text, &fault),
     }
 }

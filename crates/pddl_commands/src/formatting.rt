@@ -3,14 +3,14 @@
 ghost use Rattle.std.specs.Prelude.{◌≡◌, ℕ, List, true, IfOk, OnOk, IsErrOf, Ok};
 ghost use Rattle.std.specs.Io.KnownBytes.{Appends, Consumes, Keeps};
 ghost use Rattle.pddl_text.specs.Device.{AppendsBeginning, HasFailed};
-ghost use Rattle.pddl_commands.specs.declared.kind.Kind.{Kind};
+ghost use Rattle.pddl_kind.specs.declared.Kind.{Kind};
 ghost use Rattle.pddl_commands.specs.declared.outcome.Outcome.{Outcome};
 ghost use Rattle.pddl_commands.specs.Formats.{IsFormatted, IsLeft};
 
 use crate::formatted::{Formatted, formatted};
-use crate::kind::Kind;
 use crate::outcome::{Outcome, RunFault};
 use crate::reading::{Content, read_file};
+use pddl_kind::Kind;
 use pddl_text::{Sink, Source, write_text};
 use std::alloc::Allocator;
 

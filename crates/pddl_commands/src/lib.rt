@@ -9,7 +9,6 @@ mod checking;
 mod fault_names;
 mod formatted;
 mod formatting;
-mod kind;
 mod line;
 mod outcome;
 mod reading;
@@ -18,5 +17,5 @@ pub use checking::{
     check_domain_file, check_problem_file, one_domain_outcome, one_problem_outcome,
 };
 pub use formatting::{format, one_outcome};
-pub use kind::Kind;
 pub use outcome::{Outcome, RunFault, status};
+pub use pddl_kind::Kind;

@@ -6,8 +6,8 @@ ghost use Rattle.pddl_text.specs.Device.{HasFailed};
 ghost use Rattle.pddl_commands.specs.Contents.{IsContent};
 
 use crate::formatted::too_long;
-use crate::kind::Kind;
 use crate::outcome::RunFault;
+use pddl_kind::Kind;
 use pddl_text::{LONGEST, Source, SourceFault, read_all};
 use std::alloc::Allocator;
 

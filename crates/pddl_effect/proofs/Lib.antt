@@ -2,3 +2,4 @@ pub mod AmountLaws
 pub mod EffectLaws
 pub mod EffectTurns
 pub mod IncreaseTestLaws
+pub mod AmountTurns

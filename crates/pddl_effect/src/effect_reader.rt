@@ -4,7 +4,7 @@ ghost use Rattle.std.specs.Prelude.{◌≡◌, IfOk, MatchOption, map, option_ma
 ghost use Rattle.pddl_text.specs.Trees.{Tree};
 ghost use Rattle.pddl_tree.specs.ItemTrees.{item_tree, item_trees};
 ghost use Rattle.pddl_tree.specs.TreeReading.{all_of};
-ghost use Rattle.pddl_build.specs.Results.{map_found, both_of};
+ghost use Rattle.pddl_build.specs.Results.{map_found, both_of, Boxes};
 ghost use Rattle.pddl_formula.specs.Reading.{atom_at, behind, only, quantified};
 ghost use Rattle.pddl_effect.specs.declared.effect.Effect.TheVariants as cases;
 ghost use Rattle.pddl_effect.specs.Effects.{EffectValue, universal, deletion, increase, effect_view, IsEffect, IsWholeEffect};
@@ -135,7 +135,7 @@ fn universal_of<'a, B: Allocator>(
     let [_, variables, body] = items else {
         return Ok(None);
     };
-    let body = boxed(alloc, item_effect(alloc, body));
+    let body = in_box(alloc, item_effect(alloc, body));
     universal(variables_of(alloc, variables), body)
 }
 
@@ -149,7 +149,7 @@ fn conditional_of<'a, B: Allocator>(
     let [_, condition, body] = items else {
         return Ok(None);
     };
-    let body = boxed(alloc, item_effect(alloc, body));
+    let body = in_box(alloc, item_effect(alloc, body));
     conditional(formula_of(alloc, condition), body)
 }
 
@@ -180,6 +180,16 @@ fn increase_of<'a, B: Allocator>(
         return Ok(None);
     }
     increase(amount_of(alloc, amount))
+}
+
+/// An effect in a box, if it was read.
+fn in_box<'a, B: Allocator>(
+    alloc: &'a B,
+    effect: Result<Option<Effect<&'a B>>, AllocError>,
+) -> Result<Option<Box<Effect<&'a B>, &'a B>>, AllocError>
+    ensures { Boxes effect.entry result }
+{
+    boxed(alloc, effect)
 }
 
 fn conjunction<A: Allocator>(

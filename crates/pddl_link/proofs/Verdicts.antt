@@ -6,7 +6,8 @@ use Rattle.pddl_task.specs.Names.{Name}
 use Rattle.pddl_task.specs.Linked.{Fault, fault, NoneStands, IsLowest}
 use Rattle.pddl_task.proofs.LowestFault.{lowest_later, none_stand, first_is_lowest}
 use Rattle.pddl_link.specs.declared.fault.LinkFault.{LinkFault}
-use Rattle.pddl_link.specs.Passes.{fault_of, Passes, Verdict}
+use Rattle.std.specs.Result.{result_and}
+use Rattle.pddl_link.specs.Passes.{fault_of, Passes, Verdict, Settles}
 
 -- the faults of a list have numbers from this one on
 abbrev pub From : ℕ → List Fault → Type 0
@@ -67,3 +68,20 @@ some_other n m words others (Some f) none h = absurd (none_stand (fault n words 
 -- a pass for a fault that does not stand finds nothing
 pub not_found : (n m : ℕ) (words others : List Name) (e : LinkFault) → words ≡ [] → Passes {T = Unit {0}} n words (Err e) → Passes {T = Unit {0}} m others (Err e)
 not_found n m words others e none h = some_other n m words others (fault_of e) none h
+
+-- what is answered with a value, once the value passed, settles what the pass does
+pub settled_with : {T U : Type 0} (first all : List Fault) (r : Result U LinkFault) (value : T) → Settles first all r → Settles first all (result_and r (Ok value))
+settled_with first all (Ok u) value h = h
+settled_with first all (Err e) value h = h
+
+-- what the last pass of the first faults finds settles them
+pub settled_last : (before : List Fault) (n : ℕ) (words : List Name) (after : List Fault) (r : Result (Unit {0}) LinkFault) → NoneStands before → From n after
+    → Passes n words r → Settles (before ++ fault n words ∷ []) (before ++ fault n words ∷ after) r
+settled_last before n words after (Ok u) none from h = none_behind before (fault n words ∷ []) none (h, tt)
+settled_last before n words after (Err e) none from h = some_at before n words after (fault_of e) none from h
+
+-- the last pass of a part, behind faults of which none stands
+pub settled_part : (before part : List Fault) (n : ℕ) (words : List Name) (after : List Fault) (r : Result (Unit {0}) LinkFault) → NoneStands before → NoneStands part → From n after
+    → Passes n words r → Settles (part ++ fault n words ∷ []) ((before ++ part) ++ fault n words ∷ after) r
+settled_part before part n words after (Ok u) none first from h = none_behind part (fault n words ∷ []) first (h, tt)
+settled_part before part n words after (Err e) none first from h = some_at (before ++ part) n words after (fault_of e) (none_behind before part none first) from h

@@ -34,15 +34,40 @@ name_faults d p =
 abbrev pub words_of_both : (Place → List Name) → (Place → List Name) → DomainValue → ProblemValue → List Name
 words_of_both inner outer d p = flat_map inner (domain_places d) ++ flat_map outer (problem_places p)
 
--- the faults of a domain alone that are looked for last, from 26 on
-abbrev pub last_domain_faults : DomainValue → List Fault
-last_domain_faults d =
+-- the faults of a domain alone that are looked for first, up to those of types
+abbrev pub domain_type_faults : DomainValue → List Fault
+domain_type_faults d =
+    fault 21 (types_twice d) ∷
+    fault 22 (type_cycles d) ∷
+    fault 23 (unknown_types d (domain_typed d)) ∷ []
+
+-- then those of names
+abbrev pub domain_name_faults : DomainValue → List Fault
+domain_name_faults d =
+    fault 24 (domain_repeats d) ∷
+    fault 25 (object_types d.constants) ∷ []
+
+-- then those of what is named in its places
+abbrev pub domain_term_faults : DomainValue → List Fault
+domain_term_faults d =
     fault 26 (flat_map (unknown_at (in_domain d)) (domain_places d)) ∷
     fault 27 (flat_map (arity_at (in_domain d)) (domain_places d)) ∷
-    fault 28 (flat_map (misfit_at (in_domain d)) (domain_places d)) ∷
+    fault 28 (flat_map (misfit_at (in_domain d)) (domain_places d)) ∷ []
+
+-- then those of costs
+abbrev pub domain_cost_faults : DomainValue → List Fault
+domain_cost_faults d =
     fault 30 (flat_map fraction_at (domain_places d)) ∷
     fault 32 (object_fluents d) ∷
     fault 34 (conditional_costs d) ∷ []
+
+-- the faults of costs, and those after, of a domain and a problem
+abbrev pub cost_faults : DomainValue → ProblemValue → List Fault
+cost_faults d p =
+    fault 32 (object_fluents d) ∷
+    fault 33 (other_metrics p.metric) ∷
+    fault 34 (conditional_costs d) ∷
+    fault 35 (large_goals d p) ∷ []
 
 -- the faults of a domain and a problem that are looked for last, from 29 on
 abbrev pub last_faults : DomainValue → ProblemValue → List Fault
@@ -50,10 +75,7 @@ last_faults d p =
     fault 29 (contradictions p) ∷
     fault 30 (words_of_both fraction_at fraction_at d p) ∷
     fault 31 (cost_values p) ∷
-    fault 32 (object_fluents d) ∷
-    fault 33 (other_metrics p.metric) ∷
-    fault 34 (conditional_costs d) ∷
-    fault 35 (large_goals d p) ∷ []
+    cost_faults d p
 
 -- the faults of their places, 26 to 28, and those after
 abbrev pub place_faults : DomainValue → ProblemValue → List Fault

@@ -1,18 +1,19 @@
 //! Checks a domain, and a domain with a problem: the lowest fault that stands.
 
-ghost use Rattle.std.specs.Prelude.{◌≡◌, true, [], map, IfOk};
+ghost use Rattle.std.specs.Prelude.{◌≡◌, ◌++◌, true, [], map, IfOk};
 ghost use Rattle.std.specs.List.{flat_map};
 ghost use Rattle.pddl_domain.specs.Domains.{domain_view};
 ghost use Rattle.pddl_problem.specs.Inits.{init_view};
 ghost use Rattle.pddl_problem.specs.Problems.{problem_view};
 ghost use Rattle.pddl_task.specs.Places.{init_places};
+ghost use Rattle.pddl_task.specs.Names.{firsts};
 ghost use Rattle.pddl_task.specs.Settings.{in_domain, in_problem};
-ghost use Rattle.pddl_task.specs.Faults.{large_goals};
-ghost use Rattle.pddl_task.specs.Linked.{domain_faults};
-ghost use Rattle.pddl_link.specs.Passes.{Passes, Verdict};
+ghost use Rattle.pddl_task.specs.Faults.{domain_repeats, large_goals};
+ghost use Rattle.pddl_task.specs.Linked.{NoneStands, domain_faults};
+ghost use Rattle.pddl_link.specs.Passes.{Passes, Settles, Verdict};
 ghost use Rattle.pddl_link.specs.Claims.{HoldsValues};
-ghost use Rattle.pddl_link.specs.KnownNames.{setting_of};
-ghost use Rattle.pddl_link.specs.Parts.{words_of_both, last_domain_faults, last_faults, place_faults};
+ghost use Rattle.pddl_link.specs.KnownNames.{setting_of, signature_in, object_in};
+ghost use Rattle.pddl_link.specs.Parts.{words_of_both, domain_type_faults, domain_name_faults, domain_term_faults, domain_cost_faults, cost_faults, last_faults, place_faults};
 
 use crate::arity::OtherArities;
 use crate::declared_types::domain_types_known;
@@ -20,7 +21,7 @@ use crate::effect_costs::conditional_costs;
 use crate::fault::LinkFault;
 use crate::fractions::Fractions;
 use crate::init::{Values, contradictions, cost_values};
-use crate::known::{Known, functions, predicates};
+use crate::known::{Known, Objects, Signatures, functions, predicates};
 use crate::misfits::Misfits;
 use crate::names::domain_names;
 use crate::object_counts::ObjectCounts;
@@ -36,20 +37,78 @@ use pddl_domain::Domain;
 use pddl_problem::Problem;
 use std::alloc::Allocator;
 
-/// Checks what stands in a domain's actions, and what is left of it.
-fn check_actions<'k, 'm, 'a, 'd, A: Allocator, B: Allocator>(
+/// The types of a domain, where no fault of types stands.
+fn domain_types<'m, 'a, A: Allocator, B: Allocator>(
+    alloc: &'a B,
+    domain: &'m Domain<A>,
+) -> Result<Types<'m, 'a, A, B>, LinkFault<'m>>
+    ensures types { IfOk result (λ types. types ≡ (domain_view domain.now).types) }
+    ensures verdict { Settles (domain_type_faults (domain_view domain.now)) (domain_faults (domain_view domain.now)) result }
+{
+    type_twice(alloc, domain)?;
+    let types = Types::of(alloc, &domain.types)?;
+    types.cycle()?;
+    domain_types_known(&types, domain).and(Ok(types))
+}
+
+/// The constants of a domain, where no fault of names stands.
+fn domain_objects<'m, 'a, A: Allocator, B: Allocator>(
+    alloc: &'a B,
+    domain: &'m Domain<A>,
+) -> Result<Objects<'m, 'a, A, B>, LinkFault<'m>>
+    requires { NoneStands (domain_type_faults (domain_view domain.now)) }
+    ensures constants { IfOk result (λ constants. map object_in constants.entries ≡ firsts (domain_view domain.now).constants) }
+    ensures verdict { Settles (domain_name_faults (domain_view domain.now)) (domain_faults (domain_view domain.now)) result }
+{
+    let constants = domain_names(alloc, domain)?;
+    object_types(&domain.constants).and(Ok(constants))
+}
+
+/// Checks what is named in a domain's places.
+fn check_terms<'k, 'm, 'a, 'd, A: Allocator, B: Allocator>(
     known: &Known<'k, 'm, 'a, A, B>,
     domain: &'d Domain<A>,
 ) -> Result<(), LinkFault<'d>>
     requires { setting_of known.now ≡ in_domain (domain_view domain.now) }
-    ensures { Verdict (last_domain_faults (domain_view domain.now)) result }
+    ensures { Settles (domain_term_faults (domain_view domain.now)) (domain_term_faults (domain_view domain.now) ++ domain_cost_faults (domain_view domain.now)) result }
 {
     search_domain(&UnknownNames { known }, domain)?;
     search_domain(&OtherArities { known }, domain)?;
-    search_domain(&Misfits { known }, domain)?;
+    search_domain(&Misfits { known }, domain)
+}
+
+/// Checks a domain's costs.
+fn check_costs<A: Allocator>(domain: &Domain<A>) -> Result<(), LinkFault<'_>>
+    ensures { Verdict (domain_cost_faults (domain_view domain.now)) result }
+{
     search_domain(&Fractions, domain)?;
     object_fluents(domain)?;
     conditional_costs(domain)
+}
+
+/// Checks a domain's places and costs, with its predicates in a table.
+fn check_uses<'t, 'm, 'a, A: Allocator, B: Allocator>(
+    alloc: &'a B,
+    types: &'t Types<'m, 'a, A, B>,
+    constants: &'t Objects<'m, 'a, A, B>,
+    predicates: &'t Signatures<'m, 'a, A, B>,
+    domain: &'m Domain<A>,
+) -> Result<(), LinkFault<'m>>
+    requires types { types.now ≡ (domain_view domain.now).types }
+    requires constants { map object_in constants.now.entries ≡ firsts (domain_view domain.now).constants }
+    requires predicates { map signature_in predicates.now.entries ≡ (domain_view domain.now).predicates }
+    requires once { domain_repeats (domain_view domain.now) ≡ [] }
+    ensures { Verdict (domain_term_faults (domain_view domain.now) ++ domain_cost_faults (domain_view domain.now)) result }
+{
+    let functions = functions(alloc, &domain.functions)?;
+    let known = Known {
+        types,
+        predicates,
+        functions: &functions,
+        objects: constants,
+    };
+    check_terms(&known, domain)?;
+    check_costs(domain)
 }
 
 /// Checks a domain: the faults 21 to 34 that it shows by itself.
@@ -65,21 +124,10 @@ pub fn check_domain<'d, 'a, A: Allocator, B: Allocator>(
 ) -> Result<(), LinkFault<'d>>
     ensures { Verdict (domain_faults (domain_view domain.now)) result }
 {
-    type_twice(alloc, domain)?;
-    let types = Types::of(alloc, &domain.types)?;
-    types.cycle()?;
-    domain_types_known(&types, domain)?;
-    let constants = domain_names(alloc, domain)?;
-    object_types(&domain.constants)?;
+    let types = domain_types(alloc, domain)?;
+    let constants = domain_objects(alloc, domain)?;
     let predicates = predicates(alloc, &domain.predicates)?;
-    let functions = functions(alloc, &domain.functions)?;
-    let known = Known {
-        types: &types,
-        predicates: &predicates,
-        functions: &functions,
-        objects: &constants,
-    };
-    check_actions(&known, domain)
+    check_uses(alloc, &types, &constants, &predicates, domain)
 }
 
 /// Searches a domain by one search, and then a problem by another, which passes over an `:init` that is sound.
@@ -121,6 +169,21 @@ fn goal_size<'k, 'm, 'a, 'd, A: Allocator, B: Allocator>(
     }
 }
 
+/// Checks the functions, the metric, costs under conditions, and the goal's size.
+fn check_last<'k, 'm, 'a, 'd, A: Allocator, B: Allocator>(
+    known: &Known<'k, 'm, 'a, A, B>,
+    domain: &'d Domain<A>,
+    problem: &'d Problem<A>,
+) -> Result<(), LinkFault<'d>>
+    requires { setting_of known.now ≡ in_problem (domain_view domain.now) (problem_view problem.now) }
+    ensures { Verdict (cost_faults (domain_view domain.now) (problem_view problem.now)) result }
+{
+    object_fluents(domain)?;
+    metric(&problem.metric)?;
+    conditional_costs(domain)?;
+    goal_size(known, domain, problem)
+}
+
 /// Checks `:init`, the metric, costs, and the goal's size, and answers the values of functions of objects.
 fn check_init<'k, 'm, 'a, 'd, A: Allocator, B: Allocator>(
     alloc: &'a B,
@@ -135,10 +198,7 @@ fn check_init<'k, 'm, 'a, 'd, A: Allocator, B: Allocator>(
     contradictions(alloc, &problem.init)?;
     search_both(&Fractions, &Fractions, domain, problem, false)?;
     let values = cost_values(alloc, &problem.init)?;
-    object_fluents(domain)?;
-    metric(&problem.metric)?;
-    conditional_costs(domain)?;
-    goal_size(known, domain, problem)?;
+    check_last(known, domain, problem)?;
     Ok(values)
 }
 

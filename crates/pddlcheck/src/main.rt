@@ -8,22 +8,17 @@ ghost use Rattle.std.specs.Prelude.{◌≡◌};
 ghost use Rattle.clap.specs.Values.{kind_of};
 ghost use Rattle.clap.specs.declared.error.kind.ErrorKind.TheVariants.{DisplayHelp};
 
-mod help;
 mod input;
-mod words;
 
 use input::open;
 use pddl_commands::{RunFault, check_domain_file, check_problem_file, format, status};
 use pddl_text::{FromRead, ToWrite};
+use pddl_words::{Job, parse_words, words_status};
 use std::env::Env;
 use std::io::ErrorKind;
 use std::process::ExitCode;
 use std::rt::Files;
 use std::{env, io};
-use words::{Job, parse_words, words_status};
-
-#[cfg(test)]
-mod tests;
 
 /// The exit status of words that ask for no command.
 const WRONG_WORDS: u8 = 3;

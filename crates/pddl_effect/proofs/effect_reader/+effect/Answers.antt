@@ -47,10 +47,10 @@ universal_of-returns g t c =
     let body = c.body-item.result in
     rw (universal_is c.args.items.now variables body (omega arith) (omega arith) c.variables-item.is c.body-item.is)
     (found_reads (λ p. cases.Forall p.0 p.1) effect_view (λ p. (map typed_view p.0.items, effect_view p.1.value)) (λ p. universal p.0 p.1) (λ p. view_forall p.0 p.1)
-    (both_of c.variables_of.result c.boxed-body.result) c.universal.result _ c.universal.ensures
-    (both_reads (λ v. map typed_view v.items) (λ b. effect_view b.value) c.variables_of.result c.boxed-body.result (both_of c.variables_of.result c.boxed-body.result)
+    (both_of c.variables_of.result c.in_box-body.result) c.universal.result _ c.universal.ensures
+    (both_reads (λ v. map typed_view v.items) (λ b. effect_view b.value) c.variables_of.result c.in_box-body.result (both_of c.variables_of.result c.in_box-body.result)
     (variables_at (item_tree variables)) (effect_at (item_tree body)) c.variables_of.ensures
-    (boxed_reads effect_view c.item_effect.result c.boxed-body.result (effect_at (item_tree body)) c.item_effect.ensures c.boxed-body.ensures) refl))
+    (boxed_reads effect_view c.item_effect.result c.in_box-body.result (effect_at (item_tree body)) c.item_effect.ensures c.in_box-body.ensures) refl))
 
 pub conditional_of-returns : goal.conditional_of-returns
 conditional_of-returns g t c =
@@ -58,10 +58,10 @@ conditional_of-returns g t c =
     let body = c.body-item.result in
     rw (conditional_is c.args.items.now condition body (omega arith) (omega arith) c.condition-item.is c.body-item.is)
     (found_reads (λ p. cases.When p.0 p.1) effect_view (λ p. (formula_view p.0, effect_view p.1.value)) (λ p. conditional p.0 p.1) (λ p. view_when p.0 p.1)
-    (both_of c.formula_of.result c.boxed-body.result) c.conditional.result _ c.conditional.ensures
-    (both_reads formula_view (λ b. effect_view b.value) c.formula_of.result c.boxed-body.result (both_of c.formula_of.result c.boxed-body.result)
+    (both_of c.formula_of.result c.in_box-body.result) c.conditional.result _ c.conditional.ensures
+    (both_reads formula_view (λ b. effect_view b.value) c.formula_of.result c.in_box-body.result (both_of c.formula_of.result c.in_box-body.result)
     (formula_at (item_tree condition)) (effect_at (item_tree body)) c.formula_of.ensures
-    (boxed_reads effect_view c.item_effect.result c.boxed-body.result (effect_at (item_tree body)) c.item_effect.ensures c.boxed-body.ensures) refl))
+    (boxed_reads effect_view c.item_effect.result c.in_box-body.result (effect_at (item_tree body)) c.item_effect.ensures c.in_box-body.ensures) refl))
 
 pub list_effect-returns-in-And : goal.list_effect-returns-in-And
 list_effect-returns-in-And g t c =

@@ -74,14 +74,18 @@ list_formula_of-returns-in-Or g t c =
 
 pub list_formula_of-returns-in-Exists : goal.list_formula_of-returns-in-Exists
 list_formula_of-returns-in-Exists g t c =
-    rw (by_head c.args.items.now c.head-item.result heads.Exists (omega arith) c.head-item.is (sym c.in-Exists.is ∙ c.head_of.ensures),
-    ← quantified_made existential (behind (item_trees c.args.items.now)) (behind (map formula_at (item_trees c.args.items.now))))
+    rw (
+      by_head c.args.items.now c.head-item.result heads.Exists (omega arith) c.head-item.is (sym c.in-Exists.is ∙ c.head_of.ensures),
+      ← quantified_made existential (behind (item_trees c.args.items.now)) (behind (map formula_at (item_trees c.args.items.now))),
+    )
     (found_reads (λ p. cases.Exists p.0 p.1) formula_view bound_view (λ b. existential b.0 b.1) (λ p. view_exists p.0 p.1) c.bound_of.result c.existential.result _ c.existential.ensures c.bound_of.ensures)
 
 pub list_formula_of-returns-in-Forall : goal.list_formula_of-returns-in-Forall
 list_formula_of-returns-in-Forall g t c =
-    rw (by_head c.args.items.now c.head-item.result heads.Forall (omega arith) c.head-item.is (sym c.in-Forall.is ∙ c.head_of.ensures),
-    ← quantified_made universal (behind (item_trees c.args.items.now)) (behind (map formula_at (item_trees c.args.items.now))))
+    rw (
+      by_head c.args.items.now c.head-item.result heads.Forall (omega arith) c.head-item.is (sym c.in-Forall.is ∙ c.head_of.ensures),
+      ← quantified_made universal (behind (item_trees c.args.items.now)) (behind (map formula_at (item_trees c.args.items.now))),
+    )
     (found_reads (λ p. cases.Forall p.0 p.1) formula_view bound_view (λ b. universal b.0 b.1) (λ p. view_forall p.0 p.1) c.bound_of-in-Forall.result c.universal.result _ c.universal.ensures c.bound_of-in-Forall.ensures)
 
 pub list_formula_of-returns-in-Name : goal.list_formula_of-returns-in-Name

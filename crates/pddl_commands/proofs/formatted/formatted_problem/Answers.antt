@@ -1,7 +1,0 @@
-use Rattle.std.specs.Prelude.{codes}
-use Rattle.pddl_file.proofs.FaultPlaces.{file_inside}
-use Rattle.pddl_problem.specs.Problems.{problem_rules, required}
-use Rattle.pddl_commands.proofs.formatted.formatted_problem.Goals as goal
-
-pub refused_file-requires : goal.refused_file-requires
-refused_file-requires g c = λ at place. file_inside problem_rules (codes "problem") required c.args.text.now c.in-Err.fault at c.in-Err.ensures.fault place

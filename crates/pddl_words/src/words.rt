@@ -1,0 +1,158 @@
+//! The words of a command line.
+
+ghost use Rattle.std.specs.Prelude.{◌≡◌, ◌≢◌, ◌↔◌};
+ghost use Rattle.clap.specs.Values.{kind_of};
+
+use crate::help;
+use clap::error::ErrorKind;
+use clap::{Arg, ArgMatches, Command, Error};
+use pddl_kind::Kind;
+use std::alloc::{AllocError, Global};
+use std::convert::AsStr;
+
+/// What the words ask for.
+#[derive(Clone, Copy, Debug, PartialEq, Eq)]
+pub enum Job<'a> {
+    /// To check the domain at `path`.
+    Domain { path: &'a str },
+    /// To check the problem at `problem` with the domain at `domain`.
+    Problem { domain: &'a str, problem: &'a str },
+    /// To print the file at `path`, which holds what `kind` says, in its canonical layout.
+    Format { kind: Kind, path: &'a str },
+}
+
+/// The words for what a file holds.
+static KINDS: [&str; 3] = ["domain", "problem", "plan"];
+
+/// What the word says that a file holds.
+fn kind_named(word: &str) -> Option<Kind> {
+    match word {
+        "domain" => Some(Kind::Domain),
+        "problem" => Some(Kind::Problem),
+        "plan" => Some(Kind::Plan),
+        _ => None,
+    }
+}
+
+/// The command `domain FILE`.
+fn domain_command<'a>(alloc: Global) -> Result<Command<'a>, AllocError> {
+    let file = Arg::new(alloc, "FILE").required(true).help(help::FILE);
+    Command::new(alloc, "domain")
+        .about(help::ABOUT_DOMAIN)
+        .after_help(help::AFTER_DOMAIN)
+        .arg(file)
+}
+
+/// The job of the words after `domain`, where they are its own.
+fn domain_job<'a>(matches: &ArgMatches<'a>) -> Option<Job<'a>> {
+    let path = matches.get_str("FILE")?;
+    Some(Job::Domain { path })
+}
+
+/// The command `problem DOMAIN PROBLEM`.
+fn problem_command<'a>(alloc: Global) -> Result<Command<'a>, AllocError> {
+    let domain = Arg::new(alloc, "DOMAIN").required(true).help(help::DOMAIN);
+    let problem = Arg::new(alloc, "PROBLEM")
+        .required(true)
+        .help(help::PROBLEM);
+    Command::new(alloc, "problem")
+        .about(help::ABOUT_PROBLEM)
+        .after_help(help::AFTER_PROBLEM)
+        .arg(domain)?
+        .arg(problem)
+}
+
+/// The job of the words after `problem`, where they are its own.
+fn problem_job<'a>(matches: &ArgMatches<'a>) -> Option<Job<'a>> {
+    let domain = matches.get_str("DOMAIN")?;
+    let problem = matches.get_str("PROBLEM")?;
+    Some(Job::Problem { domain, problem })
+}
+
+/// The command `format KIND FILE`.
+fn format_command<'a>(alloc: Global) -> Result<Command<'a>, AllocError> {
+    let kind = Arg::new(alloc, "KIND")
+        .required(true)
+        .value_parser(KINDS.as_slice())
+        .help(help::KIND);
+    let file = Arg::new(alloc, "FILE").required(true).help(help::FILE);
+    Command::new(alloc, "format")
+        .about(help::ABOUT_FORMAT)
+        .after_help(help::AFTER_FORMAT)
+        .arg(kind)?
+        .arg(file)
+}
+
+/// The job of the words after `format`, where they are its own.
+fn format_job<'a>(matches: &ArgMatches<'a>) -> Option<Job<'a>> {
+    let kind = kind_named(matches.get_str("KIND")?)?;
+    let path = matches.get_str("FILE")?;
+    Some(Job::Format { kind, path })
+}
+
+/// The program, without its commands.
+fn program<'a>(alloc: Global) -> Result<Command<'a>, AllocError> {
+    let program = Command::new(alloc, "pddlcheck")
+        .bin_name("pddlcheck")?
+        .about(help::ABOUT)
+        .after_help(help::AFTER)
+        .subcommand_required(true);
+    Ok(program)
+}
+
+/// The program with one more command.
+fn with_command<'a>(
+    program: Command<'a>,
+    command: Result<Command<'a>, AllocError>,
+) -> Result<Command<'a>, AllocError> {
+    program.subcommand(command?)
+}
+
+/// The program with its commands.
+fn commands<'a>(alloc: Global) -> Result<Command<'a>, AllocError> {
+    let program = with_command(program(alloc)?, domain_command(alloc))?;
+    let program = with_command(program, problem_command(alloc))?;
+    with_command(program, format_command(alloc))
+}
+
+/// The job that the words ask for, where they are those of a command.
+fn job_of<'a>(matches: &ArgMatches<'a>) -> Option<Job<'a>> {
+    match matches.subcommand() {
+        Some(("domain", inner)) => domain_job(inner),
+        Some(("problem", inner)) => problem_job(inner),
+        Some(("format", inner)) => format_job(inner),
+        _ => None,
+    }
+}
+
+/// The job that the words ask the program for.
+fn asked<'a, S: AsStr>(program: &mut Command<'a>, words: &'a [S]) -> Result<Job<'a>, Error> {
+    let matches = program.try_get_matches_from_mut(words)?;
+    match job_of(&matches) {
+        Some(job) => Ok(job),
+        None => Err(program.error(ErrorKind::MissingSubcommand, "a command is wanted")?),
+    }
+}
+
+/// Reads the words of a command line, the program's name first.
+///
+/// A request for help is an error of the kind `DisplayHelp`, and want of memory one of the kind `OutOfMemory`; the
+/// other kinds say what is wrong with the words. What an error prints is `clap`'s own.
+pub fn parse_words<'a, S: AsStr>(alloc: Global, words: &'a [S]) -> Result<Job<'a>, Error> {
+    let mut program = commands(alloc)?;
+    asked(&mut program, words)
+}
+
+/// The exit status of words that ask for no command: 0 for help, 4 for want of memory, else 3. Source: own.
+pub fn words_status(error: &Error) -> u8
+    ensures help { (result ≡ 0) ↔ (kind_of error.now ≡ ErrorKind.DisplayHelp) }
+    ensures memory { (result ≡ 4) ↔ (kind_of error.now ≡ ErrorKind.OutOfMemory) }
+    ensures usage { (kind_of error.now ≢ ErrorKind.DisplayHelp)
+        → (kind_of error.now ≢ ErrorKind.OutOfMemory) → result ≡ 3 }
+{
+    match error.kind() {
+        ErrorKind::DisplayHelp => 0,
+        ErrorKind::OutOfMemory => 4,
+        _ => 3,
+    }
+}
