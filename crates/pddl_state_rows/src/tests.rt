@@ -1,7 +1,6 @@
-//! Rows of the kernels, both stores side by side, growths refused in turn, and what the calls cost.
+//! Rows of the kernels, both stores side by side, and growths refused in turn.
 mod kernels;
 mod memory;
 mod operations;
 mod samples;
-mod speed;
 mod stores;
