@@ -1,0 +1,13 @@
+pub mod Forms
+pub mod Members
+pub mod Prefixes
+pub mod Serialisations
+pub mod TimedHappenings
+pub mod Copies
+pub mod ListedOnce
+pub mod AtMoment
+pub mod TurnsTaken
+pub mod Renamed
+pub mod Cut
+pub mod NewPlans
+pub mod SplitMoments
