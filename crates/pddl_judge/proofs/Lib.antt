@@ -1,0 +1,3 @@
+pub mod Atoms
+pub mod Overlaps
+pub mod Stores

@@ -1,0 +1,4 @@
+pub mod HappeningValues
+pub mod Touches
+pub mod Verdicts
+pub mod Stages
