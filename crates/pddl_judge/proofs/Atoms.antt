@@ -1,7 +1,6 @@
 -- The first atom of a rising list is the least of its atoms.
-use Rattle.std.proofs.Common.{ℕ, length, Option, None, Some, refl, arith, MatchOption, ◌≡◌, Bool, true, false, ◌||◌, List, [], ◌∷◌, sym, ap, ◌∙◌, subst, inl, inr}
+use Rattle.std.proofs.Common.{ℕ, length, Option, None, Some, refl, arith, MatchOption, ◌≡◌, Bool, false, ◌||◌, List, [], ◌∷◌, sym, ap, ◌∙◌, subst, inl, inr}
 use Rattle.std.proofs.lemmas.Bool.{cases_Bool}
-use Rattle.std.specs.List.Sorted.{IsStrictlySortedBy}
 use Rattle.std.specs.Ordering.{is_le}
 use Rattle.std.proofs.lemmas.Map.Keys.{sorted_head}
 use Rattle.pddl_state.specs.Atoms.{AtomValue, atom_eq, atom_cmp}

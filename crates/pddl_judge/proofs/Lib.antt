@@ -1,3 +1,5 @@
 pub mod Atoms
 pub mod Overlaps
 pub mod Stores
+pub mod Refusals
+pub mod Onward

@@ -1,7 +1,7 @@
 -- What a step and others touch.
-use Rattle.std.proofs.Common.{zero-add, true≢false, is_some, ◌≡◌, ℕ, zero, suc, ◌+◌, ◌-◌, ◌≤◌, ◌<◌, Bool, true, false, not, ◌&&◌, ◌||◌, List, [], ◌∷◌, refl, sym, ap, ◌∙◌, arith, rules, length, get_or, drop, Option, None, Some, subst, add-one, drop-cons}
-use Rattle.std.specs.Prelude.{MatchOption, All, Contains}
-use Rattle.std.specs.List.{AllByRecursion, list_any}
+use Rattle.std.proofs.Common.{zero-add, true≢false, is_some, ◌≡◌, ℕ, zero, suc, ◌+◌, ◌-◌, ◌≤◌, ◌<◌, Bool, false, ◌&&◌, ◌||◌, List, [], ◌∷◌, refl, sym, ap, ◌∙◌, arith, length, get_or, drop, Option, None, Some, subst, add-one, drop-cons}
+use Rattle.std.specs.Prelude.{MatchOption, All}
+use Rattle.std.specs.List.{AllByRecursion}
 use Rattle.pddl_happenings.proofs.Serialisations.{found}
 use Rattle.pddl_happenings.specs.Accepted.{IsReady, NoClash}
 use Rattle.pddl_happenings.specs.Failures.{FirstAt, FirstPairAt, IsFirstClash}

@@ -1,6 +1,6 @@
 -- Sets of a store that grows.
 use Rattle.pddl_judge.specs.declared.touch.Touched.{Touched}
-use Rattle.std.proofs.Common.{◌≡◌, ℕ, Bool}
+use Rattle.std.proofs.Common.{◌≡◌, Bool}
 use Rattle.pddl_judge.specs.Touches.{Owned, touch_in}
 
 module _ {T A : Type 0} (owns grown : T → Type 0) (c d : T → A → Bool) (keeps : (t : T) → owns t → grown t) (same : (t : T) → owns t → d t ≡ c t) where

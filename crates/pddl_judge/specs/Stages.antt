@@ -1,6 +1,5 @@
 -- How one happening goes, by cases.
 use Rattle.std.specs.Prelude.{ℕ}
-use Rattle.pddl_state.specs.Atoms.{AtomValue}
 use Rattle.pddl_judge.specs.declared.stage.Stage.{Stage}
 use Rattle.pddl_judge.specs.declared.stage.Stage.TheVariants.{Passed, Unready, Clashing}
 use Rattle.pddl_judge.specs.declared.clash.Clash.{Clash}

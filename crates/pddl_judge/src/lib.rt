@@ -12,4 +12,4 @@ mod verdict;
 pub use course::Course;
 pub use happening::Happening;
 pub use refusal::Refusal;
-pub use verdict::{Accepted, Verdict};
+pub use verdict::{Accepted, Verdict, judge};
