@@ -1,11 +1,10 @@
 -- Happenings one after another, one further.
-use Rattle.std.proofs.Common.{zero, [], ◌++◌, ◌≡◌, ℕ, suc, ◌+◌, ◌*◌, ◌≤◌, ◌<◌, Bool, List, ◌∷◌, sym, ap, ◌∙◌, arith, length, get_or, drop, subst, length-append, rules}
+use Rattle.std.proofs.Common.{zero, [], ◌++◌, ◌≡◌, ℕ, suc, ◌+◌, ◌*◌, ◌≤◌, ◌<◌, Bool, List, ◌∷◌, sym, ap, ◌∙◌, arith, length, get_or, drop, subst, length-append}
 use Rattle.std.specs.List.{AllByRecursion, concat}
 use Rattle.std.specs.Prelude.{All}
 use Rattle.std.proofs.lemmas.List.Elements.{All-from_recursion}
 use Rattle.std.proofs.lemmas.List.{drop_all}
 use Rattle.pddl_happenings.proofs.Copies.{number_within}
-use Rattle.pddl_happenings.proofs.Cut.{back_of}
 use Rattle.pddl_happenings.proofs.Prefixes.{front_of}
 use Rattle.pddl_happenings.proofs.TurnsTaken.{all_listed}
 use Rattle.pddl_happenings.specs.Accepted.{AllFine, IsFine, after, after_all, cost_of, cost_of_all}

@@ -52,13 +52,12 @@ module _ {A : Type 0} (p : ℕ → Step A) (s : A → Bool) (g : List ℕ) where
       elim (ltb ch.0 ck.0) as (λ b. ltb ch.0 ck.0 ≡ b → clash (p h) (p k) s a ≡ false) [
         | true ↦ λ e. forward h k ch.0 ck.0 all (ltb-true ch.0 ck.0 e) ck.1 ch.2 ck.2 a
         | false ↦ λ e.
-          let differ : ch.0 ≡ ck.0 → ⊥ = λ same. apart (sym ch.2 ∙ (ap (λ n. get_or g n h) same ∙ (default g ck.0 h k ck.1 ∙ ck.2))) in
-          let off : ch.0 < ck.0 → ⊥ = λ l. absurd (true≢false (sym (lt-ltb ch.0 ck.0 l) ∙ e)) in
-          let lt : ck.0 < ch.0 = omega (arith, differ, off) in
-          let back : clash (p k) (p h) s a ≡ false = forward k h ck.0 ch.0 all lt ch.1 ck.2 ch.2 a in
-          swapped ((p k).adds s a) ((p k).dels s a) ((p k).reads a) ((p h).adds s a) ((p h).dels s a) ((p h).reads a) back
+            let differ : ch.0 ≡ ck.0 → ⊥ = λ same. apart (sym ch.2 ∙ (ap (λ n. get_or g n h) same ∙ (default g ck.0 h k ck.1 ∙ ck.2))) in
+            let off : ch.0 < ck.0 → ⊥ = λ l. absurd (true≢false (sym (lt-ltb ch.0 ck.0 l) ∙ e)) in
+            let lt : ck.0 < ch.0 = omega (arith, differ, off) in
+            let back : clash (p k) (p h) s a ≡ false = forward k h ck.0 ch.0 all lt ch.1 ck.2 ch.2 a in
+            swapped ((p k).adds s a) ((p k).dels s a) ((p k).reads a) ((p h).adds s a) ((p h).dels s a) ((p h).reads a) back
       ] refl
-
 
 pub fine_group : {A : Type 0} (p : ℕ → Step A) (s : A → Bool) (g : List ℕ) → All (IsReady p s) g → AllPairwise (NoClash p s) g → IsFine p s g
 fine_group p s g ready apart = record { ready = ready; apart = none_interfere p s g apart }

@@ -4,6 +4,7 @@
 mod clash;
 mod course;
 mod happening;
+mod plan_happenings;
 mod refusal;
 mod stage;
 mod touch;
@@ -11,5 +12,6 @@ mod verdict;
 
 pub use course::Course;
 pub use happening::Happening;
+pub use plan_happenings::{plain_happenings, timed_happenings};
 pub use refusal::Refusal;
 pub use verdict::{Accepted, Verdict, judge};

@@ -1,4 +1,4 @@
-use Rattle.std.proofs.Common.{◌≡◌, rules}
+use Rattle.std.proofs.Common.{rules}
 use Rattle.pddl_happenings.specs.Accepted.{AllFine}
 use Rattle.pddl_happenings.proofs.ListedOnce.{is_distinct}
 use Rattle.pddl_happenings.proofs.NewPlans.{converge}

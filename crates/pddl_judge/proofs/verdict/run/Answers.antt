@@ -1,7 +1,6 @@
-use Rattle.std.proofs.Common.{◌≡◌, ◌<◌, ◌≤◌, ◌*◌, ◌+◌, ℕ, rules, arith, refl, length, get_or, drop, subst, sym, ap, ◌∙◌}
+use Rattle.std.proofs.Common.{◌≡◌, ◌<◌, ◌≤◌, ◌*◌, ◌+◌, ℕ, rules, arith, refl, length, get_or, subst, sym, ap, ◌∙◌}
 use Rattle.std.specs.Prelude.{All}
 use Rattle.std.specs.List.{concat}
-use Rattle.pddl_state.specs.Atoms.{AtomValue}
 use Rattle.pddl_happenings.specs.Accepted.{IsFine, after, cost_of}
 use Rattle.pddl_happenings.specs.Failures.{AtHappening, IsFirstUnready, IsFirstClash}
 use Rattle.pddl_happenings.proofs.ListedOnce.{as_many}
