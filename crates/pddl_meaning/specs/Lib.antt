@@ -1,0 +1,5 @@
+pub mod Worlds
+pub mod Truth
+pub mod Effects
+pub mod Framed
+pub mod Steps
