@@ -12,7 +12,7 @@ use Rattle.pddl_task.specs.Names.{Name}
 use Rattle.pddl_task.specs.Faults.{same_ground}
 use Rattle.pddl_task.specs.Tasks.{TaskValue}
 use Rattle.pddl_meaning.specs.Worlds.{Atoms}
-use Rattle.pddl_meaning.specs.Framed.{Step}
+use Rattle.pddl_happenings.specs.Steps.{Step}
 use Rattle.pddl_meaning.specs.Steps.{step_of}
 
 -- ---- the task

@@ -15,7 +15,7 @@ use Rattle.pddl_task.specs.Valuations.{Valuation, grounded, giving, some_valuati
 use Rattle.pddl_meaning.specs.Worlds.{Atoms, no_atoms, World, world_of}
 use Rattle.pddl_meaning.specs.Truth.{truth, all_true, some_true, formula_reads}
 use Rattle.pddl_meaning.specs.Effects.{effect_reads, some_fired, some_fired_in, effect_cost, effects_cost}
-use Rattle.pddl_meaning.specs.Framed.{Agree, IsFramed}
+use Rattle.pddl_happenings.specs.Steps.{Agree, IsFramed}
 use Rattle.pddl_meaning.specs.Steps.{applied, step_of}
 use Rattle.pddl_task.proofs.Lists.{and_right, or_left, or_right, found_any}
 use Rattle.pddl_meaning.proofs.Agreement.{any_agree, all_agree, sum_agree, same_itself}

@@ -8,7 +8,7 @@ use Rattle.pddl_task.specs.Valuations.{Valuation, giving}
 use Rattle.pddl_meaning.specs.Worlds.{World, world_of}
 use Rattle.pddl_meaning.specs.Truth.{truth, formula_reads}
 use Rattle.pddl_meaning.specs.Effects.{effect_reads, effect_adds, effect_dels, effect_cost}
-use Rattle.pddl_meaning.specs.Framed.{Step}
+use Rattle.pddl_happenings.specs.Steps.{Step}
 
 -- An action in a world, with objects for its parameters. It reads what its precondition reads and what its effect's conditions read.
 abbrev pub applied : World → ActionValue → Valuation → Step GroundValue

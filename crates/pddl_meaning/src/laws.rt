@@ -12,7 +12,7 @@ ghost use Rattle.pddl_task.specs.Valuations.{Valuation};
 ghost use Rattle.pddl_meaning.specs.Worlds.{Atoms, no_atoms, World};
 ghost use Rattle.pddl_meaning.specs.Truth.{truth, formula_reads};
 ghost use Rattle.pddl_meaning.specs.Effects.{effect_reads, some_fired, effect_adds, effect_dels, effect_cost};
-ghost use Rattle.pddl_meaning.specs.Framed.{Agree, IsFramed};
+ghost use Rattle.pddl_happenings.specs.Steps.{Agree, IsFramed};
 ghost use Rattle.pddl_meaning.specs.Steps.{step_of};
 
 /// The law of frame: a formula is as true in one state as in another that has the same atoms among those that it reads.
