@@ -1,18 +1,24 @@
 -- The variables of a quantifier, one after another, and nodes around conditions.
-use Rattle.std.proofs.Common.{◌≡◌, ◌≢◌, ℕ, zero, suc, ◌+◌, ◌<◌, Bool, true, cond, List, [], ◌∷◌, ◌++◌, map, drop, length, get_or, reverse, refl, sym, ap, ◌∙◌, arith, Vec}
-use Rattle.std.specs.Prelude.{Option, Some, None, Result, Ok, Err, IfOk, is_ok, if◌then◌else◌}
+use Rattle.std.proofs.Common.{◌≡◌, ◌≢◌, ℕ, ◌+◌, ◌<◌, true, List, [], ◌∷◌, ◌++◌, map, drop, length, get_or, reverse, refl, sym, ap, ◌∙◌, subst, arith, Vec}
+use Rattle.std.specs.Prelude.{Result, Ok, Err, IfOk, is_ok, if◌then◌else◌}
 use Rattle.std.proofs.lemmas.List.{drop_more, append-nil, append_assoc, map-append, reverse-append}
 use Rattle.pddl_formula.specs.declared.type_names.Typed.{Typed}
 use Rattle.pddl_formula.specs.TypedLists.{typed_view}
 use Rattle.pddl_task.specs.Names.{Name}
 use Rattle.pddl_compiled.specs.Compiler as value
 use Rattle.pddl_compiled.specs.Compiler.{single, framed, BinderValue, binding, binder_of, onto, wrapped, ScopeValue}
-use Rattle.pddl_compiled.specs.Scopes.{slot_view, range_items}
-use Rattle.pddl_compiled.specs.declared.scope.Slot.{Slot}
+use Rattle.pddl_compiled.specs.Scopes.{range_items}
 
 pub weaker : {X E : Type 0} (P Q : X → Type 0) → ((x : X) → P x → Q x) → (r : Result X E) → IfOk r P → IfOk r Q
 weaker P Q f (Ok x) h = f x h
 weaker P Q f (Err e) h = h
+
+pub ok_known : {X E : Type 0} (P : X → Type 0) (r : Result X E) (x : X) → r ≡ Ok x → IfOk r P → P x
+ok_known P r x is h = subst (λ q. IfOk q P) is h
+
+pub both_known : {X E : Type 0} (P Q : X → Type 0) (r : Result X E) → IfOk r P → IfOk r Q → IfOk r (λ x. P x × Q x)
+both_known P Q (Ok x) h k = (h, k)
+both_known P Q (Err e) h k = h
 
 -- ---- what is left of the variables
 

@@ -4,3 +4,4 @@ pub mod Quantifiers
 pub mod Numbers
 pub mod Same
 pub mod Parameters
+pub mod Examples

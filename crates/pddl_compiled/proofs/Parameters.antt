@@ -1,5 +1,5 @@
 -- An action's parameters and a step's objects.
-use Rattle.std.proofs.Common.{◌≡◌, ℕ, true, List, [], ◌∷◌, ◌++◌, map, length, reverse, refl, ap, ap₂, ◌∙◌, sym, arith, subst}
+use Rattle.std.proofs.Common.{◌≡◌, ℕ, true, List, [], ◌∷◌, ◌++◌, map, length, reverse, refl, ap, ◌∙◌, sym, arith, subst}
 use Rattle.std.specs.List.{list_all}
 use Rattle.std.proofs.lemmas.List.{append-nil, append_assoc, reverse-append}
 use Rattle.pddl_formula.specs.TypedLists.{TypedValue}

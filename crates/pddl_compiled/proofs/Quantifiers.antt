@@ -1,6 +1,6 @@
 -- The conditions of quantifiers and of formulas in turn, and the changes of effects, as the code makes them.
-use Rattle.std.proofs.Common.{◌≡◌, ℕ, ◌+◌, ◌<◌, ◌≤◌, Bool, true, false, cond, List, [], ◌∷◌, ◌++◌, map, drop, length, get_or, reverse, refl, sym, ap, ◌∙◌, arith, Vec, Box}
-use Rattle.std.specs.Prelude.{Result, IfOk}
+use Rattle.std.proofs.Common.{◌≡◌, ℕ, ◌+◌, ◌<◌, ◌≤◌, Bool, true, false, cond, List, [], ◌∷◌, ◌++◌, map, drop, length, get_or, reverse, refl, sym, ap, ◌∙◌, Vec}
+use Rattle.std.specs.Prelude.{Result, Ok, IfOk}
 use Rattle.std.proofs.lemmas.List.{drop_more, drop_all}
 use Rattle.pddl_formula.specs.declared.type_names.Typed.{Typed}
 use Rattle.pddl_formula.specs.TypedLists.{TypedValue, typed_view}
@@ -9,27 +9,25 @@ use Rattle.pddl_formula.specs.declared.formula.Formula.TheVariants as formulas
 use Rattle.pddl_formula.specs.declared.formula.Formula.TheOpen.{Formula-F}
 use Rattle.pddl_formula.specs.declared.formula.Formula.TheFolds.{fold-roll-Formula}
 use Rattle.pddl_formula.specs.Formulas.{FormulaValue, formula_view, formula_step, formulas_of}
-use Rattle.pddl_formula.specs.Formulas as formula_values
 use Rattle.pddl_effect.specs.declared.effect.Effect.{Effect}
 use Rattle.pddl_effect.specs.declared.effect.Effect.TheVariants as effects
 use Rattle.pddl_effect.specs.declared.effect.Effect.TheOpen.{Effect-F}
 use Rattle.pddl_effect.specs.declared.effect.Effect.TheFolds.{fold-roll-Effect}
 use Rattle.pddl_effect.specs.Effects.{EffectValue, effect_view, effect_step, effects_of}
-use Rattle.pddl_effect.specs.Effects as effect_values
 use Rattle.pddl_task.specs.Names.{Name}
 use Rattle.pddl_compiled.specs.Compiled as value
 use Rattle.pddl_compiled.specs.Tables.{Tables}
 use Rattle.pddl_compiled.specs.Compiler.{ScopeValue, BinderValue, binder_of, onto, wrapped, bound, nested, condition_of, conditions_of_all, change_of, changes_of_all}
 use Rattle.pddl_compiled.specs.Compiler as compiler
-use Rattle.pddl_compiled.specs.Views.{condition_view, conditions_view, change_view, changes_view}
+use Rattle.pddl_compiled.specs.Views.{condition_view, change_view}
 use Rattle.pddl_compiled.specs.Scopes.{slot_view, range_items}
 use Rattle.pddl_compiled.specs.declared.scope.Slot.{Slot}
 use Rattle.pddl_compiled.specs.declared.compiled.Condition.{Condition}
 use Rattle.pddl_compiled.specs.declared.compiled.Condition.TheVariants as conditions
 use Rattle.pddl_compiled.specs.declared.compiled.Change.{Change}
 use Rattle.pddl_compiled.specs.declared.compiled.Change.TheVariants as changes
-use Rattle.pddl_compiled.proofs.Binders.{weaker, onto_reversed, pushed, finished}
-use Rattle.pddl_compiled.proofs.Rows.{view_and, view_or, view_exists, view_forall, view_both, view_each}
+use Rattle.pddl_compiled.proofs.Binders.{ok_known, onto_reversed, pushed, finished}
+use Rattle.pddl_compiled.proofs.Rows.{view_and, view_or, view_both}
 
 -- ---- by values
 
@@ -41,6 +39,21 @@ bound_right node nothing t xs body scope ranges slots closed inner turned same s
     ap (λ rs. wrapped node rs inner) same
     ∙ ap (wrapped node (binder_of t.range xs).ranges) (is ∙ (ap (λ b. cond b nothing (body (slots ++ scope))) shut
     ∙ ap (λ l. cond (binder_of t.range xs).closed nothing (body l)) (ap (λ l. l ++ scope) turned ∙ onto_reversed (binder_of t.range xs).slots scope)))
+
+module _ {K C E A B : Type 0} (view : C → K) (nothing : K) (t : Tables) (now items : List (Typed A)) (body : ScopeValue → K) (scope : ScopeValue) (ranges given : List (Vec ℕ B)) (slots : List Slot) (closed : Bool) (made : Result C E) (c : C)
+    (same : now ≡ items) (turned : map slot_view slots ≡ reverse (binder_of t.range (map typed_view now)).slots) (found : map range_items ranges ≡ (binder_of t.range (map typed_view now)).ranges)
+    (shut : closed ≡ (binder_of t.range (map typed_view now)).closed) (is : given ≡ ranges) (ok : made ≡ Ok c) where
+  bound_is : view c ≡ cond closed nothing (body (map slot_view slots ++ scope)) → (node : List ℕ → K → K) → wrapped node (map range_items given) (view c) ≡ nested node nothing t (map typed_view items) body scope
+  bound_is inner node =
+      ap (λ rs. wrapped node (map range_items rs) (view c)) is
+      ∙ (bound_right node nothing t (map typed_view now) body scope (map range_items ranges) (map slot_view slots) closed (view c) turned found shut inner
+      ∙ ap (λ l. nested node nothing t (map typed_view l) body scope) same)
+
+  pub closed_right : closed ≡ true → IfOk made (λ k. view k ≡ nothing) → (node : List ℕ → K → K) → wrapped node (map range_items given) (view c) ≡ nested node nothing t (map typed_view items) body scope
+  closed_right on inner = bound_is (ok_known (λ k. view k ≡ nothing) made c ok inner ∙ ap (λ b. cond b nothing (body (map slot_view slots ++ scope))) (sym on))
+
+  pub open_right : (held : List Slot) → held ≡ slots → closed ≡ false → IfOk made (λ k. view k ≡ body (map slot_view held ++ scope)) → (node : List ℕ → K → K) → wrapped node (map range_items given) (view c) ≡ nested node nothing t (map typed_view items) body scope
+  open_right held kept off inner = bound_is (ok_known (λ k. view k ≡ body (map slot_view held ++ scope)) made c ok inner ∙ (ap (λ l. body (map slot_view l ++ scope)) kept ∙ ap (λ b. cond b nothing (body (map slot_view slots ++ scope))) (sym off)))
 
 -- ---- what is left of a list
 
@@ -78,21 +91,3 @@ module _ {A B : Type 0} (t : Tables) (scope : ScopeValue) where
   both_right e es cs is same =
       view_both cs ∙ (ap (λ k. value.both (value.changes_of k)) same ∙ (ap value.both (each_change t scope es.items)
       ∙ ap (λ v. change_of t v scope) (sym (ap effect_view is ∙ (ap effect_view (sym (effects.rolls-And es)) ∙ fold-roll-Effect _ EffectValue effect_step (Effect-F.And es))))))
-
-  pub some_right : (f : Formula A) (vs : Vec (Typed A) A) (p : Box (Formula A) A) (i : Formula A) → f ≡ formulas.Exists vs p → i ≡ p.value
-      → nested value.existential (value.known true) t (map typed_view vs.items) (condition_of t (formula_view i)) scope ≡ condition_of t (formula_view f) scope
-  some_right f vs p i is inner =
-      ap (λ k. nested value.existential (value.known true) t (map typed_view vs.items) (condition_of t (formula_view k)) scope) inner
-      ∙ ap (λ w. condition_of t w scope) (sym (ap formula_view is ∙ (ap formula_view (sym (formulas.rolls-Exists vs p)) ∙ fold-roll-Formula _ FormulaValue formula_step (Formula-F.Exists vs p))))
-
-  pub all_right : (f : Formula A) (vs : Vec (Typed A) A) (p : Box (Formula A) A) (i : Formula A) → f ≡ formulas.Forall vs p → i ≡ p.value
-      → nested value.universal (value.known true) t (map typed_view vs.items) (condition_of t (formula_view i)) scope ≡ condition_of t (formula_view f) scope
-  all_right f vs p i is inner =
-      ap (λ k. nested value.universal (value.known true) t (map typed_view vs.items) (condition_of t (formula_view k)) scope) inner
-      ∙ ap (λ w. condition_of t w scope) (sym (ap formula_view is ∙ (ap formula_view (sym (formulas.rolls-Forall vs p)) ∙ fold-roll-Formula _ FormulaValue formula_step (Formula-F.Forall vs p))))
-
-  pub each_right : (e : Effect A) (vs : Vec (Typed A) A) (p : Box (Effect A) A) (i : Effect A) → e ≡ effects.Forall vs p → i ≡ p.value
-      → nested value.each (value.both value.no_changes) t (map typed_view vs.items) (change_of t (effect_view i)) scope ≡ change_of t (effect_view e) scope
-  each_right e vs p i is inner =
-      ap (λ k. nested value.each (value.both value.no_changes) t (map typed_view vs.items) (change_of t (effect_view k)) scope) inner
-      ∙ ap (λ w. change_of t w scope) (sym (ap effect_view is ∙ (ap effect_view (sym (effects.rolls-Forall vs p)) ∙ fold-roll-Effect _ EffectValue effect_step (Effect-F.Forall vs p))))

@@ -1,5 +1,5 @@
 -- A condition means what the formula means that it was compiled from, and a change what the effect does.
-use Rattle.std.proofs.Common.{◌≡◌, ℕ, zero, suc, ◌+◌, Bool, true, false, not, ◌&&◌, ◌||◌, cond, List, [], ◌∷◌, map, refl, sym, ap, ◌∙◌, arith, eqb, subst, get_or, bytes_eq}
+use Rattle.std.proofs.Common.{◌≡◌, ℕ, suc, ◌+◌, Bool, true, false, not, ◌&&◌, ◌||◌, cond, List, [], ◌∷◌, map, refl, sym, ap, ◌∙◌, arith, eqb, subst, get_or, bytes_eq}
 use Rattle.std.specs.Prelude.{Contains, sum_by}
 use Rattle.std.specs.List.{list_any, list_all}
 use Rattle.std.proofs.lemmas.List.Sums.{sum_by-cons}
@@ -10,18 +10,17 @@ use Rattle.pddl_formula.specs.Formulas as formulas
 use Rattle.pddl_formula.specs.Formulas.{FormulaValue, FormulaValues}
 use Rattle.pddl_effect.specs.Effects as effects
 use Rattle.pddl_effect.specs.Effects.{AmountValue, EffectValue, EffectValues}
-use Rattle.pddl_problem.specs.Inits.{GroundValue}
 use Rattle.pddl_task.specs.Names.{Name, is_in, number_in}
 use Rattle.pddl_task.specs.Valuations.{Valuation, object_of, object_at, grounded, some_valuation, grounded_call, every_valuation, sum_valuations}
 use Rattle.pddl_task.specs.Known.{some_read, some_read_in, some_of, some_of_all}
 use Rattle.pddl_state.specs.Atoms.{AtomValue}
-use Rattle.pddl_meaning.specs.Worlds.{Atoms, World}
+use Rattle.pddl_meaning.specs.Worlds.{World}
 use Rattle.pddl_meaning.specs.Truth.{truth, all_true, some_true}
 use Rattle.pddl_meaning.specs.Effects.{some_fired, some_fired_in, amount_of, effect_cost, effects_cost}
-use Rattle.pddl_compiled.specs.Compiled.{PlaceValue, fixed, held, ConditionValue, known, atom, equal, negation, implication, conjunction, disjunction, existential, universal, ConditionValues, no_conditions, condition, ChangeValue, both, each, conditional, addition, deletion, increase, increase_by, ChangeValues, no_changes, change}
+use Rattle.pddl_compiled.specs.Compiled.{fixed, held, known, existential, universal, both, each, no_changes}
 use Rattle.pddl_compiled.specs.CompiledMeaning.{FrameValue, object_in, atom_in, is_true, are_true, is_some_true, some_tested, some_tested_in, some_spoken, some_spoken_in, some_changed, some_changed_in, spent, spent_in}
 use Rattle.pddl_compiled.specs.Tables.{Tables, number_atom, named, IsOver}
-use Rattle.pddl_compiled.specs.Compiler.{Slot, single, framed, ScopeValue, Resolved, object, placed, place_at, passed, resolved_from, resolved, place_of, places_of, equal_of, BinderValue, binding, binder_of, onto, wrapped, bound, nested, condition_of, conditions_of_all, increase_of, change_of, changes_of_all}
+use Rattle.pddl_compiled.specs.Compiler.{single, framed, ScopeValue, Resolved, object, placed, resolved_from, resolved, place_of, places_of, equal_of, binding, binder_of, bound, nested, condition_of, conditions_of_all, increase_of, change_of, changes_of_all}
 use Rattle.pddl_compiled.specs.Frames.{Fits}
 use Rattle.pddl_compiled.proofs.Numbers.{apart, apart_left}
 

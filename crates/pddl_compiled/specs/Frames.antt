@@ -1,5 +1,5 @@
 -- Valuations by numbers (own).
-use Rattle.std.specs.Prelude.{◌≡◌, ℕ, true, List, [], ◌∷◌}
+use Rattle.std.specs.Prelude.{◌≡◌, true, [], ◌∷◌}
 use Rattle.pddl_task.specs.Names.{Name, is_in, number_in}
 use Rattle.pddl_formula.specs.TypedLists.{TypedValue}
 use Rattle.pddl_task.specs.Valuations.{Valuation}

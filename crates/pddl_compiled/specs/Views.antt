@@ -1,5 +1,5 @@
 -- Conditions, changes and frames without where they lie in memory.
-use Rattle.std.specs.Prelude.{ℕ, List, [], ◌∷◌, map, reverse}
+use Rattle.std.specs.Prelude.{List, ◌∷◌, map, reverse}
 use Rattle.pddl_compiled.specs.Compiled as value
 use Rattle.pddl_compiled.specs.Compiled.{PlaceValue, ConditionValue, ConditionValues, ChangeValue, ChangeValues, conditions_of, changes_of}
 use Rattle.pddl_compiled.specs.CompiledMeaning.{FrameValue}

@@ -1,6 +1,6 @@
 //! The variables of quantifiers.
 
-ghost use Rattle.std.specs.Prelude.{◌≡◌, ◌++◌, map, reverse, IfOk, OnOk};
+ghost use Rattle.std.specs.Prelude.{◌≡◌, true, [], ◌∷◌, ◌++◌, map, reverse, IfOk};
 ghost use Rattle.pddl_formula.specs.TypedLists.{typed_view};
 ghost use Rattle.pddl_compiled.specs.Compiler.{binding, binder_of};
 ghost use Rattle.pddl_compiled.specs.Scopes.{slot_view, range_items};
@@ -42,6 +42,23 @@ fn turned<'f, 'b, B: Allocator>(
     })
 }
 
+/// The slots turned round, and a last range, which is empty.
+///
+/// Fails where memory for them is refused.
+fn shut<'f, 'b, B: Allocator>(
+    alloc: &'b B,
+    slots: &[Slot<'f>],
+    mut ranges: Vec<Vec<usize, &'b B>, &'b B>,
+    last: Vec<usize, &'b B>,
+) -> Result<Binder<'f, 'b, B>, AllocError>
+    ensures slots { IfOk result (λ b. b.slots.items ≡ reverse slots.now) }
+    ensures ranges { IfOk result (λ b. b.ranges.items ≡ ranges.entry.items ++ last.entry ∷ []) }
+    ensures closed { IfOk result (λ b. b.closed ≡ true) }
+{
+    ranges.push(last)?;
+    turned(alloc, slots, ranges, true)
+}
+
 /// What the variables of a quantifier are. Behind one that ranges over no object nothing is looked up.
 ///
 /// Fails where memory for them is refused.
@@ -60,8 +77,7 @@ pub(crate) fn bind<'f, 'b, A: Allocator, B: Allocator, L: Lookups<A, B>>(
         let range = lookups.fitting(alloc, &variable.types)?;
         let name = variable.name.as_bytes();
         if range.len() == 0 {
-            ranges.push(range)?;
-            return turned(alloc, &slots, ranges, true);
+            return shut(alloc, &slots, ranges, range);
         }
         if range.len() == 1 {
             let single = Some(range[0]);

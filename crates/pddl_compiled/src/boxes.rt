@@ -13,7 +13,7 @@ pub(crate) fn boxed<'b, T: Drop, B: Allocator>(
     alloc: &'b B,
     value: Result<T, AllocError>,
 ) -> Result<Box<T, &'b B>, AllocError>
-    ensures { IfOk result (λ made. value.entry ≡ Ok made.value) }
+    ensures { IfOk result (λ made. value ≡ Ok made.value) }
 {
     Ok(Box::new(alloc, value?)?)
 }
@@ -26,8 +26,8 @@ pub(crate) fn both_boxed<'b, T: Drop, U: Drop, B: Allocator>(
     first: Result<T, AllocError>,
     second: Result<U, AllocError>,
 ) -> Result<(T, Box<U, &'b B>), AllocError>
-    ensures first { IfOk result (λ made. first.entry ≡ Ok made.0) }
-    ensures second { IfOk result (λ made. second.entry ≡ Ok made.1.value) }
+    ensures first { IfOk result (λ made. first ≡ Ok made.0) }
+    ensures second { IfOk result (λ made. second ≡ Ok made.1.value) }
 {
     let first = first?;
     let second = boxed(alloc, second)?;
@@ -42,8 +42,8 @@ pub(crate) fn both_in_boxes<'b, T: Drop, U: Drop, B: Allocator>(
     first: Result<T, AllocError>,
     second: Result<U, AllocError>,
 ) -> Result<(Box<T, &'b B>, Box<U, &'b B>), AllocError>
-    ensures first { IfOk result (λ made. first.entry ≡ Ok made.0.value) }
-    ensures second { IfOk result (λ made. second.entry ≡ Ok made.1.value) }
+    ensures first { IfOk result (λ made. first ≡ Ok made.0.value) }
+    ensures second { IfOk result (λ made. second ≡ Ok made.1.value) }
 {
     let first = boxed(alloc, first)?;
     let second = boxed(alloc, second)?;
@@ -57,8 +57,8 @@ pub(crate) fn if_made<T: Drop, A: Allocator>(
     list: Vec<T, A>,
     made: Result<(), AllocError>,
 ) -> Result<Vec<T, A>, AllocError>
-    ensures list { IfOk result (λ kept. kept.items ≡ list.entry.items) }
-    ensures made { IfOk result (λ _. made.entry ≡ Ok tt) }
+    ensures list { IfOk result (λ kept. kept.items ≡ list.items) }
+    ensures made { IfOk result (λ _. made ≡ Ok tt) }
 {
     made?;
     Ok(list)
@@ -79,7 +79,7 @@ pub(crate) fn with_ranges<'b, T: Drop, B: Allocator>(
     inner: Result<T, AllocError>,
 ) -> Result<Quantified<'b, T, B>, AllocError>
     ensures ranges { IfOk result (λ q. q.ranges.items ≡ ranges.entry.items) }
-    ensures inner { IfOk result (λ q. inner.entry ≡ Ok q.inner) }
+    ensures inner { IfOk result (λ q. inner ≡ Ok q.inner) }
 {
     let inner = inner?;
     Ok(Quantified { ranges, inner })

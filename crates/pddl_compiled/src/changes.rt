@@ -1,14 +1,14 @@
 //! Changes of effects.
 
-ghost use Rattle.std.specs.Prelude.{◌≡◌, ℕ, List, map, cond, ◌++◌, IfOk, OnOk};
+ghost use Rattle.std.specs.Prelude.{◌≡◌, ℕ, List, map, ◌++◌, IfOk, OnOk};
 ghost use Rattle.pddl_formula.specs.TypedLists.{typed_view};
 ghost use Rattle.pddl_effect.specs.Effects.{amount_view, effect_view};
 ghost use Rattle.pddl_compiled.specs.Compiled as value;
 ghost use Rattle.pddl_compiled.specs.Compiler.{wrapped, nested, increase_of, change_of};
 ghost use Rattle.pddl_compiled.specs.Views.{change_view};
-ghost use Rattle.pddl_compiled.specs.Scopes.{scope_view, slot_view, range_items};
+ghost use Rattle.pddl_compiled.specs.Scopes.{scope_view, range_items};
 
-use crate::binder::{Binder, bind};
+use crate::binder::bind;
 use crate::boxes::{Quantified, both_boxed, if_made, with_ranges};
 use crate::compiled::Change;
 use crate::conditions::compile_condition;
@@ -98,7 +98,7 @@ pub fn compile_change<'f, 'b, A: Allocator, B: Allocator, L: Lookups<A, B>>(
     }
 }
 
-/// The ranges of a quantifier, and the change inside them.
+/// The ranges of a quantifier, and the change inside them. Behind a variable that ranges over no object nothing is compiled.
 ///
 /// Fails where memory for them is refused.
 #[cycle(changes)]
@@ -113,29 +113,12 @@ fn compile_quantified<'f, 'b, A: Allocator, B: Allocator, L: Lookups<A, B>>(
         ≡ nested node (value.both value.no_changes) (L.tables lookups.now) (map typed_view variables.now.items) (change_of (L.tables lookups.now) (effect_view inner.now)) (scope_view scope.now)) }
 {
     let binder = bind(alloc, lookups, variables)?;
-    let inner = compile_inside(alloc, lookups, inner, &binder, &*scope);
-    with_ranges(binder.ranges, inner)
-}
-
-/// The change inside a quantifier. Behind a variable that ranges over no object nothing is compiled.
-///
-/// Fails where memory for it is refused.
-#[cycle(changes)]
-fn compile_inside<'f, 'b, A: Allocator, B: Allocator, L: Lookups<A, B>>(
-    alloc: &'b B,
-    lookups: &L,
-    inner: &'f Effect<A>,
-    binder: &'f Binder<'f, 'b, B>,
-    scope: &'f Scope<'f>,
-) -> Result<Change<&'b B>, AllocError>
-    ensures { IfOk result (λ c. change_view c ≡ cond binder.now.closed (value.both value.no_changes)
-        (change_of (L.tables lookups.now) (effect_view inner.now) (map slot_view binder.now.slots.items ++ scope_view scope.now))) }
-{
     if binder.closed {
-        return Ok(Change::And(Vec::new(alloc)));
+        return with_ranges(binder.ranges, Ok(Change::And(Vec::new(alloc))));
     }
     let inside = Scope::Inside(&binder.slots, &*scope);
-    compile_change(alloc, lookups, inner, &inside)
+    let inner = compile_change(alloc, lookups, inner, &inside);
+    with_ranges(binder.ranges, inner)
 }
 
 /// The changes of effects.

@@ -1,14 +1,14 @@
 //! Conditions of formulas.
 
-ghost use Rattle.std.specs.Prelude.{◌≡◌, ℕ, List, map, true, cond, ◌++◌, IfOk, OnOk};
+ghost use Rattle.std.specs.Prelude.{◌≡◌, ℕ, List, map, true, ◌++◌, IfOk, OnOk};
 ghost use Rattle.pddl_formula.specs.TypedLists.{typed_view};
 ghost use Rattle.pddl_formula.specs.Formulas.{formula_view};
 ghost use Rattle.pddl_compiled.specs.Compiled as value;
 ghost use Rattle.pddl_compiled.specs.Compiler.{wrapped, nested, condition_of};
 ghost use Rattle.pddl_compiled.specs.Views.{condition_view};
-ghost use Rattle.pddl_compiled.specs.Scopes.{scope_view, slot_view, range_items};
+ghost use Rattle.pddl_compiled.specs.Scopes.{scope_view, range_items};
 
-use crate::binder::{Binder, bind};
+use crate::binder::bind;
 use crate::boxes::{Quantified, both_in_boxes, boxed, if_made, with_ranges};
 use crate::compiled::Condition;
 use crate::lookups::Lookups;
@@ -99,7 +99,7 @@ pub fn compile_condition<'f, 'b, A: Allocator, B: Allocator, L: Lookups<A, B>>(
     }
 }
 
-/// The ranges of a quantifier, and the condition inside them.
+/// The ranges of a quantifier, and the condition inside them. Behind a variable that ranges over no object nothing is compiled.
 ///
 /// Fails where memory for them is refused.
 #[cycle(conditions)]
@@ -114,29 +114,12 @@ fn compile_quantified<'f, 'b, A: Allocator, B: Allocator, L: Lookups<A, B>>(
         ≡ nested node (value.known true) (L.tables lookups.now) (map typed_view variables.now.items) (condition_of (L.tables lookups.now) (formula_view inner.now)) (scope_view scope.now)) }
 {
     let binder = bind(alloc, lookups, variables)?;
-    let inner = compile_inside(alloc, lookups, inner, &binder, &*scope);
-    with_ranges(binder.ranges, inner)
-}
-
-/// The condition inside a quantifier. Behind a variable that ranges over no object nothing is compiled.
-///
-/// Fails where memory for it is refused.
-#[cycle(conditions)]
-fn compile_inside<'f, 'b, A: Allocator, B: Allocator, L: Lookups<A, B>>(
-    alloc: &'b B,
-    lookups: &L,
-    inner: &'f Formula<A>,
-    binder: &'f Binder<'f, 'b, B>,
-    scope: &'f Scope<'f>,
-) -> Result<Condition<&'b B>, AllocError>
-    ensures { IfOk result (λ c. condition_view c ≡ cond binder.now.closed (value.known true)
-        (condition_of (L.tables lookups.now) (formula_view inner.now) (map slot_view binder.now.slots.items ++ scope_view scope.now))) }
-{
     if binder.closed {
-        return Ok(Condition::Known(true));
+        return with_ranges(binder.ranges, Ok(Condition::Known(true)));
     }
     let inside = Scope::Inside(&binder.slots, &*scope);
-    compile_condition(alloc, lookups, inner, &inside)
+    let inner = compile_condition(alloc, lookups, inner, &inside);
+    with_ranges(binder.ranges, inner)
 }
 
 /// The conditions of formulas.

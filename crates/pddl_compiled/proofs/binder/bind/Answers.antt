@@ -1,4 +1,4 @@
-use Rattle.std.proofs.Common.{rules, arith, ◌≡◌, ◌≢◌, [], ◌∷◌, ◌++◌, ◌+◌, map, drop, length, get_or, reverse, ap, sym, ◌∙◌}
+use Rattle.std.proofs.Common.{rules, arith, ◌≡◌, ◌≢◌, [], ◌∷◌, ◌++◌, ◌+◌, map, drop, length, reverse, refl, ap, sym, ◌∙◌}
 use Rattle.std.proofs.lemmas.List.{drop_all}
 use Rattle.pddl_formula.specs.TypedLists.{typed_view}
 use Rattle.std.specs.Prelude.{Some, None}
@@ -16,7 +16,7 @@ returns-then-len-eq0-clause-slots g c =
     let whole = (binder_of range (map typed_view c.args.variables.now)).slots in
     weaker _ (λ b. map slot_view b.slots.items ≡ reverse whole)
     (λ b is. turned_round slot_view c.loop-variable.slots.items c.deref.result.now b.slots.items whole c.deref.ensures.value is
-    (finished slot_view c.loop-variable.slots.items _ whole (ap (λ k. k.slots) here) c.loop-variable.invariant.slots)) c.turned.result c.turned.ensures.slots
+    (finished slot_view c.loop-variable.slots.items _ whole (ap (λ k. k.slots) here) c.loop-variable.invariant.slots)) c.shut.result c.shut.ensures.slots
 
 pub returns-then-len-eq0-clause-ranges : goal.returns-then-len-eq0-clause-ranges
 returns-then-len-eq0-clause-ranges g c =
@@ -25,7 +25,9 @@ returns-then-len-eq0-clause-ranges g c =
     let here = closes range c.args.variables.now c.loop-variable.variable-index c.variable-item.result c.in_ok-range.range.items c.loop-variable-test.true c.variable-item.is c.in_ok-range.ensures none in
     let whole = (binder_of range (map typed_view c.args.variables.now)).ranges in
     weaker _ (λ b. map range_items b.ranges.items ≡ whole)
-    (λ b is. ap (map range_items) is ∙ finished range_items c.loop-variable.ranges.items _ whole (ap (λ k. k.ranges) here) c.loop-variable.invariant.ranges) c.turned.result c.turned.ensures.ranges
+    (λ b is. finished range_items b.ranges.items [] whole refl
+    (pushed range_items c.loop-variable.ranges.items b.ranges.items c.in_ok-range.range [] (c.in_ok-range.range.items ∷ []) whole is refl
+    (ap (λ k. map range_items c.loop-variable.ranges.items ++ k.ranges) (sym here) ∙ c.loop-variable.invariant.ranges))) c.shut.result c.shut.ensures.ranges
 
 pub returns-then-len-eq0-clause-closed : goal.returns-then-len-eq0-clause-closed
 returns-then-len-eq0-clause-closed g c =
@@ -33,7 +35,7 @@ returns-then-len-eq0-clause-closed g c =
     let none : length c.in_ok-range.range.items ≡ 0 = search rules in
     let here = closes range c.args.variables.now c.loop-variable.variable-index c.variable-item.result c.in_ok-range.range.items c.loop-variable-test.true c.variable-item.is c.in_ok-range.ensures none in
     weaker _ (λ b. b.closed ≡ (binder_of range (map typed_view c.args.variables.now)).closed)
-    (λ b is. is ∙ (sym (ap (λ k. k.closed) here) ∙ c.loop-variable.invariant.closed)) c.turned.result c.turned.ensures.closed
+    (λ b is. is ∙ (sym (ap (λ k. k.closed) here) ∙ c.loop-variable.invariant.closed)) c.shut.result c.shut.ensures.closed
 
 pub loop-variable-preserved : goal.loop-variable-preserved
 loop-variable-preserved g c =
@@ -71,4 +73,4 @@ returns-clause-slots g c =
     let none : drop c.loop-variable.variable-index c.args.variables.now ≡ [] = drop_all c.loop-variable.variable-index c.args.variables.now (omega (arith, c.loop-variable-test.false)) in
     weaker _ (λ b. map slot_view b.slots.items ≡ reverse whole)
     (λ b is. turned_round slot_view c.loop-variable.slots.items c.deref-2.result.now b.slots.items whole c.deref-2.ensures.value is
-    (finished slot_view c.loop-variable.slots.items _ whole (ap (λ ys. (binder_of range (map typed_view ys)).slots) none) c.loop-variable.invariant.slots)) c.turned-2.result c.turned-2.ensures.slots
+    (finished slot_view c.loop-variable.slots.items _ whole (ap (λ ys. (binder_of range (map typed_view ys)).slots) none) c.loop-variable.invariant.slots)) c.turned.result c.turned.ensures.slots
