@@ -9,8 +9,8 @@ ghost use Rattle.pddl_problem.specs.Problems.{problem_view};
 ghost use Rattle.pddl_task.specs.Types.{pairs, fits, is_subtype};
 ghost use Rattle.pddl_task.specs.GroundSize.{capped, formula_size, action_size};
 ghost use Rattle.pddl_task.specs.Linked.{IsLinked};
-ghost use Rattle.pddl_task.specs.Tasks.{task_count, predicate_names, object_names};
-ghost use Rattle.pddl_link.specs.TaskTables.{AreTablesOf, fitting_numbers, cost_of};
+ghost use Rattle.pddl_task.specs.Tasks.{task_count, predicate_names, object_names, fitting_numbers, cost_of};
+ghost use Rattle.pddl_link.specs.TaskTables.{AreTablesOf};
 
 use crate::effect_size::action_ground_size;
 use crate::fitting::fitting_objects;

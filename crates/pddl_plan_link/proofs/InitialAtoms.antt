@@ -8,7 +8,7 @@ use Rattle.pddl_problem.specs.Inits.{GroundValue, InitValue, holds, init_view}
 use Rattle.pddl_problem.specs.declared.problem.InitItem.{InitItem}
 use Rattle.pddl_domain.specs.Domains.{DomainValue}
 use Rattle.pddl_problem.specs.Problems.{ProblemValue}
-use Rattle.pddl_task.specs.Names.{Name, is_in, item_of}
+use Rattle.pddl_task.specs.Names.{Name, is_in, item_of, number_in}
 use Rattle.pddl_task.specs.Settings.{symbol_of}
 use Rattle.pddl_task.specs.Linked.{IsLinked}
 use Rattle.pddl_task.specs.Tasks.{TaskValue, task_of, fact_in, predicate_names, object_names}
@@ -20,10 +20,9 @@ use Rattle.pddl_task.proofs.LinkedTasks.{predicates_stand_once, objects_stand_on
 use Rattle.pddl_task.proofs.LowestFault.{linked_is_good}
 use Rattle.pddl_link.proofs.ListTurns.{rest_is}
 use Rattle.pddl_link.proofs.ListPasses.{views_drop}
-use Rattle.pddl_plan_link.specs.LinkedSteps.{number_in}
 use Rattle.pddl_plan_link.specs.LinkedLaws.{name_at}
 use Rattle.pddl_plan_link.specs.NumberedAtoms.{numbered, initial_atoms, NamesAtom, IsInRange, named_atom}
-use Rattle.pddl_plan_link.proofs.Numbers.{is_placed}
+use Rattle.pddl_task.proofs.Numbers.{is_placed}
 use Rattle.pddl_plan_link.proofs.NameNumbers.{at_number, name_of_number, number_in_range, names_of_numbers, numbers_in_range, name_is_in, names_are_in, number_of_name, numbers_of_names}
 
 -- ---- one name

@@ -7,11 +7,11 @@ use Rattle.std.proofs.lemmas.Bool.Decides.{nat_tests}
 use Rattle.std.proofs.lemmas.List.Sums.{position_or_len_is}
 use Rattle.std.proofs.lemmas.Map.Keys.{apart_from_distinct}
 use Rattle.std.proofs.lemmas.Option.{get_or_from_slice_get}
-use Rattle.pddl_task.specs.Names.{Name, is_in}
+use Rattle.pddl_task.specs.Names.{Name, is_in, number_in}
 use Rattle.pddl_task.proofs.Lists.{and_left, and_right, and_both, or_left, or_right, same_bytes}
-use Rattle.pddl_plan_link.specs.LinkedSteps.{number_in}
 use Rattle.pddl_plan_link.specs.LinkedLaws.{name_at}
-use Rattle.pddl_plan_link.proofs.Numbers.{one_more_get, before_end}
+use Rattle.pddl_task.proofs.Numbers.{before_end}
+use Rattle.pddl_plan_link.proofs.Numbers.{one_more_get}
 
 -- ---- known names
 

@@ -9,14 +9,14 @@ use Rattle.pddl_formula.specs.Terms.{name}
 use Rattle.pddl_domain.specs.Actions.{ActionValue}
 use Rattle.pddl_domain.specs.Domains.{DomainValue}
 use Rattle.pddl_problem.specs.Problems.{ProblemValue}
-use Rattle.pddl_task.specs.Names.{Name, is_in, item_of}
+use Rattle.pddl_task.specs.Names.{Name, is_in, item_of, number_in}
 use Rattle.pddl_task.specs.Faults.{some_misfit}
 use Rattle.pddl_task.specs.Linked.{IsLinked}
 use Rattle.pddl_task.specs.Tasks.{TaskValue, task_of, object_names}
 use Rattle.pddl_task.proofs.LinkedTasks.{actions_stand_once, objects_stand_once}
 use Rattle.pddl_task.proofs.LowestFault.{linked_is_good}
 use Rattle.pddl_plan_link.specs.StepFaults.{action_name, action_names, action_named, naming, some_costless, IsGoodStep, IsLinkedPlan, most_steps, steps_of}
-use Rattle.pddl_plan_link.specs.LinkedSteps.{number_in, LinkedStepValue, linked_step, linked_plain, linked_timed, linked_steps, AreLinkedSteps}
+use Rattle.pddl_plan_link.specs.LinkedSteps.{LinkedStepValue, linked_step, linked_plain, linked_timed, linked_steps, AreLinkedSteps}
 use Rattle.pddl_plan_link.specs.StepTables.{some_unfit}
 use Rattle.pddl_plan_link.specs.LinkedLaws.{name_at, named_step, IsLinkedStep, HaveAlikeMoments, AreSoundSteps, without_moment}
 use Rattle.pddl_plan_link.proofs.Numbers.{found_at_number, is_found}

@@ -1,10 +1,10 @@
 -- Ground atoms of a task by numbers (own). Predicates and objects are numbered from 0, in the order of the task.
 use Rattle.std.specs.Prelude.{◌≡◌, ◌<◌, List, map, length, Some, slice_get}
 use Rattle.std.specs.List.{AllByRecursion}
+use Rattle.pddl_task.specs.Names.{number_in}
 use Rattle.pddl_problem.specs.Inits.{GroundValue}
 use Rattle.pddl_task.specs.Tasks.{TaskValue, predicate_names, object_names}
 use Rattle.pddl_state.specs.Atoms.{AtomValue}
-use Rattle.pddl_plan_link.specs.LinkedSteps.{number_in}
 use Rattle.pddl_plan_link.specs.LinkedLaws.{name_at}
 
 -- a ground atom of which the task has all names

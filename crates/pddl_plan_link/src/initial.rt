@@ -5,12 +5,11 @@ ghost use Rattle.pddl_domain.specs.Domains.{DomainValue};
 ghost use Rattle.pddl_problem.specs.Inits.{GroundValue, fact_view};
 ghost use Rattle.pddl_problem.specs.Problems.{ProblemValue};
 ghost use Rattle.pddl_state.specs.Atoms.{AtomValue};
-ghost use Rattle.pddl_task.specs.Names.{is_in};
+ghost use Rattle.pddl_task.specs.Names.{is_in, number_in};
 ghost use Rattle.pddl_task.specs.Linked.{IsLinked};
 ghost use Rattle.pddl_task.specs.Tasks.{TaskValue, task_of, predicate_names, object_names};
 ghost use Rattle.pddl_task.specs.Known.{is_known};
 ghost use Rattle.pddl_link.specs.LinkedTasks.{task_of_files};
-ghost use Rattle.pddl_plan_link.specs.LinkedSteps.{number_in};
 ghost use Rattle.pddl_plan_link.specs.NumberedAtoms.{numbered, initial_atoms, named_atom, NamesAtom, IsInRange};
 
 use pddl_link::Task;
