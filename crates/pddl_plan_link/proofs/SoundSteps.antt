@@ -166,7 +166,7 @@ module _ (task : TaskValue) where
         ap (λ m. record { action = s.action; objects = s.objects; moment = m } ∷ map without_moment steps) (sym none.0) ∙ ap (λ ts. s ∷ ts) (none_left steps none.1)
 
     -- their timed plan
-    timed_name : LinkedStepValue → TimedValue
+    abbrev timed_name : LinkedStepValue → TimedValue
     timed_name s = record { moment = unwrap_or s.moment 0; step = named_step task s }
 
     names_timed : (steps : List LinkedStepValue) → AllByRecursion (IsLinkedStep task) steps → AllByRecursion (IsGoodStep task) (map (λ s. s.step) (map timed_name steps))
