@@ -1,6 +1,5 @@
 pub mod Forms
 pub mod Members
-pub mod Named
 pub mod Prefixes
 pub mod Serialisations
 pub mod TimedHappenings

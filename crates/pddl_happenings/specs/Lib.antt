@@ -4,4 +4,3 @@ pub mod Happenings
 pub mod Serialisations
 pub mod Splits
 pub mod Failures
-pub mod NamedAtoms

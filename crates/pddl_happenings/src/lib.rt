@@ -8,10 +8,8 @@
 
 mod convergence;
 mod listing;
-mod names;
 mod new_plans;
 
 pub use convergence::{prefix_is_free, serialisations_converge, splits_converge};
 pub use listing::{each_once_is_distinct, steps_at_moment};
-pub use names::{accepted_by_number, fails_by_number, framed_by_number};
 pub use new_plans::{serial_plan_accepted, split_plan_accepted, split_plan_happenings};
