@@ -11,3 +11,4 @@ pub mod Renamed
 pub mod Cut
 pub mod NewPlans
 pub mod SplitMoments
+pub mod NamedRuns

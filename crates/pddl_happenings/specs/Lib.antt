@@ -4,3 +4,4 @@ pub mod Happenings
 pub mod Serialisations
 pub mod Splits
 pub mod Failures
+pub mod NamedSteps

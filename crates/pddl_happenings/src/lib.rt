@@ -8,8 +8,10 @@
 
 mod convergence;
 mod listing;
+mod naming;
 mod new_plans;
 
 pub use convergence::{prefix_is_free, serialisations_converge, splits_converge};
 pub use listing::{each_once_is_distinct, steps_at_moment};
+pub use naming::{accepted_alike, failures_alike};
 pub use new_plans::{serial_plan_accepted, split_plan_accepted, split_plan_happenings};

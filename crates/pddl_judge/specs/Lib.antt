@@ -1,0 +1,5 @@
+pub mod HappeningValues
+pub mod Touches
+pub mod Verdicts
+pub mod Stages
+pub mod Moments
