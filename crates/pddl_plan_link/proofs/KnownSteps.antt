@@ -1,19 +1,13 @@
 -- A step without faults speaks of known atoms.
-use Rattle.std.proofs.Common.{◌≡◌, ℕ, suc, Bool, true, false, not, ◌&&◌, ◌||◌, ◌==◌, cond, List, [], ◌∷◌, ◌++◌, length, refl, sym, ap, ◌∙◌, arith, bytes_eq, true≢false}
-use Rattle.std.specs.Prelude.{Option, Some, None, is_some, find, Contains}
-use Rattle.std.specs.Option.{option_map_or}
-use Rattle.std.specs.List.{list_any, list_all}
-use Rattle.std.proofs.lemmas.Bool.Decides.{nat_tests}
+use Rattle.std.proofs.Common.{◌≡◌, suc, Bool, true, false, cond, List, [], ◌∷◌, arith, bytes_eq}
+use Rattle.std.specs.Prelude.{Option, Some, find, Contains}
 use Rattle.pddl_tree.specs.Plans.{StepValue}
-use Rattle.pddl_domain.specs.Actions.{ActionValue}
 use Rattle.pddl_domain.specs.Domains.{DomainValue}
 use Rattle.pddl_problem.specs.Problems.{ProblemValue}
-use Rattle.pddl_task.specs.Names.{Name, is_in}
 use Rattle.pddl_task.specs.Linked.{IsLinked}
-use Rattle.pddl_task.specs.Tasks.{TaskValue, object_names, task_of}
-use Rattle.pddl_task.specs.Known.{StepsAreKnown}
+use Rattle.pddl_task.specs.Tasks.{task_of}
 use Rattle.pddl_task.proofs.KnownAtoms.{steps_are_known}
-use Rattle.pddl_plan_link.specs.StepFaults.{action_name, action_named, has_arity, unknown_action, other_arity, unknown_object, unfit_object, cost_undefined, too_large, number_if, IsGoodStep}
+use Rattle.pddl_plan_link.specs.StepFaults.{IsGoodStep}
 use Rattle.pddl_plan_link.specs.KnownSteps.{IsKnownStep}
 use Rattle.pddl_plan_link.proofs.GoodSteps.{faultless_of}
 

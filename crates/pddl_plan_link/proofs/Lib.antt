@@ -5,6 +5,7 @@ pub mod InitialAtoms
 pub mod GivenObjects
 pub mod NumberedObjects
 pub mod GivenCosts
+pub mod SomeEffects
 pub mod StepTests
 pub mod GoodSteps
 pub mod SoundSteps

@@ -1,12 +1,11 @@
 -- Steps by numbers, and the steps of their names.
-use Rattle.std.proofs.Common.{◌≡◌, ◌<◌, ◌≤◌, ◌⊎◌, inl, inr, ℕ, zero, suc, Bool, true, false, List, [], ◌∷◌, map, length, bytes_eq, refl, sym, ap, ◌∙◌, subst, arith}
+use Rattle.std.proofs.Common.{◌≡◌, ◌<◌, ◌≤◌, inl, inr, ℕ, zero, suc, true, false, List, [], ◌∷◌, map, length, bytes_eq, refl, sym, ap, ◌∙◌, subst, arith}
 use Rattle.std.specs.Prelude.{◌↔◌, Option, Some, None, is_some, unwrap_or, slice_get, Contains}
 use Rattle.std.specs.List.{list_all, IsDistinct, AllByRecursion}
 use Rattle.std.proofs.lemmas.List.{length-map}
 use Rattle.std.proofs.lemmas.Option.{slice_get_within}
 use Rattle.pddl_tree.specs.Plans.{StepValue, TimedValue, PlanValue, plain, timed}
 use Rattle.pddl_formula.specs.Terms.{name}
-use Rattle.pddl_domain.specs.Actions.{ActionValue}
 use Rattle.pddl_domain.specs.Domains.{DomainValue}
 use Rattle.pddl_problem.specs.Problems.{ProblemValue}
 use Rattle.pddl_task.specs.Names.{Name, is_in, item_of, number_in}
@@ -15,7 +14,7 @@ use Rattle.pddl_task.specs.Linked.{IsLinked}
 use Rattle.pddl_task.specs.Tasks.{TaskValue, task_of, object_names}
 use Rattle.pddl_task.proofs.LinkedTasks.{actions_stand_once, objects_stand_once}
 use Rattle.pddl_task.proofs.LowestFault.{linked_is_good}
-use Rattle.pddl_plan_link.specs.StepFaults.{action_name, action_names, action_named, naming, some_costless, IsGoodStep, IsLinkedPlan, most_steps, steps_of}
+use Rattle.pddl_plan_link.specs.StepFaults.{action_name, action_names, naming, some_costless, IsGoodStep, IsLinkedPlan, most_steps}
 use Rattle.pddl_plan_link.specs.LinkedSteps.{LinkedStepValue, linked_step, linked_plain, linked_timed, linked_steps, AreLinkedSteps}
 use Rattle.pddl_plan_link.specs.StepTables.{some_unfit}
 use Rattle.pddl_plan_link.specs.LinkedLaws.{name_at, named_step, IsLinkedStep, HaveAlikeMoments, AreSoundSteps, without_moment}

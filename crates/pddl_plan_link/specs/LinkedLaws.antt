@@ -1,5 +1,5 @@
 -- What it is for steps by numbers to be linked to a task, without a plan that they are of (own).
-use Rattle.std.specs.Prelude.{◌≡◌, ◌≤◌, ◌<◌, ◌⊎◌, ℕ, false, List, [], map, length, get_or, slice_get, Option, Some, None, is_some, true}
+use Rattle.std.specs.Prelude.{◌≡◌, ◌≤◌, ◌<◌, ◌⊎◌, ℕ, false, List, [], map, length, get_or, slice_get, Some, None, is_some, true}
 use Rattle.std.specs.List.{AllByRecursion}
 use Rattle.pddl_tree.specs.Plans.{StepValue}
 use Rattle.pddl_domain.specs.Actions.{ActionValue}
