@@ -141,14 +141,13 @@ numbers_name task g known =
 pub known_in_range : (task : TaskValue) (g : GroundValue) → is_known task g ≡ true → IsInRange task (numbered task g) × (named_atom task (numbered task g) ≡ g)
 known_in_range task g known =
     let p = names_known task g known in
-    let low = number_in_range (predicate_names task) g.name p.0 in
-    (
+    let low = number_in_range (predicate_names task) g.name p.0 in (
       record {
         predicate = omega (arith, low, length-map task.predicates symbol_of);
         objects = subst (λ len. AllByRecursion (λ k. k < len) (map (number_in (object_names task)) g.objects)) (length-map task.objects item_of) (numbers_in_range (object_names task) g.objects p.1);
       },
       ap (λ n. record { name = n; objects = map (name_at (object_names task)) (map (number_in (object_names task)) g.objects) }) (name_of_number (predicate_names task) g.name p.0)
-      ∙ ap (λ os. record { name = g.name; objects = os }) (names_of_numbers (object_names task) g.objects p.1),
+          ∙ ap (λ os. record { name = g.name; objects = os }) (names_of_numbers (object_names task) g.objects p.1),
     )
 
 pub range_names_one : (d : DomainValue) (p : ProblemValue) → IsLinked d p → (atom : AtomValue) → IsInRange (task_of d p) atom
@@ -158,9 +157,8 @@ range_names_one d p linked atom range =
     let predicates = predicate_names task in
     let objects = object_names task in
     let low : atom.predicate < length predicates = let h = range.predicate in omega (arith, h, length-map task.predicates symbol_of) in
-    let lows = subst (λ len. AllByRecursion (λ k. k < len) atom.args) (sym (length-map task.objects item_of)) range.objects in
-    (
+    let lows = subst (λ len. AllByRecursion (λ k. k < len) atom.args) (sym (length-map task.objects item_of)) range.objects in (
       and_both (is_in predicates (name_at predicates atom.predicate)) (list_all (is_in objects) (map (name_at objects) atom.args)) (name_is_in predicates atom.predicate low) (names_are_in objects atom.args lows),
       ap (λ k. record { predicate = k; args = map (number_in objects) (map (name_at objects) atom.args) }) (number_of_name predicates atom.predicate (predicates_stand_once d (linked_is_good d p linked)) low)
-      ∙ ap (λ ks. record { predicate = atom.predicate; args = ks }) (numbers_of_names objects atom.args (objects_stand_once d p) lows),
+          ∙ ap (λ ks. record { predicate = atom.predicate; args = ks }) (numbers_of_names objects atom.args (objects_stand_once d p) lows),
     )
