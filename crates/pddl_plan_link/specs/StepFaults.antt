@@ -64,8 +64,7 @@ unfit_object task s = action_passes task s (λ a. some_misfit (naming task.types
 
 -- ---- 44 CostUndefined: the function term of one of its amounts has no value in `:init`
 
--- some function term that an effect adds to the cost passes a test. An increase under `when` or `forall` is a fault of the domain,
--- so there is none in a task.
+-- some function term that an effect adds to the cost, outside its `when`s and `forall`s, passes a test; those under them are not looked at
 abbrev pub some_amount : (FunctionTermValue → Bool) → AmountValue → Bool
 some_amount test (number n) = false
 some_amount test (function f) = test f
