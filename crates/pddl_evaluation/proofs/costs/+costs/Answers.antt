@@ -1,4 +1,4 @@
-use Rattle.std.proofs.Common.{◌≡◌, ◌+◌, ◌∷◌, arith, ap, refl}
+use Rattle.std.proofs.Common.{◌≡◌, ◌∷◌, arith, ap, refl}
 use Rattle.std.specs.List.{sum_by}
 use Rattle.pddl_compiled.specs.CompiledMeaning.{spent, spent_in}
 use Rattle.pddl_compiled.specs.Views.{change_view, changes_view, frame_view}

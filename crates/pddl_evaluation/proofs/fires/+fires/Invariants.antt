@@ -1,4 +1,4 @@
-use Rattle.std.proofs.Common.{◌≡◌, ◌||◌, ◌+◌, List, ◌∷◌, drop}
+use Rattle.std.proofs.Common.{◌≡◌, ◌||◌, ◌∷◌, drop}
 use Rattle.std.specs.List.{list_any}
 use Rattle.pddl_state.specs.Atoms.{AtomValue, atom_eq}
 use Rattle.pddl_compiled.specs.Views.{change_view, changes_view, frame_view}

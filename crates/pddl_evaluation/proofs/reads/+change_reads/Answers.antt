@@ -1,4 +1,4 @@
-use Rattle.std.proofs.Common.{◌≡◌, ◌||◌, ap, sym, ◌∙◌, refl}
+use Rattle.std.proofs.Common.{◌||◌, ap, sym, ◌∙◌, refl}
 use Rattle.pddl_state.specs.Atoms.{atom_eq}
 use Rattle.pddl_compiled.specs.Views.{change_view, changes_view, frame_view}
 use Rattle.pddl_evaluation.specs.Reads.{tested_by, tested_by_all}

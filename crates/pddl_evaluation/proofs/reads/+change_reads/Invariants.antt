@@ -1,8 +1,7 @@
-use Rattle.std.proofs.Common.{◌≡◌, ◌||◌, ◌+◌, List, ◌∷◌, drop}
+use Rattle.std.proofs.Common.{◌≡◌, ◌||◌, ◌∷◌, drop}
 use Rattle.std.specs.List.{list_any}
 use Rattle.pddl_state.specs.Atoms.{AtomValue, atom_eq}
-use Rattle.pddl_compiled.specs.Views.{condition_view, conditions_view, change_view, changes_view, frame_view}
-use Rattle.pddl_compiled.specs.CompiledMeaning.{some_tested, some_tested_in}
+use Rattle.pddl_compiled.specs.Views.{change_view, changes_view, frame_view}
 use Rattle.pddl_evaluation.specs.Reads.{tested_by, tested_by_all}
 use Rattle.pddl_evaluation.proofs.reads.+change_reads.Given as goal
 

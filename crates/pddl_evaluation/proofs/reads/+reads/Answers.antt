@@ -1,4 +1,4 @@
-use Rattle.std.proofs.Common.{◌≡◌, ◌||◌, ap, sym, ◌∙◌, refl}
+use Rattle.std.proofs.Common.{◌||◌, ap, sym, ◌∙◌, refl}
 use Rattle.pddl_state.specs.Atoms.{atom_eq}
 use Rattle.pddl_compiled.specs.Views.{condition_view, conditions_view, frame_view}
 use Rattle.pddl_compiled.specs.CompiledMeaning.{some_tested, some_tested_in}

@@ -1,4 +1,4 @@
-use Rattle.std.proofs.Common.{◌≡◌, ap}
+use Rattle.std.proofs.Common.{ap}
 use Rattle.pddl_compiled.specs.Views.{frame_view}
 use Rattle.pddl_compiled.specs.CompiledMeaning.{is_true}
 use Rattle.pddl_evaluation.proofs.Views.{view-Exists, view-Forall}

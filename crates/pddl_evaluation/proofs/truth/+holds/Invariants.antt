@@ -1,4 +1,4 @@
-use Rattle.std.proofs.Common.{◌≡◌, ◌+◌, List, ◌∷◌, drop}
+use Rattle.std.proofs.Common.{◌≡◌, ◌∷◌, drop}
 use Rattle.std.specs.List.{list_any, list_all}
 use Rattle.pddl_compiled.specs.Views.{condition_view, conditions_view, frame_view}
 use Rattle.pddl_compiled.specs.CompiledMeaning.{is_true, are_true, is_some_true}
