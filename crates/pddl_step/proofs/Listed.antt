@@ -1,6 +1,6 @@
 -- What formulas and effects speak of, listed atom by atom.
 use Rattle.std.proofs.Common.{◌≡◌, Bool, true, false, ◌&&◌, ◌||◌, cond, List, [], ◌∷◌, ◌++◌, map, refl, sym, ap, ◌∙◌, arith}
-use Rattle.std.specs.List.{list_any, concat}
+use Rattle.std.specs.List.{list_any}
 use Rattle.std.proofs.lemmas.List.Folds.{list_any-append}
 use Rattle.pddl_formula.specs.TypedLists.{TypedValue}
 use Rattle.pddl_formula.specs.Formulas.{FormulaValue, FormulaValues, atom, equal, negation, implication, conjunction, disjunction, existential, universal, no_formulas, formula}
@@ -18,9 +18,14 @@ any_map : {X Y : Type 0} (test : Y → Bool) (f : X → Y) (xs : List X) → lis
 any_map test f [] = refl
 any_map test f (x ∷ xs) = ap (λ b. test (f x) || b) (any_map test f xs)
 
-any_concat : {X Y : Type 0} (test : X → Bool) (f : Y → List X) (os : List Y) → list_any test (concat (map f os)) ≡ list_any (λ o. list_any test (f o)) os
-any_concat test f [] = refl
-any_concat test f (o ∷ os) = list_any-append test (f o) (concat (map f os)) ∙ ap (λ b. list_any test (f o) || b) (any_concat test f os)
+-- lists one after another
+abbrev joined : {X : Type 0} → List (List X) → List X
+joined [] = []
+joined (xs ∷ xss) = xs ++ joined xss
+
+any_joined : {X Y : Type 0} (test : X → Bool) (f : Y → List X) (os : List Y) → list_any test (joined (map f os)) ≡ list_any (λ o. list_any test (f o)) os
+any_joined test f [] = refl
+any_joined test f (o ∷ os) = list_any-append test (f o) (joined (map f os)) ∙ ap (λ b. list_any test (f o) || b) (any_joined test f os)
 
 or_false : (b : Bool) → b ≡ (b || false)
 or_false b = grind arith
@@ -39,16 +44,16 @@ tested read added deleted (is_deleted g) = deleted g
 
 module _ (fit : List Name → List Name) where
   -- what is listed under every valuation
-  listed : {X : Type 0} → List TypedValue → (Valuation → List X) → Valuation → List X
+  abbrev listed : {X : Type 0} → List TypedValue → (Valuation → List X) → Valuation → List X
   listed [] f v = f v
-  listed (x ∷ xs) f v = concat (map (λ o. listed xs f ((x.item, o) ∷ v)) (fit x.of))
+  listed (x ∷ xs) f v = joined (map (λ o. listed xs f ((x.item, o) ∷ v)) (fit x.of))
 
   any_listed : {X : Type 0} (test : X → Bool) (xs : List TypedValue) (f : Valuation → List X) (v : Valuation) → some_valuation fit xs (λ w. list_any test (f w)) v ≡ list_any test (listed xs f v)
   any_listed test [] f v = refl
   any_listed test (x ∷ xs) f v =
-      ap (λ q. list_any q (fit x.of)) (λ i o. any_listed test xs f ((x.item, o) ∷ v) i) ∙ sym (any_concat test (λ o. listed xs f ((x.item, o) ∷ v)) (fit x.of))
+      ap (λ q. list_any q (fit x.of)) (λ i o. any_listed test xs f ((x.item, o) ∷ v) i) ∙ sym (any_joined test (λ o. listed xs f ((x.item, o) ∷ v)) (fit x.of))
 
-  mutual
+  abbrev mutual
     pub reads : FormulaValue → Valuation → List GroundValue
     reads (atom a) v = grounded v a ∷ []
     reads (equal t u) v = []
@@ -63,7 +68,7 @@ module _ (fit : List Name → List Name) where
     all_reads no_formulas v = []
     all_reads (formula f fs) v = reads f v ++ all_reads fs v
 
-  mutual
+  abbrev mutual
     pub spoken : EffectValue → Valuation → List Spoken
     spoken (effects.conjunction es) v = all_spoken es v
     spoken (effects.universal xs e) v = listed xs (spoken e) v
@@ -128,7 +133,7 @@ module _ (fit : List Name → List Name) where
 
   -- what fires in a state
   module _ (s : Atoms) where
-    mutual
+    abbrev mutual
       pub fired : EffectValue → Valuation → List Spoken
       fired (effects.conjunction es) v = all_fired es v
       fired (effects.universal xs e) v = listed xs (fired e) v

@@ -1,6 +1,6 @@
 -- A step by numbers does what the step by names does, where the task knows every atom that it speaks of.
-use Rattle.std.proofs.Common.{◌≡◌, ℕ, Bool, true, false, not, ◌&&◌, ◌||◌, List, [], ◌∷◌, map, length, eqb, refl, sym, ap, ◌∙◌}
-use Rattle.std.specs.Prelude.{Contains, bytes_eq}
+use Rattle.std.proofs.Common.{◌≡◌, ℕ, Bool, true, false, not, ◌&&◌, ◌||◌, List, [], ◌∷◌, map, length, eqb, refl, sym, ap, ◌∙◌, inl, inr}
+use Rattle.std.specs.Prelude.{◌⊎◌, Contains, bytes_eq}
 use Rattle.std.specs.List.{list_any, list_all}
 use Rattle.std.specs.Cmp.Lexicographic.{pointwise}
 use Rattle.std.proofs.lemmas.Bool.{true≢false}
@@ -56,7 +56,7 @@ off_below true b up h = absurd (true≢false (sym (up refl) ∙ h))
 off_below false b up h = refl
 
 module _ (task : TaskValue) where
-  unknown : Atoms
+  abbrev unknown : Atoms
   unknown g = not (is_known task g)
 
   none_unknown : PassesNoneKnown task unknown
