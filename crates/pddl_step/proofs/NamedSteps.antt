@@ -1,6 +1,6 @@
 -- A step by numbers does what the step by names does, where the task knows every atom that it speaks of.
-use Rattle.std.proofs.Common.{◌≡◌, ℕ, Bool, true, false, not, ◌&&◌, ◌||◌, List, [], ◌∷◌, map, length, eqb, refl, sym, ap, ◌∙◌, inl, inr}
-use Rattle.std.specs.Prelude.{◌⊎◌, Contains, bytes_eq}
+use Rattle.std.proofs.Common.{◌≡◌, Bool, true, false, not, ◌||◌, List, [], ◌∷◌, map, eqb, refl, sym, ap, ◌∙◌, inl, inr}
+use Rattle.std.specs.Prelude.{◌⊎◌, bytes_eq}
 use Rattle.std.specs.List.{list_any, list_all}
 use Rattle.std.specs.Cmp.Lexicographic.{pointwise}
 use Rattle.std.proofs.lemmas.Bool.{true≢false}
@@ -66,7 +66,7 @@ module _ (task : TaskValue) where
   agree g h off = numbers_agree task g h (not_off (is_known task h) off)
 
   module _ (a : ActionValue) (os : List Name)
-    (speaks : (test : GroundValue → Bool) → PassesNoneKnown task test
+      (speaks : (test : GroundValue → Bool) → PassesNoneKnown task test
       → (some_read (fitting_names task) a.precondition test (giving a.parameters os []) ≡ false)
       × (some_of (fitting_names task) a.effect test test test (giving a.parameters os []) ≡ false)) where
     abbrev fit : List Name → List Name
@@ -147,9 +147,9 @@ module _ (task : TaskValue) where
         record {
           ready = λ s. refl;
           reads = λ g.
-            let left = precondition_agrees g in
-            let right = effect_agrees g in
-            ap (λ b. b || some_of fit a.effect (has_number task (number_of task g)) no_atoms no_atoms v) left ∙ ap (λ b. some_read fit a.precondition (same_ground g) v || b) right;
+              let left = precondition_agrees g in
+              let right = effect_agrees g in
+              ap (λ b. b || some_of fit a.effect (has_number task (number_of task g)) no_atoms no_atoms v) left ∙ ap (λ b. some_read fit a.precondition (same_ground g) v || b) right;
           adds = λ s g. adds_agree (by_name (number_of task) s) g;
           dels = λ s g. dels_agree (by_name (number_of task) s) g;
           cost = λ s. refl;

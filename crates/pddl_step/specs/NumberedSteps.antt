@@ -1,5 +1,5 @@
 -- Steps of a task over atoms by their numbers (own). A set of numbers says of each ground atom of the task whether its number is in it.
-use Rattle.std.specs.Prelude.{ℕ, Bool, ◌||◌, List, []}
+use Rattle.std.specs.Prelude.{◌||◌, List, []}
 use Rattle.pddl_domain.specs.Actions.{ActionValue}
 use Rattle.pddl_problem.specs.Inits.{GroundValue}
 use Rattle.pddl_task.specs.Names.{Name}
@@ -28,7 +28,7 @@ abbrev pub numbered_step : TaskValue → ActionValue → List Name → Step Atom
 numbered_step task a os = record {
   ready = λ s. (step_of task a os).ready (by_name (number_of task) s);
   reads = λ x. some_read (fitting_names task) a.precondition (has_number task x) (giving a.parameters os [])
-    || some_of (fitting_names task) a.effect (has_number task x) no_atoms no_atoms (giving a.parameters os []);
+      || some_of (fitting_names task) a.effect (has_number task x) no_atoms no_atoms (giving a.parameters os []);
   adds = λ s x. some_fired (fitting_names task) (by_name (number_of task) s) a.effect (has_number task x) no_atoms (giving a.parameters os []);
   dels = λ s x. some_fired (fitting_names task) (by_name (number_of task) s) a.effect no_atoms (has_number task x) (giving a.parameters os []);
   cost = λ s. (step_of task a os).cost (by_name (number_of task) s);
