@@ -36,7 +36,6 @@ no_number (links.FractionalCost w) e = cc
 no_number (links.CostValue w) e = cc
 no_number (links.ObjectFluent w) e = cc
 no_number links.Metric e = cc
-no_number (links.ConditionalCost w) e = cc
 no_number links.GoalTooLarge e = cc
 
 same_number : (fs : List Fault) (o p : Option (ℕ × Name)) → o ≢ None → p ≢ None → IfSome o (λ f. IsLowest fs f.0 f.1) → IfSome p (λ f. IsLowest fs f.0 f.1)

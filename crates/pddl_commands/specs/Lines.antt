@@ -58,7 +58,6 @@ link_fault_name (links.FractionalCost word) = codes "30 FractionalCost " ++ word
 link_fault_name (links.CostValue word) = codes "31 CostValue " ++ word.now
 link_fault_name (links.ObjectFluent word) = codes "32 ObjectFluent " ++ word.now
 link_fault_name links.Metric = codes "33 Metric"
-link_fault_name (links.ConditionalCost word) = codes "34 ConditionalCost " ++ word.now
 link_fault_name links.GoalTooLarge = codes "35 GoalTooLarge"
 
 -- where the fault stands, as it is shown: nothing, or ` at `, the line, a colon and the column of its place

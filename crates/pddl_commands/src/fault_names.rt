@@ -94,7 +94,6 @@ pub fn link_fault_name<'t>(fault: &LinkFault<'t>) -> FaultName<'t>
         LinkFault::CostValue(word) => return FaultName::of("31 CostValue ", word),
         LinkFault::ObjectFluent(word) => return FaultName::of("32 ObjectFluent ", word),
         LinkFault::Metric => return FaultName::plain("33 Metric"),
-        LinkFault::ConditionalCost(word) => return FaultName::of("34 ConditionalCost ", word),
         LinkFault::GoalTooLarge => return FaultName::plain("35 GoalTooLarge"),
     }
 }

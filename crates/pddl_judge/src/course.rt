@@ -63,7 +63,7 @@ pub trait Course<A: Allocator, S: AtomStore<A>> {
         ensures others_own { (t : S.Set) → S.owns store.old t → S.owns store.new t }
         ensures others { (t : S.Set) → S.owns store.old t → S.content store.new t ≡ S.content store.old t };
 
-    /// What a step costs in a state, in billionths: at most a million times 2^64.
+    /// What a step costs in a state: at most a million times 2^64.
     fn cost(&self, step: u32, store: &S, state: &S::Set) -> Result<u128, AllocError>
         requires step { step < count_of self.now }
         requires own { S.owns store.now state.now }

@@ -16,7 +16,7 @@ use std::alloc::{AllocError, Allocator};
 /// An accepted plan.
 #[derive(Drop)]
 pub struct Accepted<A: Allocator, B: Allocator, S: AtomStore<A>> {
-    /// What its steps cost together, in billionths.
+    /// What its steps cost together.
     pub cost: u128,
     /// Its happenings.
     pub happenings: Vec<Happening<B>, B>,

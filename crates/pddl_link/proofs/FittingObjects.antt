@@ -5,7 +5,7 @@ use Rattle.std.specs.List.{slice_get}
 use Rattle.std.proofs.lemmas.List.{drop_all}
 use Rattle.pddl_formula.specs.TypedLists.{TypedValue}
 use Rattle.pddl_link.specs.KnownNames.{object_in}
-use Rattle.pddl_link.specs.TaskTables.{places_from}
+use Rattle.pddl_task.specs.Tasks.{places_from}
 use Rattle.pddl_link.proofs.ObjectCounts.{Object}
 use Rattle.pddl_link.proofs.Entries.{entry_left, past_end}
 

@@ -20,7 +20,6 @@ pub mod Settings
 pub mod SignatureTables
 pub mod Sizes
 pub mod Slots
-pub mod SomeEffects
 pub mod SoundInits
 pub mod TypeClimbs
 pub mod TypeLookups

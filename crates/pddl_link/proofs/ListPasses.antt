@@ -3,17 +3,11 @@ use Rattle.std.proofs.Common.{◌≡◌, ℕ, ◌+◌, ◌<◌, ◌≤◌, Bool,
 use Rattle.std.specs.Prelude.{Contains, nat_lt}
 use Rattle.std.proofs.lemmas.List.{drop_all}
 use Rattle.pddl_domain.specs.Declarations.{FunctionValue, number}
-use Rattle.pddl_domain.specs.Actions.{ActionValue}
 use Rattle.pddl_task.specs.Names.{Name, same_names}
-use Rattle.pddl_task.specs.Faults.{has_conditional_cost}
 
 -- the words of some functions, as of those of a domain
 abbrev pub fluents_in : List FunctionValue → List Name
 fluents_in fs = map (λ f. f.item.name) (filter (λ f. not (same_names f.of number)) fs)
-
--- and of some actions
-abbrev pub costs_in : List ActionValue → List Name
-costs_in all = map (λ a. a.name) (filter (λ a. has_conditional_cost a.effect) all)
 
 kept_front : {Y : Type 0} (test : Y → Bool) (word : Y → Name) (y : Y) (rest : List Y) (whole : List Name)
     → map word (filter test (y ∷ rest)) ≡ whole → test y ≡ true → Contains whole (word y)

@@ -9,7 +9,7 @@ use Rattle.pddl_task.specs.Names.{Name, is_in}
 use Rattle.pddl_task.specs.Types.{types_of}
 use Rattle.pddl_task.specs.Places.{Place, domain_places, problem_places}
 use Rattle.pddl_task.specs.Settings.{in_domain, in_problem}
-use Rattle.pddl_task.specs.Faults.{primitives_of, domain_names, types_twice, type_cycles, unknown_types, domain_typed, problem_typed, domain_repeats, problem_repeats, object_types, unknown_at, arity_at, misfit_at, fraction_at, contradictions, cost_values, object_fluents, other_metrics, conditional_costs, large_goals}
+use Rattle.pddl_task.specs.Faults.{primitives_of, domain_names, types_twice, type_cycles, unknown_types, domain_typed, problem_typed, domain_repeats, problem_repeats, object_types, unknown_at, arity_at, misfit_at, fraction_at, contradictions, cost_values, object_fluents, other_metrics, large_goals}
 use Rattle.pddl_task.specs.Linked.{Fault, fault}
 
 -- of typed names and variables, the primitive types that are none of these types
@@ -58,15 +58,13 @@ domain_term_faults d =
 abbrev pub domain_cost_faults : DomainValue → List Fault
 domain_cost_faults d =
     fault 30 (flat_map fraction_at (domain_places d)) ∷
-    fault 32 (object_fluents d) ∷
-    fault 34 (conditional_costs d) ∷ []
+    fault 32 (object_fluents d) ∷ []
 
 -- the faults of costs, and those after, of a domain and a problem
 abbrev pub cost_faults : DomainValue → ProblemValue → List Fault
 cost_faults d p =
     fault 32 (object_fluents d) ∷
     fault 33 (other_metrics p.metric) ∷
-    fault 34 (conditional_costs d) ∷
     fault 35 (large_goals d p) ∷ []
 
 -- the faults of a domain and a problem that are looked for last, from 29 on

@@ -22,7 +22,6 @@ fault_of (link.FractionalCost w) = Some (30, w.now)
 fault_of (link.CostValue w) = Some (31, w.now)
 fault_of (link.ObjectFluent w) = Some (32, w.now)
 fault_of link.Metric = Some (33, [])
-fault_of (link.ConditionalCost w) = Some (34, w.now)
 fault_of link.GoalTooLarge = Some (35, [])
 
 -- a pass for the fault of this number finds none, or one of its words

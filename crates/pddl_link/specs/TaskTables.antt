@@ -1,16 +1,12 @@
 -- Two linked files with tables of what they declare, and what is asked of the task that they make.
-use Rattle.std.specs.Prelude.{◌≡◌, ℕ, ◌+◌, Bool, cond, List, [], ◌∷◌, map, Option}
+use Rattle.std.specs.Prelude.{◌≡◌, ℕ, List, map}
 use Rattle.std.specs.Borrow.{Bor}
-use Rattle.std.specs.Map.{lookup}
 use Rattle.pddl_formula.specs.declared.type_names.Typed.{Typed}
 use Rattle.pddl_domain.specs.Declarations.{TypeValue}
 use Rattle.pddl_domain.specs.Domains.{DomainValue}
 use Rattle.pddl_problem.specs.Inits.{GroundValue}
 use Rattle.pddl_problem.specs.Problems.{ProblemValue}
-use Rattle.pddl_task.specs.Names.{Name}
-use Rattle.pddl_task.specs.Types.{pairs, fits}
 use Rattle.pddl_task.specs.Settings.{objects_of}
-use Rattle.pddl_task.specs.Faults.{same_ground}
 use Rattle.pddl_task.specs.Linked.{IsLinked}
 use Rattle.pddl_task.specs.Tasks.{TaskValue, task_of}
 use Rattle.pddl_link.specs.KnownNames.{AreNamed, signature_in, object_in}
@@ -27,19 +23,6 @@ files d p = record { domain = d; problem = p }
 -- the task that they make
 abbrev pub task_in : Files → TaskValue
 task_in f = task_of f.domain f.problem
-
--- the places, from a first one on, of what passes a test
-abbrev pub places_from : {X : Type 0} → ℕ → (X → Bool) → List X → List ℕ
-places_from n test [] = []
-places_from n test (x ∷ xs) = cond (test x) (n ∷ places_from (n + 1) test xs) (places_from (n + 1) test xs)
-
--- the numbers of the objects that fit a type, rising
-abbrev pub fitting_numbers : TaskValue → List Name → List ℕ
-fitting_numbers task types = places_from 0 (λ o. fits (pairs task.types) o.of types) task.objects
-
--- the cost of a function of objects, where `:init` gives it one
-abbrev pub cost_of : TaskValue → GroundValue → Option ℕ
-cost_of task g = lookup (same_ground g) task.costs
 
 -- two files are linked, and the tables hold what they declare
 pub record AreTablesOf {A : Type 0} (d : DomainValue) (p : ProblemValue) (types : List TypeValue) (predicates : List (Bor (List ℕ) × Bor (List (Typed A))))

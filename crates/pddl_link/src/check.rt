@@ -17,7 +17,6 @@ ghost use Rattle.pddl_link.specs.Parts.{words_of_both, domain_type_faults, domai
 
 use crate::arity::OtherArities;
 use crate::declared_types::domain_types_known;
-use crate::effect_costs::conditional_costs;
 use crate::fault::LinkFault;
 use crate::fractions::Fractions;
 use crate::init::{Values, contradictions, cost_values};
@@ -82,8 +81,7 @@ fn check_costs<A: Allocator>(domain: &Domain<A>) -> Result<(), LinkFault<'_>>
     ensures { Verdict (domain_cost_faults (domain_view domain.now)) result }
 {
     search_domain(&Fractions, domain)?;
-    object_fluents(domain)?;
-    conditional_costs(domain)
+    object_fluents(domain)
 }
 
 /// Checks a domain's places and costs, with its predicates in a table.
@@ -111,7 +109,7 @@ fn check_uses<'t, 'm, 'a, A: Allocator, B: Allocator>(
     check_costs(domain)
 }
 
-/// Checks a domain: the faults 21 to 34 that it shows by itself.
+/// Checks a domain: the faults 21 to 32 that it shows by itself.
 ///
 /// Of the faults that stand, the one with the lowest number is answered, with the word of a place where it stands.
 ///
@@ -169,7 +167,7 @@ fn goal_size<'k, 'm, 'a, 'd, A: Allocator, B: Allocator>(
     }
 }
 
-/// Checks the functions, the metric, costs under conditions, and the goal's size.
+/// Checks the functions, the metric, and the goal's size.
 fn check_last<'k, 'm, 'a, 'd, A: Allocator, B: Allocator>(
     known: &Known<'k, 'm, 'a, A, B>,
     domain: &'d Domain<A>,
@@ -180,7 +178,6 @@ fn check_last<'k, 'm, 'a, 'd, A: Allocator, B: Allocator>(
 {
     object_fluents(domain)?;
     metric(&problem.metric)?;
-    conditional_costs(domain)?;
     goal_size(known, domain, problem)
 }
 

@@ -55,9 +55,6 @@ pub enum LinkFault<'d> {
     /// 33: a metric that is not `minimize` of `total-cost` without arguments.
     #[error("another metric than the total cost")]
     Metric,
-    /// 34: an increase under `when` or `forall`. The word is the action.
-    #[error("a cost under a condition")]
-    ConditionalCost(&'d [u8]),
     /// 35: the goal's ground size is over 1,000,000.
     #[error("the goal is too large")]
     GoalTooLarge,

@@ -3,7 +3,7 @@
 ghost use Rattle.std.specs.Prelude.{◌≡◌, map, IfOk};
 ghost use Rattle.pddl_task.specs.Types.{pairs, fits};
 ghost use Rattle.pddl_link.specs.KnownNames.{object_in};
-ghost use Rattle.pddl_link.specs.TaskTables.{places_from};
+ghost use Rattle.pddl_task.specs.Tasks.{places_from};
 
 use crate::known::Objects;
 use crate::types::Types;

@@ -10,7 +10,6 @@ mod below_object;
 mod bound;
 mod check;
 mod declared_types;
-mod effect_costs;
 mod effect_size;
 mod fault;
 mod fitting;

@@ -1,6 +1,6 @@
 //! Linked tasks.
 
-ghost use Rattle.std.specs.Prelude.{◌≡◌, false, map, option_map, slice_get, position, bytes_eq, IfOk};
+ghost use Rattle.std.specs.Prelude.{◌≡◌, ◌<◌, false, Some, map, length, option_map, slice_get, position, bytes_eq, IfOk};
 ghost use Rattle.std.specs.Option.{option_map_or};
 ghost use Rattle.pddl_formula.specs.Formulas.{formula_view};
 ghost use Rattle.pddl_domain.specs.Actions.{action_view};
@@ -9,8 +9,8 @@ ghost use Rattle.pddl_problem.specs.Problems.{problem_view};
 ghost use Rattle.pddl_task.specs.Types.{pairs, fits, is_subtype};
 ghost use Rattle.pddl_task.specs.GroundSize.{capped, formula_size, action_size};
 ghost use Rattle.pddl_task.specs.Linked.{IsLinked};
-ghost use Rattle.pddl_task.specs.Tasks.{task_count, predicate_names, object_names};
-ghost use Rattle.pddl_link.specs.TaskTables.{AreTablesOf, fitting_numbers, cost_of};
+ghost use Rattle.pddl_task.specs.Tasks.{task_count, predicate_names, object_names, fitting_numbers, cost_of};
+ghost use Rattle.pddl_link.specs.TaskTables.{AreTablesOf};
 
 use crate::effect_size::action_ground_size;
 use crate::fitting::fitting_objects;
@@ -58,6 +58,37 @@ impl<'m, 'a, A: Allocator, B: Allocator> Task<'m, 'a, A, B> {
         ensures linked { IsLinked (files_of self.now).domain (files_of self.now).problem }
     {
         self.problem
+    }
+
+    /// The action of a number, in the domain's order.
+    pub fn action(&self, number: usize) -> &'m Action<A>
+        requires { number < length (task_of_files self.now).actions }
+        ensures { slice_get (task_of_files self.now).actions number ≡ Some (action_view result.now) }
+    {
+        let domain = self.domain;
+        &domain.actions[number]
+    }
+
+    /// The goal.
+    pub fn goal(&self) -> &'m Formula<A>
+        ensures { formula_view result.now ≡ (task_of_files self.now).goal }
+    {
+        let problem = self.problem;
+        &problem.goal
+    }
+
+    /// How many objects there are.
+    pub fn object_count(&self) -> usize
+        ensures { result ≡ length (task_of_files self.now).objects }
+    {
+        self.objects.len()
+    }
+
+    /// How many predicates there are.
+    pub fn predicate_count(&self) -> usize
+        ensures { result ≡ length (task_of_files self.now).predicates }
+    {
+        self.predicates.len()
     }
 
     /// Whether a type is a subtype of another, or that type itself; a name that is no type of the task is neither.

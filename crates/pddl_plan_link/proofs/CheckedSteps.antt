@@ -11,11 +11,10 @@ use Rattle.pddl_formula.specs.Terms.{name}
 use Rattle.pddl_formula.specs.TypedLists.{typed_view}
 use Rattle.pddl_formula.specs.declared.type_names.Typed.{Typed}
 use Rattle.pddl_domain.specs.Actions.{ActionValue, action_view}
-use Rattle.pddl_task.specs.Names.{Name, is_in}
+use Rattle.pddl_task.specs.Names.{Name, is_in, number_in}
 use Rattle.pddl_task.specs.Faults.{some_misfit}
 use Rattle.pddl_task.specs.Tasks.{TaskValue, object_names, task_count}
 use Rattle.pddl_plan_link.specs.StepFaults.{action_names, action_named, naming, has_arity, unknown_object, some_costless, some_increase, step_faults}
-use Rattle.pddl_plan_link.specs.LinkedSteps.{number_in}
 use Rattle.pddl_plan_link.specs.GroundedCosts.{is_costless, given}
 use Rattle.pddl_plan_link.specs.declared.action_table.SizedAction.{SizedAction}
 use Rattle.pddl_plan_link.specs.StepTables.{named_action, named_in, some_unfit}

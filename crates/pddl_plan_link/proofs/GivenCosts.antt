@@ -8,10 +8,9 @@ use Rattle.std.proofs.lemmas.List.{take_all, map_more, map-append}
 use Rattle.pddl_problem.specs.Inits.{GroundValue}
 use Rattle.pddl_task.specs.Names.{Name}
 use Rattle.pddl_task.specs.Faults.{same_ground}
-use Rattle.pddl_task.specs.Tasks.{TaskValue}
-use Rattle.pddl_task.specs.Known.{Valuation, object_at}
+use Rattle.pddl_task.specs.Tasks.{TaskValue, cost_of}
+use Rattle.pddl_task.specs.Valuations.{Valuation, object_at}
 use Rattle.pddl_effect.specs.Effects.{FunctionTermValue}
-use Rattle.pddl_link.specs.TaskTables.{cost_of}
 use Rattle.pddl_plan_link.specs.StepFaults.{has_cost}
 use Rattle.pddl_plan_link.specs.GroundedCosts.{words_in, is_costless}
 

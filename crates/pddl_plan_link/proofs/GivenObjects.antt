@@ -5,7 +5,7 @@ use Rattle.std.proofs.lemmas.List.{drop_all}
 use Rattle.pddl_formula.specs.TypedLists.{TypedValue, typed_view}
 use Rattle.pddl_formula.specs.declared.type_names.Typed.{Typed}
 use Rattle.pddl_task.specs.Names.{Name}
-use Rattle.pddl_task.specs.Known.{Valuation, giving, object_of}
+use Rattle.pddl_task.specs.Valuations.{Valuation, giving, object_of}
 use Rattle.pddl_plan_link.specs.GroundedCosts.{given}
 
 -- the last object that is given for this name, or the default

@@ -1,24 +1,28 @@
 -- Facts of `:init` by numbers, one after another.
-use Rattle.std.proofs.Common.{◌≡◌, ◌<◌, ◌≤◌, ℕ, zero, suc, ◌+◌, Bool, true, false, ◌&&◌, ◌||◌, not, cond, List, [], ◌∷◌, ◌++◌, map, length, get_or, drop, refl, sym, ap, subst, ◌∙◌, bytes_eq, append_assoc, arith}
+use Rattle.std.proofs.Common.{◌≡◌, ◌<◌, ◌≤◌, ℕ, zero, suc, ◌+◌, Bool, true, false, ◌&&◌, List, [], ◌∷◌, ◌++◌, map, length, get_or, drop, refl, sym, ap, subst, ◌∙◌, bytes_eq, append_assoc, arith}
 use Rattle.std.specs.Prelude.{Option, Some, None, is_some, position, slice_get, Contains}
 use Rattle.std.specs.List.{list_all, filter_map, cons_option, AllByRecursion}
-use Rattle.std.specs.Cmp.Lexicographic.{bytes_decides}
-use Rattle.std.proofs.lemmas.List.{drop_all, append-nil}
+use Rattle.std.proofs.lemmas.List.{drop_all, append-nil, length-map}
 use Rattle.pddl_problem.specs.Inits.{GroundValue, InitValue, holds, init_view}
 use Rattle.pddl_problem.specs.declared.problem.InitItem.{InitItem}
 use Rattle.pddl_domain.specs.Domains.{DomainValue}
 use Rattle.pddl_problem.specs.Problems.{ProblemValue}
-use Rattle.pddl_task.specs.Names.{Name, is_in}
+use Rattle.pddl_task.specs.Names.{Name, is_in, item_of, number_in}
+use Rattle.pddl_task.specs.Settings.{symbol_of}
 use Rattle.pddl_task.specs.Linked.{IsLinked}
 use Rattle.pddl_task.specs.Tasks.{TaskValue, task_of, fact_in, predicate_names, object_names}
 use Rattle.pddl_task.specs.Known.{is_known}
 use Rattle.pddl_state.specs.Atoms.{AtomValue}
 use Rattle.pddl_task.proofs.KnownAtoms.{initial_is_known}
+use Rattle.pddl_task.proofs.Lists.{and_both}
+use Rattle.pddl_task.proofs.LinkedTasks.{predicates_stand_once, objects_stand_once}
+use Rattle.pddl_task.proofs.LowestFault.{linked_is_good}
 use Rattle.pddl_link.proofs.ListTurns.{rest_is}
 use Rattle.pddl_link.proofs.ListPasses.{views_drop}
-use Rattle.pddl_plan_link.specs.LinkedSteps.{number_in}
-use Rattle.pddl_plan_link.specs.NumberedAtoms.{numbered, initial_atoms, NamesAtom}
-use Rattle.pddl_plan_link.proofs.Numbers.{is_placed, one_more_get}
+use Rattle.pddl_plan_link.specs.LinkedLaws.{name_at}
+use Rattle.pddl_plan_link.specs.NumberedAtoms.{numbered, initial_atoms, NamesAtom, IsInRange, named_atom}
+use Rattle.pddl_task.proofs.Numbers.{is_placed}
+use Rattle.pddl_plan_link.proofs.NameNumbers.{at_number, name_of_number, number_in_range, names_of_numbers, numbers_in_range, name_is_in, names_are_in, number_of_name, numbers_of_names}
 
 -- ---- one name
 
@@ -121,22 +125,40 @@ initial_are d p init i atoms same past so_far =
 
 -- ---- what the numbers name
 
-name_front : (b : Bool) (n m : Name) (names : List Name) → bytes_eq n m ≡ b → (b ≡ false → slice_get names (number_in names n) ≡ Some n)
-    → slice_get (m ∷ names) (cond (not b) (1 + number_in names n) 0) ≡ Some n
-name_front true n m names is later = ap Some (sym ((bytes_decides n m).0 is))
-name_front false n m names is later = sym (one_more_get m names (number_in names n)) ∙ later refl
-
-name_at : (names : List Name) (n : Name) → is_in names n ≡ true → slice_get names (number_in names n) ≡ Some n
-name_at [] n known = cc
-name_at (m ∷ names) n known = name_front (bytes_eq n m) n m names refl (λ other. name_at names n (sym (ap (λ b. b || is_in names n) other) ∙ known))
-
 names_at : (names ns : List Name) → list_all (is_in names) ns ≡ true → map (slice_get names) (map (number_in names) ns) ≡ map Some ns
 names_at names [] known = refl
 names_at names (n ∷ ns) known =
     let p = both (is_in names n) (list_all (is_in names) ns) known in
-    ap (λ o. o ∷ map (slice_get names) (map (number_in names) ns)) (name_at names n p.0) ∙ ap (λ os. Some n ∷ os) (names_at names ns p.1)
+    ap (λ o. o ∷ map (slice_get names) (map (number_in names) ns)) (at_number names n p.0) ∙ ap (λ os. Some n ∷ os) (names_at names ns p.1)
 
 pub numbers_name : (task : TaskValue) (g : GroundValue) → is_known task g ≡ true → NamesAtom task g (numbered task g)
 numbers_name task g known =
     let p = names_known task g known in
-    record { predicate = name_at (predicate_names task) g.name p.0; objects = names_at (object_names task) g.objects p.1 }
+    record { predicate = at_number (predicate_names task) g.name p.0; objects = names_at (object_names task) g.objects p.1 }
+
+-- ---- atoms of linked files by numbers
+
+pub known_in_range : (task : TaskValue) (g : GroundValue) → is_known task g ≡ true → IsInRange task (numbered task g) × (named_atom task (numbered task g) ≡ g)
+known_in_range task g known =
+    let p = names_known task g known in
+    let low = number_in_range (predicate_names task) g.name p.0 in (
+      record {
+        predicate = omega (arith, low, length-map task.predicates symbol_of);
+        objects = subst (λ len. AllByRecursion (λ k. k < len) (map (number_in (object_names task)) g.objects)) (length-map task.objects item_of) (numbers_in_range (object_names task) g.objects p.1);
+      },
+      ap (λ n. record { name = n; objects = map (name_at (object_names task)) (map (number_in (object_names task)) g.objects) }) (name_of_number (predicate_names task) g.name p.0)
+          ∙ ap (λ os. record { name = g.name; objects = os }) (names_of_numbers (object_names task) g.objects p.1),
+    )
+
+pub range_names_one : (d : DomainValue) (p : ProblemValue) → IsLinked d p → (atom : AtomValue) → IsInRange (task_of d p) atom
+    → (is_known (task_of d p) (named_atom (task_of d p) atom) ≡ true) × (numbered (task_of d p) (named_atom (task_of d p) atom) ≡ atom)
+range_names_one d p linked atom range =
+    let task = task_of d p in
+    let predicates = predicate_names task in
+    let objects = object_names task in
+    let low : atom.predicate < length predicates = let h = range.predicate in omega (arith, h, length-map task.predicates symbol_of) in
+    let lows = subst (λ len. AllByRecursion (λ k. k < len) atom.args) (sym (length-map task.objects item_of)) range.objects in (
+      and_both (is_in predicates (name_at predicates atom.predicate)) (list_all (is_in objects) (map (name_at objects) atom.args)) (name_is_in predicates atom.predicate low) (names_are_in objects atom.args lows),
+      ap (λ k. record { predicate = k; args = map (number_in objects) (map (name_at objects) atom.args) }) (number_of_name predicates atom.predicate (predicates_stand_once d (linked_is_good d p linked)) low)
+          ∙ ap (λ ks. record { predicate = atom.predicate; args = ks }) (numbers_of_names objects atom.args (objects_stand_once d p) lows),
+    )

@@ -10,7 +10,7 @@ use Rattle.pddl_domain.specs.Actions.{ActionValue, action_view}
 use Rattle.pddl_domain.specs.declared.domain.Domain.{Domain}
 use Rattle.pddl_domain.specs.Domains.{DomainValue, domain_view}
 use Rattle.pddl_problem.specs.Problems.{ProblemValue}
-use Rattle.pddl_task.specs.Names.{Name, is_in, word_if, repeated}
+use Rattle.pddl_task.specs.Names.{Name, is_in, word_if, repeated, number_in}
 use Rattle.pddl_task.specs.Settings.{symbol_of, function_signatures}
 use Rattle.pddl_task.specs.Places.{action_places}
 use Rattle.pddl_task.specs.Faults.{retyped, repeated_at, repeated_in_actions, domain_repeats, problem_repeats}
@@ -21,10 +21,10 @@ use Rattle.pddl_task.proofs.Lists.{nil_parts}
 use Rattle.pddl_link.specs.TaskTables.{Files}
 use Rattle.pddl_link.proofs.SignatureTables.{Held}
 use Rattle.pddl_plan_link.specs.StepFaults.{action_name, action_names, action_named}
-use Rattle.pddl_plan_link.specs.LinkedSteps.{number_in}
 use Rattle.pddl_plan_link.specs.declared.action_table.SizedAction.{SizedAction}
 use Rattle.pddl_plan_link.specs.StepTables.{NamedAction, named_action, named_in}
-use Rattle.pddl_plan_link.proofs.Numbers.{found_or, found_at_number, number_is, is_placed, place_lent}
+use Rattle.pddl_task.proofs.Numbers.{number_is, is_placed}
+use Rattle.pddl_plan_link.proofs.Numbers.{found_or, found_at_number, place_lent}
 
 -- ---- no two actions of linked files have one name
 

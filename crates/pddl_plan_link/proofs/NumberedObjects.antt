@@ -7,17 +7,17 @@ use Rattle.std.proofs.lemmas.List.{map_more, take_all, drop_all}
 use Rattle.pddl_formula.specs.Terms.{name}
 use Rattle.pddl_formula.specs.TypedLists.{TypedValue}
 use Rattle.pddl_domain.specs.Declarations.{TypeValue}
-use Rattle.pddl_task.specs.Names.{Name, is_in, item_of, is_named}
+use Rattle.pddl_task.specs.Names.{Name, is_in, item_of, is_named, number_in}
 use Rattle.pddl_task.specs.Types.{pairs, fits}
 use Rattle.pddl_task.specs.Faults.{is_misfit, some_misfit}
 use Rattle.pddl_task.specs.Tasks.{TaskValue, object_names}
 use Rattle.pddl_task.proofs.Lists.{none_left, none_right}
 use Rattle.pddl_link.proofs.ListTurns.{rest_is}
-use Rattle.pddl_plan_link.specs.LinkedSteps.{number_in}
 use Rattle.pddl_plan_link.specs.StepFaults.{naming}
 use Rattle.pddl_plan_link.specs.StepTables.{fits_number, some_unfit}
 use Rattle.pddl_plan_link.proofs.GivenObjects.{which}
-use Rattle.pddl_plan_link.proofs.Numbers.{found_at_number, is_found, number_is, is_placed}
+use Rattle.pddl_task.proofs.Numbers.{number_is, is_placed}
+use Rattle.pddl_plan_link.proofs.Numbers.{found_at_number, is_found}
 
 -- ---- names that are looked up
 

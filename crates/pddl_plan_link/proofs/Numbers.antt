@@ -4,9 +4,7 @@ use Rattle.std.specs.Prelude.{Option, Some, None, is_some, find, position}
 use Rattle.std.specs.Borrow.{Bor}
 use Rattle.std.specs.Map.{keys_of}
 use Rattle.std.specs.List.{slice_get, position_or_len}
-use Rattle.std.proofs.lemmas.Bool.Decides.{nat_tests}
-use Rattle.pddl_task.specs.Names.{Name, is_in}
-use Rattle.pddl_plan_link.specs.LinkedSteps.{number_in}
+use Rattle.pddl_task.specs.Names.{Name, is_in, number_in}
 
 -- ---- what stands at a name's number
 
@@ -31,35 +29,6 @@ pub is_found : {X : Type 0} (key : X → Name) (xs : List X) (n : Name) → is_i
 is_found key [] n = refl
 is_found key (x ∷ xs) n =
     ap (λ b. bytes_eq n (key x) || b) (is_found key xs n) ∙ sym (found_or (bytes_eq n (key x)) x (find (λ y. bytes_eq n (key y)) xs))
-
--- ---- the place of a name among names
-
-is_place : (b : Bool) (k i : ℕ) → Some i ≡ cond b (Some k) None → i ≡ k
-is_place true k i h = cc
-is_place false k i h = cc
-
--- the place is the number
-pub number_is : (names : List Name) (n : Name) (i : ℕ) → Some i ≡ position (bytes_eq n) names → i ≡ number_in names n
-number_is names n i at = is_place (nat_lt (number_in names n) (length names)) (number_in names n) i at
-
-one_before : (b : Bool) (k len : ℕ) (rest : Bool) → nat_lt k len ≡ rest → nat_lt (cond (not b) (1 + k) 0) (suc len) ≡ b || rest
-one_before true k len rest is = grind (arith, nat_tests)
-one_before false k len rest is = one_less k len ∙ is
-  where
-    one_less : (k len : ℕ) → nat_lt (1 + k) (suc len) ≡ nat_lt k len
-    one_less k len = grind (arith, nat_tests)
-
-before_end : (names : List Name) (n : Name) → nat_lt (number_in names n) (length names) ≡ is_in names n
-before_end [] n = refl
-before_end (m ∷ names) n = one_before (bytes_eq n m) (number_in names n) (length names) (is_in names n) (before_end names n)
-
-some_if : {X : Type 0} (b : Bool) (x : X) → is_some (cond b (Some x) None) ≡ b
-some_if true x = refl
-some_if false x = refl
-
--- there is one where the name is among them
-pub is_placed : (names : List Name) (n : Name) → is_some (position (bytes_eq n) names) ≡ is_in names n
-is_placed names n = some_if (nat_lt (number_in names n) (length names)) (number_in names n) ∙ before_end names n
 
 -- ---- names that are lent with something
 

@@ -3,6 +3,7 @@ use Rattle.std.proofs.Common.{◌≡◌, ◌<◌, ◌≤◌, ℕ, ◌+◌, List,
 use Rattle.std.specs.Prelude.{Option, Some, None, Result, Ok, Err, IfOk, IfSome, Vec}
 use Rattle.std.specs.List.{AllByRecursion}
 use Rattle.std.proofs.lemmas.List.{map_more, take_all, length-map, length-take-le, take-append-drop, map-append}
+use Rattle.pddl_task.specs.Names.{number_in}
 use Rattle.pddl_tree.specs.declared.plan.Step.{Step}
 use Rattle.pddl_tree.specs.declared.plan.TimedStep.{TimedStep}
 use Rattle.pddl_tree.specs.declared.plan.TimedSteps.{TimedSteps}
@@ -11,7 +12,7 @@ use Rattle.pddl_tree.specs.declared.plan.Plan.TheVariants.{Plain, Timed}
 use Rattle.pddl_tree.specs.Plans.{StepValue, PlanValue, plain, timed, step_view, timed_view, plan_view}
 use Rattle.pddl_task.specs.Tasks.{TaskValue, object_names}
 use Rattle.pddl_plan_link.specs.StepFaults.{action_names, step_faults, IsGoodStep, most_steps, steps_of, IsLinkedPlan, IsFirstFault, IsPlanFault}
-use Rattle.pddl_plan_link.specs.LinkedSteps.{number_in, LinkedStepValue, linked_step, linked_steps}
+use Rattle.pddl_plan_link.specs.LinkedSteps.{LinkedStepValue, linked_step, linked_steps}
 use Rattle.pddl_plan_link.specs.declared.fault.StepFault.{StepFault}
 use Rattle.pddl_plan_link.specs.StepVerdicts.{plan_fault_of, PlanVerdict}
 use Rattle.pddl_link.proofs.ListTurns.{rest_is}

@@ -50,6 +50,7 @@ task = record {
   objects = of_type (codes "a") (codes "place") ∷ of_type (codes "b") (codes "place") ∷ of_type (codes "t") (codes "truck") ∷ [];
   types = child (codes "place") (codes "object") ∷ child (codes "truck") (codes "object") ∷ [];
   predicates = [];
+  functions = record { name = codes "length"; parameters = of_type (codes "from") (codes "place") ∷ of_type (codes "to") (codes "place") ∷ [] } ∷ [];
   actions = drive ∷ wait ∷ survey ∷ [];
   costs = (record { name = codes "length"; objects = codes "a" ∷ codes "b" ∷ [] }, 3) ∷ [];
   initial = [];

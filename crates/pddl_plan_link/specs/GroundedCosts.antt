@@ -6,8 +6,8 @@ use Rattle.pddl_formula.specs.TypedLists.{typed_view}
 use Rattle.pddl_effect.specs.Effects.{FunctionTermValue}
 use Rattle.pddl_task.specs.Names.{Name}
 use Rattle.pddl_task.specs.Tasks.{TaskValue}
-use Rattle.pddl_task.specs.Known.{Valuation, giving}
-use Rattle.pddl_plan_link.specs.StepFaults.{grounded_call, has_cost}
+use Rattle.pddl_task.specs.Valuations.{Valuation, giving, grounded_call}
+use Rattle.pddl_plan_link.specs.StepFaults.{has_cost}
 
 -- words that are lent
 abbrev pub words_in : {C : _} → Vec (Bor (List ℕ)) C → List Name

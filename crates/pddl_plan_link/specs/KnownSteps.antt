@@ -4,7 +4,8 @@ use Rattle.pddl_tree.specs.Plans.{StepValue}
 use Rattle.pddl_domain.specs.Actions.{ActionValue}
 use Rattle.pddl_problem.specs.Inits.{GroundValue}
 use Rattle.pddl_task.specs.Tasks.{TaskValue, fitting_names}
-use Rattle.pddl_task.specs.Known.{giving, some_read, some_of, PassesNoneKnown}
+use Rattle.pddl_task.specs.Valuations.{giving}
+use Rattle.pddl_task.specs.Known.{some_read, some_of, PassesNoneKnown}
 use Rattle.pddl_plan_link.specs.StepFaults.{action_named}
 
 -- The step's action is known, and with the step's objects for its parameters every atom that its precondition and its effect speak of.

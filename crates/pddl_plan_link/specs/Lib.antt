@@ -5,4 +5,5 @@ pub mod GroundedCosts
 pub mod StepTables
 pub mod StepVerdicts
 pub mod KnownSteps
+pub mod LinkedLaws
 pub mod NumberedAtoms

@@ -1,14 +1,9 @@
 -- A plan's steps by numbers: what is left of a plan once it is linked.
-use Rattle.std.specs.Prelude.{◌≡◌, ℕ, List, map, Option, Some, None, bytes_eq}
-use Rattle.std.specs.List.{position_or_len}
+use Rattle.std.specs.Prelude.{◌≡◌, ℕ, List, map, Option, Some, None}
 use Rattle.pddl_tree.specs.Plans.{StepValue, TimedValue, PlanValue, plain, timed}
-use Rattle.pddl_task.specs.Names.{Name}
+use Rattle.pddl_task.specs.Names.{number_in}
 use Rattle.pddl_task.specs.Tasks.{TaskValue, object_names}
 use Rattle.pddl_plan_link.specs.StepFaults.{action_names, IsLinkedPlan}
-
--- the number of a name among names, from 0
-abbrev pub number_in : List Name → Name → ℕ
-number_in names n = position_or_len (bytes_eq n) names
 
 -- a step: the number of its action in the domain's order, those of its objects in the task's, and its moment in billionths, of which
 -- a step of a plain plan has none

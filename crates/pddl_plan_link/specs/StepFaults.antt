@@ -16,7 +16,7 @@ use Rattle.pddl_task.specs.Settings.{Setting}
 use Rattle.pddl_task.specs.Faults.{some_misfit, same_ground}
 use Rattle.pddl_task.specs.GroundSize.{largest_size, action_size}
 use Rattle.pddl_task.specs.Tasks.{TaskValue, object_names, task_count}
-use Rattle.pddl_task.specs.Known.{Valuation, object_at, giving}
+use Rattle.pddl_task.specs.Valuations.{giving, grounded_call}
 
 -- ---- what a step names
 
@@ -64,8 +64,7 @@ unfit_object task s = action_passes task s (λ a. some_misfit (naming task.types
 
 -- ---- 44 CostUndefined: the function term of one of its amounts has no value in `:init`
 
--- some function term that an effect adds to the cost passes a test. An increase under `when` or `forall` is a fault of the domain,
--- so there is none in a task.
+-- some function term that an effect adds to the cost, outside its `when`s and `forall`s, passes a test; those under them are not looked at
 abbrev pub some_amount : (FunctionTermValue → Bool) → AmountValue → Bool
 some_amount test (number n) = false
 some_amount test (function f) = test f
@@ -82,10 +81,6 @@ abbrev mutual
   pub some_increase_in : (FunctionTermValue → Bool) → EffectValues → Bool
   some_increase_in test no_effects = false
   some_increase_in test (effect e es) = some_increase test e || some_increase_in test es
-
--- the function of objects that a function term stands for
-abbrev pub grounded_call : Valuation → FunctionTermValue → GroundValue
-grounded_call v f = record { name = f.function; objects = map (object_at v) f.terms }
 
 -- a function of objects has a value in `:init`
 abbrev pub has_cost : TaskValue → GroundValue → Bool

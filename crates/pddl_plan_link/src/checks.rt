@@ -4,11 +4,10 @@ ghost use Rattle.std.specs.Prelude.{◌≡◌, true, map, not, IfOk, OnOk};
 ghost use Rattle.std.specs.List.{list_any};
 ghost use Rattle.pddl_formula.specs.TypedLists.{typed_view};
 ghost use Rattle.pddl_tree.specs.Plans.{step_view};
-ghost use Rattle.pddl_task.specs.Names.{is_in};
+ghost use Rattle.pddl_task.specs.Names.{is_in, number_in};
 ghost use Rattle.pddl_task.specs.Tasks.{object_names};
 ghost use Rattle.pddl_link.specs.LinkedTasks.{task_of_files};
 ghost use Rattle.pddl_plan_link.specs.StepFaults.{action_names, step_faults};
-ghost use Rattle.pddl_plan_link.specs.LinkedSteps.{number_in};
 ghost use Rattle.pddl_plan_link.specs.StepTables.{some_unfit, AreActionsOf};
 ghost use Rattle.pddl_plan_link.specs.StepVerdicts.{StepVerdict};
 

@@ -3,7 +3,7 @@
 ghost use Rattle.std.specs.Prelude.{◌≡◌, map, IfOk};
 ghost use Rattle.pddl_formula.specs.Terms.{term_view};
 ghost use Rattle.pddl_effect.specs.Effects.{function_term_view, effect_view, effects_of};
-ghost use Rattle.pddl_task.specs.Known.{object_of, object_at};
+ghost use Rattle.pddl_task.specs.Valuations.{object_of, object_at};
 ghost use Rattle.pddl_link.specs.LinkedTasks.{task_of_files};
 ghost use Rattle.pddl_plan_link.specs.StepFaults.{some_increase, some_increase_in};
 ghost use Rattle.pddl_plan_link.specs.GroundedCosts.{words_in, is_costless, given};

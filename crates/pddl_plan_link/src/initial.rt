@@ -1,13 +1,16 @@
 //! The atoms that hold at first.
 
 ghost use Rattle.std.specs.Prelude.{◌≡◌, true, map, IfOk};
+ghost use Rattle.pddl_domain.specs.Domains.{DomainValue};
 ghost use Rattle.pddl_problem.specs.Inits.{GroundValue, fact_view};
-ghost use Rattle.pddl_task.specs.Names.{is_in};
-ghost use Rattle.pddl_task.specs.Tasks.{TaskValue, predicate_names, object_names};
+ghost use Rattle.pddl_problem.specs.Problems.{ProblemValue};
+ghost use Rattle.pddl_state.specs.Atoms.{AtomValue};
+ghost use Rattle.pddl_task.specs.Names.{is_in, number_in};
+ghost use Rattle.pddl_task.specs.Linked.{IsLinked};
+ghost use Rattle.pddl_task.specs.Tasks.{TaskValue, task_of, predicate_names, object_names};
 ghost use Rattle.pddl_task.specs.Known.{is_known};
 ghost use Rattle.pddl_link.specs.LinkedTasks.{task_of_files};
-ghost use Rattle.pddl_plan_link.specs.LinkedSteps.{number_in};
-ghost use Rattle.pddl_plan_link.specs.NumberedAtoms.{numbered, initial_atoms, NamesAtom};
+ghost use Rattle.pddl_plan_link.specs.NumberedAtoms.{numbered, initial_atoms, named_atom, NamesAtom, IsInRange};
 
 use pddl_link::Task;
 use pddl_problem::{Fact, InitItem};
@@ -81,4 +84,15 @@ pub fn initial_atoms<'m, 'a, 'b, A: Allocator, B: Allocator, C: Allocator>(
 /// The numbers of an atom of which the task has all names name that atom, so no other such atom has them.
 pub fn numbers_name_atoms()
     ensures { (task : TaskValue) (g : GroundValue) → is_known task g ≡ true → NamesAtom task g (numbered task g) }
+{}
+
+/// A known atom's numbers are in range, and their names are its own.
+pub fn known_atoms_have_numbers()
+    ensures { (task : TaskValue) (g : GroundValue) → is_known task g ≡ true → IsInRange task (numbered task g) × (named_atom task (numbered task g) ≡ g) }
+{}
+
+/// In linked files an atom by numbers in range names one known atom, whose numbers they are: by the law before it no other.
+pub fn atoms_in_range_name_one()
+    ensures { (d : DomainValue) (p : ProblemValue) → IsLinked d p → (atom : AtomValue) → IsInRange (task_of d p) atom
+        → (is_known (task_of d p) (named_atom (task_of d p) atom) ≡ true) × (numbered (task_of d p) (named_atom (task_of d p) atom) ≡ atom) }
 {}

@@ -1,6 +1,6 @@
 //! Linked plans.
 
-ghost use Rattle.std.specs.Prelude.{◌≡◌, [], ◌∷◌, ◌++◌, length, slice_get, option_map, OnOk};
+ghost use Rattle.std.specs.Prelude.{◌≡◌, ◌<◌, [], ◌∷◌, ◌++◌, length, slice_get, Some, option_map, OnOk};
 ghost use Rattle.pddl_plan_link.specs.StepParts.{lent_step};
 
 use pddl_text::Fixed;
@@ -77,6 +77,19 @@ impl<'a, B: Allocator> Steps<'a, B> {
                 moment: part.moment,
             }),
             None => None,
+        }
+    }
+
+    /// The step of a number.
+    pub fn step(&self, number: usize) -> LinkedStep<'_>
+        requires { number < length self.now }
+        ensures { Some (lent_step result) ≡ slice_get self.now number }
+    {
+        let part = self.parts[number];
+        LinkedStep {
+            action: part.action,
+            objects: &self.objects[part.start..part.end],
+            moment: part.moment,
         }
     }
 

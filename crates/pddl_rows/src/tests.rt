@@ -78,7 +78,7 @@ fn reading(rt: HostRuntime) -> Result<(), Fail> {
 
 #[test]
 fn steps(rt: HostRuntime) -> Result<(), Fail> {
-    all_hold(&rt, rows::STEPS, 30)
+    all_hold(&rt, rows::STEPS, 33)
 }
 
 #[test]

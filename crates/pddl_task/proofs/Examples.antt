@@ -177,8 +177,8 @@ cost_of_five = refl
 object_fluent : of_domain (with_functions (function_to (codes "f") [] object ∷ []) []) ≡ Some (32, codes "f")
 object_fluent = refl
 
-conditional_cost : of_domain (with_functions (total ∷ []) (acts [] nothing (effects.universal (typed x object ∷ []) (increase (number 1000000000))) ∷ [])) ≡ Some (34, codes "n")
-conditional_cost = refl
+cost_under_quantifier : of_domain (with_functions (total ∷ []) (acts [] nothing (effects.universal (typed x object ∷ []) (increase (number 1000000000))) ∷ [])) ≡ None
+cost_under_quantifier = refl
 
 -- ---- a domain and a problem
 
@@ -296,7 +296,7 @@ failing_atom_not_declared = refl
 two_types_for_object : of_pair lamps (record two { objects = two.objects ++ record { item = c; of = lamp ∷ object ∷ [] } ∷ [] }) ≡ Some (25, c)
 two_types_for_object = refl
 
-cost_under_condition : of_pair (record lamps { actions = acts [] nothing (effects.conjunction (effects_of (conditional nothing (effects.conjunction (effects_of (increase (number 0) ∷ []))) ∷ []))) ∷ [] }) two ≡ Some (34, codes "n")
+cost_under_condition : of_pair (record lamps { actions = acts [] nothing (effects.conjunction (effects_of (conditional nothing (effects.conjunction (effects_of (increase (number 0) ∷ []))) ∷ []))) ∷ [] }) two ≡ None
 cost_under_condition = refl
 
 -- ---- ground sizes

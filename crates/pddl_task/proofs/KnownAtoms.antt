@@ -1,5 +1,5 @@
 -- Every atom that a linked step, goal or initial state speaks of is known to the task: no name in it is unknown (fault 26).
-use Rattle.std.proofs.Common.{◌≡◌, zero, suc, length, Bool, true, false, not, ◌&&◌, ◌||◌, cond, List, [], ◌∷◌, ◌++◌, map, refl, sym, ap, ◌∙◌, arith, bytes_eq, subst}
+use Rattle.std.proofs.Common.{◌≡◌, ℕ, zero, suc, length, Bool, true, false, not, ◌&&◌, ◌||◌, cond, List, [], ◌∷◌, ◌++◌, map, refl, sym, ap, ◌∙◌, arith, bytes_eq, subst}
 use Rattle.std.specs.Prelude.{Contains}
 use Rattle.std.specs.List.{list_all, flat_map, filter_map}
 use Rattle.pddl_formula.specs.Terms.{TermValue, AtomValue, name, variable}
@@ -12,12 +12,13 @@ use Rattle.pddl_problem.specs.Inits.{GroundValue, InitValue, holds, fails, value
 use Rattle.pddl_problem.specs.Problems.{ProblemValue}
 use Rattle.pddl_task.specs.Names.{Name, is_in, word_if, item_of, firsts}
 use Rattle.pddl_task.specs.Types.{pairs, fits, fitting}
-use Rattle.pddl_task.specs.Places.{Place, says, binds, at, binding, places_in, places_in_all, effect_places, effects_places, action_places, domain_places, problem_places, init_places, metric_places, ground_atom}
-use Rattle.pddl_task.specs.Settings.{Setting, symbol_of, in_domain, in_problem, objects_of}
+use Rattle.pddl_task.specs.Places.{Place, says, calls, counts, binds, at, binding, places_in, places_in_all, effect_places, effects_places, action_places, domain_places, problem_places, init_places, metric_places, ground_atom, ground_call}
+use Rattle.pddl_task.specs.Settings.{Setting, symbol_of, function_signatures, in_domain, in_problem, objects_of}
 use Rattle.pddl_task.specs.Faults.{unknown_at, unknown_term}
 use Rattle.pddl_task.specs.Linked.{IsLinked}
-use Rattle.pddl_task.specs.Tasks.{task_of, fact_in, fitting_names}
-use Rattle.pddl_task.specs.Known.{Valuation, object_of, object_at, grounded, giving, some_valuation, some_read, some_read_in, some_of, some_of_all, is_known, StepsAreKnown, GoalIsKnown, InitialIsKnown}
+use Rattle.pddl_task.specs.Tasks.{task_of, fact_in, cost_in, object_names, fitting_names}
+use Rattle.pddl_task.specs.Valuations.{Valuation, object_of, object_at, grounded, giving, some_valuation}
+use Rattle.pddl_task.specs.Known.{some_read, some_read_in, some_of, some_of_all, is_known, is_known_call, StepsAreKnown, GoalIsKnown, InitialIsKnown, CostsAreKnown}
 use Rattle.pddl_task.proofs.Lists.{and_left, and_right, and_both, or_right, or_none, none_of, same_bytes, is_in-append, is_in-firsts, no_word, nil_parts, flat_parts, flat_flat}
 
 -- ---- valuations
@@ -145,7 +146,7 @@ constants_are_objects d p n h =
     ∙ ap (λ ns. is_in ns n) (map-append-items d.constants p.objects)
     ∙ is_in-append (map item_of d.constants) (map item_of p.objects) n (sym (is_in-firsts d.constants n) ∙ h)
 
-fitting_are_objects : (d : DomainValue) (p : ProblemValue) (types : List Name) (o : Name) → Contains (fitting_names (task_of d p) types) o → is_in (map item_of (objects_of d p)) o ≡ true
+pub fitting_are_objects : (d : DomainValue) (p : ProblemValue) (types : List Name) (o : Name) → Contains (fitting_names (task_of d p) types) o → is_in (object_names (task_of d p)) o ≡ true
 fitting_are_objects d p types o c = fitting_is_in (pairs d.types) (objects_of d p) types o c
 
 -- ---- what is linked
@@ -205,3 +206,23 @@ facts_known d p (value f n ∷ is) h g c = facts_known d p is (flat_parts (unkno
 
 pub initial_is_known : (d : DomainValue) (p : ProblemValue) → IsLinked d p → InitialIsKnown (task_of d p)
 initial_is_known d p linked g c = facts_known d p p.init (problem_parts d p linked).0 g c
+
+cost_known : (d : DomainValue) (p : ProblemValue) (g : GroundValue) (n : ℕ) → flat_map (unknown_at (in_problem d p)) (init_places (value g n)) ≡ [] → is_known_call (task_of d p) g ≡ true
+cost_known d p g n h =
+    let s = in_problem d p in
+    let declared = is_in (map symbol_of (function_signatures d)) g.name in
+    let parts = nil_parts (word_if (not declared) g.name) (flat_map (unknown_term s []) (map name g.objects)) (one_place s (at [] (calls (ground_call g))) (at [] (counts g.name n) ∷ []) h).0 in
+    and_both declared (list_all (is_in (map item_of (objects_of d p))) g.objects) (no_word declared g.name parts.0) (names_known s g.objects parts.1)
+
+-- each cost is given in `:init`
+costs_known : (d : DomainValue) (p : ProblemValue) (is : List InitValue) → flat_map (unknown_at (in_problem d p)) (flat_map init_places is) ≡ [] → (g : GroundValue) (n : ℕ) → Contains (filter_map cost_in is) (g, n) → is_known_call (task_of d p) g ≡ true
+costs_known d p [] h g n c = absurd (omega (arith, c.1))
+costs_known d p (value f m ∷ is) h g n (zero, low, same) =
+    subst (λ (e : GroundValue × ℕ). is_known_call (task_of d p) e.0 ≡ true) same (cost_known d p f m (flat_parts (unknown_at (in_problem d p)) (init_places (value f m)) (flat_map init_places is) h).0)
+costs_known d p (value f m ∷ is) h g n (suc i, low, same) =
+    costs_known d p is (flat_parts (unknown_at (in_problem d p)) (init_places (value f m)) (flat_map init_places is) h).1 g n (i, omega arith, same)
+costs_known d p (holds f ∷ is) h g n c = costs_known d p is (flat_parts (unknown_at (in_problem d p)) (init_places (holds f)) (flat_map init_places is) h).1 g n c
+costs_known d p (fails f ∷ is) h g n c = costs_known d p is (flat_parts (unknown_at (in_problem d p)) (init_places (fails f)) (flat_map init_places is) h).1 g n c
+
+pub costs_are_known : (d : DomainValue) (p : ProblemValue) → IsLinked d p → CostsAreKnown (task_of d p)
+costs_are_known d p linked g n c = costs_known d p p.init (problem_parts d p linked).0 g n c

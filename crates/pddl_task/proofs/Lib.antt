@@ -4,6 +4,7 @@ pub mod TypeCycles
 pub mod LowestFault
 pub mod DistinctNames
 pub mod LinkedTasks
+pub mod Numbers
 pub mod InitialStates
 pub mod ObjectLists
 pub mod KnownAtoms

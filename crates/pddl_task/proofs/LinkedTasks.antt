@@ -116,4 +116,4 @@ costs_are_whole d p linked f n c =
 pub goal_is_within : (d : DomainValue) (p : ProblemValue) → IsLinked d p → formula_size (task_count (task_of d p)) p.goal ≤ largest_size
 goal_is_within d p linked =
     not_below largest_size (formula_size (task_count (task_of d p)) p.goal)
-    (word_none (nat_lt largest_size (formula_size (setting_count (in_problem d p)) p.goal)) [] linked.1.1.1.1.1.1.1.1.1.1.1.1.1.1.1.0)
+    (word_none (nat_lt largest_size (formula_size (setting_count (in_problem d p)) p.goal)) [] linked.1.1.1.1.1.1.1.1.1.1.1.1.1.1.0)

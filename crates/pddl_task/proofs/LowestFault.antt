@@ -118,7 +118,7 @@ domain_among d p =
     (more (flat_map (misfit_at s) (problem_places p)) refl refl
     (other
     (more (flat_map fraction_at (problem_places p)) refl refl
-    (other (equal (other (equal (other nothing)))))))))))))))
+    (other (equal (other (other nothing))))))))))))))
 
 -- a fault of the domain alone is one of the domain and any problem
 pub domain_fault_stands : (d : DomainValue) (p : ProblemValue) (n : ℕ) (w : Name) → Stands (domain_faults d) n w → Stands (faults d p) n w

@@ -1,4 +1,4 @@
--- The faults of linking, 20 to 35 (own). Each is the list of its words, one for each place where it stands, in the order of the
+-- The faults of linking, 20 to 33 and 35 (own). Each is the list of its words, one for each place where it stands, in the order of the
 -- canonical text, the domain before the problem; it does not stand where the list is empty. A fault without a word (33, 35) has
 -- the empty name there. A variable's word is its name without `?`.
 use Rattle.std.specs.Prelude.{ℕ, Bool, true, false, not, ◌&&◌, ◌||◌, ◌==◌, ◌%◌, nat_lt, List, [], ◌∷◌, ◌++◌, map, filter, find, length, Option, Some, None, bytes_eq}
@@ -229,37 +229,6 @@ object_fluents d = map (λ f. f.item.name) (filter (λ f. not (same_names f.of n
 abbrev pub other_metrics : Option MetricValue → List Name
 other_metrics None = []
 other_metrics (Some m) = word_if (not (is_taken m)) []
-
--- ---- 34 ConditionalCost: an increase under `when` or `forall`. The word is the action
-
-abbrev mutual
-  pub has_increase : EffectValue → Bool
-  has_increase (effects.conjunction es) = some_has_increase es
-  has_increase (effects.universal xs e) = has_increase e
-  has_increase (conditional f e) = has_increase e
-  has_increase (addition a) = false
-  has_increase (deletion a) = false
-  has_increase (increase a) = true
-
-  pub some_has_increase : EffectValues → Bool
-  some_has_increase no_effects = false
-  some_has_increase (effect e es) = has_increase e || some_has_increase es
-
-abbrev mutual
-  pub has_conditional_cost : EffectValue → Bool
-  has_conditional_cost (effects.conjunction es) = some_has_conditional_cost es
-  has_conditional_cost (effects.universal xs e) = has_increase e
-  has_conditional_cost (conditional f e) = has_increase e
-  has_conditional_cost (addition a) = false
-  has_conditional_cost (deletion a) = false
-  has_conditional_cost (increase a) = false
-
-  pub some_has_conditional_cost : EffectValues → Bool
-  some_has_conditional_cost no_effects = false
-  some_has_conditional_cost (effect e es) = has_conditional_cost e || some_has_conditional_cost es
-
-abbrev pub conditional_costs : DomainValue → List Name
-conditional_costs d = map (λ a. a.name) (filter (λ a. has_conditional_cost a.effect) d.actions)
 
 -- ---- 35 GoalTooLarge: the goal's ground size is over 1,000,000
 

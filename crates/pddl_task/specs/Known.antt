@@ -1,44 +1,14 @@
 -- The ground atoms that a step or a goal can speak of (own), and those that a task's tables know.
-use Rattle.std.specs.Prelude.{◌≡◌, Bool, true, false, ◌&&◌, ◌||◌, cond, List, [], ◌∷◌, map, length, bytes_eq, Contains}
-use Rattle.std.specs.List.{list_any, list_all}
-use Rattle.pddl_formula.specs.Terms.{TermValue, AtomValue, name, variable}
-use Rattle.pddl_formula.specs.TypedLists.{TypedValue}
+use Rattle.std.specs.Prelude.{◌≡◌, ℕ, Bool, true, false, ◌&&◌, ◌||◌, List, [], length, Contains}
+use Rattle.std.specs.List.{list_all}
 use Rattle.pddl_formula.specs.Formulas.{FormulaValue, FormulaValues, atom, equal, negation, implication, conjunction, disjunction, existential, universal, no_formulas, formula}
 use Rattle.pddl_effect.specs.Effects as effects
 use Rattle.pddl_effect.specs.Effects.{EffectValue, EffectValues, conditional, addition, deletion, increase, no_effects, effect}
 use Rattle.pddl_domain.specs.Actions.{ActionValue}
 use Rattle.pddl_problem.specs.Inits.{GroundValue}
 use Rattle.pddl_task.specs.Names.{Name, is_in}
-use Rattle.pddl_task.specs.Tasks.{TaskValue, object_names, predicate_names, fitting_names}
-
--- ---- valuations
-
--- pairs of a variable and an object; the first match counts
-abbrev pub Valuation : Type 0
-Valuation = List (Name × Name)
-
-abbrev pub object_of : Valuation → Name → Name
-object_of [] x = []
-object_of (e ∷ es) x = cond (bytes_eq x e.0) e.1 (object_of es x)
-
--- the object that a term stands for
-abbrev pub object_at : Valuation → TermValue → Name
-object_at v (name n) = n
-object_at v (variable x) = object_of v x
-
--- the ground atom that an atom stands for
-abbrev pub grounded : Valuation → AtomValue → GroundValue
-grounded v a = record { name = a.predicate; objects = map (object_at v) a.terms }
-
--- variables are given objects one after another, as an action's parameters are
-abbrev pub giving : List TypedValue → List Name → Valuation → Valuation
-giving (x ∷ xs) (o ∷ os) v = giving xs os ((x.item, o) ∷ v)
-giving _ _ v = v
-
--- some valuation that gives the variables fitting objects passes a test
-abbrev pub some_valuation : (List Name → List Name) → List TypedValue → (Valuation → Bool) → Valuation → Bool
-some_valuation fit [] test v = test v
-some_valuation fit (x ∷ xs) test v = list_any (λ o. some_valuation fit xs test ((x.item, o) ∷ v)) (fit x.of)
+use Rattle.pddl_task.specs.Valuations.{Valuation, grounded, giving, some_valuation}
+use Rattle.pddl_task.specs.Tasks.{TaskValue, object_names, predicate_names, function_names, fitting_names}
 
 -- ---- what is spoken of
 
@@ -79,6 +49,10 @@ abbrev mutual
 abbrev pub is_known : TaskValue → GroundValue → Bool
 is_known task g = is_in (predicate_names task) g.name && list_all (is_in (object_names task)) g.objects
 
+-- the task has the names of a function of objects
+abbrev pub is_known_call : TaskValue → GroundValue → Bool
+is_known_call task g = is_in (function_names task) g.name && list_all (is_in (object_names task)) g.objects
+
 -- a test that no known atom passes
 abbrev pub PassesNoneKnown : TaskValue → (GroundValue → Bool) → Type 0
 PassesNoneKnown task test = (g : GroundValue) → is_known task g ≡ true → test g ≡ false
@@ -98,3 +72,7 @@ GoalIsKnown task = (test : GroundValue → Bool) → PassesNoneKnown task test �
 -- Every atom that holds at first is known.
 abbrev pub InitialIsKnown : TaskValue → Type 0
 InitialIsKnown task = (g : GroundValue) → Contains task.initial g → is_known task g ≡ true
+
+-- Every function of objects that `:init` gives a cost is known.
+abbrev pub CostsAreKnown : TaskValue → Type 0
+CostsAreKnown task = (g : GroundValue) (n : ℕ) → Contains task.costs (g, n) → is_known_call task g ≡ true

@@ -5,5 +5,6 @@ pub mod Settings
 pub mod GroundSize
 pub mod Faults
 pub mod Linked
+pub mod Valuations
 pub mod Tasks
 pub mod Known

@@ -6,7 +6,7 @@ use Rattle.pddl_problem.specs.Problems.{ProblemValue}
 use Rattle.pddl_task.specs.Names.{Name}
 use Rattle.pddl_task.specs.Places.{domain_places, problem_places}
 use Rattle.pddl_task.specs.Settings.{in_domain, in_problem}
-use Rattle.pddl_task.specs.Faults.{domain_names, types_twice, type_cycles, unknown_types, domain_typed, problem_typed, domain_repeats, problem_repeats, object_types, unknown_at, arity_at, misfit_at, contradictions, fraction_at, cost_values, object_fluents, other_metrics, conditional_costs, large_goals}
+use Rattle.pddl_task.specs.Faults.{domain_names, types_twice, type_cycles, unknown_types, domain_typed, problem_typed, domain_repeats, problem_repeats, object_types, unknown_at, arity_at, misfit_at, contradictions, fraction_at, cost_values, object_fluents, other_metrics, large_goals}
 
 -- a fault: its number and its words, one for each place where it stands
 pub record Fault : Type 0 where
@@ -28,8 +28,7 @@ domain_faults d =
     fault 27 (flat_map (arity_at (in_domain d)) (domain_places d)) ∷
     fault 28 (flat_map (misfit_at (in_domain d)) (domain_places d)) ∷
     fault 30 (flat_map fraction_at (domain_places d)) ∷
-    fault 32 (object_fluents d) ∷
-    fault 34 (conditional_costs d) ∷ []
+    fault 32 (object_fluents d) ∷ []
 
 -- the faults that a domain and a problem can have, those of the domain alone among them
 abbrev pub faults : DomainValue → ProblemValue → List Fault
@@ -48,7 +47,6 @@ faults d p =
     fault 31 (cost_values p) ∷
     fault 32 (object_fluents d) ∷
     fault 33 (other_metrics p.metric) ∷
-    fault 34 (conditional_costs d) ∷
     fault 35 (large_goals d p) ∷ []
 
 -- none of the faults stands

@@ -1,6 +1,6 @@
 -- Names in lists.
 use Rattle.std.specs.Prelude.{ℕ, Bool, not, cond, List, [], ◌∷◌, ◌++◌, filter, bytes_eq}
-use Rattle.std.specs.List.{list_any}
+use Rattle.std.specs.List.{list_any, position_or_len}
 use Rattle.std.specs.Cmp.Lexicographic.{pointwise}
 use Rattle.pddl_formula.specs.TypedLists.{WithType, TypedValue}
 
@@ -11,6 +11,10 @@ Name = List ℕ
 -- the name is one of these
 abbrev pub is_in : List Name → Name → Bool
 is_in names n = list_any (bytes_eq n) names
+
+-- the number of a name among names, from 0; as many as there are where it is none of them
+abbrev pub number_in : List Name → Name → ℕ
+number_in names n = position_or_len (bytes_eq n) names
 
 -- the same names, in the same order
 abbrev pub same_names : List Name → List Name → Bool

@@ -13,10 +13,10 @@ pub use fault_laws::{
     none_is_lowest, one_lowest,
 };
 pub use task_laws::{
-    actions_stand_once, costs_are_single, costs_are_whole, functions_stand_once, goal_is_known,
-    goal_is_within, initial_is_known, listings_are_objects, no_fact_fails, objects_have_one_type,
-    objects_stand_once, predicates_stand_once, steps_are_known, total_starts_at_zero,
-    types_are_known,
+    actions_stand_once, costs_are_known, costs_are_single, costs_are_whole, fitting_are_objects,
+    fitting_numbers_are, functions_stand_once, goal_is_known, goal_is_within, initial_is_known,
+    listings_are_objects, no_fact_fails, objects_have_one_type, objects_stand_once,
+    predicates_stand_once, steps_are_known, total_starts_at_zero, types_are_known,
 };
 pub use type_laws::{
     cycles_are_faults, fits_decides, fitting_decides, is_cyclic_decides, is_subtype_decides,

@@ -6,15 +6,15 @@ ghost use Rattle.pddl_formula.specs.TypedLists.{TypedValue};
 ghost use Rattle.pddl_domain.specs.Domains.{DomainValue};
 ghost use Rattle.pddl_problem.specs.Inits.{GroundValue, holds, fails, value};
 ghost use Rattle.pddl_problem.specs.Problems.{ProblemValue};
-ghost use Rattle.pddl_task.specs.Names.{Name, is_in};
+ghost use Rattle.pddl_task.specs.Names.{Name, is_in, number_in};
 ghost use Rattle.pddl_task.specs.Types.{types_of};
 ghost use Rattle.pddl_task.specs.Places.{total_cost};
 ghost use Rattle.pddl_task.specs.Settings.{symbol_of, function_signatures, objects_of};
 ghost use Rattle.pddl_task.specs.GroundSize.{largest_size, formula_size};
 ghost use Rattle.pddl_task.specs.Faults.{domain_typed, problem_typed, billion};
 ghost use Rattle.pddl_task.specs.Linked.{IsLinked, IsGood};
-ghost use Rattle.pddl_task.specs.Tasks.{task_of, task_count, object_names};
-ghost use Rattle.pddl_task.specs.Known.{StepsAreKnown, GoalIsKnown, InitialIsKnown};
+ghost use Rattle.pddl_task.specs.Tasks.{TaskValue, task_of, task_count, object_names, fitting_names, fitting_numbers};
+ghost use Rattle.pddl_task.specs.Known.{StepsAreKnown, GoalIsKnown, InitialIsKnown, CostsAreKnown};
 
 /// In linked files every atom that a step reads, adds or deletes, whatever holds, is known to the task.
 pub fn steps_are_known()
@@ -29,6 +29,23 @@ pub fn goal_is_known()
 /// So is every atom that holds at first.
 pub fn initial_is_known()
     ensures { (d : DomainValue) (p : ProblemValue) → IsLinked d p → InitialIsKnown (task_of d p) }
+{}
+
+/// So is every function of objects that `:init` gives a cost.
+pub fn costs_are_known()
+    ensures { (d : DomainValue) (p : ProblemValue) → IsLinked d p → CostsAreKnown (task_of d p) }
+{}
+
+/// What fits a type is an object of the task.
+pub fn fitting_are_objects()
+    ensures { (d : DomainValue) (p : ProblemValue) (types : List Name) (o : Name)
+        → Contains (fitting_names (task_of d p) types) o → is_in (object_names (task_of d p)) o ≡ true }
+{}
+
+/// Where no two objects have one name, the numbers of the objects that fit a type are those of their names.
+pub fn fitting_numbers_are()
+    ensures { (task : TaskValue) → IsDistinct bytes_eq (object_names task) → (types : List Name)
+        → fitting_numbers task types ≡ map (number_in (object_names task)) (fitting_names task types) }
 {}
 
 /// No two objects of a task have one name.

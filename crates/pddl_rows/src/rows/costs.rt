@@ -56,46 +56,46 @@ refused problem
 
 row costs 7
 file (define (domain d) (:functions (total-cost)) (:action n :effect (forall (?x) (increase total-cost 1))))
-| link: fault 34 ConditionalCost n
-refused domain
+| good: domain d
+good domain
 copy bare
 file
-| link: fault 34 ConditionalCost n
-refused problem
+| good: problem p
+good problem
 
 row costs 8
 file (define (domain d) (:functions (total-cost)) (:action n :effect (forall () (increase total-cost 1))))
-| link: fault 34 ConditionalCost n
-refused domain
+| good: domain d
+good domain
 copy bare
 file
-| link: fault 34 ConditionalCost n
-refused problem
+| good: problem p
+good problem
 
 row costs 9
 file (define (domain d) (:functions (total-cost)) (:action n :effect (when (and) (increase total-cost 1))))
-| link: fault 34 ConditionalCost n
-refused domain
+| good: domain d
+good domain
 copy bare
 file
-| link: fault 34 ConditionalCost n
-refused problem
+| good: problem p
+good problem
 
 row costs 10
 file (define (domain d) (:functions (total-cost)) (:action n :effect (and (when (and) (and (increase total-cost 1))))))
-| link: fault 34 ConditionalCost n
-refused domain
+| good: domain d
+good domain
 copy bare
 file
-| link: fault 34 ConditionalCost n
-refused problem
+| good: problem p
+good problem
 
 row costs 11
 file (define (domain d) (:functions (total-cost)) (:action m :effect (increase total-cost 1)) (:action n :effect (forall (?x) (when (and) (increase total-cost 1)))))
-| link: fault 34 ConditionalCost n
-refused domain
+| good: domain d
+good domain
 copy bare
 file
-| link: fault 34 ConditionalCost n
-refused problem
+| good: problem p
+good problem
 ";

@@ -219,6 +219,38 @@ file (check a)(light b)(light a)(light a)
 | fault 44 step 2
 refused list steps
 
+row a cost under a quantifier and a condition
+copy lamps
+change (not (on ?x))))) => (and (not (on ?x)) (increase (total-cost) (price ?x))))))
+file
+copy two
+file
+file (light a)(light b)(dark)
+| 0 0
+| 0 1
+| 2
+good list steps
+
+row a cost for each two objects
+copy lamps
+change (forall (?x - lamp) (when (on ?x) (not (on ?x)))) => (forall (?x ?y - lamp) (increase (total-cost) 1))
+file
+copy two
+file
+file (light a)(dark)
+| 0 0
+| 2
+good list steps
+
+row a cost under a condition
+file (define (domain v) (:predicates (p)) (:functions (total-cost)) (:action pay :effect (when (p) (increase (total-cost) 5))) (:action drop :effect (not (p))))
+file (define (problem v1) (:domain v) (:init (p)) (:goal (and)))
+file (pay)(drop)(pay)
+| 0
+| 1
+| 0
+good list steps
+
 row timed steps
 copy lamps
 file

@@ -7,12 +7,7 @@ use Rattle.pddl_link.proofs.check.check_costs.Goals as goal
 pub returns-in_err-search_domain : goal.returns-in_err-search_domain
 returns-in_err-search_domain g c =
     let p = err_from_is_err_and c.from_residual.result c.from_residual.ensures.1 in
-    rw (p.1, p.2) (found_at [] 30 _ _ c.in_err-search_domain.field-0.0 tt (omega arith, (omega arith, tt)) c.in_err-search_domain.ensures)
-
-pub returns-in_err-object_fluents : goal.returns-in_err-object_fluents
-returns-in_err-object_fluents g c =
-    let p = err_from_is_err_and c.from_residual-in_err-object_fluents.result c.from_residual-in_err-object_fluents.ensures.1 in
-    rw (p.1, p.2) (found_at (fault 30 _ ∷ []) 32 _ _ c.in_err-object_fluents.field-0.0 (c.in_ok-search_domain.ensures, tt) (omega arith, tt) c.in_err-object_fluents.ensures)
+    rw (p.1, p.2) (found_at [] 30 _ _ c.in_err-search_domain.field-0.0 tt (omega arith, tt) c.in_err-search_domain.ensures)
 
 pub returns : goal.returns
-returns g c = decided_last (fault 30 _ ∷ fault 32 _ ∷ []) 34 _ c.conditional_costs.result (c.in_ok-search_domain.ensures, (c.in_ok-object_fluents.ensures, tt)) c.conditional_costs.ensures
+returns g c = decided_last (fault 30 _ ∷ []) 32 _ c.object_fluents.result (c.in_ok-search_domain.ensures, tt) c.object_fluents.ensures

@@ -16,7 +16,7 @@ pub returns-in_err-constants-clause-verdict : goal.returns-in_err-constants-clau
 returns-in_err-constants-clause-verdict g c =
     let p = err_from_is_err_and c.from_residual.result c.from_residual.ensures.1 in
     let e = c.in_err-constants.field-0.0 in
-    rw (p.1, p.2) (found_at (domain_type_faults (domain_view c.args.domain.now)) 24 _ _ e c.requires (omega arith, (omega arith, (omega arith, (omega arith, (omega arith, (omega arith, (omega arith, tt))))))) c.in_err-constants.ensures.passes)
+    rw (p.1, p.2) (found_at (domain_type_faults (domain_view c.args.domain.now)) 24 _ _ e c.requires (omega arith, (omega arith, (omega arith, (omega arith, (omega arith, (omega arith, tt)))))) c.in_err-constants.ensures.passes)
 
 pub returns-clause-constants : goal.returns-clause-constants
 returns-clause-constants g c =
@@ -27,4 +27,4 @@ returns-clause-verdict g c =
     let d = domain_view c.args.domain.now in
     let single = subst (λ ts. Passes {T = Unit {0}} 25 (object_types (map typed_view ts)) c.object_types.result) c.deref.ensures.value c.object_types.ensures in
     rw c.and.ensures (settled_with (domain_name_faults d) (domain_faults d) c.object_types.result c.in_ok-constants.constants
-    (settled_part (domain_type_faults d) (fault 24 (domain_repeats d) ∷ []) 25 _ _ c.object_types.result c.requires (c.in_ok-constants.ensures.passes, tt) (omega arith, (omega arith, (omega arith, (omega arith, (omega arith, (omega arith, tt)))))) single))
+    (settled_part (domain_type_faults d) (fault 24 (domain_repeats d) ∷ []) 25 _ _ c.object_types.result c.requires (c.in_ok-constants.ensures.passes, tt) (omega arith, (omega arith, (omega arith, (omega arith, (omega arith, tt))))) single))

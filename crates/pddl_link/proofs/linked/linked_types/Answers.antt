@@ -19,14 +19,14 @@ pub returns-in_err-domain_name-clause-verdict : goal.returns-in_err-domain_name-
 returns-in_err-domain_name-clause-verdict g c =
     let p = err_from_is_err_and c.from_residual.result c.from_residual.ensures.1 in
     let e = c.in_err-domain_name.field-0.0 in
-    rw (p.1, p.2) (found_at [] 20 _ _ e tt (omega arith, (omega arith, (omega arith, (omega arith, (omega arith, (omega arith, (omega arith, (omega arith, (omega arith, (omega arith, (omega arith, (omega arith, (omega arith, (omega arith, (omega arith, tt))))))))))))))) c.in_err-domain_name.ensures)
+    rw (p.1, p.2) (found_at [] 20 _ _ e tt (omega arith, (omega arith, (omega arith, (omega arith, (omega arith, (omega arith, (omega arith, (omega arith, (omega arith, (omega arith, (omega arith, (omega arith, (omega arith, (omega arith, tt)))))))))))))) c.in_err-domain_name.ensures)
 
 pub returns-in_err-type_twice-clause-verdict : goal.returns-in_err-type_twice-clause-verdict
 returns-in_err-type_twice-clause-verdict g c =
     let p = err_from_is_err_and c.from_residual-in_err-type_twice.result c.from_residual-in_err-type_twice.ensures.1 in
     let e = c.in_err-type_twice.field-0.0 in
     let none-20 = c.in_ok-domain_name.ensures in
-    rw (p.1, p.2) (found_at (fault 20 _ ∷ []) 21 _ _ e (none-20, tt) (omega arith, (omega arith, (omega arith, (omega arith, (omega arith, (omega arith, (omega arith, (omega arith, (omega arith, (omega arith, (omega arith, (omega arith, (omega arith, (omega arith, tt)))))))))))))) c.in_err-type_twice.ensures)
+    rw (p.1, p.2) (found_at (fault 20 _ ∷ []) 21 _ _ e (none-20, tt) (omega arith, (omega arith, (omega arith, (omega arith, (omega arith, (omega arith, (omega arith, (omega arith, (omega arith, (omega arith, (omega arith, (omega arith, (omega arith, tt))))))))))))) c.in_err-type_twice.ensures)
 
 pub returns-in_err-cycle-clause-verdict : goal.returns-in_err-cycle-clause-verdict
 returns-in_err-cycle-clause-verdict g c =
@@ -35,7 +35,7 @@ returns-in_err-cycle-clause-verdict g c =
     let told = c.in_ok-types.ensures ∙ ap (map type_view) c.deref.ensures.value in
     let none-20 = c.in_ok-domain_name.ensures in
     let none-21 = c.in_ok-type_twice.ensures in
-    rw (p.1, p.2) (found_at (fault 20 _ ∷ fault 21 _ ∷ []) 22 _ _ e (none-20, (none-21, tt)) (omega arith, (omega arith, (omega arith, (omega arith, (omega arith, (omega arith, (omega arith, (omega arith, (omega arith, (omega arith, (omega arith, (omega arith, (omega arith, tt))))))))))))) (subst (λ ts. Passes {T = Unit {0}} 22 (first_alone (filter (is_cyclic (pairs ts)) (map item_of ts))) (Err e)) told c.in_err-cycle.ensures))
+    rw (p.1, p.2) (found_at (fault 20 _ ∷ fault 21 _ ∷ []) 22 _ _ e (none-20, (none-21, tt)) (omega arith, (omega arith, (omega arith, (omega arith, (omega arith, (omega arith, (omega arith, (omega arith, (omega arith, (omega arith, (omega arith, (omega arith, tt)))))))))))) (subst (λ ts. Passes {T = Unit {0}} 22 (first_alone (filter (is_cyclic (pairs ts)) (map item_of ts))) (Err e)) told c.in_err-cycle.ensures))
 
 pub returns-in_err-types_known-clause-verdict : goal.returns-in_err-types_known-clause-verdict
 returns-in_err-types_known-clause-verdict g c =
@@ -45,7 +45,7 @@ returns-in_err-types_known-clause-verdict g c =
     let none-20 = c.in_ok-domain_name.ensures in
     let none-21 = c.in_ok-type_twice.ensures in
     let none-22 = subst (λ ts. first_alone (filter (is_cyclic (pairs ts)) (map item_of ts)) ≡ []) told c.in_ok-cycle.ensures in
-    rw (p.1, p.2) (found_at (fault 20 _ ∷ fault 21 _ ∷ fault 22 _ ∷ []) 23 _ _ e (none-20, (none-21, (none-22, tt))) (omega arith, (omega arith, (omega arith, (omega arith, (omega arith, (omega arith, (omega arith, (omega arith, (omega arith, (omega arith, (omega arith, (omega arith, tt)))))))))))) (subst (λ ts. Passes {T = Unit {0}} 23 (unknown_among ts (domain_typed (domain_view c.args.domain.now)) ++ unknown_among ts (problem_typed (problem_view c.args.problem.now))) (Err e)) told c.in_err-types_known.ensures))
+    rw (p.1, p.2) (found_at (fault 20 _ ∷ fault 21 _ ∷ fault 22 _ ∷ []) 23 _ _ e (none-20, (none-21, (none-22, tt))) (omega arith, (omega arith, (omega arith, (omega arith, (omega arith, (omega arith, (omega arith, (omega arith, (omega arith, (omega arith, (omega arith, tt))))))))))) (subst (λ ts. Passes {T = Unit {0}} 23 (unknown_among ts (domain_typed (domain_view c.args.domain.now)) ++ unknown_among ts (problem_typed (problem_view c.args.problem.now))) (Err e)) told c.in_err-types_known.ensures))
 
 pub returns-clause-types : goal.returns-clause-types
 returns-clause-types g c = c.in_ok-types.ensures ∙ ap (map type_view) c.deref.ensures.value

@@ -1,5 +1,5 @@
 use Rattle.std.proofs.Common.{refl, sym, ◌∙◌}
-use Rattle.pddl_link.proofs.SomeEffects.{holds_at, fails_at}
+use Rattle.pddl_plan_link.proofs.SomeEffects.{holds_at, fails_at}
 use Rattle.pddl_link.specs.LinkedTasks.{task_of_files}
 use Rattle.pddl_plan_link.specs.StepFaults.{some_increase, some_increase_in}
 use Rattle.pddl_plan_link.specs.GroundedCosts.{is_costless, given}

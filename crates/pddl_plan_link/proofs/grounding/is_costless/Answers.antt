@@ -2,7 +2,7 @@ use Rattle.std.proofs.Common.{◌∙◌, ap, map, List}
 use Rattle.std.specs.Borrow.{Bor}
 use Rattle.pddl_formula.specs.Terms.{term_view}
 use Rattle.pddl_effect.specs.Effects.{function_term_view}
-use Rattle.pddl_task.specs.Known.{object_at}
+use Rattle.pddl_task.specs.Valuations.{object_at}
 use Rattle.pddl_link.specs.LinkedTasks.{task_of_files}
 use Rattle.pddl_plan_link.specs.GroundedCosts.{given}
 use Rattle.pddl_plan_link.proofs.GivenCosts.{costless_is}

@@ -1,5 +1,5 @@
 use Rattle.pddl_formula.specs.Terms.{term_view}
-use Rattle.pddl_task.specs.Known.{object_at}
+use Rattle.pddl_task.specs.Valuations.{object_at}
 use Rattle.pddl_plan_link.specs.GroundedCosts.{given}
 use Rattle.pddl_plan_link.proofs.GivenCosts.{one_word, all_words}
 use Rattle.pddl_plan_link.proofs.grounding.objects_at.Goals as goal

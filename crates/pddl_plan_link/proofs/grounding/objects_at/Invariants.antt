@@ -1,6 +1,6 @@
 use Rattle.std.proofs.Common.{◌≡◌, map, take}
 use Rattle.pddl_formula.specs.Terms.{term_view}
-use Rattle.pddl_task.specs.Known.{object_at}
+use Rattle.pddl_task.specs.Valuations.{object_at}
 use Rattle.pddl_plan_link.specs.GroundedCosts.{words_in, given}
 use Rattle.pddl_plan_link.proofs.grounding.objects_at.Given as goal
 

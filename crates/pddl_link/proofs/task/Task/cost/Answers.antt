@@ -1,7 +1,7 @@
 use Rattle.std.proofs.Common.{sym, ap, ◌∙◌, Some, None}
 use Rattle.std.specs.Option.{option_copied}
 use Rattle.pddl_problem.specs.Problems.{problem_view}
-use Rattle.pddl_link.specs.TaskTables.{cost_of}
+use Rattle.pddl_task.specs.Tasks.{cost_of}
 use Rattle.pddl_link.specs.LinkedTasks.{task_of_files}
 use Rattle.pddl_link.proofs.CostValues.{cost_found}
 use Rattle.pddl_link.proofs.task.Task.cost.Goals as goal

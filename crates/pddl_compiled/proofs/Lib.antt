@@ -1,0 +1,7 @@
+pub mod Binders
+pub mod Rows
+pub mod Quantifiers
+pub mod Numbers
+pub mod Same
+pub mod Parameters
+pub mod Examples

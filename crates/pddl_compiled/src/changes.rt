@@ -1,0 +1,158 @@
+//! Changes of effects.
+
+ghost use Rattle.std.specs.Prelude.{◌≡◌, ℕ, List, map, ◌++◌, IfOk, OnOk};
+ghost use Rattle.pddl_formula.specs.TypedLists.{typed_view};
+ghost use Rattle.pddl_effect.specs.Effects.{amount_view, effect_view};
+ghost use Rattle.pddl_compiled.specs.Compiled as value;
+ghost use Rattle.pddl_compiled.specs.Compiler.{wrapped, nested, increase_of, change_of};
+ghost use Rattle.pddl_compiled.specs.Views.{change_view};
+ghost use Rattle.pddl_compiled.specs.Scopes.{scope_view, range_items};
+
+use crate::binder::bind;
+use crate::boxes::{Quantified, both_boxed, if_made, with_ranges};
+use crate::compiled::Change;
+use crate::conditions::compile_condition;
+use crate::lookups::Lookups;
+use crate::scope::Scope;
+use crate::terms::places_of;
+use pddl_effect::{Amount, Effect};
+use pddl_formula::Typed;
+use std::alloc::{AllocError, Allocator};
+
+/// A change for each of the objects of ranges, the outermost first.
+///
+/// Fails where memory for it is refused.
+fn for_each<'b, B: Allocator>(
+    alloc: &'b B,
+    mut ranges: Vec<Vec<usize, &'b B>, &'b B>,
+    inner: Change<&'b B>,
+) -> Result<Change<&'b B>, AllocError>
+    ensures { IfOk result (λ c. change_view c ≡ wrapped value.each (map range_items ranges.entry.items) (change_view inner.entry)) }
+{
+    let mut change = inner;
+    while let Some(range) = ranges.pop() {
+        change = Change::Forall(range, Box::new(alloc, change)?);
+    }
+    Ok(change)
+}
+
+/// The change of an increase.
+///
+/// Fails where memory for it is refused.
+fn increase_of<'f, 'b, A: Allocator, B: Allocator, L: Lookups<A, B>>(
+    alloc: &'b B,
+    lookups: &L,
+    amount: &'f Amount<A>,
+    scope: &'f Scope<'f>,
+) -> Result<Change<&'b B>, AllocError>
+    ensures { IfOk result (λ c. change_view c ≡ increase_of (L.tables lookups.now) (amount_view amount.now) (scope_view scope.now)) }
+{
+    match amount {
+        Amount::Number(number) => Ok(Change::IncreaseBy(number.billionths() / 1_000_000_000)),
+        Amount::Function(call) => {
+            let function = lookups.function_number(call.function.as_bytes());
+            let places = places_of(alloc, lookups, &*scope, &call.terms)?;
+            Ok(Change::Increase(function, places))
+        }
+    }
+}
+
+/// The change of an effect, in scope of variables.
+///
+/// Fails where memory for it is refused.
+#[cycle(changes)]
+pub fn compile_change<'f, 'b, A: Allocator, B: Allocator, L: Lookups<A, B>>(
+    alloc: &'b B,
+    lookups: &L,
+    effect: &'f Effect<A>,
+    scope: &'f Scope<'f>,
+) -> Result<Change<&'b B>, AllocError>
+    ensures { IfOk result (λ c. change_view c ≡ change_of (L.tables lookups.now) (effect_view effect.now) (scope_view scope.now)) }
+{
+    match effect {
+        Effect::And(parts) => {
+            let parts = compile_changes(alloc, lookups, parts, &*scope)?;
+            Ok(Change::And(parts))
+        }
+        Effect::Forall(variables, inner) => {
+            let quantified = compile_quantified(alloc, lookups, variables, inner, &*scope)?;
+            for_each(alloc, quantified.ranges, quantified.inner)
+        }
+        Effect::When(condition, inner) => {
+            let condition = compile_condition(alloc, lookups, condition, &*scope);
+            let inner = compile_change(alloc, lookups, inner, &*scope);
+            let (condition, inner) = both_boxed(alloc, condition, inner)?;
+            Ok(Change::When(condition, inner))
+        }
+        Effect::Add(atom) => {
+            let predicate = lookups.predicate_number(atom.predicate.as_bytes());
+            let places = places_of(alloc, lookups, &*scope, &atom.terms)?;
+            Ok(Change::Add(predicate, places))
+        }
+        Effect::Del(atom) => {
+            let predicate = lookups.predicate_number(atom.predicate.as_bytes());
+            let places = places_of(alloc, lookups, &*scope, &atom.terms)?;
+            Ok(Change::Del(predicate, places))
+        }
+        Effect::Increase(amount) => Ok(increase_of(alloc, lookups, amount, &*scope)?),
+    }
+}
+
+/// The ranges of a quantifier, and the change inside them. Behind a variable that ranges over no object nothing is compiled.
+///
+/// Fails where memory for them is refused.
+#[cycle(changes)]
+fn compile_quantified<'f, 'b, A: Allocator, B: Allocator, L: Lookups<A, B>>(
+    alloc: &'b B,
+    lookups: &L,
+    variables: &'f Vec<Typed<A>, A>,
+    inner: &'f Effect<A>,
+    scope: &'f Scope<'f>,
+) -> Result<Quantified<'b, Change<&'b B>, B>, AllocError>
+    ensures { IfOk result (λ q. (node : List ℕ → value.ChangeValue → value.ChangeValue) → wrapped node (map range_items q.ranges.items) (change_view q.inner)
+        ≡ nested node (value.both value.no_changes) (L.tables lookups.now) (map typed_view variables.now.items) (change_of (L.tables lookups.now) (effect_view inner.now)) (scope_view scope.now)) }
+{
+    let binder = bind(alloc, lookups, variables)?;
+    if binder.closed {
+        return with_ranges(binder.ranges, Ok(Change::And(Vec::new(alloc))));
+    }
+    let inside = Scope::Inside(&binder.slots, &*scope);
+    let inner = compile_change(alloc, lookups, inner, &inside);
+    with_ranges(binder.ranges, inner)
+}
+
+/// The changes of effects.
+///
+/// Fails where memory for them is refused.
+#[cycle(changes)]
+fn compile_changes<'f, 'b, A: Allocator, B: Allocator, L: Lookups<A, B>>(
+    alloc: &'b B,
+    lookups: &L,
+    effects: &'f Vec<Effect<A>, A>,
+    scope: &'f Scope<'f>,
+) -> Result<Vec<Change<&'b B>, &'b B>, AllocError>
+    ensures { IfOk result (λ cs. map change_view cs.items ≡ map (λ e. change_of (L.tables lookups.now) (effect_view e) (scope_view scope.now)) effects.now.items) }
+{
+    let mut changes = Vec::new(alloc);
+    let made = add_changes(alloc, lookups, effects, &*scope, &mut changes);
+    if_made(changes, made)
+}
+
+/// Puts the changes of effects behind others.
+///
+/// Fails where memory for them is refused.
+#[cycle(changes)]
+fn add_changes<'f, 'b, A: Allocator, B: Allocator, L: Lookups<A, B>>(
+    alloc: &'b B,
+    lookups: &L,
+    effects: &'f Vec<Effect<A>, A>,
+    scope: &'f Scope<'f>,
+    changes: &mut Vec<Change<&'b B>, &'b B>,
+) -> Result<(), AllocError>
+    ensures { OnOk result (map change_view changes.new.items ≡ map change_view changes.old.items ++ map (λ e. change_of (L.tables lookups.now) (effect_view e) (scope_view scope.now)) effects.now.items) }
+{
+    for effect in effects {
+        changes.push(compile_change(alloc, lookups, effect, &*scope)?)?;
+    }
+    Ok(())
+}

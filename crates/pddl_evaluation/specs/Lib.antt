@@ -1,0 +1,3 @@
+pub mod Reads
+pub mod Fires
+pub mod Costs

@@ -1,7 +1,0 @@
-use Rattle.std.proofs.Common.{◌≡◌, drop, map}
-use Rattle.pddl_effect.specs.Effects.{effect_view, effects_of}
-use Rattle.pddl_task.specs.Faults.{some_has_conditional_cost}
-use Rattle.pddl_link.proofs.effect_costs.+conditional_costs.Given as goal
-
-abbrev pub invariant-some_has_conditional_cost-loop-effect : goal.invariant-some_has_conditional_cost-loop-effect
-invariant-some_has_conditional_cost-loop-effect g l = some_has_conditional_cost (effects_of (map effect_view (drop l.effect-index l.effects.items))) ≡ some_has_conditional_cost (effects_of (map effect_view l.effects.items))
