@@ -1,0 +1,85 @@
+-- Lists cut into groups.
+use Rattle.std.proofs.Common.{◌≡◌, ℕ, zero, suc, ◌+◌, ◌-◌, ◌*◌, ◌/◌, ◌≤◌, ◌<◌, Bool, true, ◌||◌, List, [], ◌∷◌, ◌++◌, map, refl, sym, ap, ◌∙◌, arith, length, take, drop, eqb, subst, append_assoc, inl, inr, ⊎_elim}
+use Rattle.std.specs.List.{list_any, list_all, concat, IsDistinct, AllByRecursion}
+use Rattle.std.proofs.Math.Nat.{div-eq-sub-div, div-eq_of_lt}
+use Rattle.std.proofs.lemmas.Bool.{cases_lt}
+use Rattle.std.proofs.lemmas.List.{drop-drop, length-drop, take-append-drop}
+use Rattle.pddl_happenings.specs.Happenings.{numbers_to}
+use Rattle.pddl_happenings.specs.Serialisations.{IsSerialOrder}
+use Rattle.pddl_happenings.specs.Splits.{IsSplitOf, within_one}
+use Rattle.pddl_serial.proofs.InTurn.{is_serial}
+use Rattle.pddl_serial.specs.Cuts.{cut, cut_in_order, group_count}
+use Rattle.pddl_serial.specs.Orders.{in_order, steps_in}
+use Rattle.pddl_serial.specs.declared.turns.Order.{Order}
+
+-- ---- one group, and the rest
+one_more : (n m : ℕ) → 0 < n → 0 < m → group_count n m ≡ suc (group_count n (m - n))
+one_more n m pos some =
+    let large : n ≤ m + (n - 1) = omega (arith, pos, some) in
+    let first : (m + (n - 1)) / n ≡ ((m + (n - 1)) - n) / n + 1 = div-eq-sub-div pos large in
+    ⊎_elim
+        (λ (short : m < n).
+        let a : ((m + (n - 1)) - n) < n = omega (arith, pos, some, short) in
+        let b : ((m - n) + (n - 1)) < n = omega (arith, pos, some, short) in
+        let p : ((m + (n - 1)) - n) / n ≡ 0 = div-eq_of_lt a in
+        let q : ((m - n) + (n - 1)) / n ≡ 0 = div-eq_of_lt b in
+        omega (arith, first, p, q))
+        (λ (long : n ≤ m).
+        let same : (m + (n - 1)) - n ≡ (m - n) + (n - 1) = omega (arith, pos, some, long) in
+        let p : ((m + (n - 1)) - n) / n ≡ ((m - n) + (n - 1)) / n = ap (λ k. k / n) same in
+        omega (arith, first, p))
+        (cases_lt m n)
+
+moved : (n i c : ℕ) (xs : List ℕ) → map (λ k. take n (drop (k * n) xs)) (numbers_to (i + 1) c) ≡ map (λ k. take n (drop (k * n) (drop n xs))) (numbers_to i c)
+moved n i zero xs = refl
+moved n i (suc c) xs =
+    let at : n + i * n ≡ (i + 1) * n = omega arith in
+    let head : take n (drop ((i + 1) * n) xs) ≡ take n (drop (i * n) (drop n xs)) = sym (ap (take n) (drop-drop (i * n) n xs ∙ ap (λ k. drop k xs) at)) in
+    let tail : map (λ k. take n (drop (k * n) xs)) (numbers_to ((i + 1) + 1) c) ≡ map (λ k. take n (drop (k * n) (drop n xs))) (numbers_to (i + 1) c) = moved n (i + 1) c xs in
+    cc
+
+pub cut_none : (n : ℕ) → 0 < n → cut n [] ≡ []
+cut_none n pos =
+    let b : 0 + (n - 1) < n = omega (arith, pos) in
+    ap (λ c. map (λ i. take n (drop (i * n) [])) (numbers_to 0 c)) (div-eq_of_lt b)
+
+pub cut_more : (n : ℕ) (xs : List ℕ) → 0 < n → 0 < length xs → cut n xs ≡ take n xs ∷ cut n (drop n xs)
+cut_more n xs pos some =
+    let count : group_count n (length xs) ≡ suc (group_count n (length xs - n)) = one_more n (length xs) pos some in
+    let left : group_count n (length xs - n) ≡ group_count n (length (drop n xs)) = ap (group_count n) (sym (length-drop n xs)) in
+    let zeroth : 0 * n ≡ 0 = omega arith in
+    let first : take n (drop (0 * n) xs) ≡ take n xs = ap (λ k. take n (drop k xs)) zeroth in
+    ap (λ c. map (λ i. take n (drop (i * n) xs)) (numbers_to 0 c)) (count ∙ ap suc left)
+    ∙ (ap (λ g. g ∷ map (λ i. take n (drop (i * n) xs)) (numbers_to (0 + 1) (group_count n (length (drop n xs))))) first
+    ∙ ap (λ l. take n xs ∷ l) (moved n 0 (group_count n (length (drop n xs))) xs))
+
+-- what holds of the first n of each list that is not empty holds of each group
+module _ (n : ℕ) (pos : 0 < n) where
+  shorter : (m : ℕ) (xs : List ℕ) → length xs ≤ suc m → length (drop n xs) ≤ m
+  shorter m xs few = let e : length (drop n xs) ≡ length xs - n = length-drop n xs in omega (arith, e, few, pos)
+
+  joined_up_to : (m : ℕ) (xs : List ℕ) → length xs ≤ m → concat (cut n xs) ≡ xs
+  joined_up_to m [] few = ap concat (cut_none n pos)
+  joined_up_to zero (x ∷ xs) few = absurd (omega (arith, few))
+  joined_up_to (suc m) (x ∷ xs) few =
+      let some : 0 < length (x ∷ xs) = omega arith in
+      ap concat (cut_more n (x ∷ xs) pos some)
+      ∙ (ap (λ l. take n (x ∷ xs) ++ l) (joined_up_to m (drop n (x ∷ xs)) (shorter m (x ∷ xs) few)) ∙ take-append-drop n (x ∷ xs))
+
+  pub joined : (xs : List ℕ) → concat (cut n xs) ≡ xs
+  joined xs = joined_up_to (length xs) xs (omega arith)
+
+  filled : (n : ℕ) (x : ℕ) (xs : List ℕ) → 0 < n → take n (x ∷ xs) ≡ [] → ⊥
+  filled zero x xs lt e = absurd (omega (arith, lt))
+  filled (suc n) x xs lt e = cc
+
+  none_empty_up_to : (m : ℕ) (xs : List ℕ) → length xs ≤ m → AllByRecursion (λ g. g ≡ [] → ⊥) (cut n xs)
+  none_empty_up_to m [] few = subst (AllByRecursion (λ g. g ≡ [] → ⊥)) (sym (cut_none n pos)) tt
+  none_empty_up_to zero (x ∷ xs) few = absurd (omega (arith, few))
+  none_empty_up_to (suc m) (x ∷ xs) few =
+      let some : 0 < length (x ∷ xs) = omega arith in
+      subst (AllByRecursion (λ g. g ≡ [] → ⊥)) (sym (cut_more n (x ∷ xs) pos some))
+      ((λ (e : take n (x ∷ xs) ≡ []). filled n x xs pos e), none_empty_up_to m (drop n (x ∷ xs)) (shorter m (x ∷ xs) few))
+
+  pub none_empty : (xs : List ℕ) → AllByRecursion (λ g. g ≡ [] → ⊥) (cut n xs)
+  none_empty xs = none_empty_up_to (length xs) xs (omega arith)

@@ -1,0 +1,9 @@
+pub mod InTurn
+pub mod Passes
+pub mod Placed
+pub mod AtOne
+pub mod Grouped
+pub mod GroupMoments
+pub mod CutLists
+pub mod Left
+pub mod Ends
