@@ -38,7 +38,7 @@ some_at test (h ∷ hs) on = elim (test h) as (λ b. test h ≡ b → (b || list
   | false ↦ λ _ on. let (i, g, rest, is, has) = some_at test hs on in (suc i, g, rest, is, has)
 ] refl on
 
-all_true : (q : ℕ → Bool) (xs : List ℕ) → AllByRecursion (λ k. q k ≡ true) xs → list_all q xs ≡ true
+pub all_true : (q : ℕ → Bool) (xs : List ℕ) → AllByRecursion (λ k. q k ≡ true) xs → list_all q xs ≡ true
 all_true q [] all = refl
 all_true q (x ∷ xs) all = ap (λ b. b && list_all q xs) all.0 ∙ all_true q xs all.1
 
@@ -78,12 +78,12 @@ module _ (hs : List (List ℕ)) (once : IsDistinct eqb (concat hs)) (place : ℕ
       let at : (j : ℕ) → list_any (eqb j) h ≡ true → IsKnown j → place j ≡ i = λ j on w. w.1 ∙ place_is j hs i h rest once is on in
       all_true (λ j. place j == place k) ks (all_both (λ j. list_any (eqb j) h ≡ true) IsKnown (λ j. (place j == place k) ≡ true) (λ j on w. eq-eqb (place j) (place k) (at j on w ∙ sym (at k all.0 known.0))) ks all.1 known.1)
 
-  pub all_bothin : (gs : List (List ℕ)) → AllByRecursion IsKnown (concat gs) → list_all (is_at_one place) gs ≡ true → AllByRecursion (λ g. g ≡ [] → ⊥) gs × AllByRecursion (λ g. within_one hs g ≡ true) gs
-  all_bothin [] known e = (tt, tt)
-  all_bothin (g ∷ gs) known e = elim (is_at_one place g) as (λ b. is_at_one place g ≡ b → (b && list_all (is_at_one place) gs) ≡ true → AllByRecursion (λ g. g ≡ [] → ⊥) (g ∷ gs) × AllByRecursion (λ g. within_one hs g ≡ true) (g ∷ gs)) [
+  pub all_within : (gs : List (List ℕ)) → AllByRecursion IsKnown (concat gs) → list_all (is_at_one place) gs ≡ true → AllByRecursion (λ g. g ≡ [] → ⊥) gs × AllByRecursion (λ g. within_one hs g ≡ true) gs
+  all_within [] known e = (tt, tt)
+  all_within (g ∷ gs) known e = elim (is_at_one place g) as (λ b. is_at_one place g ≡ b → (b && list_all (is_at_one place) gs) ≡ true → AllByRecursion (λ g. g ≡ [] → ⊥) (g ∷ gs) × AllByRecursion (λ g. within_one hs g ≡ true) (g ∷ gs)) [
     | true ↦ λ on e.
         let here = at_one_within g (front_of IsKnown g (concat gs) known) on in
-        let there = all_bothin gs (back_of IsKnown g (concat gs) known) e in
+        let there = all_within gs (back_of IsKnown g (concat gs) known) e in
         ((here.0, there.0), (here.1, there.1))
     | false ↦ λ _ e. absurd (true≢false (sym e))
   ] refl e

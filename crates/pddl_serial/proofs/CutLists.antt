@@ -3,11 +3,16 @@ use Rattle.std.proofs.Common.{◌≡◌, ℕ, zero, suc, ◌+◌, ◌-◌, ◌*�
 use Rattle.std.specs.List.{list_any, list_all, concat, IsDistinct, AllByRecursion}
 use Rattle.std.proofs.Math.Nat.{div-eq-sub-div, div-eq_of_lt}
 use Rattle.std.proofs.lemmas.Bool.{cases_lt}
+use Rattle.std.proofs.lemmas.List.Folds.{concat-append}
 use Rattle.std.proofs.lemmas.List.{drop-drop, length-drop, take-append-drop}
+use Rattle.pddl_happenings.proofs.Cut.{back_of}
+use Rattle.pddl_happenings.proofs.Prefixes.{front_of}
+use Rattle.pddl_happenings.proofs.TurnsTaken.{all_listed, or_true}
 use Rattle.pddl_happenings.specs.Happenings.{numbers_to}
 use Rattle.pddl_happenings.specs.Serialisations.{IsSerialOrder}
 use Rattle.pddl_happenings.specs.Splits.{IsSplitOf, within_one}
-use Rattle.pddl_serial.proofs.InTurn.{is_serial}
+use Rattle.pddl_serial.proofs.AtOne.{all_true}
+use Rattle.pddl_serial.proofs.InTurn.{is_serial, same_steps}
 use Rattle.pddl_serial.specs.Cuts.{cut, cut_in_order, group_count}
 use Rattle.pddl_serial.specs.Orders.{in_order, steps_in}
 use Rattle.pddl_serial.specs.declared.turns.Order.{Order}
@@ -83,3 +88,50 @@ module _ (n : ℕ) (pos : 0 < n) where
 
   pub none_empty : (xs : List ℕ) → AllByRecursion (λ g. g ≡ [] → ⊥) (cut n xs)
   none_empty xs = none_empty_up_to (length xs) xs (omega arith)
+
+-- ---- the groups of happenings are a split
+all_joined : {X : Type 0} (P : X → Type 0) (xs ys : List X) → AllByRecursion P xs → AllByRecursion P ys → AllByRecursion P (xs ++ ys)
+all_joined P [] ys one two = two
+all_joined P (x ∷ xs) ys one two = (one.0, all_joined P xs ys one.1 two)
+
+all_groups : (P Q : List ℕ → Type 0) → ((g : List ℕ) → P g → Q g) → (gs : List (List ℕ)) → AllByRecursion P gs → AllByRecursion Q gs
+all_groups P Q f [] all = tt
+all_groups P Q f (g ∷ gs) all = (f g all.0, all_groups P Q f gs all.1)
+
+by_group : (P : ℕ → Type 0) (gs : List (List ℕ)) → AllByRecursion P (concat gs) → AllByRecursion (λ g. AllByRecursion P g) gs
+by_group P [] all = tt
+by_group P (g ∷ gs) all = (front_of P g (concat gs) all, by_group P gs (back_of P g (concat gs) all))
+
+module _ (n : ℕ) (pos : 0 < n) (order : Order) where
+  abbrev groups : List (List ℕ) → List (List ℕ)
+  groups hs = cut_in_order n order hs
+
+  all_joined_up : (hs : List (List ℕ)) → concat (groups hs) ≡ in_order order hs
+  all_joined_up [] = refl
+  all_joined_up (h ∷ hs) =
+      concat-append (cut n (steps_in order h)) (groups hs)
+      ∙ (ap (λ l. l ++ concat (groups hs)) (joined n pos (steps_in order h)) ∙ ap (λ l. steps_in order h ++ l) (all_joined_up hs))
+
+  all_filled : (hs : List (List ℕ)) → AllByRecursion (λ g. g ≡ [] → ⊥) (groups hs)
+  all_filled [] = tt
+  all_filled (h ∷ hs) = all_joined (λ g. g ≡ [] → ⊥) (cut n (steps_in order h)) (groups hs) (none_empty n pos (steps_in order h)) (all_filled hs)
+
+  within_first : (h : List ℕ) (hs : List (List ℕ)) → AllByRecursion (λ g. within_one (h ∷ hs) g ≡ true) (cut n (steps_in order h))
+  within_first h hs =
+      let listed : AllByRecursion (λ k. list_any (eqb k) h ≡ true) (steps_in order h) = all_listed (λ k. list_any (eqb k) h ≡ true) (steps_in order h) h (same_steps order h) (λ k on. on) in
+      let each : AllByRecursion (λ g. AllByRecursion (λ k. list_any (eqb k) h ≡ true) g) (cut n (steps_in order h)) = by_group (λ k. list_any (eqb k) h ≡ true) (cut n (steps_in order h)) (subst (AllByRecursion (λ k. list_any (eqb k) h ≡ true)) (sym (joined n pos (steps_in order h))) listed) in
+      all_groups (λ g. AllByRecursion (λ k. list_any (eqb k) h ≡ true) g) (λ g. within_one (h ∷ hs) g ≡ true)
+      (λ g all. ap (λ b. b || within_one hs g) (all_true (λ k. list_any (eqb k) h) g all))
+      (cut n (steps_in order h)) each
+
+  all_within_one : (hs : List (List ℕ)) → AllByRecursion (λ g. within_one hs g ≡ true) (groups hs)
+  all_within_one [] = tt
+  all_within_one (h ∷ hs) = all_joined (λ g. within_one (h ∷ hs) g ≡ true) (cut n (steps_in order h)) (groups hs) (within_first h hs)
+      (all_groups (λ g. within_one hs g ≡ true) (λ g. within_one (h ∷ hs) g ≡ true) (λ g on. or_true (list_all (λ k. list_any (eqb k) h) g) (within_one hs g) on) (groups hs) (all_within_one hs))
+
+pub cut_is_split : (n : ℕ) (order : Order) (hs : List (List ℕ)) → 0 < n → IsDistinct eqb (concat hs) → IsSplitOf hs (cut_in_order n order hs)
+cut_is_split n order hs pos once = record {
+  none_empty = all_filled n pos order hs;
+  within = all_within_one n pos order hs;
+  in_turn = subst (IsSerialOrder hs) (sym (all_joined_up n pos order hs)) (is_serial order hs once);
+}

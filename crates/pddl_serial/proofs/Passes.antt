@@ -1,5 +1,5 @@
 -- The test of a list of step numbers: what it asks of each number in turn is that the list is a serialisation.
-use Rattle.std.proofs.Common.{◌≡◌, ◌↔◌, ◌≢◌, ℕ, suc, ◌≤◌, ◌<◌, Bool, true, false, ◌||◌, List, [], ◌∷◌, refl, sym, ap, ◌∙◌, arith, length, get_or, set, eqb, eq-eqb, get_or-set_same, get_or-set_other, length-set, subst}
+use Rattle.std.proofs.Common.{◌≡◌, ◌↔◌, ◌≢◌, ℕ, suc, ◌≤◌, ◌<◌, Bool, true, false, ◌||◌, List, [], ◌∷◌, refl, sym, ap, ◌∙◌, arith, length, get_or, set, eqb, eq-eqb, get_or-set_same, get_or-set_other, length-set, subst, IsTrue}
 use Rattle.std.specs.List.{list_any, concat, IsDistinct, AllByRecursion}
 use Rattle.std.proofs.lemmas.Bool.{eqb-true, true≢false}
 use Rattle.std.proofs.lemmas.List.Sorted.{list_any-IsPermutation}
@@ -145,6 +145,14 @@ module _ (hs : List (List ℕ)) (n : ℕ) (each : HaveEachOnce n hs) where
     -- by the places of their happenings, it is a serialisation
     pub order_serial : (order : List ℕ) → IsOrderBy place n order ↔ IsSerialOrder hs order
     order_serial order = (from_order order, to_order order)
+
+-- by a table of places, as it is lent
+pub serial_by_places : (hs : List (List ℕ)) (n : ℕ) → HaveEachOnce n hs → (places lent order : List ℕ) → length places ≡ n → ((k : ℕ) → k < n → get_or places k 0 ≡ place_of hs k) → lent ≡ places →
+    (b : Bool) → IsTrue b ↔ IsOrderBy (λ k. get_or lent k 0) (length lent) order → IsTrue b ↔ IsSerialOrder hs order
+serial_by_places hs n each places lent order len is same b both =
+    let all : IsOrderBy (λ k. get_or places k 0) n order ↔ IsSerialOrder hs order = order_serial hs n each (λ k. get_or places k 0) is order in
+    let there : IsOrderBy (λ k. get_or lent k 0) (length lent) order ↔ IsSerialOrder hs order = subst (λ l. IsOrderBy (λ k. get_or l k 0) (length l) order ↔ IsSerialOrder hs order) (sym same) (subst (λ m. IsOrderBy (λ k. get_or places k 0) m order ↔ IsSerialOrder hs order) (sym len) all) in
+    (λ t. there.0 (both.0 t), λ s. both.1 (there.1 s))
 
 -- where no number is seen at first, what passes is in order
 pub passes_order : (place : ℕ → ℕ) (n : ℕ) (seen : List Bool) → ((k : ℕ) → get_or seen k false ≡ false) → length seen ≡ n → (order : List ℕ) → Passes place n seen 0 order ↔ IsOrderBy place n order

@@ -1,6 +1,6 @@
 -- Happenings cut into groups of at most so many steps.
 use Rattle.std.specs.Prelude.{ℕ, ◌+◌, ◌-◌, ◌*◌, ◌/◌, List, map, take, drop, length}
-use Rattle.std.specs.List.{concat}
+use Rattle.std.specs.List.{flat_map}
 use Rattle.pddl_happenings.specs.Happenings.{numbers_to}
 use Rattle.pddl_serial.specs.Orders.{steps_in}
 use Rattle.pddl_serial.specs.declared.turns.Order.{Order}
@@ -16,4 +16,4 @@ cut n xs = map (λ i. take n (drop (i * n) xs)) (numbers_to 0 (group_count n (le
 
 -- The happenings in turn, the steps of each in an order and cut into groups of n. Own.
 abbrev pub cut_in_order : ℕ → Order → List (List ℕ) → List (List ℕ)
-cut_in_order n order hs = concat (map (λ h. cut n (steps_in order h)) hs)
+cut_in_order n order hs = flat_map (λ h. cut n (steps_in order h)) hs

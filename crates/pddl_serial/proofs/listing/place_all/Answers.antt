@@ -12,7 +12,7 @@ mark-requires g c =
     let h = c.loop-h.h in
     let d = c.index-happenings-h.result in
     let same : length c.loop-h.places ≡ length c.args.places.now = search rules in
-    let steps : c.deref.result.now ≡ d.steps = c.deref.ensures.value in
+    let steps : c.deref.result.now ≡ d.steps = search rules in
     λ k on.
     let b : k < length c.args.places.now = steps_below (length c.args.places.now) items c.requires h d c.index-happenings-h.is c.loop-h-test.true k (ap (list_any (eqb k)) (sym steps) ∙ on) in
     omega (arith, b, same)
@@ -25,7 +25,7 @@ loop-h-preserved g c =
     let n : ℕ = length c.args.places.now in
     let same : length c.loop-h.places ≡ n = search rules in
     let same_new : length c.mark.new.places ≡ n = search rules in
-    let steps : c.deref.result.now ≡ d.steps = c.deref.ensures.value in
+    let steps : c.deref.result.now ≡ d.steps = search rules in
     let marked : (k : ℕ) → get_or c.mark.new.places k 0 ≡ cond (list_any (eqb k) d.steps) h (get_or c.loop-h.places k 0) = λ k. c.mark.ensures k ∙ ap (λ l. cond (list_any (eqb k) l) h (get_or c.loop-h.places k 0)) steps in
     λ k lt off.
     let b : k < n = omega (arith, lt, same_new) in
