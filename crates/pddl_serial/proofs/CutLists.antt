@@ -1,10 +1,11 @@
 -- Lists cut into groups.
-use Rattle.std.proofs.Common.{◌≡◌, ℕ, zero, suc, ◌+◌, ◌-◌, ◌*◌, ◌/◌, ◌≤◌, ◌<◌, Bool, true, ◌||◌, List, [], ◌∷◌, ◌++◌, map, refl, sym, ap, ◌∙◌, arith, length, take, drop, eqb, subst, append_assoc, inl, inr, ⊎_elim}
+use Rattle.std.proofs.Common.{◌≡◌, ℕ, zero, suc, ◌+◌, ◌-◌, ◌*◌, ◌/◌, ◌≤◌, ◌<◌, Bool, true, ◌||◌, List, [], ◌∷◌, ◌++◌, map, refl, sym, ap, ◌∙◌, arith, length, take, drop, eqb, subst, append_assoc, append-nil, length-append, min, ⊎_elim}
 use Rattle.std.specs.List.{list_any, list_all, concat, IsDistinct, AllByRecursion}
 use Rattle.std.proofs.Math.Nat.{div-eq-sub-div, div-eq_of_lt}
 use Rattle.std.proofs.lemmas.Bool.{cases_lt}
 use Rattle.std.proofs.lemmas.List.Folds.{concat-append}
-use Rattle.std.proofs.lemmas.List.{drop-drop, length-drop, take-append-drop}
+use Rattle.std.proofs.Math.Seq.{drop-append_seam, take-append_seam}
+use Rattle.std.proofs.lemmas.List.{drop-drop, drop_all, length-drop, map-append, nil_from_length, take-append-drop, take_all}
 use Rattle.pddl_happenings.proofs.Cut.{back_of}
 use Rattle.pddl_happenings.proofs.Prefixes.{front_of}
 use Rattle.pddl_happenings.proofs.TurnsTaken.{all_listed, or_true}
@@ -88,6 +89,36 @@ module _ (n : ℕ) (pos : 0 < n) where
 
   pub none_empty : (xs : List ℕ) → AllByRecursion (λ g. g ≡ [] → ⊥) (cut n xs)
   none_empty xs = none_empty_up_to (length xs) xs (omega arith)
+
+-- ---- the first group taken off
+pub cut_step : (n : ℕ) (all chunk rest : List ℕ) → 0 < n → 0 < length all → all ≡ chunk ++ rest → length chunk ≡ min n (length all) → cut n all ≡ chunk ∷ cut n rest
+cut_step n all chunk rest pos some parts size =
+    let sum : length all ≡ length chunk + length rest = ap length parts ∙ length-append chunk rest in
+    cut_more n all pos some ∙ ⊎_elim
+        (λ (short : length all < n).
+        let none : rest ≡ [] = nil_from_length rest (omega (arith, sum, size, short)) in
+        let first : take n all ≡ chunk = take_all n all (omega (arith, short)) ∙ (parts ∙ (ap (λ l. chunk ++ l) none ∙ append-nil chunk)) in
+        let left : drop n all ≡ rest = drop_all n all (omega (arith, short)) ∙ sym none in
+        ap (λ l. l ∷ cut n (drop n all)) first ∙ ap (λ l. chunk ∷ cut n l) left)
+        (λ (long : n ≤ length all).
+        let is : n ≡ length chunk = omega (arith, size, long) in
+        let first : take n all ≡ chunk = ap (take n) parts ∙ (ap (λ k. take k (chunk ++ rest)) is ∙ take-append_seam chunk rest) in
+        let left : drop n all ≡ rest = ap (drop n) parts ∙ (ap (λ k. drop k (chunk ++ rest)) is ∙ drop-append_seam chunk rest) in
+        ap (λ l. l ∷ cut n (drop n all)) first ∙ ap (λ l. chunk ∷ cut n l) left)
+        (cases_lt (length all) n)
+
+pub groups_more : {X : Type 0} (items : X → List ℕ) (n : ℕ) (old new : List X) (one : X) (all chunk rest : List ℕ) (whole : List (List ℕ)) → new ≡ old ++ one ∷ [] → items one ≡ chunk → cut n all ≡ chunk ∷ cut n rest →
+    map items old ++ cut n all ≡ whole → map items new ++ cut n rest ≡ whole
+groups_more items n old new one all chunk rest whole is copied step so_far =
+    ap (λ l. map items l ++ cut n rest) is
+    ∙ (ap (λ l. l ++ cut n rest) (map-append items old (one ∷ []))
+    ∙ (append_assoc (map items old) (items one ∷ []) (cut n rest)
+    ∙ (ap (λ l. map items old ++ (l ∷ cut n rest)) copied ∙ (ap (λ l. map items old ++ l) (sym step) ∙ so_far))))
+
+pub groups_all : (n : ℕ) (old whole : List (List ℕ)) (left : List ℕ) → 0 < n → length left ≡ 0 → old ++ cut n left ≡ whole → old ≡ whole
+groups_all n old whole left pos done so_far =
+    let none : left ≡ [] = nil_from_length left done in
+    sym (append-nil old) ∙ (ap (λ l. old ++ l) (sym (ap (cut n) none ∙ cut_none n pos)) ∙ so_far)
 
 -- ---- the groups of happenings are a split
 all_joined : {X : Type 0} (P : X → Type 0) (xs ys : List X) → AllByRecursion P xs → AllByRecursion P ys → AllByRecursion P (xs ++ ys)

@@ -5,5 +5,6 @@ pub mod AtOne
 pub mod Grouped
 pub mod GroupMoments
 pub mod CutLists
+pub mod Counted
 pub mod Left
 pub mod Ends
