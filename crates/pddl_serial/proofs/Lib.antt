@@ -8,3 +8,4 @@ pub mod CutLists
 pub mod Counted
 pub mod Left
 pub mod Ends
+pub mod Examples
