@@ -1,5 +1,5 @@
 -- Lists cut into groups.
-use Rattle.std.proofs.Common.{◌≡◌, ℕ, zero, suc, ◌+◌, ◌-◌, ◌*◌, ◌/◌, ◌≤◌, ◌<◌, Bool, true, ◌||◌, List, [], ◌∷◌, ◌++◌, map, refl, sym, ap, ◌∙◌, arith, length, take, drop, eqb, subst, append_assoc, append-nil, length-append, min, ⊎_elim}
+use Rattle.std.proofs.Common.{◌≡◌, ℕ, zero, suc, ◌+◌, ◌-◌, ◌*◌, ◌/◌, ◌≤◌, ◌<◌, true, ◌||◌, List, [], ◌∷◌, ◌++◌, map, refl, sym, ap, ◌∙◌, arith, length, take, drop, eqb, subst, append_assoc, append-nil, length-append, min, ⊎_elim}
 use Rattle.std.specs.List.{list_any, list_all, concat, IsDistinct, AllByRecursion}
 use Rattle.std.proofs.Math.Nat.{div-eq-sub-div, div-eq_of_lt}
 use Rattle.std.proofs.lemmas.Bool.{cases_lt}
@@ -121,7 +121,7 @@ groups_all n old whole left pos done so_far =
     sym (append-nil old) ∙ (ap (λ l. old ++ l) (sym (ap (cut n) none ∙ cut_none n pos)) ∙ so_far)
 
 -- ---- the groups of happenings are a split
-all_joined : {X : Type 0} (P : X → Type 0) (xs ys : List X) → AllByRecursion P xs → AllByRecursion P ys → AllByRecursion P (xs ++ ys)
+pub all_joined : {X : Type 0} (P : X → Type 0) (xs ys : List X) → AllByRecursion P xs → AllByRecursion P ys → AllByRecursion P (xs ++ ys)
 all_joined P [] ys one two = two
 all_joined P (x ∷ xs) ys one two = (one.0, all_joined P xs ys one.1 two)
 

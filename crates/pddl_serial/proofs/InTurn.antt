@@ -1,5 +1,5 @@
 -- The happenings in turn are a serialisation.
-use Rattle.std.proofs.Common.{◌≡◌, ℕ, List, [], ◌∷◌, ◌++◌, reverse, refl, eqb}
+use Rattle.std.proofs.Common.{ℕ, List, [], ◌∷◌, refl, eqb}
 use Rattle.std.specs.Prelude.{IsPermutation}
 use Rattle.std.specs.List.{concat, IsDistinct}
 use Rattle.std.proofs.lemmas.List.Sorted.{IsPermutation-refl, IsPermutation-reverse}

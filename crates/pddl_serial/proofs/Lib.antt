@@ -3,8 +3,8 @@ pub mod Passes
 pub mod Placed
 pub mod AtOne
 pub mod Grouped
-pub mod GroupMoments
 pub mod CutLists
+pub mod GroupMoments
 pub mod Counted
 pub mod Left
 pub mod Ends

@@ -57,11 +57,12 @@ module _ (n : ℕ) (items : List HappeningValue) (each : HaveEachOnce n (groups_
   steps_below = each_below n whole each h d.steps (groups_of (drop (h + 1) items)) next_is
 
   -- where the steps of a happening are marked, those of the happenings up to it have their places
-  pub placed_more : (old new : List ℕ) →
+  pub placed_more : (old new lent : List ℕ) → lent ≡ d.steps →
       ((k : ℕ) → k < n → list_any (eqb k) (concat (groups_of (drop h items))) ≡ false → get_or old k 0 ≡ place_of whole k) →
-      ((k : ℕ) → get_or new k 0 ≡ cond (list_any (eqb k) d.steps) h (get_or old k 0)) →
+      ((k : ℕ) → get_or new k 0 ≡ cond (list_any (eqb k) lent) h (get_or old k 0)) →
       (k : ℕ) → k < n → list_any (eqb k) (concat (groups_of (drop (h + 1) items))) ≡ false → get_or new k 0 ≡ place_of whole k
-  placed_more old new so_far marked k below off =
+  placed_more old new lent same so_far put k below off =
+      let marked : (k : ℕ) → get_or new k 0 ≡ cond (list_any (eqb k) d.steps) h (get_or old k 0) = λ k. put k ∙ ap (λ l. cond (list_any (eqb k) l) h (get_or old k 0)) same in
       let rest : List (List ℕ) = groups_of (drop (h + 1) items) in
       elim (list_any (eqb k) d.steps) as (λ b. list_any (eqb k) d.steps ≡ b → get_or new k 0 ≡ place_of whole k) [
         | true ↦ λ e. marked k ∙ (ap (λ b. cond b h (get_or old k 0)) e ∙ sym (place_is k whole h d.steps rest (is_distinct n whole each) next_is e))

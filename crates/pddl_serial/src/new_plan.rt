@@ -1,6 +1,6 @@
 //! The timed plan of a split.
 
-ghost use Rattle.std.specs.Prelude.{◌≡◌, ◌++◌, ℕ, List, map, IfOk, IfSome, MatchOption};
+ghost use Rattle.std.specs.Prelude.{◌≡◌, ◌≤◌, ◌++◌, ℕ, List, All, map, IfOk, IfSome, MatchOption};
 ghost use Rattle.std.specs.List.{concat};
 ghost use Rattle.pddl_happenings.specs.Happenings.{HaveEachOnce};
 ghost use Rattle.pddl_happenings.specs.Splits.{IsSplitOf, split_moments};
@@ -27,8 +27,7 @@ fn add_moments<B: Allocator>(
 ) -> Result<(), AllocError>
     ensures { IfOk result (λ _. moments.new.items ≡ moments.old.items ++ map (λ k. moment) group.now) }
 {
-    for step in group {
-        let _ = step;
+    for _ in group {
         moments.push(moment)?;
     }
     Ok(())
@@ -53,7 +52,8 @@ fn moments_of_groups<'a, B: Allocator, G: Allocator>(
 ///
 /// `split`: None is answered exactly where the groups are no split: one is empty, or not within one happening, or their
 /// steps one after another are no serialisation. `order`, `moments`: the plan's steps are those of the groups in turn, each
-/// with its group's moment. Fails only for want of memory. Own.
+/// with its group's moment. `within`: so no moment is past the
+/// number of steps. Fails only for want of memory. Own.
 pub fn split<'a, B: Allocator, H: Allocator, G: Allocator>(
     alloc: &'a B,
     happenings: &[Happening<H>],
@@ -66,6 +66,7 @@ pub fn split<'a, B: Allocator, H: Allocator, G: Allocator>(
         (λ plan. IsSplitOf (groups_of happenings.now) (map (λ g. g.items) groups.now))) }
     ensures order { IfOk result (λ found. IfSome found (λ plan. plan.order.items ≡ concat (map (λ g. g.items) groups.now))) }
     ensures moments { IfOk result (λ found. IfSome found (λ plan. plan.moments.items ≡ split_moments 1 (map (λ g. g.items) groups.now))) }
+    ensures within { IfOk result (λ found. IfSome found (λ plan. All (λ m. (1 ≤ m) × (m ≤ steps)) plan.moments.items)) }
 {
     let order = joined(alloc, groups)?;
     let good = is_split(alloc, happenings, steps, groups, &order)?;

@@ -1,4 +1,4 @@
-use Rattle.std.proofs.Common.{◌≡◌, ℕ, ◌<◌, ◌∙◌, List, [], ◌∷◌, ◌++◌, map, length, min, ap, subst, sym, rules}
+use Rattle.std.proofs.Common.{◌≡◌, ℕ, ◌∙◌, List, [], ◌∷◌, ◌++◌, map, length, min, rules}
 use Rattle.std.specs.Slice.Iter.{chunks_rest}
 use Rattle.pddl_serial.specs.Cuts.{cut}
 use Rattle.pddl_serial.proofs.CutLists.{cut_step, groups_all, groups_more}

@@ -1,11 +1,11 @@
-use Rattle.std.proofs.Common.{subst, sym, ap, ◌∙◌, ◌≡◌, ◌↔◌, ◌<◌, ℕ, true, map, length, get_or, IsTrue}
+use Rattle.std.proofs.Common.{subst, sym, ap, ◌∙◌, ◌≡◌, ◌↔◌, ◌<◌, true, map, length, get_or, IsTrue}
 use Rattle.std.specs.Prelude.{All}
 use Rattle.std.specs.List.{list_all, concat}
 use Rattle.std.proofs.lemmas.Bool.{true≢false}
-use Rattle.pddl_happenings.specs.Serialisations.{IsSerialOrder, place_of}
+use Rattle.pddl_happenings.specs.Serialisations.{IsSerialOrder}
 use Rattle.pddl_happenings.specs.Splits.{IsSplitOf}
 use Rattle.pddl_judge.specs.HappeningValues.{groups_of}
-use Rattle.pddl_serial.specs.Places.{IsOrderBy, is_at_one}
+use Rattle.pddl_serial.specs.Places.{is_at_one}
 use Rattle.pddl_serial.proofs.Grouped.{all_groups_below, at_one_split}
 use Rattle.pddl_serial.proofs.Passes.{serial_by_places}
 use Rattle.pddl_serial.proofs.grouping.is_split.Goals as goal

@@ -1,4 +1,4 @@
-use Rattle.std.proofs.Common.{rules, arith, sym, ap, ◌∙◌, ◌≡◌, ◌<◌, ℕ, cond, eqb, length, get_or}
+use Rattle.std.proofs.Common.{rules, arith, sym, ap, ◌∙◌, ◌≡◌, ◌<◌, ℕ, eqb, length}
 use Rattle.std.specs.List.{list_any}
 use Rattle.pddl_serial.proofs.Placed.{placed_none, steps_below, placed_more}
 use Rattle.pddl_serial.proofs.listing.place_all.Goals as goal
@@ -26,7 +26,6 @@ loop-h-preserved g c =
     let same : length c.loop-h.places ≡ n = search rules in
     let same_new : length c.mark.new.places ≡ n = search rules in
     let steps : c.deref.result.now ≡ d.steps = search rules in
-    let marked : (k : ℕ) → get_or c.mark.new.places k 0 ≡ cond (list_any (eqb k) d.steps) h (get_or c.loop-h.places k 0) = λ k. c.mark.ensures k ∙ ap (λ l. cond (list_any (eqb k) l) h (get_or c.loop-h.places k 0)) steps in
     λ k lt off.
     let b : k < n = omega (arith, lt, same_new) in
-    placed_more n items c.requires h d c.index-happenings-h.is c.loop-h-test.true c.loop-h.places c.mark.new.places (λ j l. let m : j < length c.loop-h.places = omega (arith, l, same) in c.loop-h.invariant j m) marked k b off
+    placed_more n items c.requires h d c.index-happenings-h.is c.loop-h-test.true c.loop-h.places c.mark.new.places c.deref.result.now steps (λ j l. let m : j < length c.loop-h.places = omega (arith, l, same) in c.loop-h.invariant j m) c.mark.ensures k b off

@@ -1,4 +1,3 @@
-use Rattle.pddl_happenings.specs.Serialisations.{IsSerialOrder}
 use Rattle.pddl_judge.specs.HappeningValues.{groups_of}
 use Rattle.pddl_serial.proofs.Counted.{all_below, counted, few_listed, few_steps}
 use Rattle.pddl_serial.proofs.replaying.replay.Goals as goal

@@ -1,4 +1,4 @@
-use Rattle.std.proofs.Common.{◌≡◌, ◌∙◌, sym, Bool, true, get_or, rules}
+use Rattle.std.proofs.Common.{◌≡◌, true, get_or, rules}
 use Rattle.pddl_serial.proofs.Left.{runs_more, ends_more, costs_more, fails_more, fails_here}
 use Rattle.pddl_serial.proofs.serial_run.run_serially.Goals as goal
 

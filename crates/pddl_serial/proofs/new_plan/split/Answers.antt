@@ -1,0 +1,13 @@
+use Rattle.std.proofs.Common.{◌≤◌, List, ℕ, map, subst, sym, rules}
+use Rattle.std.specs.Prelude.{All}
+use Rattle.pddl_happenings.specs.Splits.{IsSplitOf}
+use Rattle.pddl_judge.specs.HappeningValues.{groups_of}
+use Rattle.pddl_serial.proofs.GroupMoments.{moments_within}
+use Rattle.pddl_serial.proofs.new_plan.split.Goals as goal
+
+pub returns-clause-within : goal.returns-clause-within
+returns-clause-within g c =
+    let gs : List (List ℕ) = map (λ g. g.items) c.args.groups.now in
+    let hs = groups_of c.args.happenings.now in
+    let is : IsSplitOf hs gs = search rules in
+    subst (All (λ m. (1 ≤ m) × (m ≤ c.args.steps))) (sym c.in_ok-moments.ensures) (moments_within c.args.steps hs gs c.requires is)
