@@ -24,17 +24,17 @@ one_more n m pos some =
     let large : n ≤ m + (n - 1) = omega (arith, pos, some) in
     let first : (m + (n - 1)) / n ≡ ((m + (n - 1)) - n) / n + 1 = div-eq-sub-div pos large in
     ⊎_elim
-        (λ (short : m < n).
-        let a : ((m + (n - 1)) - n) < n = omega (arith, pos, some, short) in
-        let b : ((m - n) + (n - 1)) < n = omega (arith, pos, some, short) in
-        let p : ((m + (n - 1)) - n) / n ≡ 0 = div-eq_of_lt a in
-        let q : ((m - n) + (n - 1)) / n ≡ 0 = div-eq_of_lt b in
-        omega (arith, first, p, q))
-        (λ (long : n ≤ m).
-        let same : (m + (n - 1)) - n ≡ (m - n) + (n - 1) = omega (arith, pos, some, long) in
-        let p : ((m + (n - 1)) - n) / n ≡ ((m - n) + (n - 1)) / n = ap (λ k. k / n) same in
-        omega (arith, first, p))
-        (cases_lt m n)
+    (λ (short : m < n).
+    let a : ((m + (n - 1)) - n) < n = omega (arith, pos, some, short) in
+    let b : ((m - n) + (n - 1)) < n = omega (arith, pos, some, short) in
+    let p : ((m + (n - 1)) - n) / n ≡ 0 = div-eq_of_lt a in
+    let q : ((m - n) + (n - 1)) / n ≡ 0 = div-eq_of_lt b in
+    omega (arith, first, p, q))
+    (λ (long : n ≤ m).
+    let same : (m + (n - 1)) - n ≡ (m - n) + (n - 1) = omega (arith, pos, some, long) in
+    let p : ((m + (n - 1)) - n) / n ≡ ((m - n) + (n - 1)) / n = ap (λ k. k / n) same in
+    omega (arith, first, p))
+    (cases_lt m n)
 
 moved : (n i c : ℕ) (xs : List ℕ) → map (λ k. take n (drop (k * n) xs)) (numbers_to (i + 1) c) ≡ map (λ k. take n (drop (k * n) (drop n xs))) (numbers_to i c)
 moved n i zero xs = refl
@@ -95,17 +95,17 @@ pub cut_step : (n : ℕ) (all chunk rest : List ℕ) → 0 < n → 0 < length al
 cut_step n all chunk rest pos some parts size =
     let sum : length all ≡ length chunk + length rest = ap length parts ∙ length-append chunk rest in
     cut_more n all pos some ∙ ⊎_elim
-        (λ (short : length all < n).
-        let none : rest ≡ [] = nil_from_length rest (omega (arith, sum, size, short)) in
-        let first : take n all ≡ chunk = take_all n all (omega (arith, short)) ∙ (parts ∙ (ap (λ l. chunk ++ l) none ∙ append-nil chunk)) in
-        let left : drop n all ≡ rest = drop_all n all (omega (arith, short)) ∙ sym none in
-        ap (λ l. l ∷ cut n (drop n all)) first ∙ ap (λ l. chunk ∷ cut n l) left)
-        (λ (long : n ≤ length all).
-        let is : n ≡ length chunk = omega (arith, size, long) in
-        let first : take n all ≡ chunk = ap (take n) parts ∙ (ap (λ k. take k (chunk ++ rest)) is ∙ take-append_seam chunk rest) in
-        let left : drop n all ≡ rest = ap (drop n) parts ∙ (ap (λ k. drop k (chunk ++ rest)) is ∙ drop-append_seam chunk rest) in
-        ap (λ l. l ∷ cut n (drop n all)) first ∙ ap (λ l. chunk ∷ cut n l) left)
-        (cases_lt (length all) n)
+    (λ (short : length all < n).
+    let none : rest ≡ [] = nil_from_length rest (omega (arith, sum, size, short)) in
+    let first : take n all ≡ chunk = take_all n all (omega (arith, short)) ∙ (parts ∙ (ap (λ l. chunk ++ l) none ∙ append-nil chunk)) in
+    let left : drop n all ≡ rest = drop_all n all (omega (arith, short)) ∙ sym none in
+    ap (λ l. l ∷ cut n (drop n all)) first ∙ ap (λ l. chunk ∷ cut n l) left)
+    (λ (long : n ≤ length all).
+    let is : n ≡ length chunk = omega (arith, size, long) in
+    let first : take n all ≡ chunk = ap (take n) parts ∙ (ap (λ k. take k (chunk ++ rest)) is ∙ take-append_seam chunk rest) in
+    let left : drop n all ≡ rest = ap (drop n) parts ∙ (ap (λ k. drop k (chunk ++ rest)) is ∙ drop-append_seam chunk rest) in
+    ap (λ l. l ∷ cut n (drop n all)) first ∙ ap (λ l. chunk ∷ cut n l) left)
+    (cases_lt (length all) n)
 
 pub groups_more : {X : Type 0} (items : X → List ℕ) (n : ℕ) (old new : List X) (one : X) (all chunk rest : List ℕ) (whole : List (List ℕ)) → new ≡ old ++ one ∷ [] → items one ≡ chunk → cut n all ≡ chunk ∷ cut n rest →
     map items old ++ cut n all ≡ whole → map items new ++ cut n rest ≡ whole

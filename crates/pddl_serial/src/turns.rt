@@ -20,10 +20,7 @@ pub enum Order {
 }
 
 /// Adds numbers at the end, the last of them first.
-fn append_reversed<B: Allocator>(
-    numbers: &mut Vec<u32, B>,
-    more: &[u32],
-) -> Result<(), AllocError>
+fn append_reversed<B: Allocator>(numbers: &mut Vec<u32, B>, more: &[u32]) -> Result<(), AllocError>
     ensures { IfOk result (λ _. numbers.new.items ≡ numbers.old.items ++ reverse more.now) }
 {
     for number in more.iter().rev() {
