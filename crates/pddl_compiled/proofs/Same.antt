@@ -121,7 +121,7 @@ module _ (w : World) (t : Tables) (price : AtomValue → ℕ) (over : IsOver t w
   atom_right : (v : Valuation) (scope : ScopeValue) (env : FrameValue) (a : terms.AtomValue) → Fits t v scope env → atom_in env (number_in t.predicates a.predicate) (places_of t scope a.terms) ≡ number_atom t.predicates t.objects (grounded v a)
   atom_right v scope env a h = λ i. record { predicate = number_in t.predicates a.predicate; args = places_right v scope env a.terms h i }
 
-  call_right : (v : Valuation) (scope : ScopeValue) (env : FrameValue) (f : effects.FunctionTermValue) → Fits t v scope env → atom_in env (number_in t.functions f.function) (places_of t scope f.terms) ≡ number_atom t.functions t.objects (grounded_call v f)
+  pub call_right : (v : Valuation) (scope : ScopeValue) (env : FrameValue) (f : effects.FunctionTermValue) → Fits t v scope env → atom_in env (number_in t.functions f.function) (places_of t scope f.terms) ≡ number_atom t.functions t.objects (grounded_call v f)
   call_right v scope env f h = λ i. record { predicate = number_in t.functions f.function; args = places_right v scope env f.terms h i }
 
   -- a quantifier of one variable more: over the objects that fit it, by the objects' numbers
@@ -143,7 +143,7 @@ module _ (w : World) (t : Tables) (price : AtomValue → ℕ) (over : IsOver t w
         ∙ any_mapped (number_in t.objects) (λ n. F (nested node nothing t xs body ((x.item, framed) ∷ scope)) (n ∷ env)) (λ o. some_valuation w.fit xs q ((x.item, o) ∷ v)) (o ∷ p ∷ os)
         (λ e c. next ((x.item, e) ∷ v) ((x.item, framed) ∷ scope) (number_in t.objects e ∷ env) (refl, refl, k e c, h))
 
-    any_nested : ((range : List ℕ) (c : K) (env : FrameValue) → F (node range c) env ≡ list_any (λ o. F c (o ∷ env)) range) → (xs : List TypedValue) (v : Valuation) (scope : ScopeValue) (env : FrameValue) → Fits t v scope env → F (nested node nothing t xs body scope) env ≡ some_valuation w.fit xs q v
+    pub any_nested : ((range : List ℕ) (c : K) (env : FrameValue) → F (node range c) env ≡ list_any (λ o. F c (o ∷ env)) range) → (xs : List TypedValue) (v : Valuation) (scope : ScopeValue) (env : FrameValue) → Fits t v scope env → F (nested node nothing t xs body scope) env ≡ some_valuation w.fit xs q v
     any_nested at [] v scope env h = right v scope env h
     any_nested at (x ∷ xs) v scope env h =
         under node nothing F body scope env x xs ∙ any_under at x xs v scope env h (λ u sc en k. any_nested at xs u sc en k) (w.fit x.of) (over.fit x.of)

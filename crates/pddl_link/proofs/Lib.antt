@@ -33,3 +33,4 @@ pub mod OkResults
 pub mod Entries
 pub mod FittingObjects
 pub mod LentNames
+pub mod FunctionNames

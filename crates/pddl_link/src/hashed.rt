@@ -2,5 +2,5 @@
 
 use std::hash::{BuildHasherDefault, FoldHasher};
 
-/// The hasher of all tables.
-pub(crate) type Hashed = BuildHasherDefault<FoldHasher>;
+/// The hasher of all tables of linked files.
+pub type Hashed = BuildHasherDefault<FoldHasher>;

@@ -14,6 +14,7 @@ ghost use Rattle.pddl_link.specs.TaskTables.{AreTablesOf};
 
 use crate::effect_size::action_ground_size;
 use crate::fitting::fitting_objects;
+use crate::function_numbers::FunctionNumbers;
 use crate::ground::Ground;
 use crate::init::Values;
 use crate::known::{Objects, Signatures};
@@ -89,6 +90,19 @@ impl<'m, 'a, A: Allocator, B: Allocator> Task<'m, 'a, A, B> {
         ensures { result ≡ length (task_of_files self.now).predicates }
     {
         self.predicates.len()
+    }
+
+    /// Its functions by name, in a table that is made anew.
+    ///
+    /// Fails where memory for the table is refused.
+    pub fn functions<'c, C: Allocator>(
+        &self,
+        alloc: &'c C,
+    ) -> Result<FunctionNumbers<'m, 'c, A, C>, AllocError>
+        ensures { IfOk result (λ functions. functions ≡ (task_of_files self.now).functions) }
+    {
+        let domain = self.domain;
+        FunctionNumbers::of(alloc, &domain.functions)
     }
 
     /// Whether a type is a subtype of another, or that type itself; a name that is no type of the task is neither.

@@ -1,0 +1,3 @@
+pub mod LookedUp
+pub mod PriceTables
+pub mod PricedCalls

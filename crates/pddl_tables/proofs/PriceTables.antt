@@ -1,0 +1,53 @@
+-- A table of costs that is filled from the last item of `:init` to the first.
+use Rattle.std.proofs.Common.{◌≡◌, ◌<◌, ℕ, ◌+◌, ◌/◌, cond, List, ◌∷◌, map, length, get_or, drop, Option, Some, refl, sym, ap, ◌∙◌, add-one, drop-cons}
+use Rattle.std.specs.Prelude.{None}
+use Rattle.std.specs.List.{filter_map}
+use Rattle.std.specs.Map.{lookup}
+use Rattle.std.specs.Option.{option_map_or}
+use Rattle.pddl_problem.specs.Inits.{GroundValue, InitValue, holds, fails, value}
+use Rattle.pddl_task.specs.Faults.{billion}
+use Rattle.pddl_task.specs.Tasks.{TaskValue, cost_in, object_names, function_names}
+use Rattle.pddl_state.specs.Atoms.{AtomValue, atom_eq}
+use Rattle.pddl_state.proofs.AtomOrder.{atom_eq-swap}
+use Rattle.pddl_compiled.specs.Tables.{number_atom}
+use Rattle.pddl_tables.specs.Prices.{numbered_cost, price_before}
+
+module _ (task : TaskValue) where
+  abbrev number : GroundValue → AtomValue
+  number g = number_atom (function_names task) (object_names task) g
+
+  -- the costs that items give
+  abbrev pub given : List InitValue → AtomValue → Option ℕ
+  given items call = lookup (atom_eq call) (map (numbered_cost task) (filter_map cost_in items))
+
+  -- an item that gives none
+  pub none_before : (item : InitValue) (old : AtomValue → Option ℕ) → cost_in item ≡ None → (call : AtomValue) → old call ≡ price_before task item old call
+  none_before item old none = λ call. sym (ap (λ o. option_map_or (λ e. cond (atom_eq call (numbered_cost task e).0) (Some e.1) (old call)) o (old call)) none)
+
+  -- one that gives a cost, which is put into the table
+  pub one_before : (item : InitValue) (old new : AtomValue → Option ℕ) (k : AtomValue) (v : ℕ) (f : GroundValue) (n : ℕ) → item ≡ value f n → k ≡ number f → v ≡ n / billion
+      → ((q : AtomValue) → new q ≡ cond (atom_eq k q) (Some v) (old q)) → (call : AtomValue) → new call ≡ price_before task item old call
+  one_before item old new k v f n is named whole grows = λ call.
+      grows call
+      ∙ ap (λ b. cond b (Some v) (old call)) (atom_eq-swap k call)
+      ∙ ap (λ a. cond (atom_eq call a) (Some v) (old call)) named
+      ∙ ap (λ m. cond (atom_eq call (number f)) (Some m) (old call)) whole
+      ∙ sym (ap (λ i. price_before task i old call) is)
+
+  one_more : (item : InitValue) (items : List InitValue) (old : AtomValue → Option ℕ) (call : AtomValue) → old call ≡ given items call → price_before task item old call ≡ given (item ∷ items) call
+  one_more (holds f) items old call h = h
+  one_more (fails f) items old call h = h
+  one_more (value f n) items old call h = ap (λ o. cond (atom_eq call (number f)) (Some (n / billion)) o) h
+
+  -- the item in front of those whose costs stand in the table
+  pub one_earlier : {X : Type 0} (view : X → InitValue) (xs : List X) (i j : ℕ) (x : X) (old new : AtomValue → Option ℕ) → i < length xs → x ≡ get_or xs i x → j ≡ i + 1
+      → ((call : AtomValue) → old call ≡ given (map view (drop j xs)) call) → ((call : AtomValue) → new call ≡ price_before task (view x) old call)
+      → (call : AtomValue) → new call ≡ given (map view (drop i xs)) call
+  one_earlier view xs i j x old new h at next held added = λ call.
+      added call ∙ one_more (view x) (map view (drop j xs)) old call (held call) ∙ ap (λ ys. given (map view ys) call) (sym front)
+    where
+      behind : drop i xs ≡ get_or xs i x ∷ drop (i + 1) xs
+      behind = rw (add-one, drop-cons xs i x h) refl
+
+      front : drop i xs ≡ x ∷ drop j xs
+      front = behind ∙ ap (λ y. y ∷ drop (i + 1) xs) (sym at) ∙ ap (λ k. x ∷ drop k xs) (sym next)

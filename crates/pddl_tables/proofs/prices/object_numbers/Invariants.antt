@@ -1,0 +1,8 @@
+use Rattle.std.proofs.Common.{◌≡◌, ◌++◌, map, drop}
+use Rattle.pddl_task.specs.Names.{number_in}
+use Rattle.pddl_tables.proofs.prices.object_numbers.Given as goal
+
+-- the numbers so far, and those that are left
+abbrev pub invariant-loop-name : goal.invariant-loop-name
+invariant-loop-name g l =
+    l.numbers.items ++ map (number_in (g.L.Lookups.tables l.lookups).objects) (drop l.name-index l.names) ≡ map (number_in (g.L.Lookups.tables l.lookups).objects) l.names
