@@ -6,3 +6,6 @@ pub mod RowBits
 pub mod RowLists
 pub mod SharedBits
 pub mod SortedKeys
+pub mod SparseNumbers
+pub mod MergedNumbers
+pub mod KeptNumbers

@@ -1,4 +1,6 @@
 pub mod Atoms
 pub mod AtomSets
 pub mod BitRows
+pub mod SparseRows
+pub mod MixedRows
 pub mod Numbering
