@@ -1,6 +1,6 @@
 -- The first fault of a step, by what is looked up for it in turn.
-use Rattle.std.proofs.Common.{◌≡◌, ◌<◌, ◌≤◌, ℕ, Bool, true, false, not, ◌==◌, List, [], map, length, refl, sym, ap, ◌∙◌, bytes_eq, arith}
-use Rattle.std.specs.Prelude.{Some, None, Vec, vec_len, position}
+use Rattle.std.proofs.Common.{◌≡◌, ◌<◌, ◌≤◌, ℕ, Bool, true, false, not, ◌==◌, List, [], map, length, reverse, refl, sym, ap, ◌∙◌, bytes_eq, arith}
+use Rattle.std.specs.Prelude.{Option, Some, None, Vec, vec_len, position}
 use Rattle.std.specs.Borrow.{Bor}
 use Rattle.std.specs.Map.{keys_of}
 use Rattle.std.specs.List.{slice_get}
@@ -11,16 +11,24 @@ use Rattle.pddl_formula.specs.Terms.{name}
 use Rattle.pddl_formula.specs.TypedLists.{typed_view}
 use Rattle.pddl_formula.specs.declared.type_names.Typed.{Typed}
 use Rattle.pddl_domain.specs.Actions.{ActionValue, action_view}
+use Rattle.pddl_domain.specs.Domains.{DomainValue}
+use Rattle.pddl_problem.specs.Problems.{ProblemValue}
 use Rattle.pddl_task.specs.Names.{Name, is_in, number_in}
 use Rattle.pddl_task.specs.Faults.{some_misfit}
-use Rattle.pddl_task.specs.Tasks.{TaskValue, object_names, task_count}
-use Rattle.pddl_plan_link.specs.StepFaults.{action_names, action_named, naming, has_arity, unknown_object, some_costless, some_increase, step_faults}
-use Rattle.pddl_plan_link.specs.GroundedCosts.{is_costless, given}
+use Rattle.pddl_task.specs.Linked.{IsLinked}
+use Rattle.pddl_task.specs.Tasks.{TaskValue, task_of, object_names, task_count}
+use Rattle.pddl_state.specs.Atoms.{AtomValue}
+use Rattle.pddl_tables.specs.Prices.{price_at}
+use Rattle.pddl_plan_link.specs.StepFaults.{action_names, action_named, naming, has_arity, unknown_object, some_costless, step_faults}
 use Rattle.pddl_plan_link.specs.declared.action_table.SizedAction.{SizedAction}
+use Rattle.pddl_plan_link.specs.ChangeCosts.{is_unpriced, some_cost}
+use Rattle.pddl_plan_link.specs.ActionChanges.{effect_of}
 use Rattle.pddl_plan_link.specs.StepTables.{named_action, named_in, some_unfit}
-use Rattle.pddl_plan_link.proofs.NamedActions.{Entry, none_named, number_found, IsFound, action_found}
+use Rattle.pddl_plan_link.proofs.CostWalks.{costless_found}
+use Rattle.pddl_plan_link.proofs.GoodSteps.{no_other}
+use Rattle.pddl_plan_link.proofs.NamedActions.{Entry, none_named, number_found, IsFound, action_found, action_there}
 use Rattle.pddl_plan_link.proofs.NumberedObjects.{some_unknown, unfit_is}
-use Rattle.pddl_plan_link.proofs.StepTests.{IsFirst, unknown_first, arity_first, object_first, type_first, cost_first, size_first, none_stands, is_large, is_not_large}
+use Rattle.pddl_plan_link.proofs.StepTests.{IsFirst, unknown_first, arity_first, object_first, type_first, cost_first, size_first, none_stands, found_large, found_small}
 
 pub as_long : {X Z : Type 0} (v : Vec X Z) (m : ℕ) → m ≡ vec_len v → m ≡ length v.items
 as_long v m is = omega (arith, v.ok.0, is)
@@ -58,10 +66,16 @@ module _ {A : Type 0} (task : TaskValue) (es : List (Entry A)) (s : StepValue) (
     pub number_is : i ≡ number_in (action_names task) s.action
     number_is = number_found task es n are i at ∙ ap (number_in (action_names task)) read
 
+    pub found_there : slice_get task.actions i ≡ Some a
+    found_there = action_there task es n are i (key, held) at there
+
     -- there are as many objects as parameters, or not
     module _ (m k : ℕ) (first : m ≡ length s.objects) (second : k ≡ length held.action.now.parameters.items) where
+      parameters_are : length a.parameters ≡ k
+      parameters_are = length-map held.action.now.parameters.items typed_view ∙ sym second
+
       compared : length s.objects == length a.parameters ≡ m == k
-      compared = ap (λ j. j == length a.parameters) (sym first) ∙ ap (λ j. m == j) (length-map held.action.now.parameters.items typed_view ∙ sym second)
+      compared = ap (λ j. j == length a.parameters) (sym first) ∙ ap (λ j. m == j) parameters_are
 
       pub arity_differs : (m ≡ k → ⊥) → IsFirst (step_faults task s) 41
       arity_differs other = arity_first task s a named (compared ∙ other_number m k other)
@@ -96,20 +110,21 @@ module _ {A : Type 0} (task : TaskValue) (es : List (Entry A)) (s : StepValue) (
               pub type_differs : unfit ≡ true → IsFirst (step_faults task s) 43
               type_differs is = type_first task s a named arity known (sym misfit ∙ is)
 
-              -- some increase has no cost, or all have one
-              module _ (ps : List (Typed A)) (os : List Name) (costless : Bool) (first_given : ps ≡ held.action.now.parameters.items) (second_given : os ≡ s.objects)
-                  (asked : costless ≡ some_increase (is_costless task (given ps os)) a.effect) (fit : unfit ≡ false) where
-                costs : costless ≡ some_costless task s a
-                costs =
-                    asked ∙ ap (λ (xs : List (Typed A)). some_increase (is_costless task (given xs os)) a.effect) first_given
-                    ∙ ap (λ ns. some_increase (is_costless task (given held.action.now.parameters.items ns)) a.effect) second_given
+              -- the step is too large, or not
+              module _ (fit : unfit ≡ false) where
+                pub step_is_large : 1000000 < held.size → IsFirst (step_faults task s) 46
+                step_is_large more = size_first task s a named arity known (sym misfit ∙ fit) (found_large held.size _ found.size_is more)
 
-                pub cost_is_undefined : costless ≡ true → IsFirst (step_faults task s) 44
-                cost_is_undefined is = cost_first task s a named arity known (sym misfit ∙ fit) (sym costs ∙ is)
+                -- some increase has no cost, or all have one
+                module _ (less : held.size ≤ 1000000) (d : DomainValue) (p : ProblemValue) (linked : IsLinked d p) (files : task_of d p ≡ task) (seen : TaskValue) (price : AtomValue → Option ℕ)
+                    (same_task : seen ≡ task) (priced : (g : AtomValue) → price g ≡ price_at task g) (handed : List ℕ) (costless : Bool) (all_handed : handed ≡ numbers)
+                    (asked : costless ≡ some_cost (effect_of seen a) (is_unpriced price) (reverse handed)) where
+                  of_step : costless ≡ some_costless task s a
+                  of_step = costless_found d p task linked files seen price same_task priced a s handed costless (sym first ∙ same ∙ sym parameters_are) (no_other (object_names task) s.objects known)
+                      (all_handed ∙ numbers_are) asked
 
-                -- the step is too large, or not
-                pub step_is_large : costless ≡ false → 1000000 < held.size → IsFirst (step_faults task s) 46
-                step_is_large none more = size_first task s a named arity known (sym misfit ∙ fit) (sym costs ∙ none) (is_large held.size _ found.size_is more)
+                  pub cost_is_undefined : costless ≡ true → IsFirst (step_faults task s) 44
+                  cost_is_undefined is = cost_first task s a named arity known (sym misfit ∙ fit) (found_small held.size _ found.size_is less) (sym of_step ∙ is)
 
-                pub step_is_good : costless ≡ false → held.size ≤ 1000000 → step_faults task s ≡ []
-                step_is_good none less = none_stands task s a named arity known (sym misfit ∙ fit) (sym costs ∙ none) (is_not_large held.size _ found.size_is less)
+                  pub step_is_good : costless ≡ false → step_faults task s ≡ []
+                  step_is_good none = none_stands task s a named arity known (sym misfit ∙ fit) (found_small held.size _ found.size_is less) (sym of_step ∙ none)

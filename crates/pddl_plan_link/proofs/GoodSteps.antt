@@ -11,7 +11,7 @@ use Rattle.pddl_task.specs.Names.{Name, is_in}
 use Rattle.pddl_task.specs.Faults.{some_misfit}
 use Rattle.pddl_task.specs.GroundSize.{largest_size, action_size}
 use Rattle.pddl_task.specs.Tasks.{TaskValue, object_names, task_count}
-use Rattle.pddl_plan_link.specs.StepFaults.{action_name, action_named, naming, has_arity, unknown_action, other_arity, unknown_object, unfit_object, is_applied, some_costless, cost_undefined, too_large, number_if, IsGoodStep}
+use Rattle.pddl_plan_link.specs.StepFaults.{action_name, action_named, naming, has_arity, unknown_action, other_arity, unknown_object, unfit_object, is_applied, is_large, some_costless, cost_undefined, too_large, number_if, IsGoodStep}
 use Rattle.pddl_plan_link.proofs.Numbers.{is_found}
 use Rattle.pddl_plan_link.proofs.StepTests.{none_stands}
 
@@ -97,6 +97,7 @@ module _ (task : TaskValue) (s : StepValue) (good : IsGoodStep task s) where
       let objects = stands_not (unknown_object task s) 42 parts.2 in
       let applied : is_applied task s a ≡ true =
       ap (λ b. b && not (unknown_object task s)) (numbers_same (length s.objects) (length a.parameters) as_many) ∙ ap not objects in
+      let small : is_large task a ≡ false = sym (ap (λ o. option_map_or (is_large task) o false) named) ∙ stands_not (too_large task s) 46 parts.5 in
       record {
         action = a;
         named = named;
@@ -104,10 +105,10 @@ module _ (task : TaskValue) (s : StepValue) (good : IsGoodStep task s) where
         known = no_other (object_names task) s.objects objects;
         fitting = sym (ap (λ o. option_map_or (λ (b : ActionValue). some_misfit (naming task.types task.objects) [] (map name s.objects) b.parameters) o false) named)
             ∙ stands_not (unfit_object task s) 43 parts.3;
-        costs = second_off (is_applied task s a) (some_costless task s a) applied
-            (sym (ap (λ o. option_map_or (λ b. is_applied task s b && some_costless task s b) o false) named) ∙ stands_not (cost_undefined task s) 44 parts.4);
-        within = not_above largest_size (action_size (task_count task) a)
-            (sym (ap (λ o. option_map_or (λ b. nat_lt largest_size (action_size (task_count task) b)) o false) named) ∙ stands_not (too_large task s) 46 parts.5);
+        costs = second_off (not (is_large task a)) (some_costless task s a) (ap not small)
+            (second_off (is_applied task s a) (not (is_large task a) && some_costless task s a) applied
+            (sym (ap (λ o. option_map_or (λ b. is_applied task s b && (not (is_large task b) && some_costless task s b)) o false) named) ∙ stands_not (cost_undefined task s) 44 parts.4));
+        within = not_above largest_size (action_size (task_count task) a) small;
       }
 
   pub faultless_of : IsFaultless task s
@@ -116,4 +117,4 @@ module _ (task : TaskValue) (s : StepValue) (good : IsGoodStep task s) where
 pub good_of : (task : TaskValue) (s : StepValue) → IsFaultless task s → IsGoodStep task s
 good_of task s f =
     none_stands task s f.action f.named (numbers_same (length s.objects) (length f.action.parameters) f.arity) (none_unknown (object_names task) s.objects f.known)
-    f.fitting f.costs (above_not largest_size (action_size (task_count task) f.action) f.within)
+    f.fitting (above_not largest_size (action_size (task_count task) f.action) f.within) f.costs

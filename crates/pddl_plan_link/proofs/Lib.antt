@@ -2,10 +2,11 @@ pub mod Numbers
 pub mod NameNumbers
 pub mod NamedActions
 pub mod InitialAtoms
-pub mod GivenObjects
 pub mod NumberedObjects
-pub mod GivenCosts
 pub mod SomeEffects
+pub mod NoCosts
+pub mod CostWalks
+pub mod HeldChanges
 pub mod StepTests
 pub mod GoodSteps
 pub mod SoundSteps

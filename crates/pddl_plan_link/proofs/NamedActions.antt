@@ -1,9 +1,10 @@
 -- The actions of a task in a table by name.
-use Rattle.std.proofs.Common.{◌≡◌, ℕ, false, ◌||◌, List, [], ◌∷◌, ◌++◌, map, refl, sym, ap, ◌∙◌, subst, bytes_eq}
+use Rattle.std.proofs.Common.{◌≡◌, ℕ, false, ◌||◌, List, [], ◌∷◌, ◌++◌, map, length, refl, sym, ap, ◌∙◌, subst, bytes_eq}
 use Rattle.std.specs.Prelude.{Option, Some, None, is_some, option_map, position}
 use Rattle.std.specs.Borrow.{Bor}
 use Rattle.std.specs.List.{slice_get, flat_map}
 use Rattle.std.specs.Map.{keys_of, lookup}
+use Rattle.std.proofs.lemmas.List.{length-map}
 use Rattle.std.proofs.lemmas.Option.{slice_get-map}
 use Rattle.pddl_domain.specs.declared.domain.Action.{Action}
 use Rattle.pddl_domain.specs.Actions.{ActionValue, action_view}
@@ -63,6 +64,9 @@ pub is_named : {A : Type 0} (es : List (Entry A)) (n : Name) → is_some (lookup
 is_named [] n = refl
 is_named (e ∷ es) n = found_or (bytes_eq n e.0.now) e.1 (lookup (λ k. bytes_eq n k.now) es) ∙ ap (λ b. bytes_eq n e.0.now || b) (is_named es n)
 
+pub actions_as_many : {A : Type 0} (task : TaskValue) (es : List (Entry A)) → map named_in es ≡ map (named_action (task_count task)) task.actions → length es ≡ length task.actions
+actions_as_many task es are = sym (length-map es named_in) ∙ ap length are ∙ length-map task.actions (named_action (task_count task))
+
 -- ---- actions that are put in one by one
 
 pub held_start : {A : Type 0} (count : List Name → ℕ) (es : List (Entry A)) (all : List ActionValue) → es ≡ [] → repeated [] (map action_name all) ≡ []
@@ -99,6 +103,9 @@ module _ {A : Type 0} (task : TaskValue) (es : List (Entry A)) (n : Name) (are :
   pub number_found : (i : ℕ) → Some i ≡ Place → i ≡ number_in (action_names task) n
   number_found i at = number_is (action_names task) n i (at ∙ place_is)
 
+  number_named : (i : ℕ) → Some i ≡ Place → action_named task n ≡ slice_get task.actions i
+  number_named i at = found_at_number action_name task.actions n ∙ sym (ap (slice_get task.actions) (number_found i at))
+
   -- what is found is the action, and its size
   pub record IsFound (a : NamedAction) : Type 0 where
     pub action_is : action_named task n ≡ Some a.action
@@ -115,6 +122,9 @@ module _ {A : Type 0} (task : TaskValue) (es : List (Entry A)) (n : Name) (are :
 
   pub action_found : (i : ℕ) (e : Entry A) → Some i ≡ Place → slice_get es i ≡ Some e → IsFound (named_in e)
   action_found i e at there =
-      let named : action_named task n ≡ slice_get task.actions i = found_at_number action_name task.actions n ∙ sym (ap (slice_get task.actions) (number_found i at)) in
-      by_action i (slice_get task.actions i) (named_in e) named
+      by_action i (slice_get task.actions i) (named_in e) (number_named i at)
       (sym (slice_get-map (named_action (task_count task)) task.actions i) ∙ sym (ap (λ all. slice_get all i) are) ∙ slice_get-map named_in es i ∙ ap (option_map named_in) there)
+
+  -- it stands there among the task's actions
+  pub action_there : (i : ℕ) (e : Entry A) → Some i ≡ Place → slice_get es i ≡ Some e → slice_get task.actions i ≡ Some (named_in e).action
+  action_there i e at there = sym (number_named i at) ∙ (action_found i e at there).action_is

@@ -3,6 +3,7 @@ use Rattle.std.proofs.Common.{◌≡◌, ◌<◌, ◌≤◌, ℕ, ◌+◌, Bool,
 use Rattle.std.specs.Prelude.{Option, Some, None, is_some, find, position}
 use Rattle.std.specs.List.{list_any}
 use Rattle.std.specs.Option.{option_map_or}
+use Rattle.std.proofs.lemmas.Bool.{cases_lt}
 use Rattle.std.proofs.lemmas.List.{map_more, take_all, drop_all}
 use Rattle.pddl_formula.specs.Terms.{name}
 use Rattle.pddl_formula.specs.TypedLists.{TypedValue}
@@ -15,7 +16,6 @@ use Rattle.pddl_task.proofs.Lists.{none_left, none_right}
 use Rattle.pddl_link.proofs.ListTurns.{rest_is}
 use Rattle.pddl_plan_link.specs.StepFaults.{naming}
 use Rattle.pddl_plan_link.specs.StepTables.{fits_number, some_unfit}
-use Rattle.pddl_plan_link.proofs.GivenObjects.{which}
 use Rattle.pddl_task.proofs.Numbers.{number_is, is_placed}
 use Rattle.pddl_plan_link.proofs.Numbers.{found_at_number, is_found}
 
@@ -95,6 +95,9 @@ unfit_is task (n ∷ names) (x ∷ xs) known =
 no_parameters : (task : TaskValue) (numbers : List ℕ) → some_unfit task numbers [] ≡ false
 no_parameters task [] = refl
 no_parameters task (number ∷ numbers) = refl
+
+which : (m n i : ℕ) → min m n ≤ i → (m ≤ i) ⊎ (n ≤ i)
+which m n i h = elim (cases_lt i m) as (λ _. (m ≤ i) ⊎ (n ≤ i)) [ inl k ↦ inr (omega (arith, h, k)) | inr k ↦ inl k ]
 
 module _ {X : Type 0} (task : TaskValue) (view : X → TypedValue) (numbers : List ℕ) (xs : List X) where
   -- some of all does not fit where some of those from a place on does not

@@ -1,6 +1,7 @@
 -- The steps of a plan, linked one after another.
 use Rattle.std.proofs.Common.{◌≡◌, ◌<◌, ◌≤◌, ℕ, ◌+◌, List, [], ◌∷◌, ◌++◌, map, length, get_or, drop, take, refl, sym, ap, ◌∙◌, subst, arith}
-use Rattle.std.specs.Prelude.{Option, Some, None, Result, Ok, Err, IfOk, IfSome, Vec}
+use Rattle.std.specs.Prelude.{Option, Some, None, Result, Ok, Err, IfOk, OnOk, IfSome, Vec}
+use Rattle.std.specs.Result.{result_and}
 use Rattle.std.specs.List.{AllByRecursion}
 use Rattle.std.proofs.lemmas.List.{map_more, take_all, length-map, length-take-le, take-append-drop, map-append}
 use Rattle.pddl_task.specs.Names.{number_in}
@@ -74,16 +75,25 @@ module _ {X : Type 0} (task : TaskValue) (view : X → StepValue) (link : X → 
   all_linked i done past short so_far = record { short = omega (arith, short, length-map plan view); good = all_good i done past so_far }
 
 -- a step by what was found for it
-module _ (told task : TaskValue) (found own : StepValue) (same_task : told ≡ task) (same : found ≡ own) where
-  pub step_is : (action : ℕ) (objects : List ℕ) (moment of_own : Option ℕ) → action ≡ number_in (action_names told) found.action → objects ≡ map (number_in (object_names told)) found.objects → moment ≡ of_own
+module _ (task : TaskValue) (found own : StepValue) (same : found ≡ own) where
+  pub step_is : (action : ℕ) (objects : List ℕ) (moment of_own : Option ℕ) → action ≡ number_in (action_names task) found.action → objects ≡ map (number_in (object_names task)) found.objects → moment ≡ of_own
       → record { action = action; objects = objects; moment = moment } ≡ linked_step task of_own own
   step_is action objects moment of_own first second third =
       ap (λ a. record { action = a; objects = objects; moment = moment }) first
-      ∙ ap (λ os. record { action = number_in (action_names told) found.action; objects = os; moment = moment }) second
-      ∙ ap (λ m. linked_step told m found) third ∙ ap (λ t. linked_step t of_own found) same_task ∙ ap (linked_step task of_own) same
+      ∙ ap (λ os. record { action = number_in (action_names task) found.action; objects = os; moment = moment }) second
+      ∙ ap (λ m. linked_step task m found) third ∙ ap (linked_step task of_own) same
 
-  pub faults_are : step_faults task own ≡ step_faults told found
-  faults_are = ap (step_faults task) (sym same) ∙ ap (λ t. step_faults t found) (sym same_task)
+  pub faults_are : step_faults task own ≡ step_faults task found
+  faults_are = ap (step_faults task) (sym same)
+
+-- steps that were linked into a list, if they were
+pub verdict_made : {T U : Type 0} (task : TaskValue) (plan : PlanValue) (made : Result U StepFault) (steps : T) → PlanVerdict task plan made → PlanVerdict task plan (result_and made (Ok steps))
+verdict_made task plan (Ok u) steps h = h
+verdict_made task plan (Err e) steps h = h
+
+pub steps_made : {T U : Type 0} (made : Result U StepFault) (steps linked : T) → OnOk made (steps ≡ linked) → IfOk (result_and made (Ok steps)) (λ y. y ≡ linked)
+steps_made (Ok u) steps linked h = h
+steps_made (Err e) steps linked h = tt
 
 -- ---- plain and timed plans
 

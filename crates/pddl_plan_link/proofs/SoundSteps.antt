@@ -165,14 +165,14 @@ module _ (task : TaskValue) where
         ap (λ m. record { action = s.action; objects = s.objects; moment = m } ∷ map without_moment steps) (sym none.0) ∙ ap (λ ts. s ∷ ts) (none_left steps none.1)
 
     -- their timed plan
-    abbrev timed_name : LinkedStepValue → TimedValue
+    abbrev pub timed_name : LinkedStepValue → TimedValue
     timed_name s = record { moment = unwrap_or s.moment 0; step = named_step task s }
 
     names_timed : (steps : List LinkedStepValue) → AllByRecursion (IsLinkedStep task) steps → AllByRecursion (IsGoodStep task) (map (λ s. s.step) (map timed_name steps))
     names_timed [] each = tt
     names_timed (s ∷ steps) each = (good_names task once apart s each.0, names_timed steps each.1)
 
-    timed_linked : (steps : List LinkedStepValue) → length steps ≤ most_steps → AllByRecursion (IsLinkedStep task) steps → IsLinkedPlan task (timed (map timed_name steps))
+    pub timed_linked : (steps : List LinkedStepValue) → length steps ≤ most_steps → AllByRecursion (IsLinkedStep task) steps → IsLinkedPlan task (timed (map timed_name steps))
     timed_linked steps short each = record {
       short = omega (arith, short, length-map steps timed_name, length-map (map timed_name steps) (λ (s : TimedValue). s.step));
       good = names_timed steps each;
@@ -182,7 +182,7 @@ module _ (task : TaskValue) where
     its_moment None h = cc
     its_moment (Some m) h = refl
 
-    timed_steps : (steps : List LinkedStepValue) → AllByRecursion (IsLinkedStep task) steps → AllByRecursion (λ s. is_some s.moment ≡ true) steps → steps ≡ linked_steps task (timed (map timed_name steps))
+    pub timed_steps : (steps : List LinkedStepValue) → AllByRecursion (IsLinkedStep task) steps → AllByRecursion (λ s. is_some s.moment ≡ true) steps → steps ≡ linked_steps task (timed (map timed_name steps))
     timed_steps [] each some = refl
     timed_steps (s ∷ steps) each some =
         sym (ap (λ m. linked_step task m (named_step task s) ∷ linked_steps task (timed (map timed_name steps))) (its_moment s.moment some.0)

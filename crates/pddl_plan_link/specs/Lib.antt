@@ -1,8 +1,10 @@
 pub mod StepFaults
 pub mod LinkedSteps
 pub mod StepParts
-pub mod GroundedCosts
+pub mod ChangeCosts
+pub mod ActionChanges
 pub mod StepTables
+pub mod PlanTables
 pub mod StepVerdicts
 pub mod KnownSteps
 pub mod LinkedLaws

@@ -1,22 +1,22 @@
 -- The faults of a plan's linking, 40 to 46 (own). A step is known by its number in file order, from 0.
-use Rattle.std.specs.Prelude.{◌≡◌, ◌≤◌, ◌<◌, ℕ, Bool, false, not, ◌&&◌, ◌||◌, ◌==◌, nat_lt, cond, List, [], ◌∷◌, ◌++◌, map, length, find, Option, Some, None, bytes_eq}
+use Rattle.std.specs.Prelude.{◌≡◌, ◌≤◌, ◌<◌, ℕ, Bool, false, not, ◌&&◌, ◌||◌, ◌==◌, nat_lt, cond, List, [], ◌∷◌, ◌++◌, map, length, find, Option, Some, None, is_some, bytes_eq}
 use Rattle.std.specs.List.{list_any, AllByRecursion}
 use Rattle.std.specs.Option.{option_map_or}
 use Rattle.pddl_tree.specs.Plans.{StepValue, PlanValue, plain, timed}
 use Rattle.pddl_formula.specs.Terms.{name}
 use Rattle.pddl_formula.specs.TypedLists.{TypedValue}
 use Rattle.pddl_effect.specs.Effects as effects
-use Rattle.pddl_effect.specs.Effects.{FunctionTermValue, AmountValue, number, function, EffectValue, EffectValues, conditional, addition, deletion, increase, no_effects, effect}
+use Rattle.pddl_effect.specs.Effects.{AmountValue, number, function, EffectValue, EffectValues, conditional, addition, deletion, increase, no_effects, effect}
 use Rattle.pddl_domain.specs.Declarations.{TypeValue}
 use Rattle.pddl_domain.specs.Actions.{ActionValue}
 use Rattle.pddl_problem.specs.Inits.{GroundValue}
 use Rattle.pddl_task.specs.Names.{Name, is_in}
 use Rattle.pddl_task.specs.Types.{pairs}
 use Rattle.pddl_task.specs.Settings.{Setting}
-use Rattle.pddl_task.specs.Faults.{some_misfit, same_ground}
+use Rattle.pddl_task.specs.Faults.{some_misfit}
 use Rattle.pddl_task.specs.GroundSize.{largest_size, action_size}
-use Rattle.pddl_task.specs.Tasks.{TaskValue, object_names, task_count}
-use Rattle.pddl_task.specs.Valuations.{giving, grounded_call}
+use Rattle.pddl_task.specs.Tasks.{TaskValue, object_names, fitting_names, cost_of, task_count}
+use Rattle.pddl_task.specs.Valuations.{Valuation, giving, grounded_call, some_valuation}
 
 -- ---- what a step names
 
@@ -62,29 +62,38 @@ naming types objects = record { pairs = pairs types; predicates = []; functions 
 abbrev pub unfit_object : TaskValue → StepValue → Bool
 unfit_object task s = action_passes task s (λ a. some_misfit (naming task.types task.objects) [] (map name s.objects) a.parameters)
 
--- ---- 44 CostUndefined: the function term of one of its amounts has no value in `:init`
+-- ---- 46 StepTooLarge: the step's ground size is over 1,000,000
 
--- some function term that an effect adds to the cost, outside its `when`s and `forall`s, passes a test; those under them are not looked at
-abbrev pub some_amount : (FunctionTermValue → Bool) → AmountValue → Bool
-some_amount test (number n) = false
-some_amount test (function f) = test f
+abbrev pub is_large : TaskValue → ActionValue → Bool
+is_large task a = nat_lt largest_size (action_size (task_count task) a)
+
+abbrev pub too_large : TaskValue → StepValue → Bool
+too_large task s = action_passes task s (is_large task)
+
+-- ---- 44 CostUndefined: the function term of one of its increases has no value in `:init`; looked for where 46 does not stand
+
+-- Some function of objects that an increase of an effect adds the cost of passes a test, under some valuation of the quantifiers
+-- around it, whether it fires or not.
+abbrev pub some_amount : (GroundValue → Bool) → AmountValue → Valuation → Bool
+some_amount test (number n) v = false
+some_amount test (function f) v = test (grounded_call v f)
 
 abbrev mutual
-  pub some_increase : (FunctionTermValue → Bool) → EffectValue → Bool
-  some_increase test (effects.conjunction es) = some_increase_in test es
-  some_increase test (effects.universal xs e) = false
-  some_increase test (conditional f e) = false
-  some_increase test (addition a) = false
-  some_increase test (deletion a) = false
-  some_increase test (increase a) = some_amount test a
+  pub some_increase : (List Name → List Name) → EffectValue → (GroundValue → Bool) → Valuation → Bool
+  some_increase fit (effects.conjunction es) test v = some_increase_in fit es test v
+  some_increase fit (effects.universal xs e) test v = some_valuation fit xs (some_increase fit e test) v
+  some_increase fit (conditional f e) test v = some_increase fit e test v
+  some_increase fit (addition a) test v = false
+  some_increase fit (deletion a) test v = false
+  some_increase fit (increase a) test v = some_amount test a v
 
-  pub some_increase_in : (FunctionTermValue → Bool) → EffectValues → Bool
-  some_increase_in test no_effects = false
-  some_increase_in test (effect e es) = some_increase test e || some_increase_in test es
+  pub some_increase_in : (List Name → List Name) → EffectValues → (GroundValue → Bool) → Valuation → Bool
+  some_increase_in fit no_effects test v = false
+  some_increase_in fit (effect e es) test v = some_increase fit e test v || some_increase_in fit es test v
 
--- a function of objects has a value in `:init`
-abbrev pub has_cost : TaskValue → GroundValue → Bool
-has_cost task g = list_any (λ e. same_ground g e.0) task.costs
+-- `:init` gives a function of objects no value
+abbrev pub is_costless : TaskValue → GroundValue → Bool
+is_costless task g = not (is_some (cost_of task g))
 
 -- as many objects as parameters, and each of the task: what the action says of its parameters is then said of objects
 abbrev pub is_applied : TaskValue → StepValue → ActionValue → Bool
@@ -92,15 +101,10 @@ is_applied task s a = has_arity s a && not (unknown_object task s)
 
 -- a term of an increase, with the step's objects for the parameters, has no value
 abbrev pub some_costless : TaskValue → StepValue → ActionValue → Bool
-some_costless task s a = some_increase (λ f. not (has_cost task (grounded_call (giving a.parameters s.objects []) f))) a.effect
+some_costless task s a = some_increase (fitting_names task) a.effect (is_costless task) (giving a.parameters s.objects [])
 
 abbrev pub cost_undefined : TaskValue → StepValue → Bool
-cost_undefined task s = action_passes task s (λ a. is_applied task s a && some_costless task s a)
-
--- ---- 46 StepTooLarge: the step's ground size is over 1,000,000
-
-abbrev pub too_large : TaskValue → StepValue → Bool
-too_large task s = action_passes task s (λ a. nat_lt largest_size (action_size (task_count task) a))
+cost_undefined task s = action_passes task s (λ a. is_applied task s a && (not (is_large task a) && some_costless task s a))
 
 -- ---- a step's faults
 

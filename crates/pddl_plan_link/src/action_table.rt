@@ -9,10 +9,9 @@ ghost use Rattle.pddl_link.specs.LinkedTasks.{task_of_files};
 ghost use Rattle.pddl_plan_link.specs.StepFaults.{action_name};
 ghost use Rattle.pddl_plan_link.specs.StepTables.{named_action, named_in};
 
-use crate::hashed::Hashed;
 use indexmap::IndexMap;
 use pddl_domain::Action;
-use pddl_link::Task;
+use pddl_link::{Hashed, Task};
 use std::alloc::{AllocError, Allocator};
 
 /// An action with the ground size of its steps.

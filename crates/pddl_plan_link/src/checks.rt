@@ -1,21 +1,30 @@
 //! The faults of a step.
 
-ghost use Rattle.std.specs.Prelude.{◌≡◌, true, map, not, IfOk, OnOk};
+ghost use Rattle.std.specs.Prelude.{◌≡◌, true, Some, map, reverse, slice_get, not, IfOk, OnOk};
 ghost use Rattle.std.specs.List.{list_any};
 ghost use Rattle.pddl_formula.specs.TypedLists.{typed_view};
 ghost use Rattle.pddl_tree.specs.Plans.{step_view};
+ghost use Rattle.pddl_domain.specs.Actions.{action_view};
 ghost use Rattle.pddl_task.specs.Names.{is_in, number_in};
 ghost use Rattle.pddl_task.specs.Tasks.{object_names};
 ghost use Rattle.pddl_link.specs.LinkedTasks.{task_of_files};
+ghost use Rattle.pddl_tables.specs.Lookups.{task_in, price_in};
+ghost use Rattle.pddl_plan_link.specs.ChangeCosts.{is_unpriced, some_cost};
+ghost use Rattle.pddl_plan_link.specs.ActionChanges.{effect_of, AreChangesOf};
 ghost use Rattle.pddl_plan_link.specs.StepFaults.{action_names, step_faults};
-ghost use Rattle.pddl_plan_link.specs.StepTables.{some_unfit, AreActionsOf};
+ghost use Rattle.pddl_plan_link.specs.StepTables.{some_unfit};
+ghost use Rattle.pddl_plan_link.specs.PlanTables.{ArePlanTables};
 ghost use Rattle.pddl_plan_link.specs.StepVerdicts.{StepVerdict};
 
+use crate::changes::{Changes, make_change};
+use crate::costs::some_costless;
 use crate::fault::StepFault;
-use crate::grounding::{Grounding, some_costless};
 use crate::tables::PlanTables;
+use pddl_compiled::Frame;
+use pddl_domain::Action;
 use pddl_formula::Typed;
 use pddl_link::Task;
+use pddl_state::Atom;
 use pddl_tree::{Name, Step};
 use std::alloc::{AllocError, Allocator};
 
@@ -58,19 +67,46 @@ fn some_unfit<'m, 'a, A: Allocator, B: Allocator>(
     false
 }
 
+/// Whether an increase of an action, with the objects of these numbers for its parameters, has no cost.
+///
+/// Fails where memory for the action's change, or for an atom that is looked up, is refused.
+fn lacks_cost<'t, 'm, 'a, 'c, A: Allocator, B: Allocator, C: Allocator>(
+    tables: &PlanTables<'t, 'm, 'a, 'c, A, B, C>,
+    number: usize,
+    action: &Action<A>,
+    numbers: &[usize],
+    changes: &mut Changes<'c, C>,
+    call: &mut Atom<&'c C>,
+) -> Result<bool, AllocError>
+    requires action { slice_get (task_in tables.now.lookups).actions number ≡ Some (action_view action.now) }
+    requires changes { AreChangesOf (task_in tables.now.lookups) changes.old.items }
+    ensures answer { IfOk result (λ yes. yes ≡ some_cost (effect_of (task_in tables.now.lookups) (action_view action.now)) (is_unpriced (price_in tables.now.prices)) (reverse numbers.now)) }
+    ensures changes { OnOk result (AreChangesOf (task_in tables.now.lookups) changes.new.items) }
+{
+    make_change(tables.alloc, &tables.lookups, number, action, changes)?;
+    match &changes[number] {
+        Some(change) => some_costless(&tables.prices, change, &Frame::Step(numbers), call),
+        None => Ok(false),
+    }
+}
+
 /// The number of a step's action, where the step has no fault, with the numbers of its objects in place of what is listed.
 pub(crate) fn check_step<'t, 'm, 'a, 'c, A, B, C, D>(
     tables: &PlanTables<'t, 'm, 'a, 'c, A, B, C>,
     place: usize,
     step: &Step<D>,
     numbers: &mut Vec<usize, &'c C>,
+    changes: &mut Changes<'c, C>,
+    call: &mut Atom<&'c C>,
 ) -> Result<usize, StepFault>
 where
     A: Allocator,
     B: Allocator,
     C: Allocator,
     D: Allocator,
-    requires { AreActionsOf (task_of_files tables.now.task.now) tables.now.actions.entries }
+    requires tables { ArePlanTables tables.now }
+    requires changes { AreChangesOf (task_of_files tables.now.task.now) changes.old.items }
+    ensures changes { OnOk result (AreChangesOf (task_of_files tables.now.task.now) changes.new.items) }
     ensures verdict { StepVerdict (step_faults (task_of_files tables.now.task.now) (step_view step.now)) place result }
     ensures action { IfOk result (λ n. n ≡ number_in (action_names (task_of_files tables.now.task.now)) step.now.action) }
     ensures objects { OnOk result (numbers.new.items ≡ map (number_in (object_names (task_of_files tables.now.task.now))) step.now.objects.items) }
@@ -88,17 +124,11 @@ where
     if some_unfit(tables.task, numbers, &action.parameters) {
         return Err(StepFault::StepType { step: place });
     }
-    let grounding = Grounding {
-        alloc: tables.alloc,
-        task: tables.task,
-        parameters: &action.parameters,
-        objects: &step.objects,
-    };
-    if some_costless(&grounding, &action.effect)? {
-        return Err(StepFault::CostUndefined { step: place });
-    }
     if found.size > 1_000_000 {
         return Err(StepFault::StepTooLarge { step: place });
+    }
+    if lacks_cost(tables, number, action, numbers, changes, call)? {
+        return Err(StepFault::CostUndefined { step: place });
     }
     Ok(number)
 }

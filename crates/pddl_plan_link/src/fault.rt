@@ -24,7 +24,8 @@ pub enum StepFault {
     /// 43: an object that does not fit its parameter.
     #[error("an object does not fit its parameter")]
     StepType { step: usize },
-    /// 44: the function term of one of the step's increases has no value in `:init`.
+    /// 44: the function term of one of the step's increases has no value in `:init`, under some valuation of the quantifiers around
+    /// it, whether it fires or not; looked for where 46 does not stand.
     #[error("a cost has no value")]
     CostUndefined { step: usize },
     /// 45: the plan has over 1,000,000 steps.

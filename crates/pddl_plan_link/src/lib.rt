@@ -1,15 +1,15 @@
 //! Plans and initial states of linked tasks, by numbers.
 //!
 //! `link_plan` looks up each step of a plan in a linked task, in file order: its action, how many objects it has, which they are,
-//! whether they fit, what it costs and how large it is. What links is a `Steps`, which names actions and objects by numbers.
+//! whether they fit, how large it is and whether its costs have values. What links is a `Steps`, which names actions and objects by numbers.
 //! `initial_atoms` lists the atoms that hold at first.
 #![tactic(auto)]
 
 mod action_table;
+mod changes;
 mod checks;
+mod costs;
 mod fault;
-mod grounding;
-mod hashed;
 mod initial;
 mod linked_plan;
 mod step_laws;

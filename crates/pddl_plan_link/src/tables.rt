@@ -1,36 +1,42 @@
 //! What a plan's steps are looked up in.
 
 ghost use Rattle.std.specs.Prelude.{◌≡◌, IfOk};
-ghost use Rattle.pddl_link.specs.LinkedTasks.{task_of_files};
-ghost use Rattle.pddl_plan_link.specs.StepTables.{AreActionsOf};
+ghost use Rattle.pddl_plan_link.specs.PlanTables.{ArePlanTables};
 
 use crate::action_table::{Actions, actions_by_name};
 use pddl_link::Task;
+use pddl_tables::{TaskLookups, TaskPrices, task_lookups, task_prices};
 use std::alloc::{AllocError, Allocator};
 
-/// A task with its actions by name.
+/// A task with its actions by name, its functions by name, and its costs by numbers.
 #[derive(Drop)]
 pub(crate) struct PlanTables<'t, 'm, 'a, 'c, A: Allocator, B: Allocator, C: Allocator> {
     pub alloc: &'c C,
     pub task: &'t Task<'m, 'a, A, B>,
     pub actions: Actions<'m, 'c, A, C>,
+    pub lookups: TaskLookups<'t, 'm, 'a, 'c, A, B, C>,
+    pub prices: TaskPrices<'c, C>,
 }
 
-/// A task with the table of its actions.
+/// A task with its tables.
 ///
-/// Fails where memory for the table is refused.
+/// Fails where memory for one of them is refused.
 pub(crate) fn plan_tables<'t, 'm, 'a, 'c, A: Allocator, B: Allocator, C: Allocator>(
     alloc: &'c C,
     task: &'t Task<'m, 'a, A, B>,
 ) -> Result<PlanTables<'t, 'm, 'a, 'c, A, B, C>, AllocError>
     ensures task { IfOk result (λ tables. tables.task.now ≡ task.now) }
-    ensures actions { IfOk result (λ tables. AreActionsOf (task_of_files task.now) tables.actions.entries) }
+    ensures tables { IfOk result (λ tables. ArePlanTables tables) }
 {
     let domain = task.domain();
     let actions = actions_by_name(alloc, task, &domain.actions)?;
+    let lookups = task_lookups(alloc, task)?;
+    let prices = task_prices(alloc, &lookups)?;
     Ok(PlanTables {
         alloc,
         task,
         actions,
+        lookups,
+        prices,
     })
 }
