@@ -1,2 +1,3 @@
-pub mod Listed
-pub mod NamedSteps
+pub mod Held
+pub mod Forms
+pub mod HeldSteps

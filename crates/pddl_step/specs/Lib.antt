@@ -1,1 +1,2 @@
-pub mod NumberedSteps
+pub mod CompiledSteps
+pub mod HeldPlans

@@ -1,6 +1,12 @@
-//! What the steps of a linked task do, by names and by numbers.
+//! The steps of a linked plan over any store of sets of atoms.
+//!
+//! `CompiledPlan` is a course of steps for the judge. Each action that a step uses, and the goal, is compiled once; what a step reads,
+//! adds, deletes and costs is then found by numbers alone.
 #![tactic(auto)]
 
-mod laws;
+mod actions;
+mod compiling;
+mod plan;
 
-pub use laws::steps_do_as_named;
+pub use compiling::compile_plan;
+pub use plan::CompiledPlan;

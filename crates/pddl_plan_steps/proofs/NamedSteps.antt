@@ -20,8 +20,8 @@ use Rattle.pddl_meaning.specs.Effects.{some_fired}
 use Rattle.pddl_meaning.specs.Steps.{step_of}
 use Rattle.pddl_meaning.proofs.Frame.{fired_spoken}
 use Rattle.pddl_compiled.proofs.Numbers.{apart}
-use Rattle.pddl_step.specs.NumberedSteps.{number_of, has_number, numbered_step}
-use Rattle.pddl_step.proofs.Listed.{Spoken, is_read, is_added, is_deleted, tested, reads, reads_are, spoken, spoken_are, fired, fired_are}
+use Rattle.pddl_plan_steps.specs.NumberedSteps.{number_of, has_number, numbered_step}
+use Rattle.pddl_plan_steps.proofs.Listed.{Spoken, is_read, is_added, is_deleted, tested, reads, reads_are, spoken, spoken_are, fired, fired_are}
 
 -- numbers and names agree where the second names are known
 same_numbers : (names ms ns : List Name) → list_all (is_in names) ns ≡ true → pointwise eqb (map (number_in names) ms) (map (number_in names) ns) ≡ same_names ms ns
@@ -33,7 +33,7 @@ same_numbers names (m ∷ ms) (n ∷ ns) known =
     let tail : pointwise eqb (map (number_in names) ms) (map (number_in names) ns) ≡ same_names ms ns = same_numbers names ms ns (and_right (is_in names n) _ known) in
     cc
 
-numbers_agree : (task : TaskValue) (g h : GroundValue) → is_known task h ≡ true → atom_eq (number_of task g) (number_of task h) ≡ same_ground g h
+pub numbers_agree : (task : TaskValue) (g h : GroundValue) → is_known task h ≡ true → atom_eq (number_of task g) (number_of task h) ≡ same_ground g h
 numbers_agree task g h known =
     let head : eqb (number_in (predicate_names task) g.name) (number_in (predicate_names task) h.name) ≡ bytes_eq g.name h.name = apart (predicate_names task) g.name h.name (and_left _ (list_all (is_in (object_names task)) h.objects) known) in
     let tail : pointwise eqb (map (number_in (object_names task)) g.objects) (map (number_in (object_names task)) h.objects) ≡ same_names g.objects h.objects = same_numbers (object_names task) g.objects h.objects (and_right (is_in (predicate_names task) h.name) _ known) in

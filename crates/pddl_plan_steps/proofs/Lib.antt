@@ -1,0 +1,4 @@
+pub mod Listed
+pub mod NamedSteps
+pub mod Framed
+pub mod PlanSteps

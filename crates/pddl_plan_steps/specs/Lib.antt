@@ -1,0 +1,2 @@
+pub mod NumberedSteps
+pub mod PlanSteps

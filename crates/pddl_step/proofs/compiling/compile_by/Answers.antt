@@ -1,0 +1,27 @@
+use Rattle.std.proofs.Common.{[], ap, ◌∙◌}
+use Rattle.pddl_formula.specs.Formulas.{formula_view}
+use Rattle.pddl_link.specs.LinkedTasks.{files_of, task_of_files}
+use Rattle.pddl_compiled.specs.Compiler.{condition_of}
+use Rattle.pddl_compiled.specs.TaskTables.{tables_of}
+use Rattle.pddl_tables.specs.Prices.{price_at}
+use Rattle.pddl_step.proofs.Forms.{action_low}
+use Rattle.pddl_step.proofs.compiling.compile_by.Goals as goal
+
+pub used_actions-requires-clause-range : goal.used_actions-requires-clause-range
+used_actions-requires-clause-range g c =
+    let files = files_of c.args.task.now in
+    action_low files.domain files.problem c.args.task.now.tables.linked c.args.steps.now c.requires.linked
+
+pub invariant_of-result : goal.invariant_of-result
+invariant_of-result g c =
+    let task = task_of_files c.args.task.now in
+    record {
+      held = ∣ record {
+        linked = c.requires.linked;
+        forms = c.in_ok-actions.ensures.forms;
+        used = c.in_ok-actions.ensures.used;
+        goal_is = c.in_ok-goal.ensures
+            ∙ (ap (λ t. condition_of (tables_of t) (formula_view c.goal.result.now) []) c.requires.lookups ∙ ap (λ f. condition_of (tables_of task) f []) c.goal.ensures);
+        prices_are = λ call. c.in_ok-prices.ensures call ∙ ap (λ t. price_at t call) c.requires.lookups;
+      } ∣₁;
+    }

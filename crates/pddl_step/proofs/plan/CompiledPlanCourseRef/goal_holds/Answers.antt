@@ -1,0 +1,11 @@
+use Rattle.std.proofs.Common.{◌≡◌, subst}
+use Rattle.std.specs.Prelude.{IfOk}
+use Rattle.pddl_link.specs.LinkedTasks.{files_of}
+use Rattle.pddl_step.proofs.HeldSteps.{goal_means}
+use Rattle.pddl_step.proofs.plan.CompiledPlanCourseRef.goal_holds.Goals as goal
+
+pub returns : goal.returns
+returns g c =
+    let plan = c.args.self.now in
+    let state = g.S.AtomStore.content c.args.store.now c.args.state.now in
+    subst (λ b. IfOk c.is_true.result (λ yes. yes ≡ b)) (goal_means (files_of plan.task.now) plan.task.now.tables.linked plan.held state) c.is_true.ensures

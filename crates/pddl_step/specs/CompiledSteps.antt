@@ -1,0 +1,68 @@
+-- Actions and plans by numbers alone: what is kept of them while a plan is judged (own).
+use Rattle.std.specs.Prelude.{◌≡◌, ℕ, Bool, true, ◌||◌, List, [], map, reverse, Option, Some, slice_get}
+use Rattle.pddl_domain.specs.Actions.{ActionValue}
+use Rattle.pddl_task.specs.Tasks.{TaskValue}
+use Rattle.pddl_state.specs.Atoms.{AtomValue, atom_eq}
+use Rattle.pddl_happenings.specs.Steps.{Step}
+use Rattle.pddl_compiled.specs.Compiled.{ConditionValue, ChangeValue}
+use Rattle.pddl_compiled.specs.CompiledMeaning.{is_true, some_tested, spent}
+use Rattle.pddl_compiled.specs.Compiler.{ScopeValue, condition_of, change_of}
+use Rattle.pddl_compiled.specs.Frames.{parameter_slot}
+use Rattle.pddl_compiled.specs.TaskTables.{tables_of}
+use Rattle.pddl_compiled.specs.Views.{condition_view, change_view}
+use Rattle.pddl_compiled.specs.declared.compiled.Condition.{Condition}
+use Rattle.pddl_evaluation.specs.Reads.{tested_by}
+use Rattle.pddl_evaluation.specs.Fires.{added, deleted}
+use Rattle.pddl_tables.specs.Prices.{price_at}
+use Rattle.pddl_plan_link.specs.LinkedSteps.{LinkedStepValue, AreLinkedSteps}
+use Rattle.pddl_step.specs.declared.actions.CompiledAction.{CompiledAction}
+
+-- an action's precondition and effect by numbers
+pub record ActionForm : Type 0 where
+  pub precondition : ConditionValue
+  pub effect : ChangeValue
+
+-- an action's parameters in scope, the last one innermost
+abbrev pub scope_of : ActionValue → ScopeValue
+scope_of a = reverse (map parameter_slot a.parameters)
+
+abbrev pub form_of : TaskValue → ActionValue → ActionForm
+form_of task a = record { precondition = condition_of (tables_of task) a.precondition (scope_of a); effect = change_of (tables_of task) a.effect (scope_of a) }
+
+-- What an action does with objects by numbers, where functions of objects have prices.
+abbrev pub form_step : (AtomValue → ℕ) → ActionForm → List ℕ → Step AtomValue
+form_step price f objects = record {
+  ready = λ s. is_true s f.precondition (reverse objects);
+  reads = λ x. some_tested f.precondition (atom_eq x) (reverse objects) || tested_by f.effect (atom_eq x) (reverse objects);
+  adds = λ s x. added s f.effect (atom_eq x) (reverse objects);
+  dels = λ s x. deleted s f.effect (atom_eq x) (reverse objects);
+  cost = λ s. spent price s f.effect (reverse objects);
+}
+
+-- the form that is held
+abbrev pub form_in : {A : _} → CompiledAction A → ActionForm
+form_in c = record { precondition = condition_view c.precondition; effect = change_view c.effect }
+
+-- each form that is held is that of the action of its place
+abbrev pub AreForms : {A : _} → TaskValue → List (Option (CompiledAction A)) → Type 0
+AreForms {A} task held = (n : ℕ) (a : ActionValue) (c : CompiledAction A) → slice_get task.actions n ≡ Some a → slice_get held n ≡ Some (Some c) → form_in c ≡ form_of task a
+
+-- the form of the action of a number is held
+abbrev pub IsHeld : {A : _} → List (Option (CompiledAction A)) → ℕ → Type 0
+IsHeld {A} held n = (c : CompiledAction A) × (slice_get held n ≡ Some (Some c))
+
+-- those of the actions of all steps are
+abbrev pub AreHeld : {A : _} → List LinkedStepValue → List (Option (CompiledAction A)) → Type 0
+AreHeld steps held = (k : ℕ) (s : LinkedStepValue) → slice_get steps k ≡ Some s → IsHeld held s.action
+
+-- actions are marked by their numbers: those of all steps
+abbrev pub AreMarked : List LinkedStepValue → List Bool → Type 0
+AreMarked steps marks = (k : ℕ) (s : LinkedStepValue) → slice_get steps k ≡ Some s → slice_get marks s.action ≡ Some true
+
+-- What is held of a linked plan with its task: the form of each action that a step has, that of the goal, and the prices.
+pub record IsHeldPlan {A : _} (task : TaskValue) (steps : List LinkedStepValue) (actions : List (Option (CompiledAction A))) (goal : Condition A) (prices : AtomValue → Option ℕ) : Type 0 where
+  pub linked : AreLinkedSteps task steps
+  pub forms : AreForms task actions
+  pub used : AreHeld steps actions
+  pub goal_is : condition_view goal ≡ condition_of (tables_of task) task.goal []
+  pub prices_are : (call : AtomValue) → prices call ≡ price_at task call

@@ -1,0 +1,87 @@
+//! Compiles linked plans.
+
+ghost use Rattle.std.specs.Prelude.{◌≡◌, [], IfOk};
+ghost use Rattle.pddl_formula.specs.Formulas.{formula_view};
+ghost use Rattle.pddl_link.specs.LinkedTasks.{task_of_files};
+ghost use Rattle.pddl_compiled.specs.Compiler.{condition_of};
+ghost use Rattle.pddl_compiled.specs.Views.{condition_view};
+ghost use Rattle.pddl_tables.specs.Lookups.{task_in};
+ghost use Rattle.pddl_plan_link.specs.LinkedSteps.{AreLinkedSteps};
+ghost use Rattle.pddl_step.specs.HeldPlans.{plan_task, plan_steps};
+
+use crate::actions::used_actions;
+use crate::plan::CompiledPlan;
+use pddl_compiled::{Condition, Lookups, Scope, compile_condition};
+use pddl_formula::Formula;
+use pddl_link::Task;
+use pddl_plan_link::Steps;
+use pddl_tables::{TaskLookups, task_lookups, task_prices};
+use std::alloc::{AllocError, Allocator};
+
+/// A formula without variables in scope, by numbers.
+///
+/// Fails where memory for it is refused.
+fn compile_closed<'c, A: Allocator, D: Allocator, L: Lookups<A, D>>(
+    alloc: &'c D,
+    lookups: &L,
+    formula: &Formula<A>,
+) -> Result<Condition<&'c D>, AllocError>
+    ensures { IfOk result (λ c. condition_view c ≡ condition_of (L.tables lookups.now) (formula_view formula.now) []) }
+{
+    compile_condition(alloc, lookups, formula, &Scope::Empty)
+}
+
+/// The plan of a task and of steps that are linked to it, by what is looked up in the task.
+///
+/// Fails where memory for its parts is refused.
+fn compile_by<'t, 'm, 'a, 's, 'b, 'c, A, B, C, D>(
+    alloc: &'c D,
+    lookups: &TaskLookups<'t, 'm, 'a, 'c, A, B, D>,
+    task: &'t Task<'m, 'a, A, B>,
+    steps: &'s Steps<'b, C>,
+) -> Result<CompiledPlan<'t, 'm, 'a, 's, 'b, 'c, A, B, C, D>, AllocError>
+where
+    A: Allocator,
+    B: Allocator,
+    C: Allocator,
+    D: Allocator,
+    requires lookups { task_in lookups.now ≡ task_of_files task.now }
+    requires linked { AreLinkedSteps (task_of_files task.now) steps.now }
+    ensures task { IfOk result (λ plan. plan_task plan ≡ task_of_files task.now) }
+    ensures steps { IfOk result (λ plan. plan_steps plan ≡ steps.now) }
+{
+    let prices = task_prices(alloc, lookups)?;
+    let actions = used_actions(alloc, lookups, task, steps)?;
+    let goal = compile_closed(alloc, lookups, task.goal())?;
+    Ok(CompiledPlan {
+        alloc,
+        task,
+        steps,
+        actions,
+        goal,
+        prices,
+    })
+}
+
+/// The plan of a task and of steps that are linked to it, ready to be executed.
+///
+/// An action is compiled once, however many steps use it, and one that no step uses is left out. Fails only where memory for the
+/// compiled actions, the goal or the costs is refused. What the steps mean is that of Fox and Long, PDDL2.1, JAIR 20, 2003, and of this
+/// project for quantifiers, `when` and costs; that they are compiled is own.
+pub fn compile_plan<'t, 'm, 'a, 's, 'b, 'c, A, B, C, D>(
+    alloc: &'c D,
+    task: &'t Task<'m, 'a, A, B>,
+    steps: &'s Steps<'b, C>,
+) -> Result<CompiledPlan<'t, 'm, 'a, 's, 'b, 'c, A, B, C, D>, AllocError>
+where
+    A: Allocator,
+    B: Allocator,
+    C: Allocator,
+    D: Allocator,
+    requires { AreLinkedSteps (task_of_files task.now) steps.now }
+    ensures task { IfOk result (λ plan. plan_task plan ≡ task_of_files task.now) }
+    ensures steps { IfOk result (λ plan. plan_steps plan ≡ steps.now) }
+{
+    let lookups = task_lookups(alloc, task)?;
+    compile_by(alloc, &lookups, task, steps)
+}
