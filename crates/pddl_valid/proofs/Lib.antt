@@ -1,0 +1,4 @@
+pub mod OnlyHappenings
+pub mod Clashes
+pub mod NamedPlans
+pub mod Verdicts

@@ -1,0 +1,2 @@
+pub mod AcceptedPlans
+pub mod NamedClashes
