@@ -1,0 +1,50 @@
+use Rattle.std.proofs.Common.{rules, ◌≡◌, ◌≤◌, length, sym, ap, ap₂, subst}
+use Rattle.pddl_task.specs.Tasks.{TaskValue, task_of}
+use Rattle.pddl_happenings.specs.Happenings.{HaveEachOnce}
+use Rattle.pddl_judge.specs.HappeningValues.{groups_of, moments_of}
+use Rattle.pddl_link.specs.LinkedTasks.{files_of}
+use Rattle.pddl_plan_link.proofs.SoundSteps.{steps_are_sound}
+use Rattle.pddl_plan_steps.specs.PlanSteps.{numbered_steps, numbered_start, numbered_goal}
+use Rattle.pddl_step.specs.HeldPlans.{plan_task, plan_steps}
+use Rattle.pddl_valid.specs.AcceptedPlans.{AreHappeningsOf}
+use Rattle.pddl_valid.proofs.NamedPlans.{IsCourseOf}
+use Rattle.pddl_serial_plans.specs.SerialEnds.{IsReplayed}
+use Rattle.pddl_serial_plans.proofs.Replays.{replayed}
+use Rattle.pddl_serial_plans.proofs.replaying.replay.Goals as goal
+
+pub happenings-requires : goal.happenings-requires
+happenings-requires g c =
+    let files = files_of c.args.task.now in
+    ((steps_are_sound files.domain files.problem c.domain-linked.ensures.linked c.args.steps.now).0 c.requires).short
+
+pub replay-requires-clause-count : goal.replay-requires-clause-count
+replay-requires-clause-count g c =
+    let files = files_of c.args.task.now in
+    subst (λ l. length l ≤ 1000000) (sym c.in_ok-plan.ensures.steps) ((steps_are_sound files.domain files.problem c.domain-linked.ensures.linked c.args.steps.now).0 c.requires).short
+
+pub replay-requires-clause-each : goal.replay-requires-clause-each
+replay-requires-clause-each g c =
+    let same : c.deref.result.now ≡ c.in_ok-groups.groups.items = search rules in
+    subst (λ l. HaveEachOnce (length l) (groups_of c.deref.result.now)) (sym c.in_ok-plan.ensures.steps)
+    (subst (λ hs. HaveEachOnce (length c.args.steps.now) (groups_of hs)) (sym same) c.in_ok-groups.ensures.each)
+
+pub returns : goal.returns
+returns g c =
+    let files = files_of c.args.task.now in
+    let task : TaskValue = task_of files.domain files.problem in
+    let held = plan_task c.in_ok-plan.plan in
+    let steps = c.args.steps.now in
+    let hs = c.deref.result.now in
+    let same : hs ≡ c.in_ok-groups.groups.items = search rules in
+    let same_task : held ≡ task = c.in_ok-plan.ensures.task in
+    let is = c.in_ok-replayed.ensures in
+    let run : IsCourseOf files.domain files.problem steps (numbered_steps held (plan_steps c.in_ok-plan.plan)) (numbered_goal held) (numbered_start held) (moments_of hs) (groups_of hs) = record {
+      linked = c.domain-linked.ensures.linked;
+      are = c.requires;
+      course_is = ap₂ numbered_steps same_task c.in_ok-plan.ensures.steps;
+      goal_is = ap numbered_goal same_task;
+      start_is = ap numbered_start same_task;
+      of = subst (λ v. AreHappeningsOf steps (moments_of v) (groups_of v)) (sym same) c.in_ok-groups.ensures.happenings;
+    } in
+    subst (λ r. IsReplayed task steps c.args.order.now r) (sym c.end_of.ensures)
+    (replayed run c.args.order.now c.in_ok-replayed.replayed is.not_serial is.serial is.fails is.runs is.rising is.atoms is.cost)

@@ -1,0 +1,3 @@
+pub mod NewSteps
+pub mod NewPlans
+pub mod SerialEnds

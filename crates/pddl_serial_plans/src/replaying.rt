@@ -1,0 +1,60 @@
+//! Runs of a plan's steps, one after another.
+
+ghost use Rattle.std.specs.Prelude.{◌≡◌};
+ghost use Rattle.pddl_link.specs.LinkedTasks.{task_of_files};
+ghost use Rattle.pddl_plan_link.specs.LinkedSteps.{AreLinkedSteps};
+ghost use Rattle.pddl_serial_plans.specs.SerialEnds.{IsReplayed, end_of};
+
+use crate::fault::ReplayFault;
+use pddl_link::Task;
+use pddl_plan_link::Steps;
+use pddl_serial::{End, Replayed};
+use pddl_state::AtomStore;
+use pddl_step::compile_plan;
+use pddl_valid::happenings;
+use std::alloc::Allocator;
+
+/// The end of a list that was executed, or why there is none.
+fn end_of<A: Allocator>(replayed: Replayed<A>) -> Result<End<A>, ReplayFault>
+    ensures { result ≡ end_of replayed }
+{
+    match replayed {
+        Replayed::NotASerialisation => Err(ReplayFault::NotASerialisation),
+        Replayed::StepFails(place) => Err(ReplayFault::StepFails { place }),
+        Replayed::Ended(end) => Ok(end),
+    }
+}
+
+/// Executes the steps of a linked plan one after another, each alone, in the order of a list of their numbers, from the atoms that
+/// hold at first. The plan need not be accepted; the store is given up.
+///
+/// # Errors
+///
+/// - `NotASerialisation` exactly where the list has not each step once, or one of a later happening before one of an earlier.
+/// - Else `StepFails` with the first place of the list, from 0, whose step's precondition is false in the state that the steps before
+///   it give.
+/// - `Memory` where a growth was refused.
+///
+/// Own; what a step does is that of Fox and Long, PDDL2.1, JAIR 20, 2003.
+pub fn replay<'m, 'a, 'b, 'c, A, B, C, D, S>(
+    alloc: &'c D,
+    task: &Task<'m, 'a, A, B>,
+    steps: &Steps<'b, C>,
+    order: &[u32],
+    store: S,
+) -> Result<End<&'c D>, ReplayFault>
+where
+    A: Allocator,
+    B: Allocator,
+    C: Allocator,
+    D: Allocator,
+    S: AtomStore<&'c D>,
+    requires { AreLinkedSteps (task_of_files task.now) steps.now }
+    ensures { IsReplayed (task_of_files task.now) steps.now order.now result }
+{
+    let _linked = task.domain();
+    let plan = compile_plan(alloc, task, steps)?;
+    let groups = happenings(alloc, steps)?;
+    let replayed = pddl_serial::replay(alloc, &plan, &groups, order, store)?;
+    end_of(replayed)
+}

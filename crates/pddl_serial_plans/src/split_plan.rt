@@ -1,0 +1,128 @@
+//! Splits of accepted plans.
+
+ghost use Rattle.std.specs.Prelude.{◌≡◌, ◌<◌, ◌≤◌, All, map, length, IfOk, IsErrOf};
+ghost use Rattle.pddl_tree.specs.Plans.{plan_view};
+ghost use Rattle.pddl_happenings.specs.NamedSteps.{by_name};
+ghost use Rattle.pddl_happenings.specs.Splits.{IsSplitOf};
+ghost use Rattle.pddl_judge.specs.HappeningValues.{groups_of, moments_of};
+ghost use Rattle.pddl_link.specs.LinkedTasks.{task_of_files};
+ghost use Rattle.pddl_plan_link.specs.LinkedSteps.{AreLinkedSteps};
+ghost use Rattle.pddl_plan_steps.specs.NumberedSteps.{number_of};
+ghost use Rattle.pddl_serial.specs.Cuts.{cut_in_order};
+ghost use Rattle.pddl_serial_plans.specs.NewPlans.{IsAcceptedOf, IsSplitPlan};
+ghost use Rattle.pddl_serial_plans.specs.NewSteps.{picked, at_moments, timed_plan};
+
+use crate::fault::SplitFault;
+use crate::named::timed_steps;
+use pddl_link::Task;
+use pddl_plan_link::Steps;
+use pddl_serial::{Order, groups_of_at_most};
+use pddl_state::AtomStore;
+use pddl_tree::{Plan, TimedSteps};
+use pddl_valid::Accepted;
+use std::alloc::{AllocError, Allocator};
+
+/// The timed plan of the steps of some numbers, in turn, each at its moment; of no steps it is plain.
+///
+/// Fails where memory for it is refused.
+fn timed_plan<'m, 'a, 'b, 'c, A, B, C, D>(
+    alloc: &'c D,
+    task: &Task<'m, 'a, A, B>,
+    steps: &Steps<'b, C>,
+    order: &[u32],
+    moments: &[u64],
+) -> Result<Plan<&'c D>, AllocError>
+where
+    A: Allocator,
+    B: Allocator,
+    C: Allocator,
+    D: Allocator,
+    requires linked { AreLinkedSteps (task_of_files task.now) steps.now }
+    requires within { All (λ k. k < length steps.now) order.now }
+    requires as_many { length moments.now ≡ length order.now }
+    requires small { All (λ m. m ≤ 1000000) moments.now }
+    ensures { IfOk result (λ plan. plan_view plan ≡ timed_plan (task_of_files task.now) (at_moments (picked steps.now order.now) moments.now)) }
+{
+    let own = timed_steps(alloc, task, steps, order, moments)?;
+    if own.is_empty() {
+        Ok(Plan::Plain(Vec::new(alloc)))
+    } else {
+        Ok(Plan::Timed(TimedSteps { steps: own }))
+    }
+}
+
+/// The timed plan of groups of an accepted plan's steps: those of the k-th group, in its order, at the moment k, from 1; of no groups
+/// it is the empty plain plan.
+///
+/// `no_split`, `split`: NotASplit is answered exactly where the groups are no split: one is empty, or not within one happening, or
+/// their steps one after another are no serialisation. `plan`: else the plan is linked to the task, its happenings are the groups in turn,
+/// and it is accepted with the same end and at the same cost. What is accepted has to be that of this task and these steps. Own.
+///
+/// # Errors
+///
+/// - `NotASplit`, as said.
+/// - `Memory` where a growth was refused.
+pub fn split<'m, 'a, 'b, 'c, A, B, C, D, E, F, G, S>(
+    alloc: &'c D,
+    task: &Task<'m, 'a, A, B>,
+    steps: &Steps<'b, C>,
+    accepted: &Accepted<E, F, S>,
+    groups: &[Vec<u32, G>],
+) -> Result<Plan<&'c D>, SplitFault>
+where
+    A: Allocator,
+    B: Allocator,
+    C: Allocator,
+    D: Allocator,
+    E: Allocator,
+    F: Allocator,
+    G: Allocator,
+    S: AtomStore<E>,
+    requires { IsAcceptedOf (task_of_files task.now) steps.now (moments_of accepted.now.happenings.items) (groups_of accepted.now.happenings.items)
+        (by_name (number_of (task_of_files task.now)) (S.content accepted.now.store accepted.now.end)) accepted.now.cost }
+    ensures no_split { IsErrOf result SplitFault.NotASplit → IsSplitOf (groups_of accepted.now.happenings.items) (map (λ g. g.items) groups.now) → ⊥ }
+    ensures split { IfOk result (λ plan. IsSplitOf (groups_of accepted.now.happenings.items) (map (λ g. g.items) groups.now)) }
+    ensures plan { IfOk result (λ plan. IsSplitPlan (task_of_files task.now) steps.now (map (λ g. g.items) groups.now)
+        (by_name (number_of (task_of_files task.now)) (S.content accepted.now.store accepted.now.end)) accepted.now.cost (plan_view plan)) }
+{
+    let _linked = task.domain();
+    match pddl_serial::split(alloc, &accepted.happenings, steps.len(), groups)? {
+        Some(new) => Ok(timed_plan(alloc, task, steps, &new.order, &new.moments)?),
+        None => Err(SplitFault::NotASplit),
+    }
+}
+
+/// The timed plan of an accepted plan's happenings in turn, the steps of each in file order or reversed and cut into groups of `size`
+/// steps, the last of a happening perhaps smaller: the plan of a split, as [`split`] makes it.
+///
+/// It is linked to the task, and accepted with the same end and at the same cost. What is accepted has to be that of this task and
+/// these steps. Fails where memory for the plan is refused. Own.
+pub fn split_in_groups<'m, 'a, 'b, 'c, A, B, C, D, E, F, S>(
+    alloc: &'c D,
+    task: &Task<'m, 'a, A, B>,
+    steps: &Steps<'b, C>,
+    accepted: &Accepted<E, F, S>,
+    size: usize,
+    order: Order,
+) -> Result<Plan<&'c D>, AllocError>
+where
+    A: Allocator,
+    B: Allocator,
+    C: Allocator,
+    D: Allocator,
+    E: Allocator,
+    F: Allocator,
+    S: AtomStore<E>,
+    requires size { 0 < size }
+    requires accepted { IsAcceptedOf (task_of_files task.now) steps.now (moments_of accepted.now.happenings.items) (groups_of accepted.now.happenings.items)
+        (by_name (number_of (task_of_files task.now)) (S.content accepted.now.store accepted.now.end)) accepted.now.cost }
+    ensures { IfOk result (λ plan. IsSplitPlan (task_of_files task.now) steps.now (cut_in_order size order (groups_of accepted.now.happenings.items))
+        (by_name (number_of (task_of_files task.now)) (S.content accepted.now.store accepted.now.end)) accepted.now.cost (plan_view plan)) }
+{
+    let _linked = task.domain();
+    let groups = groups_of_at_most(alloc, &accepted.happenings, size, order)?;
+    match pddl_serial::split(alloc, &accepted.happenings, steps.len(), &groups)? {
+        Some(new) => timed_plan(alloc, task, steps, &new.order, &new.moments),
+        None => unreachable!(),
+    }
+}
