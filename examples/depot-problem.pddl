@@ -6,7 +6,7 @@
   (:objects
     yard hall harbour - place
     north south - truck
-    lift1 lift2 - forklift
+    lift1 lift2 lift3 - forklift
     glass - fragile
     engine gearbox - heavy
     box - crate)
@@ -27,6 +27,7 @@
     (at south hall)
     (at lift1 yard) (charged lift1)
     (at lift2 harbour)
+    (at lift3 hall) (charged lift3)
 
     ; crates
     (stored glass yard) (stored engine yard) (stored box hall)

@@ -48,7 +48,7 @@ none_lowest : (fs : List Fault) (o : Option (ℕ × Name)) → o ≢ None → No
 none_lowest fs None some none low = some refl
 none_lowest fs (Some f) some none low = none_stand fs f.0 f.1 none low.stands
 
-one_fault : (fs : List Fault) (printed other : List ℕ) → IsLinkRefused fs printed → IsLinkRefused fs other → AreAlike printed other
+pub one_fault : (fs : List Fault) (printed other : List ℕ) → IsLinkRefused fs printed → IsLinkRefused fs other → AreAlike printed other
 one_fault fs printed other p q = inr (record {
   fault = p.fault;
   found = q.fault;
@@ -57,7 +57,7 @@ one_fault fs printed other p q = inr (record {
   other_line = q.line;
 })
 
-good_or_refused : (fs : List Fault) (other : List ℕ) → NoneStands fs → IsLinkRefused fs other → ⊥
+pub good_or_refused : (fs : List Fault) (other : List ℕ) → NoneStands fs → IsLinkRefused fs other → ⊥
 good_or_refused fs other none q = none_lowest fs (fault_of q.fault) (λ e. q.no_memory (no_number q.fault e)) none q.lowest
 
 -- ---- one answer for values
@@ -84,10 +84,10 @@ one_problem_judged d v printed other Invalid ended bad q = absurd bad
 -- ---- one answer for a text
 
 -- a text is refused, or the value that it spells is judged
-abbrev Answers : {V : Type 0} → (V → List ℕ → Type 0) → (List ℕ → List ℕ → Type 0) → (V → List ℕ → Outcome → Type 0) → List ℕ → List ℕ → Outcome → Type 0
+abbrev pub Answers : {V : Type 0} → (V → List ℕ → Type 0) → (List ℕ → List ℕ → Type 0) → (V → List ℕ → Outcome → Type 0) → List ℕ → List ℕ → Outcome → Type 0
 Answers {V} Spells Refuses Judged text printed outcome = ((outcome ≡ Refused) × Refuses text printed) ⊎ ((v : V) × Spells v text × Judged v printed outcome)
 
-one_answer : {V : Type 0} (Spells : V → List ℕ → Type 0) (Refuses : List ℕ → List ℕ → Type 0) (Judged : V → List ℕ → Outcome → Type 0) (text : List ℕ)
+pub one_answer : {V : Type 0} (Spells : V → List ℕ → Type 0) (Refuses : List ℕ → List ℕ → Type 0) (Judged : V → List ℕ → Outcome → Type 0) (text : List ℕ)
     → ((v w : V) → Spells v text → Spells w text → v ≡ w) → ((v : V) (line : List ℕ) → Spells v text → Refuses text line → ⊥)
     → ((line more : List ℕ) → Refuses text line → Refuses text more → line ≡ more)
     → ((v : V) (printed other : List ℕ) (outcome ended : Outcome) → Judged v printed outcome → Judged v other ended → AreAlike printed other × (outcome ≡ ended))
@@ -99,10 +99,10 @@ one_answer Spells Refuses Judged text one not_both line judged printed other out
 one_answer Spells Refuses Judged text one not_both line judged printed other outcome ended (inr (v, spells, p)) (inr (w, also, q)) =
     judged v printed other outcome ended p (subst (λ x. Judged x other ended) (one w v also spells) q)
 
-no_domain_refused : (text : List ℕ) (d : DomainValue) (line : List ℕ) → SpellsDomain d text → IsRefused Domain text line → ⊥
+pub no_domain_refused : (text : List ℕ) (d : DomainValue) (line : List ℕ) → SpellsDomain d text → IsRefused Domain text line → ⊥
 no_domain_refused text d line spells q = q.no_memory (no_fault_in_domain text q.fault d q.stands spells)
 
-no_problem_refused : (text : List ℕ) (v : ProblemValue) (line : List ℕ) → SpellsProblem v text → IsRefused Problem text line → ⊥
+pub no_problem_refused : (text : List ℕ) (v : ProblemValue) (line : List ℕ) → SpellsProblem v text → IsRefused Problem text line → ⊥
 no_problem_refused text v line spells q = q.no_memory (no_fault_in_problem text q.fault v q.stands spells)
 
 pub one_domain_outcome : (text printed other : List ℕ) (outcome ended : Outcome) → IsDomainChecked text printed outcome → IsDomainChecked text other ended

@@ -60,8 +60,10 @@ fn good<'a, B: Allocator>(
     Ok((good_line(alloc, word, name)?, Outcome::Good))
 }
 
-/// The line of a fault of linking, and the outcome.
-fn refused<'a, B: Allocator>(
+/// What is printed for a domain and a problem that do not link, or a domain that is not good alone, and the outcome.
+///
+/// Fails where memory is refused, and so for want of memory in linking.
+pub fn refused_link<'a, B: Allocator>(
     alloc: &'a B,
     fault: &LinkFault,
 ) -> Result<Formatted<'a, B>, AllocError>
@@ -81,7 +83,7 @@ fn judged_domain<'a, A: Allocator, B: Allocator>(
 {
     match check_domain(alloc, domain) {
         Ok(()) => good(alloc, b"domain", domain.name.as_bytes()),
-        Err(fault) => refused(alloc, &fault),
+        Err(fault) => refused_link(alloc, &fault),
     }
 }
 
@@ -107,7 +109,7 @@ fn judged_problem<'a, A: Allocator, B: Allocator>(
 {
     match check_problem(alloc, domain, problem) {
         Ok(()) => good(alloc, b"problem", problem.name.as_bytes()),
-        Err(fault) => refused(alloc, &fault),
+        Err(fault) => refused_link(alloc, &fault),
     }
 }
 

@@ -12,20 +12,22 @@ use pddl_tree::ReadFault;
 /// The number and the name of a fault, and behind these the word or the keyword that it is about, which can be empty.
 #[derive(Clone, Copy)]
 pub struct FaultName<'t> {
+    /// The number and the name, and a space where it is about something.
     pub numbered: &'static str,
+    /// What it is about.
     pub about: &'t [u8],
 }
 
 impl<'t> FaultName<'t> {
     /// A name that is about nothing further.
-    fn plain(numbered: &'static str) -> FaultName<'t>
+    pub fn plain(numbered: &'static str) -> FaultName<'t>
         ensures { whole_name result ≡ numbered.now }
     {
         FaultName::of(numbered, b"")
     }
 
     /// A name, a space at its end, and what it is about.
-    fn of(numbered: &'static str, about: &'t [u8]) -> FaultName<'t>
+    pub fn of(numbered: &'static str, about: &'t [u8]) -> FaultName<'t>
         ensures { whole_name result ≡ numbered.now ++ about.now }
     {
         FaultName { numbered, about }

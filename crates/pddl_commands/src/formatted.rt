@@ -49,13 +49,15 @@ fn is_file_memory(fault: &FileFault) -> bool
 }
 
 /// What is printed for a plan file's text in which a fault stands, and the outcome.
-fn refused_plan<'a, B: Allocator>(
+///
+/// Fails where memory is refused, and so for want of memory in reading the text.
+pub fn refused_plan<'a, B: Allocator>(
     alloc: &'a B,
     text: &[u8],
     fault: &ReadFault,
 ) -> Result<Formatted<'a, B>, AllocError>
     requires { PlanStands fault.now text.now }
-    ensures { IfOk result (λ answer. IsFormatted Kind.Plan text.now answer.0.items answer.1) }
+    ensures { IfOk result (λ answer. (answer.1 ≡ Outcome.Refused) × IsRefused Kind.Plan text.now answer.0.items) }
 {
     if is_memory(fault) {
         return Err(AllocError);
@@ -89,6 +91,8 @@ fn refused_file<'a, B: Allocator>(
 }
 
 /// What is printed for a domain's text in which a fault stands, and the outcome.
+///
+/// Fails where memory is refused, and so for want of memory in reading the text.
 pub fn refused_domain<'a, B: Allocator>(
     alloc: &'a B,
     text: &[u8],
@@ -102,6 +106,8 @@ pub fn refused_domain<'a, B: Allocator>(
 }
 
 /// What is printed for a problem's text in which a fault stands, and the outcome.
+///
+/// Fails where memory is refused, and so for want of memory in reading the text.
 pub fn refused_problem<'a, B: Allocator>(
     alloc: &'a B,
     text: &[u8],

@@ -11,7 +11,9 @@ use pddl_text::{LONGEST, Pos, position};
 use std::alloc::{AllocError, Allocator};
 
 /// Adds a whole number.
-fn push_number<A: Allocator>(line: &mut Vec<u8, A>, number: u32) -> Result<(), AllocError>
+///
+/// Fails where memory for it is refused.
+pub fn push_number<A: Allocator>(line: &mut Vec<u8, A>, number: u128) -> Result<(), AllocError>
     ensures { OnOk result (line.new.items ≡ line.old.items ++ decimal number) }
 {
     let mut buffer = Buffer::new();
@@ -33,9 +35,9 @@ fn push_position<A: Allocator>(line: &mut Vec<u8, A>, pos: Pos) -> Result<(), Al
     ensures { OnOk result (line.new.items ≡ line.old.items ++ (codes " at " ++ (decimal pos.line ++ (codes ":" ++ decimal pos.col)))) }
 {
     line.extend_from_slice(b" at ")?;
-    push_number(line, pos.line)?;
+    push_number(line, u128::from(pos.line))?;
     line.push(b':')?;
-    push_number(line, pos.col)?;
+    push_number(line, u128::from(pos.col))?;
     Ok(())
 }
 

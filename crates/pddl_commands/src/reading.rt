@@ -21,6 +21,11 @@ pub enum Content<'a, B: Allocator> {
 }
 
 /// Reads a file whole. No writer plays a part.
+///
+/// # Errors
+///
+/// - `Memory`: a growth was refused.
+/// - `ReadFailed`: a read failed in this call.
 pub fn read_file<'a, B: Allocator, S: Source>(
     alloc: &'a B,
     kind: Kind,

@@ -15,10 +15,12 @@ const MANY: u64 = 1_000_000;
 /// How many bytes a read gives at most, in the runs in which nothing fails.
 static SIZES: [usize; 3] = [usize::MAX, 1, 5];
 
-/// How many calls fail at least: some read of the first file, some write of a text, and the row's growths.
+/// How many calls fail at least: some read of each file that is read, some write of a text, and the row's growths.
 fn least(row: Row<'_>, trouble: Trouble) -> u64 {
     match trouble {
-        Trouble::FirstReads => u64::from(row.ending.command.reads()),
+        Trouble::FirstReads => u64::from(row.ending.files_read >= 1),
+        Trouble::SecondReads => u64::from(row.ending.files_read >= 2),
+        Trouble::ThirdReads => u64::from(row.ending.files_read >= 3),
         Trouble::Writes(_, _) => u64::from(!row.printed.is_empty()),
         Trouble::Growths => row.growths,
         _ => 0,

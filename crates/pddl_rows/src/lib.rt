@@ -14,13 +14,13 @@
 //! | `\| TEXT` | adds TEXT and a line feed |
 //! | `part TEXT` | adds TEXT |
 //! | `times N TEXT` | adds TEXT so many times |
-//! | `series N TEXT` | adds TEXT for each number below N; in it `#` and a digit stand for the number and so much more |
+//! | `series N TEXT` | adds TEXT, without escapes, for each number below N; in it `#` and a digit stand for the number and so much more |
 //! | `copy NAME` | adds the text that is kept under the name |
 //! | `change PART => OTHER` | puts OTHER in place of the first PART of the text at hand; `change PART` takes it out |
 //! | `keep NAME` | keeps the text at hand under a name for the rows below; those of `rows/samples.rt` are for each subject |
 //! | `file TEXT` | adds TEXT; the text at hand is the next file, of at most three |
 //! | `growths N` | so many growths at least have to be refused in turn |
-//! | `[once] [unread] OUTCOME COMMAND` | an ending: `good`, `invalid` or `refused`, for status 0, 1 or 2, and a command of `row.rt` |
+//! | `[once] [only N] OUTCOME COMMAND` | an ending: `good`, `invalid` or `refused`, for status 0, 1 or 2, and a command of `row.rt` |
 //! | `# ..`, or nothing | a comment |
 //!
 //! A TEXT is taken as it stands, but `\n \r \t \f \v \0` are those bytes, `\s` a blank at an end, `\b` a backslash, and `\xHH`
@@ -35,8 +35,8 @@
 //! and each write failing in turn, up to a run in which none does (`trouble.rt`). A run is judged by what failed in it
 //! (`running.rt`). An answer needs the row's status and text, and no failed read or write; want of memory a refused growth,
 //! and nothing written; a failed read just one, nothing written, and no file behind it read; a failed write just one, and
-//! a proper beginning written. A row that says `once` is run only whole: texts at the limits. One that says `unread` reads
-//! nothing of its second file.
+//! a proper beginning written. Of each file that a command reads some read fails in turn; a row that says `only N` reads
+//! nothing behind its first N files. One that says `once` is run only whole: texts at the limits.
 //!
 //! A row that does not hold is printed with its name, what was wanted and what was given, and the call that failed; a line
 //! that says nothing of a row with its number; and a row that is lost shows by the count.

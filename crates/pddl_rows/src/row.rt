@@ -59,6 +59,7 @@ pub enum Command {
     Format(Kind),
     Domain,
     Problem,
+    Plan,
     /// Reads the first file up to the limit that the second says, and writes it.
     Read,
     /// Reads a file and writes its canonical text.
@@ -67,13 +68,14 @@ pub enum Command {
 }
 
 /// The words of each command.
-static COMMANDS: [(&str, Command); 31] = [
+static COMMANDS: [(&str, Command); 32] = [
     ("format domain", Command::Format(Kind::Domain)),
     ("format problem", Command::Format(Kind::Problem)),
     ("format plan", Command::Format(Kind::Plan)),
     ("read", Command::Read),
     ("domain", Command::Domain),
     ("problem", Command::Problem),
+    ("plan", Command::Plan),
     ("text domain", Command::Write(Layout::Text, Kind::Domain)),
     ("text problem", Command::Write(Layout::Text, Kind::Problem)),
     ("text plan", Command::Write(Layout::Text, Kind::Plan)),
@@ -136,12 +138,17 @@ impl Command {
         None
     }
 
-    /// Whether the command reads its files by a reader.
-    pub fn reads(self) -> bool {
-        matches!(
-            self,
-            Command::Format(_) | Command::Domain | Command::Problem | Command::Read
-        )
+    /// How many files the command reads by readers.
+    fn readers(self) -> u64 {
+        match self {
+            Command::Format(_) => 1,
+            Command::Domain => 1,
+            Command::Problem => 2,
+            Command::Plan => 3,
+            Command::Read => 1,
+            Command::Write(_, _) => 0,
+            Command::List(_) => 0,
+        }
     }
 }
 
@@ -163,22 +170,34 @@ pub struct Ending {
     pub status: u8,
     /// Whether the row is run only once, where nothing fails.
     pub is_once: bool,
-    /// Whether nothing is read of the second file.
-    pub is_unread: bool,
+    /// How many files are read by readers.
+    pub files_read: u64,
 }
 
 impl Ending {
-    /// What the line says: `[once] [unread] OUTCOME COMMAND`.
+    /// What the line says: `[once] [only N] OUTCOME COMMAND`.
     pub fn of(line: &str) -> Option<Ending> {
         let (is_once, words) = flagged(line, "once ");
-        let (is_unread, words) = flagged(words, "unread ");
+        let (first_files, words) = limited(words)?;
         let (word, words) = words.split_once(' ')?;
+        let command = Command::named(words)?;
         Some(Ending {
-            command: Command::named(words)?,
+            command,
             status: status_named(word)?,
             is_once,
-            is_unread,
+            files_read: command.readers().min(first_files),
         })
+    }
+}
+
+/// The number of a line `only N ..` and what stands behind it, or a number past all files and the line.
+fn limited(line: &str) -> Option<(u64, &str)> {
+    match line.strip_prefix("only ") {
+        Some(words) => {
+            let (number, words) = words.split_once(' ')?;
+            Some((number.parse::<u64>().ok()?, words))
+        }
+        None => Some((u64::MAX, line)),
     }
 }
 

@@ -7,6 +7,7 @@ use crate::row::{Command, Files, Row};
 use crate::trouble::{Setting, Trouble};
 use pddl_commands::{Outcome, RunFault, check_domain_file, check_problem_file, format, status};
 use pddl_fakes::{FakeSink, FakeSource, Refusing};
+use pddl_plan_commands::check;
 use pddl_text::Sink;
 use std::alloc::Allocator;
 
@@ -45,7 +46,7 @@ struct Failures {
     reads: u64,
     writes: u64,
     refused: bool,
-    /// Whether a file was read though one before it could not be, or though the row says that none reads it.
+    /// Whether a file was read though one before it could not be, or though the row says that it is not read.
     strays: bool,
 }
 
@@ -58,8 +59,8 @@ fn is_read(source: &FakeSource<'_>, text: &[u8]) -> bool {
 fn failures_of(row: Row<'_>, sources: &Sources<'_>, writes: u64, refused: bool) -> Failures {
     let first = sources.first.failures();
     let second = sources.second.failures();
-    let no_second = first != 0 || row.ending.is_unread;
-    let no_third = first != 0 || second != 0;
+    let no_second = first != 0 || row.ending.files_read < 2;
+    let no_third = first != 0 || second != 0 || row.ending.files_read < 3;
     Failures {
         reads: first
             .saturating_add(second)
@@ -118,6 +119,13 @@ fn called<B: Allocator, W: Sink>(
         Command::Problem => {
             check_problem_file(memory, &mut sources.first, &mut sources.second, out)
         }
+        Command::Plan => check(
+            memory,
+            &mut sources.first,
+            &mut sources.second,
+            &mut sources.third,
+            out,
+        ),
         Command::Read => write_read(memory, &mut sources.first, row.files.second, out),
         Command::Write(layout, kind) => write_file(memory, layout, kind, row.files.first, out),
         Command::List(listing) => list(memory, listing, row.files, out),

@@ -52,6 +52,11 @@ fn layouts(rt: HostRuntime) -> Result<(), Fail> {
 }
 
 #[test]
+fn plans(rt: HostRuntime) -> Result<(), Fail> {
+    all_hold(&rt, rows::PLANS, 39)
+}
+
+#[test]
 fn problems(rt: HostRuntime) -> Result<(), Fail> {
     all_hold(&rt, rows::PROBLEMS, 51)
 }
@@ -77,8 +82,13 @@ fn reading(rt: HostRuntime) -> Result<(), Fail> {
 }
 
 #[test]
+fn refused_plans(rt: HostRuntime) -> Result<(), Fail> {
+    all_hold(&rt, rows::REFUSED_PLANS, 20)
+}
+
+#[test]
 fn steps(rt: HostRuntime) -> Result<(), Fail> {
-    all_hold(&rt, rows::STEPS, 33)
+    all_hold(&rt, rows::STEPS, 37)
 }
 
 #[test]

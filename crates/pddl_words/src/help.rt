@@ -2,13 +2,16 @@
 
 /// What the program is.
 pub const ABOUT: &str =
-    "Reads PDDL files, prints them in one layout, and says what is wrong with them";
+    "Reads PDDL files, prints them in one layout, says what is wrong with them, and validates plans";
 
 /// What `domain` does.
 pub const ABOUT_DOMAIN: &str = "Checks a domain";
 
 /// What `problem` does.
 pub const ABOUT_PROBLEM: &str = "Checks a problem with its domain";
+
+/// What `plan` does.
+pub const ABOUT_PLAN: &str = "Validates a plan with its domain and its problem";
 
 /// What `format` does.
 pub const ABOUT_FORMAT: &str = "Prints a file in its canonical layout";
@@ -26,10 +29,13 @@ pub const DOMAIN: &str = "The file of the domain; /dev/stdin is standard input";
 /// What `PROBLEM` stands for.
 pub const PROBLEM: &str = "The file of the problem; /dev/stdin is standard input";
 
+/// What `PLAN` stands for.
+pub const PLAN: &str = "The file of the plan; /dev/stdin is standard input";
+
 /// What stands after the help of the program.
 pub const AFTER: &str = "\
 Exit status:
-  0  the files are good, or help was asked for
+  0  the files are good and a plan is valid, or help was asked for
   1  the plan is invalid
   2  a file is refused; the line on standard output says why and where
   3  the words of the command line are wrong
@@ -38,6 +44,7 @@ Exit status:
 Examples:
   pddlcheck domain domain.pddl
   pddlcheck problem domain.pddl problem.pddl
+  pddlcheck plan domain.pddl problem.pddl my.plan
   pddlcheck format domain domain.pddl";
 
 /// What stands after the help of `domain`.
@@ -70,6 +77,32 @@ Exit status:
 
 Example:
   pddlcheck problem domain.pddl problem.pddl";
+
+/// What stands after the help of `plan`.
+pub const AFTER_PLAN: &str = "\
+The steps at one moment of a timed plan are executed at once, and those of a plain plan one after another. A plan is
+valid where in every happening, as the steps at one moment are called, each precondition is true and no two steps
+interfere, and the goal is true at the end. Every order of the steps of each happening then leads to the same end at
+the same cost.
+
+A valid plan gives the line `valid: S steps in H happenings, total-cost C`. An invalid one gives a line with its first
+failure, where happenings and steps, these in the order of the file, are counted from 1:
+  invalid: happening 2, step 3: precondition is false
+  invalid: happening 2, steps 3 and 4 interfere on (on a)
+  invalid: goal is false
+Other files give one line with their fault: that of the first text that has one, or of what domain and problem say
+together, or of the plan's first faulty step, as `plan: fault 42 UnknownObject at step 1`. A file is not read where the
+text of one before it has a fault.
+
+Exit status:
+  0  the plan is valid
+  1  the plan is invalid
+  2  a file is refused
+  3  the words of the command line are wrong
+  4  reading, writing or memory failed, or a file does not open
+
+Example:
+  pddlcheck plan domain.pddl problem.pddl my.plan";
 
 /// What stands after the help of `format`.
 pub const AFTER_FORMAT: &str = "\

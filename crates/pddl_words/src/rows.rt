@@ -11,6 +11,9 @@ pddlcheck|domain|my.pddl => domain my.pddl
 pddlcheck|domain|domain => domain domain
 pddlcheck|problem|my.pddl|other.pddl => problem my.pddl, other.pddl
 pddlcheck|problem|/dev/stdin|/dev/stdin => problem /dev/stdin, /dev/stdin
+pddlcheck|plan|my.pddl|other.pddl|my.plan => plan my.pddl, other.pddl, my.plan
+pddlcheck|plan|plan|plan|plan => plan plan, plan, plan
+pddlcheck|plan|my.pddl|other.pddl|/dev/stdin => plan my.pddl, other.pddl, /dev/stdin
 pddlcheck|format|domain|my.pddl => format Domain my.pddl
 pddlcheck|format|problem|my.pddl => format Problem my.pddl
 pddlcheck|format|plan|my.plan => format Plan my.plan
@@ -20,6 +23,8 @@ pddlcheck|domain|--help => status 0
 pddlcheck|help|domain => status 0
 pddlcheck|problem|-h => status 0
 pddlcheck|help|problem => status 0
+pddlcheck|plan|--help => status 0
+pddlcheck|help|plan => status 0
 pddlcheck|--help => status 0
 pddlcheck|-h => status 0
 pddlcheck|help => status 0
@@ -31,6 +36,11 @@ pddlcheck|domain|my.pddl|other.pddl => status 3
 pddlcheck|problem => status 3
 pddlcheck|problem|my.pddl => status 3
 pddlcheck|problem|my.pddl|other.pddl|my.plan => status 3
+pddlcheck|plan => status 3
+pddlcheck|plan|my.pddl|other.pddl => status 3
+pddlcheck|plan|my.pddl|other.pddl|my.plan|other.plan => status 3
+pddlcheck|plan|my.pddl|--unknown|other.pddl|my.plan => status 3
+pddlcheck|Plan|my.pddl|other.pddl|my.plan => status 3
 pddlcheck|Domain|my.pddl => status 3
  => status 3
 pddlcheck => status 3
@@ -51,6 +61,7 @@ static HELP: &str = "\
 pddlcheck|--help => Usage: pddlcheck <COMMAND>
 pddlcheck|--help => domain
 pddlcheck|--help => problem
+pddlcheck|--help => plan
 pddlcheck|--help => format
 pddlcheck|--help => Exit status:
 pddlcheck|--help => Examples:
@@ -62,6 +73,11 @@ pddlcheck|problem|--help => Usage: pddlcheck problem <DOMAIN> <PROBLEM>
 pddlcheck|problem|--help => /dev/stdin
 pddlcheck|problem|--help => good: problem NAME
 pddlcheck|problem|--help => Exit status:
+pddlcheck|plan|--help => Usage: pddlcheck plan <DOMAIN> <PROBLEM> <PLAN>
+pddlcheck|plan|--help => /dev/stdin
+pddlcheck|plan|--help => valid: S steps in H happenings, total-cost C
+pddlcheck|plan|--help => invalid: goal is false
+pddlcheck|plan|--help => Exit status:
 pddlcheck|format|--help => Usage: pddlcheck format <KIND> <FILE>
 pddlcheck|format|--help => domain, problem, plan
 pddlcheck|format|--help => planning domain or problem
@@ -74,6 +90,13 @@ fn told(alloc: Global, words: &[&str]) -> Result<String, AllocError> {
     match parse_words(alloc, words) {
         Ok(Job::Domain { path }) => format!(in alloc; "domain {path}"),
         Ok(Job::Problem { domain, problem }) => { format!(in alloc; "problem {domain}, {problem}") }
+        Ok(
+            Job::Plan {
+                domain,
+                problem,
+                plan,
+            },
+        ) => format!(in alloc; "plan {domain}, {problem}, {plan}"),
         Ok(Job::Format { kind, path }) => format!(in alloc; "format {kind:?} {path}"),
         Err(error) => format!(in alloc; "status {}", words_status(&error)),
     }
@@ -115,7 +138,7 @@ fn words_ask_for_jobs(rt: HostRuntime) -> Result<(), Fail> {
     for line in WORDS.lines() {
         check_words(&rt, line)?;
     }
-    assert_eq!(rt; WORDS.lines().count(), 37);
+    assert_eq!(rt; WORDS.lines().count(), 47);
     Ok(())
 }
 
@@ -124,6 +147,6 @@ fn help_names_the_commands_and_the_statuses(rt: HostRuntime) -> Result<(), Fail>
     for line in HELP.lines() {
         check_help(&rt, line)?;
     }
-    assert_eq!(rt; HELP.lines().count(), 19);
+    assert_eq!(rt; HELP.lines().count(), 25);
     Ok(())
 }

@@ -14,11 +14,25 @@ use std::convert::AsStr;
 #[derive(Clone, Copy, Debug, PartialEq, Eq)]
 pub enum Job<'a> {
     /// To check the domain at `path`.
-    Domain { path: &'a str },
+    Domain {
+        path: &'a str,
+    },
     /// To check the problem at `problem` with the domain at `domain`.
-    Problem { domain: &'a str, problem: &'a str },
+    Problem {
+        domain: &'a str,
+        problem: &'a str,
+    },
+    /// To validate the plan at `plan` with the domain at `domain` and the problem at `problem`.
+    Plan {
+        domain: &'a str,
+        problem: &'a str,
+        plan: &'a str,
+    },
     /// To print the file at `path`, which holds what `kind` says, in its canonical layout.
-    Format { kind: Kind, path: &'a str },
+    Format {
+        kind: Kind,
+        path: &'a str,
+    },
 }
 
 /// The words for what a file holds.
@@ -69,6 +83,33 @@ fn problem_job<'a>(matches: &ArgMatches<'a>) -> Option<Job<'a>> {
     Some(Job::Problem { domain, problem })
 }
 
+/// The command `plan DOMAIN PROBLEM PLAN`.
+fn plan_command<'a>(alloc: Global) -> Result<Command<'a>, AllocError> {
+    let domain = Arg::new(alloc, "DOMAIN").required(true).help(help::DOMAIN);
+    let problem = Arg::new(alloc, "PROBLEM")
+        .required(true)
+        .help(help::PROBLEM);
+    let plan = Arg::new(alloc, "PLAN").required(true).help(help::PLAN);
+    Command::new(alloc, "plan")
+        .about(help::ABOUT_PLAN)
+        .after_help(help::AFTER_PLAN)
+        .arg(domain)?
+        .arg(problem)?
+        .arg(plan)
+}
+
+/// The job of the words after `plan`, where they are its own.
+fn plan_job<'a>(matches: &ArgMatches<'a>) -> Option<Job<'a>> {
+    let domain = matches.get_str("DOMAIN")?;
+    let problem = matches.get_str("PROBLEM")?;
+    let plan = matches.get_str("PLAN")?;
+    Some(Job::Plan {
+        domain,
+        problem,
+        plan,
+    })
+}
+
 /// The command `format KIND FILE`.
 fn format_command<'a>(alloc: Global) -> Result<Command<'a>, AllocError> {
     let kind = Arg::new(alloc, "KIND")
@@ -112,6 +153,7 @@ fn with_command<'a>(
 fn commands<'a>(alloc: Global) -> Result<Command<'a>, AllocError> {
     let program = with_command(program(alloc)?, domain_command(alloc))?;
     let program = with_command(program, problem_command(alloc))?;
+    let program = with_command(program, plan_command(alloc))?;
     with_command(program, format_command(alloc))
 }
 
@@ -120,6 +162,7 @@ fn job_of<'a>(matches: &ArgMatches<'a>) -> Option<Job<'a>> {
     match matches.subcommand() {
         Some(("domain", inner)) => domain_job(inner),
         Some(("problem", inner)) => problem_job(inner),
+        Some(("plan", inner)) => plan_job(inner),
         Some(("format", inner)) => format_job(inner),
         _ => None,
     }

@@ -1,7 +1,7 @@
-//! Reads PDDL files, prints them in one layout, and says what is wrong with them.
+//! Reads PDDL files, prints them in one layout, says what is wrong with them, and validates plans.
 //!
 //! Here stand the words of the command line, the files that they name, and the exit status. What a command does
-//! with its files stands in `pddl_commands`.
+//! with its files stands in `pddl_commands` and `pddl_plan_commands`.
 #![tactic(auto)]
 
 ghost use Rattle.std.specs.Prelude.{◌≡◌};
@@ -10,9 +10,10 @@ ghost use Rattle.clap.specs.declared.error.kind.ErrorKind.TheVariants.{DisplayHe
 
 mod input;
 
-use input::open;
-use pddl_commands::{RunFault, check_domain_file, check_problem_file, format, status};
-use pddl_text::{FromRead, ToWrite};
+use input::{Opened, open};
+use pddl_commands::{Outcome, RunFault, check_domain_file, check_problem_file, format, status};
+use pddl_plan_commands::check;
+use pddl_text::{FromRead, Sink, ToWrite};
 use pddl_words::{Job, parse_words, words_status};
 use std::env::Env;
 use std::io::ErrorKind;
@@ -42,38 +43,84 @@ fn cannot_open(rt: &impl Eprint, path: &str) -> u8
     NOT_DONE
 }
 
-/// Carries a job out over its files and standard output, and answers the exit status. All files are opened before
-/// any is read.
-fn run_job<R: Files + Input + Print + Eprint + AllocGlobal>(rt: &R, job: Job<'_>) -> u8 {
-    let alloc = rt.alloc();
-    let mut out = ToWrite::new(io::writer(rt));
-    let ended = match job {
-        Job::Domain { path } => {
-            let Ok(file) = open(rt, path) else {
-                return cannot_open(rt, path);
-            };
-            check_domain_file(&alloc, &mut FromRead::new(file), &mut out)
-        }
-        Job::Problem { domain, problem } => {
-            let Ok(first) = open(rt, domain) else {
-                return cannot_open(rt, domain);
-            };
-            let Ok(second) = open(rt, problem) else {
-                return cannot_open(rt, problem);
-            };
-            let (mut first, mut second) = (FromRead::new(first), FromRead::new(second));
-            check_problem_file(&alloc, &mut first, &mut second, &mut out)
-        }
-        Job::Format { kind, path } => {
-            let Ok(file) = open(rt, path) else {
-                return cannot_open(rt, path);
-            };
-            format(&alloc, kind, &mut FromRead::new(file), &mut out)
-        }
-    };
-    match ended {
-        Ok(_) => status(&ended),
-        Err(fault) => give_up(rt, fault),
+/// Why a job was not carried out.
+#[derive(Clone, Copy, Debug)]
+enum NotDone<'p> {
+    /// The file at a path does not open.
+    CannotOpen(&'p str),
+    /// Its command failed.
+    Failed(RunFault),
+}
+
+impl<'p> From<RunFault> for NotDone<'p> {
+    fn from(fault: RunFault) -> NotDone<'p> {
+        NotDone::Failed(fault)
+    }
+}
+
+/// The reader of the file at a path.
+fn opened<'p, R: Files + Input>(
+    rt: &R,
+    path: &'p str,
+) -> Result<FromRead<Opened<R::File, R::Reader>>, NotDone<'p>> {
+    match open(rt, path) {
+        Ok(file) => Ok(FromRead::new(file)),
+        Err(_) => Err(NotDone::CannotOpen(path)),
+    }
+}
+
+/// Checks a problem with its domain. Both files are opened before any is read.
+fn run_problem<'p, R: Files + Input + AllocGlobal>(
+    rt: &R,
+    domain: &'p str,
+    problem: &'p str,
+    out: &mut impl Sink,
+) -> Result<Outcome, NotDone<'p>> {
+    let mut domain = opened(rt, domain)?;
+    let mut problem = opened(rt, problem)?;
+    let ended = check_problem_file(&rt.alloc(), &mut domain, &mut problem, out)?;
+    Ok(ended)
+}
+
+/// Validates a plan with its domain and its problem. All three files are opened before any is read.
+fn run_plan<'p, R: Files + Input + AllocGlobal>(
+    rt: &R,
+    domain: &'p str,
+    problem: &'p str,
+    plan: &'p str,
+    out: &mut impl Sink,
+) -> Result<Outcome, NotDone<'p>> {
+    let mut domain = opened(rt, domain)?;
+    let mut problem = opened(rt, problem)?;
+    let mut plan = opened(rt, plan)?;
+    let ended = check(&rt.alloc(), &mut domain, &mut problem, &mut plan, out)?;
+    Ok(ended)
+}
+
+/// Carries a job out over its files and a writer.
+fn run_job<'p, R: Files + Input + AllocGlobal>(
+    rt: &R,
+    job: Job<'p>,
+    out: &mut impl Sink,
+) -> Result<Outcome, NotDone<'p>> {
+    match job {
+        Job::Domain { path } => Ok(check_domain_file(&rt.alloc(), &mut opened(rt, path)?, out)?),
+        Job::Problem { domain, problem } => run_problem(rt, domain, problem, out),
+        Job::Plan {
+            domain,
+            problem,
+            plan,
+        } => run_plan(rt, domain, problem, plan, out),
+        Job::Format { kind, path } => Ok(format(&rt.alloc(), kind, &mut opened(rt, path)?, out)?),
+    }
+}
+
+/// Carries a job out over standard output, says on standard error why it was not, and answers the exit status.
+fn end_job<R: Files + Input + Print + Eprint + AllocGlobal>(rt: &R, job: Job<'_>) -> u8 {
+    match run_job(rt, job, &mut ToWrite::new(io::writer(rt))) {
+        Ok(outcome) => status(&Ok(outcome)),
+        Err(NotDone::CannotOpen(path)) => cannot_open(rt, path),
+        Err(NotDone::Failed(fault)) => give_up(rt, fault),
     }
 }
 
@@ -109,7 +156,7 @@ fn run<R: Env + Files + Input + Print + Eprint + AllocGlobal>(rt: &R) -> u8 {
         Err(_) => return give_up(rt, RunFault::Memory),
     };
     match parse_words(rt.alloc(), words.as_slice()) {
-        Ok(job) => run_job(rt, job),
+        Ok(job) => end_job(rt, job),
         Err(error) => explain(rt, &error),
     }
 }

@@ -49,13 +49,13 @@ row files 7
 file (define (domain d) x)
 file &
 | domain: fault 11 Section at 1:20
-refused problem
+only 1 refused problem
 
 row files 8
 file (define (domain d) x)
 file (define (problem p) (:domain e) (:init) (:goal (and)))
 | domain: fault 11 Section at 1:20
-refused problem
+only 1 refused problem
 
 row files 9
 copy two
@@ -63,7 +63,7 @@ file
 copy lamps
 file
 | domain: fault 10 Head at 1:1
-refused problem
+only 1 refused problem
 
 row files 10
 copy lamps
@@ -295,21 +295,21 @@ file (define (domain d) x)
 copy two
 file
 | domain: fault 11 Section at 1:20
-unread refused problem
+only 1 refused problem
 
 row nothing is read behind a domain that is not closed
 file (define (domain d)
 copy two
 file
 | domain: fault 7 Unclosed at 1:1
-unread refused problem
+only 1 refused problem
 
 row nothing is read behind a domain with a stray byte
 file &
 copy two
 file
 | domain: fault 2 Stray at 1:1
-unread refused problem
+only 1 refused problem
 
 # The name that is printed stands in the problem.
 row a problem is read behind a domain that does not link

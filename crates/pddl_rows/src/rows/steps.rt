@@ -231,6 +231,55 @@ file (light a)(light b)(dark)
 | 2
 good list steps
 
+row a cost under a quantifier and a condition that has no value
+copy lamps
+change (not (on ?x))))) => (and (not (on ?x)) (increase (total-cost) (price ?x))))))
+file
+copy two
+change \s(= (price b) 4)
+file
+file (light a)(dark)
+| fault 44 step 1
+refused list steps
+
+row a cost without a value where no condition holds
+copy lamps
+change (not (on ?x))))) => (and (not (on ?x)) (increase (total-cost) (price ?x))))))
+file
+copy two
+change \s(= (price b) 4)
+file
+file (dark)
+| fault 44 step 0
+refused list steps
+
+row a cost under a quantifier over no objects
+copy lamps
+change (forall (?x - lamp) (when (on ?x) (not (on ?x)))) => (forall (?x - big) (increase (total-cost) (price ?x)))
+file
+copy two
+change \sb - big
+change (ok b)\s
+change \s(= (price a) 3) (= (price b) 4)
+change \s(on b)
+file
+file (check a)(dark)
+| 1 0
+| 2
+good list steps
+
+row a size is looked at before a cost
+copy lamps
+change (exists (?x - lamp) (on ?x)) => (forall (?a ?b ?c ?d ?e ?f ?g ?h ?i ?j ?k ?l ?m ?n ?o ?p ?q ?r ?s ?t - lamp) (on ?a))
+change (not (on ?x))))) => (and (not (on ?x)) (increase (total-cost) (price ?x))))))
+file
+copy two
+change \s(= (price b) 4)
+file
+file (light a)(dark)
+| fault 46 step 1
+refused list steps
+
 row a cost for each two objects
 copy lamps
 change (forall (?x - lamp) (when (on ?x) (not (on ?x)))) => (forall (?x ?y - lamp) (increase (total-cost) 1))

@@ -1,0 +1,52 @@
+use Rattle.std.proofs.Common.{◌∙◌, refl, sym, subst, inl, inr}
+use Rattle.std.proofs.lemmas.Result.{IfOk-weaker}
+use Rattle.pddl_domain.specs.Domains.{domain_view, SpellsDomain, DomainStands}
+use Rattle.pddl_kind.specs.declared.Kind.TheVariants.{Domain}
+use Rattle.pddl_commands.specs.Contents.{IsContent}
+use Rattle.pddl_commands.specs.Formats.{IsRefused}
+use Rattle.pddl_commands.proofs.Left.{some_left, no_domain_left}
+use Rattle.pddl_plan_commands.proofs.checking.read_each.Goals as goal
+
+pub refused_domain-requires : goal.refused_domain-requires
+refused_domain-requires g c = subst (λ text. DomainStands c.in-Err.fault text) (c.deref.ensures.value ∙ sym c.deref-in-Err.ensures.value) c.in-Err.ensures.fault
+
+pub returns-in-Text-clause-answer : goal.returns-in-Text-clause-answer
+returns-in-Text-clause-answer g c =
+    let content = subst (IsContent Domain (g.S.Source.remaining c.args.domain.now) (g.S.Source.at_end c.read_file.new.source)) c.in-Text.is c.in_ok-text.ensures.content in
+    let given = some_left (g.T.Source.remaining c.args.problem.now) in
+    let steps = some_left (g.U.Source.remaining c.args.plan.now) in
+    let refused = c.in_ok-refused-in-Err.ensures in (
+      c.in-Text.text.items,
+      given.0,
+      steps.0,
+      content.0,
+      given.1,
+      steps.1,
+      inl (refused.0, subst (λ text. IsRefused Domain text c.in_ok-refused-in-Err.refused.0.items) c.deref-in-Err.ensures.value refused.1),
+    )
+
+pub returns-clause-answer : goal.returns-clause-answer
+returns-clause-answer g c =
+    let content = subst (IsContent Domain (g.S.Source.remaining c.args.domain.now) (g.S.Source.at_end c.read_file.new.source)) c.in-TooLong.is c.in_ok-text.ensures.content in
+    let given = some_left (g.T.Source.remaining c.args.problem.now) in
+    let steps = some_left (g.U.Source.remaining c.args.plan.now) in
+    (content.0, given.0, steps.0, content.1, given.1, steps.1, inl (refl, content.2))
+
+pub returns-in-Ok-clause-domain_first : goal.returns-in-Ok-clause-domain_first
+returns-in-Ok-clause-domain_first g c none =
+    let remaining = g.S.Source.remaining c.args.domain.now in
+    let content = subst (IsContent Domain remaining (g.S.Source.at_end c.read_file.new.source)) c.in-Text.is c.in_ok-text.ensures.content in
+    absurd (no_domain_left remaining c.in-Text.text.items (domain_view c.in-Ok.read) content.0 (subst (λ text. SpellsDomain (domain_view c.in-Ok.read) text) c.deref.ensures.value c.in-Ok.ensures.domain) none)
+
+pub returns-in-Ok-clause-answer : goal.returns-in-Ok-clause-answer
+returns-in-Ok-clause-answer g c =
+    let content = subst (IsContent Domain (g.S.Source.remaining c.args.domain.now) (g.S.Source.at_end c.read_file.new.source)) c.in-Text.is c.in_ok-text.ensures.content in
+    let spells = subst (λ text. SpellsDomain (domain_view c.in-Ok.read) text) c.deref.ensures.value c.in-Ok.ensures.domain in
+    IfOk-weaker c.read_problem_and_plan.result _ _
+    (λ answer judged. (c.in-Text.text.items, judged.0, judged.1, content.0, judged.2, judged.3, inr (domain_view c.in-Ok.read, spells, judged.4))) c.read_problem_and_plan.ensures.answer
+
+pub returns-in-Ok-clause-judged_at_end : goal.returns-in-Ok-clause-judged_at_end
+returns-in-Ok-clause-judged_at_end g c =
+    let content = subst (IsContent Domain (g.S.Source.remaining c.args.domain.now) (g.S.Source.at_end c.read_file.new.source)) c.in-Text.is c.in_ok-text.ensures.content in
+    IfOk-weaker c.read_problem_and_plan.result _ _
+    (λ answer ends judged. let both = ends judged in (content.1, both.0, both.1)) c.read_problem_and_plan.ensures.judged_at_end

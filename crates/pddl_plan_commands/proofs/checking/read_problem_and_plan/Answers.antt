@@ -1,0 +1,38 @@
+use Rattle.std.proofs.Common.{◌∙◌, refl, sym, subst, inl, inr}
+use Rattle.pddl_problem.specs.Problems.{problem_view, SpellsProblem, ProblemStands}
+use Rattle.pddl_kind.specs.declared.Kind.TheVariants.{Problem}
+use Rattle.pddl_commands.specs.Contents.{IsContent}
+use Rattle.pddl_commands.specs.Formats.{IsRefused}
+use Rattle.pddl_commands.proofs.Left.{some_left}
+use Rattle.pddl_plan_commands.proofs.Left.{no_problem_left}
+use Rattle.pddl_plan_commands.proofs.checking.read_problem_and_plan.Goals as goal
+
+pub refused_problem-requires : goal.refused_problem-requires
+refused_problem-requires g c = subst (λ text. ProblemStands c.in-Err.fault text) (c.deref.ensures.value ∙ sym c.deref-in-Err.ensures.value) c.in-Err.ensures.fault
+
+pub returns-in-Text-clause-answer : goal.returns-in-Text-clause-answer
+returns-in-Text-clause-answer g c =
+    let content = subst (IsContent Problem (g.S.Source.remaining c.args.problem.now) (g.S.Source.at_end c.read_file.new.source)) c.in-Text.is c.in_ok-text.ensures.content in
+    let steps = some_left (g.T.Source.remaining c.args.plan.now) in
+    let refused = c.in_ok-refused-in-Err.ensures in (
+      c.in-Text.text.items,
+      steps.0,
+      content.0,
+      steps.1,
+      inl (refused.0, subst (λ text. IsRefused Problem text c.in_ok-refused-in-Err.refused.0.items) c.deref-in-Err.ensures.value refused.1),
+    )
+
+pub returns-clause-answer : goal.returns-clause-answer
+returns-clause-answer g c =
+    let content = subst (IsContent Problem (g.S.Source.remaining c.args.problem.now) (g.S.Source.at_end c.read_file.new.source)) c.in-TooLong.is c.in_ok-text.ensures.content in
+    let steps = some_left (g.T.Source.remaining c.args.plan.now) in
+    (content.0, steps.0, content.1, steps.1, inl (refl, content.2))
+
+pub returns-in-Ok-clause-problem_first : goal.returns-in-Ok-clause-problem_first
+returns-in-Ok-clause-problem_first g c none =
+    let remaining = g.S.Source.remaining c.args.problem.now in
+    let content = subst (IsContent Problem remaining (g.S.Source.at_end c.read_file.new.source)) c.in-Text.is c.in_ok-text.ensures.content in
+    absurd (no_problem_left remaining c.in-Text.text.items (problem_view c.in-Ok.read) content.0 (subst (λ text. SpellsProblem (problem_view c.in-Ok.read) text) c.deref.ensures.value c.in-Ok.ensures.problem) none)
+
+pub returns-in-Ok-clause-read_failed : goal.returns-in-Ok-clause-read_failed
+returns-in-Ok-clause-read_failed g c failed = inr (c.read_plan_checked.ensures.read_failed failed)

@@ -1,0 +1,3 @@
+pub mod PlanLines
+pub mod PlanChecks
+pub mod ShownVerdicts

@@ -1,0 +1,140 @@
+//! What `plan` prints for texts.
+
+ghost use Rattle.std.specs.Prelude.{◌≡◌, length, IfOk};
+ghost use Rattle.pddl_domain.specs.Domains.{domain_view};
+ghost use Rattle.pddl_judge.specs.Verdicts.{IfInterference, OnRefused};
+ghost use Rattle.pddl_link.specs.LinkedTasks.{task_of_files};
+ghost use Rattle.pddl_plan_link.specs.LinkedSteps.{AreLinkedSteps};
+ghost use Rattle.pddl_plan_link.specs.NumberedAtoms.{IsInRange};
+ghost use Rattle.pddl_problem.specs.Problems.{problem_view};
+ghost use Rattle.pddl_tree.specs.Plans.{plan_view};
+ghost use Rattle.pddl_plan_commands.specs.PlanChecks.{failure_line, AreStepsJudged, IsJudgedIn, IsPlanJudged, ForPlan};
+ghost use Rattle.pddl_plan_commands.specs.ShownVerdicts.{failure_of, IsShown};
+
+use crate::lines::{clash_line, goal_line, unready_line, valid_line};
+use crate::step_faults::refused_steps;
+use pddl_commands::{Formatted, Outcome, refused_link, refused_plan};
+use pddl_domain::Domain;
+use pddl_judge::Refusal;
+use pddl_link::{Task, link};
+use pddl_plan_link::{Steps, link_plan};
+use pddl_problem::Problem;
+use pddl_state::{AtomStore, BitStore};
+use pddl_tree::{Plan, read_plan};
+use pddl_valid::{Verdict, validate};
+use std::alloc::{AllocError, Allocator};
+
+/// The line of a plan that is refused.
+fn failure_line<'m, 'a, A: Allocator, B: Allocator, C: Allocator, D: Allocator>(
+    alloc: C,
+    task: &Task<'m, 'a, A, B>,
+    refusal: &Refusal<D>,
+) -> Result<Vec<u8, C>, AllocError>
+    requires { IfInterference refusal.now (λ _ _ _ atom. IsInRange (task_of_files task.now) atom) }
+    ensures { IfOk result (λ line. line.items ≡ failure_line (failure_of (task_of_files task.now) refusal.now)) }
+{
+    match refusal {
+        Refusal::Precondition { happening, step } => {
+            unready_line(alloc, *happening, *step as usize)
+        }
+        Refusal::Interference {
+            happening,
+            first,
+            second,
+            atom,
+        } => {
+            let steps = (*first as usize, *second as usize);
+            clash_line(alloc, task, *happening, steps, atom)
+        }
+        Refusal::Goal => goal_line(alloc),
+    }
+}
+
+/// What is printed for the verdict on so many steps, and the outcome.
+fn shown<'r, 'm, 'a, A, B, C, D, E, S>(
+    alloc: &'r C,
+    task: &Task<'m, 'a, A, B>,
+    count: usize,
+    verdict: &Verdict<D, E, S>,
+) -> Result<Formatted<'r, C>, AllocError>
+where
+    A: Allocator,
+    B: Allocator,
+    C: Allocator,
+    D: Allocator,
+    E: Allocator,
+    S: AtomStore<D>,
+    requires { OnRefused verdict.now (λ r. IfInterference r (λ _ _ _ atom. IsInRange (task_of_files task.now) atom)) }
+    ensures { IfOk result (λ answer. IsShown (task_of_files task.now) count verdict.now answer.0.items answer.1) }
+{
+    match verdict {
+        Verdict::Accepted(accepted) => {
+            let happenings = accepted.happenings.len();
+            let line = valid_line(alloc, count, happenings, accepted.cost)?;
+            Ok((line, Outcome::Good))
+        }
+        Verdict::Refused(refusal) => {
+            let line = failure_line(alloc, task, refusal)?;
+            Ok((line, Outcome::Invalid))
+        }
+    }
+}
+
+/// What is printed for linked steps, and the outcome.
+fn judged_steps<'r, 'm, 'a, 'b, A: Allocator, B: Allocator, C: Allocator, D: Allocator>(
+    alloc: &'r D,
+    task: &Task<'m, 'a, A, B>,
+    steps: &Steps<'b, C>,
+) -> Result<Formatted<'r, D>, AllocError>
+    requires { AreLinkedSteps (task_of_files task.now) steps.now }
+    ensures { IfOk result (λ answer. AreStepsJudged (task_of_files task.now) steps.now answer.0.items answer.1) }
+{
+    let verdict = validate(alloc, task, steps, BitStore::new(alloc))?;
+    shown(alloc, task, steps.len(), &verdict)
+}
+
+/// What is printed for a plan with a task, and the outcome.
+fn judged_in<'r, 'm, 'a, A: Allocator, B: Allocator, C: Allocator, D: Allocator>(
+    alloc: &'r D,
+    task: &Task<'m, 'a, A, B>,
+    plan: &Plan<C>,
+) -> Result<Formatted<'r, D>, AllocError>
+    ensures { IfOk result (λ answer. IsJudgedIn (task_of_files task.now) (plan_view plan.now) answer.0.items answer.1) }
+{
+    match link_plan(alloc, task, plan) {
+        Ok(steps) => judged_steps(alloc, task, &steps),
+        Err(fault) => refused_steps(alloc, fault),
+    }
+}
+
+/// What is printed for a plan with a domain and a problem, and the outcome.
+fn judged_plan<'r, A: Allocator, B: Allocator, C: Allocator>(
+    alloc: &'r C,
+    domain: &Domain<A>,
+    problem: &Problem<A>,
+    plan: &Plan<B>,
+) -> Result<Formatted<'r, C>, AllocError>
+    ensures { IfOk result (λ answer. IsPlanJudged (domain_view domain.now) (problem_view problem.now) (plan_view plan.now) answer.0.items answer.1) }
+{
+    match link(alloc, domain, problem) {
+        Ok(task) => judged_in(alloc, &task, plan),
+        Err(fault) => refused_link(alloc, &fault),
+    }
+}
+
+/// What `plan` prints for the text of a plan with a domain and a problem, and the outcome.
+///
+/// Fails where memory is refused.
+pub fn checked_plan<'r, A: Allocator, B: Allocator>(
+    alloc: &'r B,
+    domain: &Domain<A>,
+    problem: &Problem<A>,
+    text: &[u8],
+) -> Result<Formatted<'r, B>, AllocError>
+    ensures { IfOk result (λ answer. ForPlan (IsPlanJudged (domain_view domain.now) (problem_view problem.now)) text.now answer.0.items answer.1) }
+{
+    match read_plan(alloc, text) {
+        Ok(plan) => judged_plan(alloc, domain, problem, &plan),
+        Err(fault) => refused_plan(alloc, text, &fault),
+    }
+}
