@@ -1,14 +1,16 @@
 #!/bin/sh
 # Prints MB/s and peak memory of `format`, and of the same work in plain Rust, on files of 1, 4 and 16 MiB: plans that are
 # plain, timed, and with many comments; domains of many actions; problems of many objects and facts. Then seconds and peak
-# memory of `domain` and `problem` on files that link, beside those of `format`, which reads and prints them. Each figure is
-# that of the best of five runs. Wants GNU time, Python 3 and rustc.
+# memory of `domain` and `problem` on files that link, beside those of `format`, which reads and prints them; and of `plan` on
+# valid plans, beside those of the same work in plain Rust. Each figure is that of the best of five runs. Wants GNU time,
+# Python 3 and rustc.
 here=$(cd "$(dirname "$0")" && pwd) || exit 1
 "$here/../pddlcheck" --help >/dev/null || exit 1
 program=$here/../crates/pddlcheck/out/pddlcheck
 folder=$(mktemp -d) || exit 1
 trap 'rm -rf "$folder"' EXIT
 rustc --edition 2021 -O -o "$folder/plain" "$here/plain.rs" || exit 1
+rustc --edition 2021 -O -o "$folder/plain_plans" "$here/plain_plans.rs" || exit 1
 
 # best NAME COMMAND..: MB/s and bytes of memory a byte of the file
 best() {
@@ -58,4 +60,16 @@ for count in 125000 500000; do
     python3 "$here/files.py" items "$count" >"$folder/file" || exit 1
     printf '%-24s %8d  %s   %s\n' "problem, $count items" "$(wc -c <"$folder/file")" \
         "$(seconds "$program" format problem "$folder/file")" "$(seconds "$program" problem "$folder/domain" "$folder/file")"
+done
+
+printf '\n%-24s %8s   %-17s   %-17s\n' '' '' 'plan' 'plain Rust'
+printf '%-24s %8s  %8s %8s   %8s %8s\n' files bytes seconds MiB seconds MiB
+for case in walk together few moments adl; do
+    python3 "$here/plan_files.py" "$case" "$folder" || exit 1
+    set -- "$folder/domain.pddl" "$folder/problem.pddl" "$folder/plan.plan"
+    ours=$(seconds "$program" plan "$@") || exit 1
+    cp "$folder/line" "$folder/ours"
+    theirs=$(seconds "$folder/plain_plans" "$@") || exit 1
+    cmp -s "$folder/ours" "$folder/line" || echo "the two print different lines"
+    printf '%-24s %8d  %s   %s\n' "plan, $case" "$(cat "$@" | wc -c)" "$ours" "$theirs"
 done
