@@ -2,7 +2,8 @@
 
 /// What the program is.
 pub const ABOUT: &str =
-    "Reads PDDL files, prints them in one layout, says what is wrong with them, and validates plans";
+    "Reads PDDL files, prints them in one layout, says what is wrong with them, validates plans, and prints \
+their serial forms";
 
 /// What `domain` does.
 pub const ABOUT_DOMAIN: &str = "Checks a domain";
@@ -12,6 +13,10 @@ pub const ABOUT_PROBLEM: &str = "Checks a problem with its domain";
 
 /// What `plan` does.
 pub const ABOUT_PLAN: &str = "Validates a plan with its domain and its problem";
+
+/// What `serial` does.
+pub const ABOUT_SERIAL: &str =
+    "Prints a serial form of a valid plan: one step after another, or in small groups";
 
 /// What `format` does.
 pub const ABOUT_FORMAT: &str = "Prints a file in its canonical layout";
@@ -32,10 +37,18 @@ pub const PROBLEM: &str = "The file of the problem; /dev/stdin is standard input
 /// What `PLAN` stands for.
 pub const PLAN: &str = "The file of the plan; /dev/stdin is standard input";
 
+/// What `--reverse` asks for.
+pub const REVERSE: &str =
+    "Takes the steps of each happening from the last of the file to the first";
+
+/// What `--groups` asks for.
+pub const GROUPS: &str =
+    "Cuts each happening into groups of N steps, from 1 to 1000000, and prints a timed plan of them";
+
 /// What stands after the help of the program.
 pub const AFTER: &str = "\
 Exit status:
-  0  the files are good and a plan is valid, or help was asked for
+  0  the files are good and a plan is valid, or a file or a plan was printed, or help was asked for
   1  the plan is invalid
   2  a file is refused; the line on standard output says why and where
   3  the words of the command line are wrong
@@ -45,6 +58,7 @@ Examples:
   pddlcheck domain domain.pddl
   pddlcheck problem domain.pddl problem.pddl
   pddlcheck plan domain.pddl problem.pddl my.plan
+  pddlcheck serial domain.pddl problem.pddl my.plan
   pddlcheck format domain domain.pddl";
 
 /// What stands after the help of `domain`.
@@ -103,6 +117,31 @@ Exit status:
 
 Example:
   pddlcheck plan domain.pddl problem.pddl my.plan";
+
+/// What stands after the help of `serial`.
+pub const AFTER_SERIAL: &str = "\
+A valid plan, as `plan` says it, gives a plan without moments: the happenings in turn, the steps of each in the order of
+the file, or with --reverse from the last to the first. With --groups N each happening, in that order, is cut into
+groups of N steps, the last perhaps smaller, and the plan has the first group at moment 1, the next at moment 2, and so
+on. What is printed is valid too, and leads to the same end at the same cost. The plan without steps gives the empty
+text.
+
+N is a whole number from 1 to 1000000, in digits; zeros or a + may stand before it. Each option may stand once, before
+the files, between them or after them.
+
+An invalid plan, and a file that is refused, give the line that `plan` gives for them, and its status.
+
+Exit status:
+  0  the plan was printed
+  1  the plan is invalid
+  2  a file is refused
+  3  the words of the command line are wrong
+  4  reading, writing or memory failed, or a file does not open
+
+Examples:
+  pddlcheck serial domain.pddl problem.pddl my.plan
+  pddlcheck serial domain.pddl problem.pddl my.plan --reverse
+  pddlcheck serial --groups 2 domain.pddl problem.pddl my.plan";
 
 /// What stands after the help of `format`.
 pub const AFTER_FORMAT: &str = "\

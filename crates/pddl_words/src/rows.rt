@@ -2,6 +2,7 @@
 
 use crate::{Job, parse_words, words_status};
 use std::alloc::{AllocError, Global};
+use std::num::NonZeroU32;
 use std::process::Abort;
 use std::test::Fail;
 
@@ -14,6 +15,21 @@ pddlcheck|problem|/dev/stdin|/dev/stdin => problem /dev/stdin, /dev/stdin
 pddlcheck|plan|my.pddl|other.pddl|my.plan => plan my.pddl, other.pddl, my.plan
 pddlcheck|plan|plan|plan|plan => plan plan, plan, plan
 pddlcheck|plan|my.pddl|other.pddl|/dev/stdin => plan my.pddl, other.pddl, /dev/stdin
+pddlcheck|serial|my.pddl|other.pddl|my.plan => serial my.pddl, other.pddl, my.plan
+pddlcheck|serial|serial|serial|serial => serial serial, serial, serial
+pddlcheck|serial|my.pddl|other.pddl|/dev/stdin => serial my.pddl, other.pddl, /dev/stdin
+pddlcheck|serial|my.pddl|other.pddl|my.plan|--reverse => serial my.pddl, other.pddl, my.plan reversed
+pddlcheck|serial|--reverse|my.pddl|other.pddl|my.plan => serial my.pddl, other.pddl, my.plan reversed
+pddlcheck|serial|my.pddl|--reverse|other.pddl|my.plan => serial my.pddl, other.pddl, my.plan reversed
+pddlcheck|serial|my.pddl|other.pddl|my.plan|--groups|1 => serial my.pddl, other.pddl, my.plan in groups of 1
+pddlcheck|serial|--groups|2|my.pddl|other.pddl|my.plan => serial my.pddl, other.pddl, my.plan in groups of 2
+pddlcheck|serial|my.pddl|other.pddl|--groups=2|my.plan => serial my.pddl, other.pddl, my.plan in groups of 2
+pddlcheck|serial|my.pddl|other.pddl|my.plan|--groups|1000000 => serial my.pddl, other.pddl, my.plan in groups of 1000000
+pddlcheck|serial|my.pddl|other.pddl|my.plan|--groups|007 => serial my.pddl, other.pddl, my.plan in groups of 7
+pddlcheck|serial|my.pddl|other.pddl|my.plan|--groups|+1 => serial my.pddl, other.pddl, my.plan in groups of 1
+pddlcheck|serial|my.pddl|other.pddl|my.plan|--groups|3|--reverse => serial my.pddl, other.pddl, my.plan reversed in groups of 3
+pddlcheck|serial|--reverse|my.pddl|other.pddl|my.plan|--groups=3 => serial my.pddl, other.pddl, my.plan reversed in groups of 3
+pddlcheck|serial|--reverse|--|my.pddl|other.pddl|--groups => serial my.pddl, other.pddl, --groups reversed
 pddlcheck|format|domain|my.pddl => format Domain my.pddl
 pddlcheck|format|problem|my.pddl => format Problem my.pddl
 pddlcheck|format|plan|my.plan => format Plan my.plan
@@ -25,6 +41,8 @@ pddlcheck|problem|-h => status 0
 pddlcheck|help|problem => status 0
 pddlcheck|plan|--help => status 0
 pddlcheck|help|plan => status 0
+pddlcheck|serial|--help => status 0
+pddlcheck|help|serial => status 0
 pddlcheck|--help => status 0
 pddlcheck|-h => status 0
 pddlcheck|help => status 0
@@ -41,6 +59,38 @@ pddlcheck|plan|my.pddl|other.pddl => status 3
 pddlcheck|plan|my.pddl|other.pddl|my.plan|other.plan => status 3
 pddlcheck|plan|my.pddl|--unknown|other.pddl|my.plan => status 3
 pddlcheck|Plan|my.pddl|other.pddl|my.plan => status 3
+pddlcheck|serial => status 3
+pddlcheck|serial|my.pddl|other.pddl => status 3
+pddlcheck|serial|my.pddl|other.pddl|my.plan|other.plan => status 3
+pddlcheck|serial|my.pddl|other.pddl|my.plan|--groups|0 => status 3
+pddlcheck|serial|my.pddl|other.pddl|my.plan|--groups=0 => status 3
+pddlcheck|serial|my.pddl|other.pddl|my.plan|--groups|1000001 => status 3
+pddlcheck|serial|my.pddl|other.pddl|my.plan|--groups|4294967297 => status 3
+pddlcheck|serial|my.pddl|other.pddl|my.plan|--groups|18446744073709551617 => status 3
+pddlcheck|serial|my.pddl|other.pddl|my.plan|--groups|-1 => status 3
+pddlcheck|serial|my.pddl|other.pddl|my.plan|--groups=-1 => status 3
+pddlcheck|serial|my.pddl|other.pddl|my.plan|--groups=-0 => status 3
+pddlcheck|serial|my.pddl|other.pddl|my.plan|--groups|1.5 => status 3
+pddlcheck|serial|my.pddl|other.pddl|my.plan|--groups|1_000 => status 3
+pddlcheck|serial|my.pddl|other.pddl|my.plan|--groups| 1 => status 3
+pddlcheck|serial|my.pddl|other.pddl|my.plan|--groups|0x1 => status 3
+pddlcheck|serial|my.pddl|other.pddl|my.plan|--groups|+ => status 3
+pddlcheck|serial|my.pddl|other.pddl|my.plan|--groups|two => status 3
+pddlcheck|serial|my.pddl|other.pddl|my.plan|--groups => status 3
+pddlcheck|serial|my.pddl|other.pddl|my.plan|--groups= => status 3
+pddlcheck|serial|my.pddl|other.pddl|my.plan|--groups|--reverse => status 3
+pddlcheck|serial|my.pddl|other.pddl|my.plan|--groups|1|2 => status 3
+pddlcheck|serial|my.pddl|other.pddl|my.plan|--groups|1|--groups|1 => status 3
+pddlcheck|serial|my.pddl|other.pddl|my.plan|--reverse|--reverse => status 3
+pddlcheck|serial|my.pddl|other.pddl|my.plan|--reverse=true => status 3
+pddlcheck|serial|my.pddl|other.pddl|my.plan|--rev => status 3
+pddlcheck|serial|my.pddl|other.pddl|my.plan|-r => status 3
+pddlcheck|serial|my.pddl|other.pddl|my.plan|--unknown => status 3
+pddlcheck|serial|my.pddl|other.pddl|my.plan|--|--reverse => status 3
+pddlcheck|Serial|my.pddl|other.pddl|my.plan => status 3
+pddlcheck|plan|my.pddl|other.pddl|my.plan|--reverse => status 3
+pddlcheck|plan|my.pddl|other.pddl|my.plan|--groups|1 => status 3
+pddlcheck|--reverse|serial|my.pddl|other.pddl|my.plan => status 3
 pddlcheck|Domain|my.pddl => status 3
  => status 3
 pddlcheck => status 3
@@ -62,6 +112,7 @@ pddlcheck|--help => Usage: pddlcheck <COMMAND>
 pddlcheck|--help => domain
 pddlcheck|--help => problem
 pddlcheck|--help => plan
+pddlcheck|--help => serial
 pddlcheck|--help => format
 pddlcheck|--help => Exit status:
 pddlcheck|--help => Examples:
@@ -78,12 +129,27 @@ pddlcheck|plan|--help => /dev/stdin
 pddlcheck|plan|--help => valid: S steps in H happenings, total-cost C
 pddlcheck|plan|--help => invalid: goal is false
 pddlcheck|plan|--help => Exit status:
+pddlcheck|serial|--help => Usage: pddlcheck serial [OPTIONS] <DOMAIN> <PROBLEM> <PLAN>
+pddlcheck|serial|--help => /dev/stdin
+pddlcheck|serial|--help => --reverse
+pddlcheck|serial|--help => --groups <N>
+pddlcheck|serial|--help => from 1 to 1000000
+pddlcheck|serial|--help => Exit status:
+pddlcheck|serial|--help => Examples:
 pddlcheck|format|--help => Usage: pddlcheck format <KIND> <FILE>
 pddlcheck|format|--help => domain, problem, plan
 pddlcheck|format|--help => planning domain or problem
 pddlcheck|format|--help => /dev/stdin
 pddlcheck|format|--help => Exit status:
 ";
+
+/// Groups of so many steps, as the rows say it.
+fn groups_told(alloc: Global, groups: Option<NonZeroU32>) -> Result<String, AllocError> {
+    match groups {
+        Some(size) => format!(in alloc; " in groups of {size}"),
+        None => Ok(String::new(alloc)),
+    }
+}
 
 /// What words ask for, as the rows say it.
 fn told(alloc: Global, words: &[&str]) -> Result<String, AllocError> {
@@ -97,6 +163,19 @@ fn told(alloc: Global, words: &[&str]) -> Result<String, AllocError> {
                 plan,
             },
         ) => format!(in alloc; "plan {domain}, {problem}, {plan}"),
+        Ok(
+            Job::Serial {
+                domain,
+                problem,
+                plan,
+                reverse,
+                groups,
+            },
+        ) => {
+            let reversed = if reverse { " reversed" } else { "" };
+            let in_groups = groups_told(alloc, groups)?;
+            format!(in alloc; "serial {domain}, {problem}, {plan}{reversed}{in_groups}")
+        }
         Ok(Job::Format { kind, path }) => format!(in alloc; "format {kind:?} {path}"),
         Err(error) => format!(in alloc; "status {}", words_status(&error)),
     }
@@ -138,7 +217,7 @@ fn words_ask_for_jobs(rt: HostRuntime) -> Result<(), Fail> {
     for line in WORDS.lines() {
         check_words(&rt, line)?;
     }
-    assert_eq!(rt; WORDS.lines().count(), 47);
+    assert_eq!(rt; WORDS.lines().count(), 96);
     Ok(())
 }
 
@@ -147,6 +226,6 @@ fn help_names_the_commands_and_the_statuses(rt: HostRuntime) -> Result<(), Fail>
     for line in HELP.lines() {
         check_help(&rt, line)?;
     }
-    assert_eq!(rt; HELP.lines().count(), 25);
+    assert_eq!(rt; HELP.lines().count(), 33);
     Ok(())
 }

@@ -5,10 +5,11 @@ ghost use Rattle.clap.specs.Values.{kind_of};
 
 use crate::help;
 use clap::error::ErrorKind;
-use clap::{Arg, ArgMatches, Command, Error};
+use clap::{Arg, ArgAction, ArgMatches, Command, Error, value_parser};
 use pddl_kind::Kind;
 use std::alloc::{AllocError, Global};
 use std::convert::AsStr;
+use std::num::NonZeroU32;
 
 /// What the words ask for.
 #[derive(Clone, Copy, Debug, PartialEq, Eq)]
@@ -28,12 +29,24 @@ pub enum Job<'a> {
         problem: &'a str,
         plan: &'a str,
     },
+    /// To print the serial plan of the plan at `plan`, with the domain at `domain` and the problem at `problem`, the steps of each
+    /// happening reversed where `reverse` says so; or, where `groups` has a number, the timed plan of groups of so many steps.
+    Serial {
+        domain: &'a str,
+        problem: &'a str,
+        plan: &'a str,
+        reverse: bool,
+        groups: Option<NonZeroU32>,
+    },
     /// To print the file at `path`, which holds what `kind` says, in its canonical layout.
     Format {
         kind: Kind,
         path: &'a str,
     },
 }
+
+/// How many steps a group can have: as many as a plan.
+const MOST_IN_A_GROUP: i64 = 1_000_000;
 
 /// The words for what a file holds.
 static KINDS: [&str; 3] = ["domain", "problem", "plan"];
@@ -83,30 +96,70 @@ fn problem_job<'a>(matches: &ArgMatches<'a>) -> Option<Job<'a>> {
     Some(Job::Problem { domain, problem })
 }
 
-/// The command `plan DOMAIN PROBLEM PLAN`.
-fn plan_command<'a>(alloc: Global) -> Result<Command<'a>, AllocError> {
+/// A command with the words `DOMAIN PROBLEM PLAN`.
+fn with_three_files<'a>(alloc: Global, command: Command<'a>) -> Result<Command<'a>, AllocError> {
     let domain = Arg::new(alloc, "DOMAIN").required(true).help(help::DOMAIN);
     let problem = Arg::new(alloc, "PROBLEM")
         .required(true)
         .help(help::PROBLEM);
     let plan = Arg::new(alloc, "PLAN").required(true).help(help::PLAN);
-    Command::new(alloc, "plan")
+    command.arg(domain)?.arg(problem)?.arg(plan)
+}
+
+/// The words `DOMAIN PROBLEM PLAN` of a command.
+fn three_files<'a>(matches: &ArgMatches<'a>) -> Option<(&'a str, &'a str, &'a str)> {
+    let domain = matches.get_str("DOMAIN")?;
+    let problem = matches.get_str("PROBLEM")?;
+    let plan = matches.get_str("PLAN")?;
+    Some((domain, problem, plan))
+}
+
+/// The command `plan DOMAIN PROBLEM PLAN`.
+fn plan_command<'a>(alloc: Global) -> Result<Command<'a>, AllocError> {
+    let command = Command::new(alloc, "plan")
         .about(help::ABOUT_PLAN)
-        .after_help(help::AFTER_PLAN)
-        .arg(domain)?
-        .arg(problem)?
-        .arg(plan)
+        .after_help(help::AFTER_PLAN);
+    with_three_files(alloc, command)
 }
 
 /// The job of the words after `plan`, where they are its own.
 fn plan_job<'a>(matches: &ArgMatches<'a>) -> Option<Job<'a>> {
-    let domain = matches.get_str("DOMAIN")?;
-    let problem = matches.get_str("PROBLEM")?;
-    let plan = matches.get_str("PLAN")?;
+    let (domain, problem, plan) = three_files(matches)?;
     Some(Job::Plan {
         domain,
         problem,
         plan,
+    })
+}
+
+/// The command `serial DOMAIN PROBLEM PLAN [--reverse] [--groups N]`.
+fn serial_command<'a>(alloc: Global) -> Result<Command<'a>, AllocError> {
+    let reverse = Arg::new(alloc, "reverse")
+        .long("reverse")
+        .action(ArgAction::SetTrue)
+        .help(help::REVERSE);
+    let groups = Arg::new(alloc, "groups")
+        .long("groups")
+        .value_name("N")
+        .value_parser(value_parser!(u32).range(1..=MOST_IN_A_GROUP))
+        .help(help::GROUPS);
+    let command = Command::new(alloc, "serial")
+        .about(help::ABOUT_SERIAL)
+        .after_help(help::AFTER_SERIAL)
+        .arg(reverse)?
+        .arg(groups)?;
+    with_three_files(alloc, command)
+}
+
+/// The job of the words after `serial`, where they are its own.
+fn serial_job<'a>(matches: &ArgMatches<'a>) -> Option<Job<'a>> {
+    let (domain, problem, plan) = three_files(matches)?;
+    Some(Job::Serial {
+        domain,
+        problem,
+        plan,
+        reverse: matches.get_flag("reverse"),
+        groups: matches.get_one("groups"),
     })
 }
 
@@ -154,6 +207,7 @@ fn commands<'a>(alloc: Global) -> Result<Command<'a>, AllocError> {
     let program = with_command(program(alloc)?, domain_command(alloc))?;
     let program = with_command(program, problem_command(alloc))?;
     let program = with_command(program, plan_command(alloc))?;
+    let program = with_command(program, serial_command(alloc))?;
     with_command(program, format_command(alloc))
 }
 
@@ -163,6 +217,7 @@ fn job_of<'a>(matches: &ArgMatches<'a>) -> Option<Job<'a>> {
         Some(("domain", inner)) => domain_job(inner),
         Some(("problem", inner)) => problem_job(inner),
         Some(("plan", inner)) => plan_job(inner),
+        Some(("serial", inner)) => serial_job(inner),
         Some(("format", inner)) => format_job(inner),
         _ => None,
     }
