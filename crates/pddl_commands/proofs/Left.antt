@@ -12,11 +12,6 @@ use Rattle.pddl_kind.specs.Kinds.{kind_word}
 use Rattle.pddl_commands.specs.Formats.{IsLeft, IsRefused}
 use Rattle.pddl_commands.specs.Checks.{IsNoDomain}
 
--- a text that was read to its end
-pub left_read : (remaining : Option (List ℕ)) (text : List ℕ) → IfSome remaining (λ known. text ≡ known) → IsLeft remaining text
-left_read None text e = tt
-left_read (Some known) text e = e
-
 -- a text of which more than a limit was read
 pub left_more : (remaining new : Option (List ℕ)) (limit : ℕ) (given : List ℕ) → IfSome remaining (λ known. limit < length known) → limit < length given → (text : List ℕ) × IsLeft remaining text × (limit < length text)
 left_more None new limit given known more = (given, tt, more)

@@ -1,11 +1,22 @@
 -- What a command reads from a file. Own.
-use Rattle.std.specs.Prelude.{◌≡◌, ℕ, List, Bool, true, Option}
+use Rattle.std.specs.Prelude.{◌≡◌, ◌⊎◌, ℕ, List, [], Bool, true, Option, None}
+use Rattle.pddl_text.specs.declared.fault.TextFault.TheVariants as texts
 use Rattle.pddl_kind.specs.declared.Kind.{Kind}
+use Rattle.pddl_kind.specs.Kinds.{kind_word}
 use Rattle.pddl_commands.specs.declared.reading.Content.{Content}
 use Rattle.pddl_commands.specs.declared.reading.Content.TheVariants.{Text, TooLong}
 use Rattle.pddl_commands.specs.Formats.{IsLeft, IsRefused}
+use Rattle.pddl_commands.specs.Lines.{text_fault_name, IsFaultLine}
+
+-- the line that refuses a file for its length
+abbrev pub IsTooLongLine : Kind → List ℕ → Type 0
+IsTooLongLine kind line = IsFaultLine (kind_word kind) [] (text_fault_name texts.TooLong) None line
+
+-- A file was read up to its reader's end, or past the limit of length, as the line that is printed says.
+abbrev pub IsRead : Kind → Bool → List ℕ → Type 0
+IsRead kind at_end printed = (at_end ≡ true) ⊎ IsTooLongLine kind printed
 
 -- all that the reader had left to give, up to its end; or a line that refuses all of that
 abbrev pub IsContent : {B : _} → Kind → Option (List ℕ) → Bool → Content B → Type 0
 IsContent kind remaining at_end (Text text) = IsLeft remaining text.items × (at_end ≡ true)
-IsContent kind remaining at_end (TooLong line) = (text : List ℕ) × IsLeft remaining text × IsRefused kind text line.items
+IsContent kind remaining at_end (TooLong line) = IsTooLongLine kind line.items × ((text : List ℕ) × IsLeft remaining text × IsRefused kind text line.items)

@@ -5,6 +5,7 @@ ghost use Rattle.std.specs.Io.KnownBytes.{Appends, Consumes, Keeps};
 ghost use Rattle.pddl_text.specs.Device.{AppendsBeginning, HasFailed};
 ghost use Rattle.pddl_domain.specs.Domains.{domain_view};
 ghost use Rattle.pddl_commands.specs.declared.outcome.Outcome.{Outcome};
+ghost use Rattle.pddl_commands.specs.Contents.{IsRead};
 ghost use Rattle.pddl_commands.specs.Formats.{IsLeft};
 ghost use Rattle.pddl_commands.specs.Checks.{ForProblem, IsProblemJudged, IsDomainChecked, IsProblemChecked, IsNoDomain, AreAlike};
 
@@ -23,6 +24,7 @@ fn read_domain_checked<'a, B: Allocator, S: Source>(
     source: &mut S,
 ) -> Result<Formatted<'a, B>, RunFault>
     ensures answer { IfOk result (λ answer. (text : List ℕ) × IsLeft (S.remaining source.old) text × IsDomainChecked text answer.0.items answer.1) }
+    ensures read { IfOk result (λ answer. IsRead Kind.Domain (S.at_end source.new) answer.0.items) }
     ensures good_at_end { IfOk result (λ answer. answer.1 ≡ Outcome.Good → S.at_end source.new ≡ true) }
     ensures none_failed { OnOk result (S.failures source.new ≡ S.failures source.old) }
     ensures memory { IsErrOf result RunFault.Memory → S.failures source.new ≡ S.failures source.old }
@@ -44,6 +46,7 @@ fn read_problem_checked<'a, B: Allocator, S: Source>(
 ) -> Result<Formatted<'a, B>, RunFault>
     ensures answer { IfOk result (λ answer. (text : List ℕ) × IsLeft (S.remaining source.old) text
         × ForProblem (IsProblemJudged (domain_view domain.now)) text answer.0.items answer.1) }
+    ensures read { IfOk result (λ answer. IsRead Kind.Problem (S.at_end source.new) answer.0.items) }
     ensures good_at_end { IfOk result (λ answer. answer.1 ≡ Outcome.Good → S.at_end source.new ≡ true) }
     ensures none_failed { OnOk result (S.failures source.new ≡ S.failures source.old) }
     ensures memory { IsErrOf result RunFault.Memory → S.failures source.new ≡ S.failures source.old }
@@ -65,6 +68,8 @@ fn read_both<'a, B: Allocator, S: Source, T: Source>(
 ) -> Result<Formatted<'a, B>, RunFault>
     ensures answer { IfOk result (λ answer. (text given : List ℕ) × IsLeft (S.remaining domain.old) text × IsLeft (T.remaining problem.old) given
         × IsProblemChecked text given answer.0.items answer.1) }
+    ensures read { IfOk result (λ answer. IsRead Kind.Domain (S.at_end domain.new) answer.0.items
+        × ((problem.new ≡ problem.old) ⊎ IsRead Kind.Problem (T.at_end problem.new) answer.0.items)) }
     ensures good_at_end { IfOk result (λ answer. answer.1 ≡ Outcome.Good → (S.at_end domain.new ≡ true) × (T.at_end problem.new ≡ true)) }
     ensures none_failed { OnOk result ((S.failures domain.new ≡ S.failures domain.old) × (T.failures problem.new ≡ T.failures problem.old)) }
     ensures memory { IsErrOf result RunFault.Memory → (S.failures domain.new ≡ S.failures domain.old) × (T.failures problem.new ≡ T.failures problem.old) }
@@ -102,9 +107,10 @@ pub fn check_domain_file<'a, B: Allocator, S: Source, W: Sink>(
     domain: &mut S,
     out: &mut W,
 ) -> Result<Outcome, RunFault>
-    // What is written is the outcome's line for all that the reader had left to give, and no call of either failed.
+    // What is written is the outcome's line for all that the reader had left to give, and no call of either failed. The reader came to its
+    // end, or past the limit of length, as the line says then.
     ensures outcome { IfOk result (λ outcome. (text printed : List ℕ) × IsLeft (S.remaining domain.old) text
-        × IsDomainChecked text printed outcome × Appends (W.contents out.old) (W.contents out.new) printed) }
+        × IsRead Kind.Domain (S.at_end domain.new) printed × IsDomainChecked text printed outcome × Appends (W.contents out.old) (W.contents out.new) printed) }
     ensures none_failed { OnOk result ((S.failures domain.new ≡ S.failures domain.old) × (W.failures out.new ≡ W.failures out.old)) }
 
     // A file is good only where its reader came to its end.
@@ -120,7 +126,7 @@ pub fn check_domain_file<'a, B: Allocator, S: Source, W: Sink>(
     ensures write_failed { IsErrOf result RunFault.WriteFailed → HasFailed (W.failures out.old) (W.failures out.new)
         × (S.failures domain.new ≡ S.failures domain.old)
         × ((text printed : List ℕ) × (outcome : Outcome) × IsLeft (S.remaining domain.old) text
-        × IsDomainChecked text printed outcome × AppendsBeginning (W.contents out.old) (W.contents out.new) printed) }
+        × IsRead Kind.Domain (S.at_end domain.new) printed × IsDomainChecked text printed outcome × AppendsBeginning (W.contents out.old) (W.contents out.new) printed) }
 
     // The reader stands after the bytes that it gave.
     ensures stands { (given : List ℕ) × Consumes (S.remaining domain.old) (S.remaining domain.new) given }
@@ -149,8 +155,10 @@ pub fn check_problem_file<'a, B: Allocator, S: Source, T: Source, W: Sink>(
     problem: &mut T,
     out: &mut W,
 ) -> Result<Outcome, RunFault>
-    // What is written is the outcome's line for all that the readers had left to give, and no call of the three failed.
+    // What is written is the outcome's line for all that the readers had left to give, and no call of the three failed. Each reader of which
+    // anything was read came to its end, or past the limit of length, as the line says then.
     ensures outcome { IfOk result (λ outcome. (text given printed : List ℕ) × IsLeft (S.remaining domain.old) text × IsLeft (T.remaining problem.old) given
+        × IsRead Kind.Domain (S.at_end domain.new) printed × ((problem.new ≡ problem.old) ⊎ IsRead Kind.Problem (T.at_end problem.new) printed)
         × IsProblemChecked text given printed outcome × Appends (W.contents out.old) (W.contents out.new) printed) }
     ensures none_failed { OnOk result ((S.failures domain.new ≡ S.failures domain.old) × (T.failures problem.new ≡ T.failures problem.old)
         × (W.failures out.new ≡ W.failures out.old)) }
@@ -169,6 +177,7 @@ pub fn check_problem_file<'a, B: Allocator, S: Source, T: Source, W: Sink>(
     ensures write_failed { IsErrOf result RunFault.WriteFailed → HasFailed (W.failures out.old) (W.failures out.new)
         × (S.failures domain.new ≡ S.failures domain.old) × (T.failures problem.new ≡ T.failures problem.old)
         × ((text given printed : List ℕ) × (outcome : Outcome) × IsLeft (S.remaining domain.old) text × IsLeft (T.remaining problem.old) given
+        × IsRead Kind.Domain (S.at_end domain.new) printed × ((problem.new ≡ problem.old) ⊎ IsRead Kind.Problem (T.at_end problem.new) printed)
         × IsProblemChecked text given printed outcome × AppendsBeginning (W.contents out.old) (W.contents out.new) printed) }
 
     // The readers stand after the bytes that they gave.

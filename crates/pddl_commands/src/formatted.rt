@@ -9,6 +9,7 @@ ghost use Rattle.pddl_file.specs.declared.fault.FileFault.TheVariants.{Text};
 ghost use Rattle.pddl_file.specs.Places.{file_place};
 ghost use Rattle.pddl_kind.specs.declared.Kind.{Kind};
 ghost use Rattle.pddl_kind.specs.Kinds.{kind_word};
+ghost use Rattle.pddl_commands.specs.Contents.{IsTooLongLine};
 ghost use Rattle.pddl_commands.specs.Faults.{is_memory, is_file_memory};
 ghost use Rattle.pddl_commands.specs.Formats.{IsRefused, IsFormatted};
 ghost use Rattle.pddl_commands.specs.Lines.{file_fault_name, IsFaultLine};
@@ -185,7 +186,7 @@ pub fn formatted<'a, B: Allocator>(
 
 /// The line of a file whose text is longer than the limit.
 pub fn too_long<'a, B: Allocator>(alloc: &'a B, kind: Kind) -> Result<Vec<u8, &'a B>, AllocError>
-    ensures { IfOk result (λ line. (text : List ℕ) → LONGEST < length text → IsRefused kind text line.items) }
+    ensures { IfOk result (λ line. IsTooLongLine kind line.items) }
 {
     let name = text_fault_name(&TextFault::TooLong);
     fault_line(alloc, kind.word(), b"", name, None)

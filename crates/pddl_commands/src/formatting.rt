@@ -5,6 +5,7 @@ ghost use Rattle.std.specs.Io.KnownBytes.{Appends, Consumes, Keeps};
 ghost use Rattle.pddl_text.specs.Device.{AppendsBeginning, HasFailed};
 ghost use Rattle.pddl_kind.specs.declared.Kind.{Kind};
 ghost use Rattle.pddl_commands.specs.declared.outcome.Outcome.{Outcome};
+ghost use Rattle.pddl_commands.specs.Contents.{IsRead};
 ghost use Rattle.pddl_commands.specs.Formats.{IsFormatted, IsLeft};
 
 use crate::formatted::{Formatted, formatted};
@@ -21,6 +22,7 @@ fn read_formatted<'a, B: Allocator, S: Source>(
     source: &mut S,
 ) -> Result<Formatted<'a, B>, RunFault>
     ensures answer { IfOk result (λ answer. (text : List ℕ) × IsLeft (S.remaining source.old) text × IsFormatted kind text answer.0.items answer.1) }
+    ensures read { IfOk result (λ answer. IsRead kind (S.at_end source.new) answer.0.items) }
     ensures good_at_end { IfOk result (λ answer. answer.1 ≡ Outcome.Good → S.at_end source.new ≡ true) }
     ensures none_failed { OnOk result (S.failures source.new ≡ S.failures source.old) }
     ensures memory { IsErrOf result RunFault.Memory → S.failures source.new ≡ S.failures source.old }
@@ -50,9 +52,10 @@ pub fn format<'a, B: Allocator, S: Source, W: Sink>(
     source: &mut S,
     out: &mut W,
 ) -> Result<Outcome, RunFault>
-    // What is written is the outcome's text for all that the reader had left to give, and no call of either failed.
+    // What is written is the outcome's text for all that the reader had left to give, and no call of either failed. The reader came to its
+    // end, or past the limit of length, as is written then.
     ensures outcome { IfOk result (λ outcome. (text printed : List ℕ) × IsLeft (S.remaining source.old) text
-        × IsFormatted kind text printed outcome × Appends (W.contents out.old) (W.contents out.new) printed) }
+        × IsRead kind (S.at_end source.new) printed × IsFormatted kind text printed outcome × Appends (W.contents out.old) (W.contents out.new) printed) }
     ensures none_failed { OnOk result ((S.failures source.new ≡ S.failures source.old) × (W.failures out.new ≡ W.failures out.old)) }
 
     // A file is good only where its reader came to its end.
@@ -68,7 +71,7 @@ pub fn format<'a, B: Allocator, S: Source, W: Sink>(
     ensures write_failed { IsErrOf result RunFault.WriteFailed → HasFailed (W.failures out.old) (W.failures out.new)
         × (S.failures source.new ≡ S.failures source.old)
         × ((text printed : List ℕ) × (outcome : Outcome) × IsLeft (S.remaining source.old) text
-        × IsFormatted kind text printed outcome × AppendsBeginning (W.contents out.old) (W.contents out.new) printed) }
+        × IsRead kind (S.at_end source.new) printed × IsFormatted kind text printed outcome × AppendsBeginning (W.contents out.old) (W.contents out.new) printed) }
 
     // The reader stands after the bytes that it gave.
     ensures stands { (given : List ℕ) × Consumes (S.remaining source.old) (S.remaining source.new) given }

@@ -1,7 +1,6 @@
 -- What is shown of a verdict is what is said of the plan.
-use Rattle.std.proofs.Common.{◌≡◌, ℕ, true, false, List, length, sym, ap, ◌∙◌, subst}
+use Rattle.std.proofs.Common.{◌≡◌, ℕ, true, false, List, sym, subst}
 use Rattle.std.specs.Ordering.{is_le}
-use Rattle.std.proofs.lemmas.List.{length-map}
 use Rattle.pddl_domain.specs.Domains.{DomainValue}
 use Rattle.pddl_problem.specs.Problems.{ProblemValue}
 use Rattle.pddl_task.specs.Linked.{IsLinked}
@@ -28,9 +27,9 @@ use Rattle.pddl_plan_steps.specs.PlanSteps.{named_steps, initial_state, goal_of}
 use Rattle.pddl_valid.specs.AcceptedPlans.{AreHappeningsOf, OfHappenings, IsAcceptedPlan}
 use Rattle.pddl_valid.specs.NamedClashes.{NamesLeast}
 use Rattle.pddl_commands.specs.declared.outcome.Outcome.{Outcome}
-use Rattle.pddl_plan_commands.specs.PlanLines.{valid_line}
+use Rattle.pddl_plan_commands.specs.Printings.{Printing}
 use Rattle.pddl_plan_commands.specs.PlanChecks.{IsLeastNamed, IsFirstFailure, AreStepsJudged}
-use Rattle.pddl_plan_commands.specs.ShownVerdicts.{failure_of, IsShown}
+use Rattle.pddl_plan_commands.specs.ShownVerdicts.{failure_of, IsShown, IsVerdictOf}
 use Rattle.pddl_plan_commands.proofs.FirstFailures.{clash_so, clash_gives}
 use Rattle.pddl_plan_commands.proofs.KnownClashes.{clash_known}
 use Rattle.pddl_plan_commands.proofs.SomeHappenings.{some_happenings}
@@ -99,14 +98,21 @@ module _ (d : DomainValue) (p : ProblemValue) (linked : IsLinked d p) (steps : L
     shown_in_range (verdicts.Accepted a) is = tt
     shown_in_range (verdicts.Refused r) is = in_range_of r is
 
-    pub shown_judged : (v : Verdict A B S T) (end_of : Accepted A B S T → Atoms)
+    -- what is accepted is that of the task and its steps
+    pub verdict_of : (v : Verdict A B S T) (end_of : Accepted A B S T → Atoms)
+        → OnAccepted v (λ a. AreHappeningsOf steps (moments_of a.happenings.items) (groups_of a.happenings.items))
+        → OnAccepted v (λ a. IsAcceptedPlan task steps (end_of a) a.cost) → IsVerdictOf task steps end_of v
+    verdict_of (verdicts.Accepted a) end_of of accepted = record { linked = are; happenings = of; accepted = accepted }
+    verdict_of (verdicts.Refused r) end_of of accepted = tt
+
+    pub shown_judged : (Prints : Printing) (v : Verdict A B S T) (end_of : Accepted A B S T → Atoms)
         → OnAccepted v (λ a. AreHappeningsOf steps (moments_of a.happenings.items) (groups_of a.happenings.items))
         → OnAccepted v (λ a. IsAcceptedPlan task steps (end_of a) a.cost)
         → OnAccepted v (λ a. Converges (named_steps task steps) (initial_state task) (groups_of a.happenings.items))
         → OnRefused v (λ r. IfPrecondition r UnreadyAt) → OnRefused v (λ r. IfInterference r ClashOn) → OnRefused v (λ r. IfGoal r AllPass) → OnRefused v (λ r. IfGoal r OffGoal)
         → OnRefused v (λ r. (end : Atoms) (cost : ℕ) → IsAcceptedPlan task steps end cost → ⊥)
-        → (printed : List ℕ) (outcome : Outcome) → IsShown task (length steps) v printed outcome → AreStepsJudged task steps printed outcome
-    shown_judged (verdicts.Accepted a) end_of of accepted converges unready clashes pass off none printed outcome (is, line) = subst (AreStepsJudged task steps printed) (sym is) (record {
+        → (printed : List ℕ) (outcome : Outcome) → IsShown Prints task steps end_of v printed outcome → AreStepsJudged Prints task steps printed outcome
+    shown_judged Prints (verdicts.Accepted a) end_of of accepted converges unready clashes pass off none printed outcome (is, prints) = subst (AreStepsJudged Prints task steps printed) (sym is) (record {
       end = end_of a;
       cost = a.cost;
       accepted = accepted;
@@ -114,9 +120,9 @@ module _ (d : DomainValue) (p : ProblemValue) (linked : IsLinked d p) (steps : L
       happenings = groups_of a.happenings.items;
       are = of;
       converges = converges;
-      line = line ∙ ap (λ n. valid_line (length steps) n a.cost) (sym (length-map a.happenings.items (λ h. h.steps)));
+      prints = prints;
     })
-    shown_judged (verdicts.Refused r) end_of of accepted converges unready clashes pass off none printed outcome (is, line) = subst (AreStepsJudged task steps printed) (sym is) (record {
+    shown_judged Prints (verdicts.Refused r) end_of of accepted converges unready clashes pass off none printed outcome (is, line) = subst (AreStepsJudged Prints task steps printed) (sym is) (record {
       not_accepted = none;
       failure = failure_of task r;
       first = first_failure r unready clashes pass off;

@@ -4,4 +4,5 @@ pub mod SomeHappenings
 pub mod FirstFailures
 pub mod OneFailure
 pub mod Judged
+pub mod OneText
 pub mod OnePlan

@@ -1,5 +1,5 @@
 -- A plan is checked in one way.
-use Rattle.std.proofs.Common.{◌≡◌, ◌≢◌, ℕ, suc, true, false, cond, List, [], ◌∷◌, ◌++◌, length, refl, sym, ap, subst, ◌∙◌, inl, inr, arith, true≢false}
+use Rattle.std.proofs.Common.{◌≡◌, ◌≢◌, ℕ, suc, true, cond, List, [], ◌∷◌, ◌++◌, length, refl, sym, ap, subst, ◌∙◌, inl, inr, arith, true≢false}
 use Rattle.std.specs.Prelude.{◌==◌, codes, Option, Some, None, IfSome}
 use Rattle.std.specs.List.{AllByRecursion}
 use Rattle.std.specs.Ordering.{is_le, is_eq, ordering_reverse}
@@ -45,11 +45,13 @@ use Rattle.pddl_commands.specs.Checks.{ForProblem, AreAlike}
 use Rattle.pddl_commands.proofs.FaultLines.{one_line}
 use Rattle.pddl_commands.proofs.OneCheck.{one_fault, good_or_refused, one_answer, no_domain_refused, no_problem_refused}
 use Rattle.pddl_commands.proofs.OneOutcome.{one_refused}
-use Rattle.pddl_plan_commands.specs.PlanLines.{step_fault_name, valid_line}
-use Rattle.pddl_plan_commands.specs.PlanChecks.{IsStepRefused, IsValidPlan, Failure, unready, interference, off_goal, IsLeastNamed, IsFirstFailure, failure_line, IsInvalidPlan, AreStepsJudged, IsJudgedIn, IsPlanJudged, ForPlan, IsPlanChecked}
+use Rattle.pddl_plan_commands.specs.PlanLines.{step_fault_name}
+use Rattle.pddl_plan_commands.specs.Printings.{Printing}
+use Rattle.pddl_plan_commands.specs.PlanChecks.{IsStepRefused, IsValidPlan, Failure, unready, interference, off_goal, IsLeastNamed, IsFirstFailure, failure_line, IsInvalidPlan, AreStepsJudged, IsJudgedIn, IsPlanJudged, ForPlan, EndsInOneWay}
 use Rattle.pddl_plan_commands.proofs.FirstFailures.{happening_once, not_all_fine}
 use Rattle.pddl_plan_commands.proofs.KnownClashes.{clash_known}
 use Rattle.pddl_plan_commands.proofs.OneFailure.{HasSome, one_unready, unready_or_clash, one_clash, clash_not_fine}
+use Rattle.pddl_plan_commands.proofs.OneText.{PrintsOneText}
 use Rattle.pddl_plan_commands.proofs.SomeHappenings.{some_happenings}
 
 -- ---- one fault of a plan's linking
@@ -156,11 +158,12 @@ module _ (d : DomainValue) (p : ProblemValue) (linked : IsLinked d p) (steps : L
   has_some : (atom : GroundValue) → HasSome (IsLeastNamed task atom)
   has_some atom c least = (atom, least.is_in)
 
-  one_valid : (printed other : List ℕ) → IsValidPlan task steps printed → IsValidPlan task steps other → printed ≡ other
-  one_valid printed other v w =
+  one_valid : (Prints : Printing) → PrintsOneText Prints → (printed other : List ℕ) → IsValidPlan Prints task steps printed → IsValidPlan Prints task steps other → printed ≡ other
+  one_valid Prints one printed other v w =
       let same : v.happenings ≡ w.happenings = happenings_once steps alike v.moments w.moments v.happenings w.happenings v.are w.are in
       let cost : v.cost ≡ w.cost = (v.accepted v.moments v.happenings v.are).cost_is ∙ sym (w.accepted v.moments v.happenings v.are).cost_is in
-      v.line ∙ (ap (λ gs. valid_line (length steps) (length gs) v.cost) same ∙ (ap (λ n. valid_line (length steps) (length w.happenings) n) cost ∙ sym w.line))
+      one task steps w.happenings v.end w.end w.cost printed other
+      (subst (λ n. Prints task steps w.happenings v.end n printed) cost (subst (λ gs. Prints task steps gs v.end v.cost printed) same v.prints)) w.prints
 
   module _ (at : List (Option ℕ)) (gs : List (List ℕ)) (of : AreHappeningsOf steps at gs) where
     abbrev Unready : ℕ → Atoms → List ℕ → Type 0
@@ -205,47 +208,48 @@ module _ (d : DomainValue) (p : ProblemValue) (linked : IsLinked d p) (steps : L
       let some = some_happenings steps alike in
       v.line ∙ (ap failure_line (one_failure some.0 some.1 some.2 v.failure w.failure v.first w.first) ∙ sym w.line)
 
-  one_steps_judged : (printed other : List ℕ) (outcome ended : Outcome) → AreStepsJudged task steps printed outcome → AreStepsJudged task steps other ended → (printed ≡ other) × (outcome ≡ ended)
-  one_steps_judged printed other Good Good v w = (one_valid printed other v w, refl)
-  one_steps_judged printed other Good Invalid v w = absurd (w.not_accepted v.end v.cost v.accepted)
-  one_steps_judged printed other Invalid Good v w = absurd (v.not_accepted w.end w.cost w.accepted)
-  one_steps_judged printed other Invalid Invalid v w = (one_invalid printed other v w, refl)
-  one_steps_judged printed other Good Refused v bad = absurd bad
-  one_steps_judged printed other Invalid Refused v bad = absurd bad
-  one_steps_judged printed other Refused ended bad w = absurd bad
+  module _ (Prints : Printing) (one : PrintsOneText Prints) where
+    one_steps_judged : (printed other : List ℕ) (outcome ended : Outcome) → AreStepsJudged Prints task steps printed outcome → AreStepsJudged Prints task steps other ended → (printed ≡ other) × (outcome ≡ ended)
+    one_steps_judged printed other Good Good v w = (one_valid Prints one printed other v w, refl)
+    one_steps_judged printed other Good Invalid v w = absurd (w.not_accepted v.end v.cost v.accepted)
+    one_steps_judged printed other Invalid Good v w = absurd (v.not_accepted w.end w.cost w.accepted)
+    one_steps_judged printed other Invalid Invalid v w = (one_invalid printed other v w, refl)
+    one_steps_judged printed other Good Refused v bad = absurd bad
+    one_steps_judged printed other Invalid Refused v bad = absurd bad
+    one_steps_judged printed other Refused ended bad w = absurd bad
 
 -- ---- one answer for values
 
-module _ (d : DomainValue) (p : ProblemValue) where
-  one_judged_in : IsLinked d p → (plan : PlanValue) (printed other : List ℕ) (outcome ended : Outcome) → IsJudgedIn (task_of d p) plan printed outcome → IsJudgedIn (task_of d p) plan other ended → (printed ≡ other) × (outcome ≡ ended)
+module _ (Prints : Printing) (one : PrintsOneText Prints) (d : DomainValue) (p : ProblemValue) where
+  one_judged_in : IsLinked d p → (plan : PlanValue) (printed other : List ℕ) (outcome ended : Outcome) → IsJudgedIn Prints (task_of d p) plan printed outcome → IsJudgedIn Prints (task_of d p) plan other ended → (printed ≡ other) × (outcome ≡ ended)
   one_judged_in linked plan printed other outcome ended (inl (is, v)) (inl (same, w)) = (one_step_line (task_of d p) plan printed other v w, is ∙ sym same)
   one_judged_in linked plan printed other outcome ended (inl (is, v)) (inr (good, w)) = absurd (linked_or_refused (task_of d p) plan printed good v)
   one_judged_in linked plan printed other outcome ended (inr (good, v)) (inl (is, w)) = absurd (linked_or_refused (task_of d p) plan other good w)
   one_judged_in linked plan printed other outcome ended (inr (good, v)) (inr (also, w)) =
-      one_steps_judged d p linked (linked_steps (task_of d p) plan) (record { plan = plan; linked = good; steps_are = refl }) printed other outcome ended v w
+      one_steps_judged d p linked (linked_steps (task_of d p) plan) (record { plan = plan; linked = good; steps_are = refl }) Prints one printed other outcome ended v w
 
-  one_plan_judged : (plan : PlanValue) (printed other : List ℕ) (outcome ended : Outcome) → IsPlanJudged d p plan printed outcome → IsPlanJudged d p plan other ended → AreAlike printed other × (outcome ≡ ended)
+  one_plan_judged : (plan : PlanValue) (printed other : List ℕ) (outcome ended : Outcome) → IsPlanJudged Prints d p plan printed outcome → IsPlanJudged Prints d p plan other ended → AreAlike printed other × (outcome ≡ ended)
   one_plan_judged plan printed other outcome ended (inl (is, v)) (inl (same, w)) = (one_fault (faults d p) printed other v w, is ∙ sym same)
   one_plan_judged plan printed other outcome ended (inl (is, v)) (inr (linked, w)) = absurd (good_or_refused (faults d p) printed linked v)
   one_plan_judged plan printed other outcome ended (inr (linked, v)) (inl (is, w)) = absurd (good_or_refused (faults d p) other linked w)
-  one_plan_judged plan printed other outcome ended (inr (linked, v)) (inr (also, w)) = let one = one_judged_in linked plan printed other outcome ended v w in (inl one.0, one.1)
+  one_plan_judged plan printed other outcome ended (inr (linked, v)) (inr (also, w)) = let same = one_judged_in linked plan printed other outcome ended v w in (inl same.0, same.1)
 
 -- ---- one answer for texts
 
 no_plan_refused : (text : List ℕ) (plan : PlanValue) (line : List ℕ) → SpellsPlan plan text → IsRefused Plan text line → ⊥
 no_plan_refused text plan line spells q = q.no_memory (no_fault_in_plan text q.fault plan q.stands spells)
 
-one_for_plan : (d : DomainValue) (p : ProblemValue) (plan printed other : List ℕ) (outcome ended : Outcome) → ForPlan (IsPlanJudged d p) plan printed outcome → ForPlan (IsPlanJudged d p) plan other ended
-    → AreAlike printed other × (outcome ≡ ended)
-one_for_plan d p plan = one_answer SpellsPlan (IsRefused Plan) (IsPlanJudged d p) plan (one_plan plan) (no_plan_refused plan) (one_refused Plan plan) (one_plan_judged d p)
+module _ (Prints : Printing) (one : PrintsOneText Prints) where
+  one_for_plan : (d : DomainValue) (p : ProblemValue) (plan printed other : List ℕ) (outcome ended : Outcome) → ForPlan (IsPlanJudged Prints d p) plan printed outcome → ForPlan (IsPlanJudged Prints d p) plan other ended
+      → AreAlike printed other × (outcome ≡ ended)
+  one_for_plan d p plan = one_answer SpellsPlan (IsRefused Plan) (IsPlanJudged Prints d p) plan (one_plan plan) (no_plan_refused plan) (one_refused Plan plan) (one_plan_judged Prints one d p)
 
-one_for_problem : (d : DomainValue) (problem plan printed other : List ℕ) (outcome ended : Outcome) → ForProblem (λ p. ForPlan (IsPlanJudged d p) plan) problem printed outcome
-    → ForProblem (λ p. ForPlan (IsPlanJudged d p) plan) problem other ended → AreAlike printed other × (outcome ≡ ended)
-one_for_problem d problem plan =
-    one_answer SpellsProblem (IsRefused Problem) (λ p. ForPlan (IsPlanJudged d p) plan) problem (one_problem problem) (no_problem_refused problem) (one_refused Problem problem) (λ p. one_for_plan d p plan)
+  one_for_problem : (d : DomainValue) (problem plan printed other : List ℕ) (outcome ended : Outcome) → ForProblem (λ p. ForPlan (IsPlanJudged Prints d p) plan) problem printed outcome
+      → ForProblem (λ p. ForPlan (IsPlanJudged Prints d p) plan) problem other ended → AreAlike printed other × (outcome ≡ ended)
+  one_for_problem d problem plan =
+      one_answer SpellsProblem (IsRefused Problem) (λ p. ForPlan (IsPlanJudged Prints d p) plan) problem (one_problem problem) (no_problem_refused problem) (one_refused Problem problem) (λ p. one_for_plan d p plan)
 
-pub one_plan_outcome : (domain problem plan printed other : List ℕ) (outcome ended : Outcome) → IsPlanChecked domain problem plan printed outcome → IsPlanChecked domain problem plan other ended
-    → AreAlike printed other × (outcome ≡ ended)
-one_plan_outcome domain problem plan =
-    one_answer SpellsDomain (IsRefused Domain) (λ d. ForProblem (λ p. ForPlan (IsPlanJudged d p) plan) problem) domain (one_domain domain) (no_domain_refused domain) (one_refused Domain domain)
-    (λ d. one_for_problem d problem plan)
+  pub ends_in_one_way : EndsInOneWay Prints
+  ends_in_one_way domain problem plan =
+      one_answer SpellsDomain (IsRefused Domain) (λ d. ForProblem (λ p. ForPlan (IsPlanJudged Prints d p) plan) problem) domain (one_domain domain) (no_domain_refused domain) (one_refused Domain domain)
+      (λ d. one_for_problem d problem plan)

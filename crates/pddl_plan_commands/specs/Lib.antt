@@ -1,3 +1,5 @@
 pub mod PlanLines
+pub mod Printings
 pub mod PlanChecks
+pub mod WantedPrintings
 pub mod ShownVerdicts

@@ -1,5 +1,5 @@
--- What `plan` prints for the texts of its files, and how it ends. Own; when a plan is accepted is Fox and Long's.
-use Rattle.std.specs.Prelude.{◌≡◌, ◌≢◌, ◌⊎◌, ℕ, true, false, List, [], codes, length, Option, Some, None, IfSome}
+-- What `plan` and `serial` print for the texts of their files, and how they end. Own; when a plan is accepted is Fox and Long's.
+use Rattle.std.specs.Prelude.{◌≡◌, ◌≢◌, ◌⊎◌, ℕ, true, false, List, [], codes, Option, Some, None, IfSome}
 use Rattle.std.specs.Ordering.{is_le}
 use Rattle.pddl_tree.specs.Plans.{PlanValue}
 use Rattle.pddl_tree.specs.PlanTexts.{SpellsPlan}
@@ -26,8 +26,9 @@ use Rattle.pddl_commands.specs.declared.outcome.Outcome.{Outcome}
 use Rattle.pddl_commands.specs.declared.outcome.Outcome.TheVariants.{Good, Invalid, Refused}
 use Rattle.pddl_commands.specs.Lines.{IsFaultLine}
 use Rattle.pddl_commands.specs.Formats.{IsRefused}
-use Rattle.pddl_commands.specs.Checks.{IsLinkRefused, ForDomain, ForProblem}
-use Rattle.pddl_plan_commands.specs.PlanLines.{step_fault_name, valid_line, unready_line, clash_line, goal_line}
+use Rattle.pddl_commands.specs.Checks.{IsLinkRefused, ForDomain, ForProblem, AreAlike}
+use Rattle.pddl_plan_commands.specs.PlanLines.{step_fault_name, unready_line, clash_line, goal_line}
+use Rattle.pddl_plan_commands.specs.Printings.{Printing}
 
 -- ---- a plan that does not link
 
@@ -40,9 +41,9 @@ pub record IsStepRefused (task : TaskValue) (plan : PlanValue) (printed : List �
 
 -- ---- a valid plan
 
--- The plan is accepted with an end and a cost, its happenings are so many as are printed, and every serialisation of them runs, to that
--- end and at that cost.
-pub record IsValidPlan (task : TaskValue) (steps : List LinkedStepValue) (printed : List ℕ) : Type 0 where
+-- The plan is accepted with an end and a cost, every serialisation of its happenings runs, to that end and at that cost, and what is printed is
+-- that of these happenings, this end and this cost.
+pub record IsValidPlan (Prints : Printing) (task : TaskValue) (steps : List LinkedStepValue) (printed : List ℕ) : Type 0 where
   pub end : Atoms
   pub cost : ℕ
   pub accepted : IsAcceptedPlan task steps end cost
@@ -50,7 +51,7 @@ pub record IsValidPlan (task : TaskValue) (steps : List LinkedStepValue) (printe
   pub happenings : List (List ℕ)
   pub are : AreHappeningsOf steps moments happenings
   pub converges : Converges (named_steps task steps) (initial_state task) happenings
-  pub line : printed ≡ valid_line (length steps) (length happenings) cost
+  pub prints : Prints task steps happenings end cost printed
 
 -- ---- an invalid plan
 
@@ -92,30 +93,35 @@ pub record IsInvalidPlan (task : TaskValue) (steps : List LinkedStepValue) (prin
 -- ---- what is printed
 
 -- What is printed for steps that are linked to a task, and how that ends.
-abbrev pub AreStepsJudged : TaskValue → List LinkedStepValue → List ℕ → Outcome → Type 0
-AreStepsJudged task steps printed Good = IsValidPlan task steps printed
-AreStepsJudged task steps printed Invalid = IsInvalidPlan task steps printed
-AreStepsJudged task steps printed Refused = ⊥
+abbrev pub AreStepsJudged : Printing → TaskValue → List LinkedStepValue → List ℕ → Outcome → Type 0
+AreStepsJudged Prints task steps printed Good = IsValidPlan Prints task steps printed
+AreStepsJudged Prints task steps printed Invalid = IsInvalidPlan task steps printed
+AreStepsJudged Prints task steps printed Refused = ⊥
 
 -- What is printed for a plan with a task, and how that ends: the plan does not link, or its steps are judged.
-abbrev pub IsJudgedIn : TaskValue → PlanValue → List ℕ → Outcome → Type 0
-IsJudgedIn task plan printed outcome =
-    ((outcome ≡ Refused) × IsStepRefused task plan printed) ⊎ (IsLinkedPlan task plan × AreStepsJudged task (linked_steps task plan) printed outcome)
+abbrev pub IsJudgedIn : Printing → TaskValue → PlanValue → List ℕ → Outcome → Type 0
+IsJudgedIn Prints task plan printed outcome =
+    ((outcome ≡ Refused) × IsStepRefused task plan printed) ⊎ (IsLinkedPlan task plan × AreStepsJudged Prints task (linked_steps task plan) printed outcome)
 
 -- What is printed for a plan with a domain and a problem, and how that ends: these do not link, or the plan is judged with their task.
-abbrev pub IsPlanJudged : DomainValue → ProblemValue → PlanValue → List ℕ → Outcome → Type 0
-IsPlanJudged d p plan printed outcome =
-    ((outcome ≡ Refused) × IsLinkRefused (faults d p) printed) ⊎ (IsLinked d p × IsJudgedIn (task_of d p) plan printed outcome)
+abbrev pub IsPlanJudged : Printing → DomainValue → ProblemValue → PlanValue → List ℕ → Outcome → Type 0
+IsPlanJudged Prints d p plan printed outcome =
+    ((outcome ≡ Refused) × IsLinkRefused (faults d p) printed) ⊎ (IsLinked d p × IsJudgedIn Prints (task_of d p) plan printed outcome)
 
 -- a plan's text is refused, or the plan that it spells is judged
 abbrev pub ForPlan : (PlanValue → List ℕ → Outcome → Type 0) → List ℕ → List ℕ → Outcome → Type 0
 ForPlan Judged text printed outcome =
     ((outcome ≡ Refused) × IsRefused Plan text printed) ⊎ ((plan : PlanValue) × SpellsPlan plan text × Judged plan printed outcome)
 
--- The texts of a domain's, a problem's and a plan's file, what `plan` prints for them, and the outcome. A text after one that is refused
--- plays no part.
-abbrev pub IsPlanChecked : List ℕ → List ℕ → List ℕ → List ℕ → Outcome → Type 0
-IsPlanChecked domain problem plan = ForDomain (λ d. ForProblem (λ p. ForPlan (IsPlanJudged d p) plan) problem) domain
+-- The texts of a domain's, a problem's and a plan's file, what a command prints for them that has this printing of accepted plans, and the outcome.
+-- A text after one that is refused plays no part.
+abbrev pub IsPlanChecked : Printing → List ℕ → List ℕ → List ℕ → List ℕ → Outcome → Type 0
+IsPlanChecked Prints domain problem plan = ForDomain (λ d. ForProblem (λ p. ForPlan (IsPlanJudged Prints d p) plan) problem) domain
+
+-- The texts determine the outcome, and what is printed but for the word of a fault of linking.
+abbrev pub EndsInOneWay : Printing → Type 0
+EndsInOneWay Prints = (domain problem plan printed other : List ℕ) (outcome ended : Outcome) → IsPlanChecked Prints domain problem plan printed outcome
+    → IsPlanChecked Prints domain problem plan other ended → AreAlike printed other × (outcome ≡ ended)
 
 -- what a reader has left to give is known, and is no problem's text
 abbrev pub IsNoProblem : Option (List ℕ) → Type 0

@@ -1,18 +1,23 @@
-//! What `plan` prints for texts.
+//! What is printed for a plan.
 
-ghost use Rattle.std.specs.Prelude.{◌≡◌, length, IfOk};
+ghost use Rattle.std.specs.Prelude.{◌≡◌, IfOk};
 ghost use Rattle.pddl_domain.specs.Domains.{domain_view};
+ghost use Rattle.pddl_happenings.specs.NamedSteps.{by_name};
 ghost use Rattle.pddl_judge.specs.Verdicts.{IfInterference, OnRefused};
 ghost use Rattle.pddl_link.specs.LinkedTasks.{task_of_files};
 ghost use Rattle.pddl_plan_link.specs.LinkedSteps.{AreLinkedSteps};
 ghost use Rattle.pddl_plan_link.specs.NumberedAtoms.{IsInRange};
+ghost use Rattle.pddl_plan_steps.specs.NumberedSteps.{number_of};
 ghost use Rattle.pddl_problem.specs.Problems.{problem_view};
 ghost use Rattle.pddl_tree.specs.Plans.{plan_view};
 ghost use Rattle.pddl_plan_commands.specs.PlanChecks.{failure_line, AreStepsJudged, IsJudgedIn, IsPlanJudged, ForPlan};
-ghost use Rattle.pddl_plan_commands.specs.ShownVerdicts.{failure_of, IsShown};
+ghost use Rattle.pddl_plan_commands.specs.ShownVerdicts.{failure_of, IsShown, IsVerdictOf};
+ghost use Rattle.pddl_plan_commands.specs.WantedPrintings.{printing_of};
 
-use crate::lines::{clash_line, goal_line, unready_line, valid_line};
+use crate::accepted::accepted_text;
+use crate::lines::{clash_line, goal_line, unready_line};
 use crate::step_faults::refused_steps;
+use crate::wanted::Wanted;
 use pddl_commands::{Formatted, Outcome, refused_link, refused_plan};
 use pddl_domain::Domain;
 use pddl_judge::Refusal;
@@ -50,28 +55,31 @@ fn failure_line<'m, 'a, A: Allocator, B: Allocator, C: Allocator, D: Allocator>(
     }
 }
 
-/// What is printed for the verdict on so many steps, and the outcome.
-fn shown<'r, 'm, 'a, A, B, C, D, E, S>(
-    alloc: &'r C,
+/// What is printed for the verdict on linked steps, and the outcome.
+fn shown<'r, 'm, 'a, 'b, A, B, C, D, E, F, S>(
+    alloc: &'r D,
     task: &Task<'m, 'a, A, B>,
-    count: usize,
-    verdict: &Verdict<D, E, S>,
-) -> Result<Formatted<'r, C>, AllocError>
+    steps: &Steps<'b, C>,
+    verdict: &Verdict<E, F, S>,
+    wanted: Wanted,
+) -> Result<Formatted<'r, D>, AllocError>
 where
     A: Allocator,
     B: Allocator,
     C: Allocator,
     D: Allocator,
     E: Allocator,
-    S: AtomStore<D>,
-    requires { OnRefused verdict.now (λ r. IfInterference r (λ _ _ _ atom. IsInRange (task_of_files task.now) atom)) }
-    ensures { IfOk result (λ answer. IsShown (task_of_files task.now) count verdict.now answer.0.items answer.1) }
+    F: Allocator,
+    S: AtomStore<E>,
+    requires accepted { IsVerdictOf (task_of_files task.now) steps.now (λ a. by_name (number_of (task_of_files task.now)) (S.content a.store a.end)) verdict.now }
+    requires in_range { OnRefused verdict.now (λ r. IfInterference r (λ _ _ _ atom. IsInRange (task_of_files task.now) atom)) }
+    ensures { IfOk result (λ answer. IsShown (printing_of wanted) (task_of_files task.now) steps.now
+        (λ a. by_name (number_of (task_of_files task.now)) (S.content a.store a.end)) verdict.now answer.0.items answer.1) }
 {
     match verdict {
         Verdict::Accepted(accepted) => {
-            let happenings = accepted.happenings.len();
-            let line = valid_line(alloc, count, happenings, accepted.cost)?;
-            Ok((line, Outcome::Good))
+            let text = accepted_text(alloc, task, steps, accepted, wanted)?;
+            Ok((text, Outcome::Good))
         }
         Verdict::Refused(refusal) => {
             let line = failure_line(alloc, task, refusal)?;
@@ -85,12 +93,13 @@ fn judged_steps<'r, 'm, 'a, 'b, A: Allocator, B: Allocator, C: Allocator, D: All
     alloc: &'r D,
     task: &Task<'m, 'a, A, B>,
     steps: &Steps<'b, C>,
+    wanted: Wanted,
 ) -> Result<Formatted<'r, D>, AllocError>
     requires { AreLinkedSteps (task_of_files task.now) steps.now }
-    ensures { IfOk result (λ answer. AreStepsJudged (task_of_files task.now) steps.now answer.0.items answer.1) }
+    ensures { IfOk result (λ answer. AreStepsJudged (printing_of wanted) (task_of_files task.now) steps.now answer.0.items answer.1) }
 {
     let verdict = validate(alloc, task, steps, BitStore::new(alloc))?;
-    shown(alloc, task, steps.len(), &verdict)
+    shown(alloc, task, steps, &verdict, wanted)
 }
 
 /// What is printed for a plan with a task, and the outcome.
@@ -98,11 +107,12 @@ fn judged_in<'r, 'm, 'a, A: Allocator, B: Allocator, C: Allocator, D: Allocator>
     alloc: &'r D,
     task: &Task<'m, 'a, A, B>,
     plan: &Plan<C>,
+    wanted: Wanted,
 ) -> Result<Formatted<'r, D>, AllocError>
-    ensures { IfOk result (λ answer. IsJudgedIn (task_of_files task.now) (plan_view plan.now) answer.0.items answer.1) }
+    ensures { IfOk result (λ answer. IsJudgedIn (printing_of wanted) (task_of_files task.now) (plan_view plan.now) answer.0.items answer.1) }
 {
     match link_plan(alloc, task, plan) {
-        Ok(steps) => judged_steps(alloc, task, &steps),
+        Ok(steps) => judged_steps(alloc, task, &steps, wanted),
         Err(fault) => refused_steps(alloc, fault),
     }
 }
@@ -113,16 +123,17 @@ fn judged_plan<'r, A: Allocator, B: Allocator, C: Allocator>(
     domain: &Domain<A>,
     problem: &Problem<A>,
     plan: &Plan<B>,
+    wanted: Wanted,
 ) -> Result<Formatted<'r, C>, AllocError>
-    ensures { IfOk result (λ answer. IsPlanJudged (domain_view domain.now) (problem_view problem.now) (plan_view plan.now) answer.0.items answer.1) }
+    ensures { IfOk result (λ answer. IsPlanJudged (printing_of wanted) (domain_view domain.now) (problem_view problem.now) (plan_view plan.now) answer.0.items answer.1) }
 {
     match link(alloc, domain, problem) {
-        Ok(task) => judged_in(alloc, &task, plan),
+        Ok(task) => judged_in(alloc, &task, plan, wanted),
         Err(fault) => refused_link(alloc, &fault),
     }
 }
 
-/// What `plan` prints for the text of a plan with a domain and a problem, and the outcome.
+/// What is printed for the text of a plan with a domain and a problem, and the outcome.
 ///
 /// Fails where memory is refused.
 pub fn checked_plan<'r, A: Allocator, B: Allocator>(
@@ -130,11 +141,12 @@ pub fn checked_plan<'r, A: Allocator, B: Allocator>(
     domain: &Domain<A>,
     problem: &Problem<A>,
     text: &[u8],
+    wanted: Wanted,
 ) -> Result<Formatted<'r, B>, AllocError>
-    ensures { IfOk result (λ answer. ForPlan (IsPlanJudged (domain_view domain.now) (problem_view problem.now)) text.now answer.0.items answer.1) }
+    ensures { IfOk result (λ answer. ForPlan (IsPlanJudged (printing_of wanted) (domain_view domain.now) (problem_view problem.now)) text.now answer.0.items answer.1) }
 {
     match read_plan(alloc, text) {
-        Ok(plan) => judged_plan(alloc, domain, problem, &plan),
+        Ok(plan) => judged_plan(alloc, domain, problem, &plan, wanted),
         Err(fault) => refused_plan(alloc, text, &fault),
     }
 }

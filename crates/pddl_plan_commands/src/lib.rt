@@ -1,12 +1,20 @@
-//! The command of the program that validates a plan, over readers and a writer.
+//! The commands of the program that validate plans and print serial forms of them, over readers and a writer.
 //!
-//! `check` reads a domain, a problem and a plan whole, one after another, each parsed before the next is read. Then it links them, has the
-//! linked steps judged over rows of bits, and writes one line, which it makes before it writes.
+//! `check`, `serial` and `serial_groups` read a domain, a problem and a plan whole, one after another, each parsed before the next is read. Then they link
+//! them, have the linked steps judged over rows of bits, and write one text, which they make before they write: of an accepted plan its verdict, its
+//! serial plan or its split into groups, and else the line that says why there is none.
 #![tactic(auto)]
 
+mod accepted;
 mod checking;
 mod judging;
 mod lines;
+mod reading;
+mod serial_forms;
 mod step_faults;
+mod wanted;
+mod writing;
 
 pub use checking::{check, one_plan_outcome};
+pub use pddl_serial_plans::Order;
+pub use serial_forms::{serial, serial_groups};

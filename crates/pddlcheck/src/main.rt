@@ -1,4 +1,4 @@
-//! Reads PDDL files, prints them in one layout, says what is wrong with them, and validates plans.
+//! Reads PDDL files, prints them in one layout, says what is wrong with them, validates plans, and prints their serial forms.
 //!
 //! Here stand the words of the command line, the files that they name, and the exit status. What a command does
 //! with its files stands in `pddl_commands` and `pddl_plan_commands`.
@@ -12,11 +12,12 @@ mod input;
 
 use input::{Opened, open};
 use pddl_commands::{Outcome, RunFault, check_domain_file, check_problem_file, format, status};
-use pddl_plan_commands::check;
+use pddl_plan_commands::{Order, check, serial, serial_groups};
 use pddl_text::{FromRead, Sink, ToWrite};
 use pddl_words::{Job, parse_words, words_status};
 use std::env::Env;
 use std::io::ErrorKind;
+use std::num::NonZeroU32;
 use std::process::ExitCode;
 use std::rt::Files;
 use std::{env, io};
@@ -97,6 +98,41 @@ fn run_plan<'p, R: Files + Input + AllocGlobal>(
     Ok(ended)
 }
 
+/// The order that is asked for.
+fn order_of(reverse: bool) -> Order {
+    if reverse { Order::Reverse } else { Order::File }
+}
+
+/// Prints the serial plan of a plan, or its split into groups of so many steps. All three files are opened before any is read.
+fn run_serial<'p, R: Files + Input + AllocGlobal>(
+    rt: &R,
+    files: (&'p str, &'p str, &'p str),
+    order: Order,
+    groups: Option<NonZeroU32>,
+    out: &mut impl Sink,
+) -> Result<Outcome, NotDone<'p>> {
+    let mut domain = opened(rt, files.0)?;
+    let mut problem = opened(rt, files.1)?;
+    let mut plan = opened(rt, files.2)?;
+    let alloc = rt.alloc();
+    let ended = match groups {
+        Some(size) => {
+            let size = size.get();
+            serial_groups(
+                &alloc,
+                &mut domain,
+                &mut problem,
+                &mut plan,
+                order,
+                size,
+                out,
+            )
+        }
+        None => serial(&alloc, &mut domain, &mut problem, &mut plan, order, out),
+    };
+    Ok(ended?)
+}
+
 /// Carries a job out over its files and a writer.
 fn run_job<'p, R: Files + Input + AllocGlobal>(
     rt: &R,
@@ -111,6 +147,13 @@ fn run_job<'p, R: Files + Input + AllocGlobal>(
             problem,
             plan,
         } => run_plan(rt, domain, problem, plan, out),
+        Job::Serial {
+            domain,
+            problem,
+            plan,
+            reverse,
+            groups,
+        } => run_serial(rt, (domain, problem, plan), order_of(reverse), groups, out),
         Job::Format { kind, path } => Ok(format(&rt.alloc(), kind, &mut opened(rt, path)?, out)?),
     }
 }

@@ -25,4 +25,4 @@ pub returns-clause-answer : goal.returns-clause-answer
 returns-clause-answer g c =
     let content = subst (IsContent Domain (g.S.Source.remaining c.args.domain.now) (g.S.Source.at_end c.read_file.new.source)) c.in-TooLong.is c.in_ok-text.ensures.content in
     let given = some_left (g.T.Source.remaining c.args.problem.now) in
-    (content.0, given.0, content.1, given.1, inl (refl, content.2))
+    (content.1.0, given.0, content.1.1, given.1, inl (refl, content.1.2))

@@ -1,12 +1,11 @@
-use Rattle.std.proofs.Common.{[], refl, ℕ, List, ◌<◌, length}
+use Rattle.std.proofs.Common.{[], refl}
 use Rattle.std.specs.Prelude.{None, Result, Ok, Err, IfOk}
 use Rattle.pddl_text.specs.declared.fault.TextFault.TheVariants.{TooLong}
+use Rattle.pddl_commands.specs.Contents.{IsTooLongLine}
 use Rattle.pddl_commands.specs.Faults.{whole_name}
 use Rattle.pddl_kind.specs.Kinds.{kind_word}
-use Rattle.pddl_commands.specs.Formats.{IsRefused}
 use Rattle.pddl_commands.specs.Lines.{text_fault_name, IsFaultLine}
 use Rattle.pddl_commands.proofs.FaultLines.{line_of}
-use Rattle.pddl_commands.proofs.Left.{too_long_refused}
 use Rattle.pddl_commands.proofs.formatted.too_long.Goals as goal
 
 if_ok : {A E : Type 0} (P Q : A → Type 0) (r : Result A E) → ((a : A) → P a → Q a) → IfOk r P → IfOk r Q
@@ -17,7 +16,6 @@ pub returns : goal.returns
 returns g c =
     let kind = c.args.kind in
     let name = c.text_fault_name-name in
-    if_ok (λ line. IsFaultLine c.word.result.now [] (whole_name name.result) None line.items) (λ line. (text : List ℕ) → 16777216 < length text → IsRefused kind text line.items) c.fault_line.result
-    (λ line is text longer. too_long_refused kind text line.items longer
-    (line_of c.word.result.now (kind_word kind) [] (whole_name name.result) (text_fault_name TooLong) None None line.items c.word.ensures name.ensures refl is))
+    if_ok (λ line. IsFaultLine c.word.result.now [] (whole_name name.result) None line.items) (λ line. IsTooLongLine kind line.items) c.fault_line.result
+    (λ line is. line_of c.word.result.now (kind_word kind) [] (whole_name name.result) (text_fault_name TooLong) None None line.items c.word.ensures name.ensures refl is)
     c.fault_line.ensures

@@ -1,15 +1,20 @@
-use Rattle.std.proofs.Common.{subst}
 use Rattle.std.proofs.lemmas.Result.{IfOk-weaker}
 use Rattle.pddl_domain.specs.Domains.{domain_view}
 use Rattle.pddl_problem.specs.Problems.{problem_view}
 use Rattle.pddl_link.specs.LinkedTasks.{task_of_files}
 use Rattle.pddl_plan_commands.specs.PlanChecks.{AreStepsJudged}
-use Rattle.pddl_plan_commands.specs.ShownVerdicts.{IsShown}
-use Rattle.pddl_plan_commands.proofs.Judged.{shown_in_range, shown_judged}
+use Rattle.pddl_plan_commands.specs.WantedPrintings.{printing_of}
+use Rattle.pddl_plan_commands.proofs.Judged.{shown_in_range, verdict_of, shown_judged}
 use Rattle.pddl_plan_commands.proofs.judging.judged_steps.Goals as goal
 
-pub shown-requires : goal.shown-requires
-shown-requires g c =
+pub shown-requires-clause-accepted : goal.shown-requires-clause-accepted
+shown-requires-clause-accepted g c =
+    let task = c.args.task.now in
+    let verdict = c.in_ok-verdict in
+    verdict_of (domain_view task.domain.now) (problem_view task.problem.now) task.tables.linked c.args.steps.now c.requires verdict.verdict _ verdict.ensures.happenings verdict.ensures.accepted
+
+pub shown-requires-clause-in_range : goal.shown-requires-clause-in_range
+shown-requires-clause-in_range g c =
     let task = c.args.task.now in
     let verdict = c.in_ok-verdict in
     shown_in_range (domain_view task.domain.now) (problem_view task.problem.now) task.tables.linked c.args.steps.now c.requires verdict.verdict verdict.ensures.interference
@@ -20,8 +25,7 @@ returns g c =
     let steps = c.args.steps.now in
     let verdict = c.in_ok-verdict in
     let said = verdict.ensures in
-    IfOk-weaker c.shown.result (λ answer. IsShown (task_of_files task) _ verdict.verdict answer.0.items answer.1) (λ answer. AreStepsJudged (task_of_files task) steps answer.0.items answer.1)
-    (λ answer shown. shown_judged (domain_view task.domain.now) (problem_view task.problem.now) task.tables.linked steps c.requires verdict.verdict _ said.happenings said.accepted said.converges
-    said.precondition said.interference said.passes said.goal said.refused answer.0.items answer.1
-    (subst (λ count. IsShown (task_of_files task) count verdict.verdict answer.0.items answer.1) c.len.ensures shown))
+    IfOk-weaker c.shown.result _ (λ answer. AreStepsJudged (printing_of c.args.wanted) (task_of_files task) steps answer.0.items answer.1)
+    (λ answer shown. shown_judged (domain_view task.domain.now) (problem_view task.problem.now) task.tables.linked steps c.requires (printing_of c.args.wanted) verdict.verdict _ said.happenings said.accepted said.converges
+    said.precondition said.interference said.passes said.goal said.refused answer.0.items answer.1 shown)
     c.shown.ensures

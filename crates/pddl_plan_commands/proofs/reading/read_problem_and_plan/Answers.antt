@@ -5,7 +5,7 @@ use Rattle.pddl_commands.specs.Contents.{IsContent}
 use Rattle.pddl_commands.specs.Formats.{IsRefused}
 use Rattle.pddl_commands.proofs.Left.{some_left}
 use Rattle.pddl_plan_commands.proofs.Left.{no_problem_left}
-use Rattle.pddl_plan_commands.proofs.checking.read_problem_and_plan.Goals as goal
+use Rattle.pddl_plan_commands.proofs.reading.read_problem_and_plan.Goals as goal
 
 pub refused_problem-requires : goal.refused_problem-requires
 refused_problem-requires g c = subst (λ text. ProblemStands c.in-Err.fault text) (c.deref.ensures.value ∙ sym c.deref-in-Err.ensures.value) c.in-Err.ensures.fault
@@ -26,7 +26,7 @@ pub returns-clause-answer : goal.returns-clause-answer
 returns-clause-answer g c =
     let content = subst (IsContent Problem (g.S.Source.remaining c.args.problem.now) (g.S.Source.at_end c.read_file.new.source)) c.in-TooLong.is c.in_ok-text.ensures.content in
     let steps = some_left (g.T.Source.remaining c.args.plan.now) in
-    (content.0, steps.0, content.1, steps.1, inl (refl, content.2))
+    (content.1.0, steps.0, content.1.1, steps.1, inl (refl, content.1.2))
 
 pub returns-in-Ok-clause-problem_first : goal.returns-in-Ok-clause-problem_first
 returns-in-Ok-clause-problem_first g c none =

@@ -5,7 +5,7 @@ use Rattle.pddl_kind.specs.declared.Kind.TheVariants.{Domain}
 use Rattle.pddl_commands.specs.Contents.{IsContent}
 use Rattle.pddl_commands.specs.Formats.{IsRefused}
 use Rattle.pddl_commands.proofs.Left.{some_left, no_domain_left}
-use Rattle.pddl_plan_commands.proofs.checking.read_each.Goals as goal
+use Rattle.pddl_plan_commands.proofs.reading.read_each.Goals as goal
 
 pub refused_domain-requires : goal.refused_domain-requires
 refused_domain-requires g c = subst (λ text. DomainStands c.in-Err.fault text) (c.deref.ensures.value ∙ sym c.deref-in-Err.ensures.value) c.in-Err.ensures.fault
@@ -30,7 +30,7 @@ returns-clause-answer g c =
     let content = subst (IsContent Domain (g.S.Source.remaining c.args.domain.now) (g.S.Source.at_end c.read_file.new.source)) c.in-TooLong.is c.in_ok-text.ensures.content in
     let given = some_left (g.T.Source.remaining c.args.problem.now) in
     let steps = some_left (g.U.Source.remaining c.args.plan.now) in
-    (content.0, given.0, steps.0, content.1, given.1, steps.1, inl (refl, content.2))
+    (content.1.0, given.0, steps.0, content.1.1, given.1, steps.1, inl (refl, content.1.2))
 
 pub returns-in-Ok-clause-domain_first : goal.returns-in-Ok-clause-domain_first
 returns-in-Ok-clause-domain_first g c none =
@@ -50,3 +50,9 @@ returns-in-Ok-clause-judged_at_end g c =
     let content = subst (IsContent Domain (g.S.Source.remaining c.args.domain.now) (g.S.Source.at_end c.read_file.new.source)) c.in-Text.is c.in_ok-text.ensures.content in
     IfOk-weaker c.read_problem_and_plan.result _ _
     (λ answer ends judged. let both = ends judged in (content.1, both.0, both.1)) c.read_problem_and_plan.ensures.judged_at_end
+
+pub returns-in-Ok-clause-read : goal.returns-in-Ok-clause-read
+returns-in-Ok-clause-read g c =
+    let content = subst (IsContent Domain (g.S.Source.remaining c.args.domain.now) (g.S.Source.at_end c.read_file.new.source)) c.in-Text.is c.in_ok-text.ensures.content in
+    IfOk-weaker c.read_problem_and_plan.result _ _
+    (λ answer read. (inl content.1, inr read.0, read.1)) c.read_problem_and_plan.ensures.read

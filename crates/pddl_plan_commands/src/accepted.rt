@@ -1,0 +1,106 @@
+//! What is printed of an accepted plan.
+
+ghost use Rattle.std.specs.Prelude.{◌≡◌, ℕ, List, IfOk};
+ghost use Rattle.std.specs.Int.NonZero.{non_zero_u32_get};
+ghost use Rattle.pddl_happenings.specs.NamedSteps.{by_name};
+ghost use Rattle.pddl_judge.specs.HappeningValues.{groups_of, moments_of};
+ghost use Rattle.pddl_link.specs.LinkedTasks.{task_of_files};
+ghost use Rattle.pddl_plan_steps.specs.NumberedSteps.{number_of};
+ghost use Rattle.pddl_serial_plans.specs.NewPlans.{IsAcceptedOf};
+ghost use Rattle.pddl_plan_commands.specs.Printings.{IsSerialText, IsSplitText};
+ghost use Rattle.pddl_plan_commands.specs.WantedPrintings.{printing_of};
+
+use crate::lines::valid_line;
+use crate::wanted::Wanted;
+use pddl_layout::plan_text;
+use pddl_link::Task;
+use pddl_plan_link::Steps;
+use pddl_serial_plans::{Order, serialise, split_in_groups};
+use pddl_state::AtomStore;
+use pddl_valid::Accepted;
+use std::alloc::{AllocError, Allocator};
+use std::num::NonZeroU32;
+
+/// The canonical text of the serial plan of an accepted plan.
+fn serial_text<'m, 'a, 'b, 'c, A, B, C, D, E, F, S>(
+    alloc: &'c D,
+    task: &Task<'m, 'a, A, B>,
+    steps: &Steps<'b, C>,
+    accepted: &Accepted<E, F, S>,
+    order: Order,
+) -> Result<Vec<u8, &'c D>, AllocError>
+where
+    A: Allocator,
+    B: Allocator,
+    C: Allocator,
+    D: Allocator,
+    E: Allocator,
+    F: Allocator,
+    S: AtomStore<E>,
+    requires { IsAcceptedOf (task_of_files task.now) steps.now (moments_of accepted.now.happenings.items) (groups_of accepted.now.happenings.items)
+        (by_name (number_of (task_of_files task.now)) (S.content accepted.now.store accepted.now.end)) accepted.now.cost }
+    ensures { IfOk result (λ text. IsSerialText order (task_of_files task.now) steps.now (groups_of accepted.now.happenings.items)
+        (by_name (number_of (task_of_files task.now)) (S.content accepted.now.store accepted.now.end)) accepted.now.cost text.items) }
+{
+    let plan = serialise(alloc, task, steps, accepted, order)?;
+    plan_text(alloc, &plan)
+}
+
+/// The canonical text of the split of an accepted plan into groups of so many steps.
+fn split_text<'m, 'a, 'b, 'c, A, B, C, D, E, F, S>(
+    alloc: &'c D,
+    task: &Task<'m, 'a, A, B>,
+    steps: &Steps<'b, C>,
+    accepted: &Accepted<E, F, S>,
+    size: NonZeroU32,
+    order: Order,
+) -> Result<Vec<u8, &'c D>, AllocError>
+where
+    A: Allocator,
+    B: Allocator,
+    C: Allocator,
+    D: Allocator,
+    E: Allocator,
+    F: Allocator,
+    S: AtomStore<E>,
+    requires { IsAcceptedOf (task_of_files task.now) steps.now (moments_of accepted.now.happenings.items) (groups_of accepted.now.happenings.items)
+        (by_name (number_of (task_of_files task.now)) (S.content accepted.now.store accepted.now.end)) accepted.now.cost }
+    ensures { IfOk result (λ text. IsSplitText order (non_zero_u32_get size) (task_of_files task.now) steps.now (groups_of accepted.now.happenings.items)
+        (by_name (number_of (task_of_files task.now)) (S.content accepted.now.store accepted.now.end)) accepted.now.cost text.items) }
+{
+    let plan = split_in_groups(alloc, task, steps, accepted, size.get() as usize, order)?;
+    plan_text(alloc, &plan)
+}
+
+/// What is printed of an accepted plan.
+///
+/// Fails where memory for it is refused.
+pub(crate) fn accepted_text<'m, 'a, 'b, 'c, A, B, C, D, E, F, S>(
+    alloc: &'c D,
+    task: &Task<'m, 'a, A, B>,
+    steps: &Steps<'b, C>,
+    accepted: &Accepted<E, F, S>,
+    wanted: Wanted,
+) -> Result<Vec<u8, &'c D>, AllocError>
+where
+    A: Allocator,
+    B: Allocator,
+    C: Allocator,
+    D: Allocator,
+    E: Allocator,
+    F: Allocator,
+    S: AtomStore<E>,
+    requires { IsAcceptedOf (task_of_files task.now) steps.now (moments_of accepted.now.happenings.items) (groups_of accepted.now.happenings.items)
+        (by_name (number_of (task_of_files task.now)) (S.content accepted.now.store accepted.now.end)) accepted.now.cost }
+    ensures { IfOk result (λ text. printing_of wanted (task_of_files task.now) steps.now (groups_of accepted.now.happenings.items)
+        (by_name (number_of (task_of_files task.now)) (S.content accepted.now.store accepted.now.end)) accepted.now.cost text.items) }
+{
+    match wanted {
+        Wanted::Verdict => {
+            let happenings = accepted.happenings.len();
+            valid_line(alloc, steps.len(), happenings, accepted.cost)
+        }
+        Wanted::Serial(order) => serial_text(alloc, task, steps, accepted, order),
+        Wanted::Groups(order, size) => split_text(alloc, task, steps, accepted, size, order),
+    }
+}
