@@ -2,22 +2,19 @@
 
 mod answers;
 mod domain;
-mod faults;
-mod lines;
 mod numbers;
 mod plan;
 mod problem;
-mod steps;
 mod task;
 mod types;
 mod values;
 mod words;
 
-use crate::row::{Files, Listing};
-use lines::Lines;
+use crate::command::Listing;
 use pddl_commands::{Kind, Outcome, RunFault};
-use pddl_text::{Sink, write_text};
-use std::alloc::{AllocError, Allocator};
+use pddl_row_driver::{Files, Lines, Memory, add_task, write_lines};
+use pddl_text::Sink;
+use std::alloc::Allocator;
 pub use values::Value;
 
 /// Adds the lines of a listing of texts.
@@ -37,30 +34,18 @@ fn add_listing<B: Allocator>(
         Listing::Parts(Kind::Domain) => domain::add_domain(alloc, files.first, lines),
         Listing::Parts(Kind::Problem) => problem::add_problem(alloc, files.first, lines),
         Listing::Parts(Kind::Plan) => plan::add_plan(alloc, files.first, lines),
-        Listing::Task(listed) => task::add_task(alloc, listed, files, lines),
-    }
-}
-
-/// Writes lines, where they were made.
-fn write_lines<W: Sink>(
-    out: &mut W,
-    outcome: Outcome,
-    lines: Result<&[u8], AllocError>,
-) -> Result<Outcome, RunFault> {
-    match write_text(out, lines?) {
-        Ok(()) => Ok(outcome),
-        Err(_) => Err(RunFault::WriteFailed),
+        Listing::Task(listed) => add_task(alloc, listed, files, lines),
     }
 }
 
 /// Writes a listing of texts.
-pub fn list<B: Allocator, W: Sink>(
-    alloc: &B,
+pub fn list<W: Sink>(
+    memory: &Memory,
     listing: Listing,
     files: Files<'_>,
     out: &mut W,
 ) -> Result<Outcome, RunFault> {
-    let mut lines = Lines::new(alloc);
-    let outcome = add_listing(alloc, listing, files, &mut lines);
-    write_lines(out, outcome, lines.text())
+    let mut lines = Lines::new(memory);
+    let outcome = add_listing(memory, listing, files, &mut lines);
+    write_lines(memory, outcome, &lines, out)
 }

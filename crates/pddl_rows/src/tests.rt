@@ -2,9 +2,15 @@
 
 mod devices;
 
-use crate::holding::all_hold;
+use crate::command::Command;
 use crate::rows;
 use std::test::Fail;
+
+/// All rows of a text hold, and there are so many.
+fn all_hold<R: Print + AllocGlobal>(rt: &R, text: &str, rows: u64) -> Result<(), Fail> {
+    pddl_row_driver::all_hold::<R, Command>(rt, text, rows)?;
+    Ok(())
+}
 
 #[test]
 fn changed_problems(rt: HostRuntime) -> Result<(), Fail> {
@@ -52,11 +58,6 @@ fn layouts(rt: HostRuntime) -> Result<(), Fail> {
 }
 
 #[test]
-fn plans(rt: HostRuntime) -> Result<(), Fail> {
-    all_hold(&rt, rows::PLANS, 39)
-}
-
-#[test]
 fn problems(rt: HostRuntime) -> Result<(), Fail> {
     all_hold(&rt, rows::PROBLEMS, 51)
 }
@@ -82,18 +83,8 @@ fn reading(rt: HostRuntime) -> Result<(), Fail> {
 }
 
 #[test]
-fn refused_plans(rt: HostRuntime) -> Result<(), Fail> {
-    all_hold(&rt, rows::REFUSED_PLANS, 20)
-}
-
-#[test]
-fn steps(rt: HostRuntime) -> Result<(), Fail> {
-    all_hold(&rt, rows::STEPS, 37)
-}
-
-#[test]
 fn tasks(rt: HostRuntime) -> Result<(), Fail> {
-    all_hold(&rt, rows::TASKS, 9)
+    all_hold(&rt, rows::TASKS, 8)
 }
 
 #[test]

@@ -1,12 +1,11 @@
 //! What a task answers to a line.
 
-use super::lines::Lines;
 use super::numbers::past_objects;
-use super::values::text_of;
-use crate::row::Asked;
+use crate::command::Asked;
 use pddl_commands::Outcome;
 use pddl_formula::{TypeName, TypeNames};
 use pddl_link::Task;
+use pddl_row_driver::{Lines, text_of};
 use pddl_tree::Name;
 use std::alloc::Allocator;
 

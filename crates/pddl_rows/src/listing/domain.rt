@@ -1,10 +1,9 @@
 //! Domains.
 
-use super::faults::add_file_fault;
-use super::lines::Lines;
 use super::types::{add_typed, add_types};
 use pddl_commands::Outcome;
 use pddl_domain::{Action, DeclaredFunction, DeclaredPredicate, DeclaredType, Domain, read_domain};
+use pddl_row_driver::{Lines, add_file_fault};
 use pddl_tree::Name;
 use std::alloc::Allocator;
 

@@ -1,8 +1,8 @@
 //! The numbers of what a task names.
 
-use super::lines::Lines;
 use pddl_commands::Outcome;
 use pddl_link::Task;
+use pddl_row_driver::Lines;
 use std::alloc::Allocator;
 
 /// More than the number of objects of a task, where it can be counted.

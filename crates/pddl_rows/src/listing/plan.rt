@@ -1,8 +1,7 @@
 //! Plans.
 
-use super::faults::add_read_fault;
-use super::lines::Lines;
 use pddl_commands::Outcome;
+use pddl_row_driver::{Lines, add_read_fault};
 use pddl_tree::{Name, Plan, Step, TimedStep, read_plan};
 use std::alloc::Allocator;
 

@@ -1,7 +1,7 @@
 //! Types, and names with types.
 
-use super::lines::Lines;
 use pddl_formula::{TypeNames, Typed};
+use pddl_row_driver::Lines;
 use std::alloc::Allocator;
 
 /// Adds the primitives of a type.

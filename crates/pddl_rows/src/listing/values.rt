@@ -1,11 +1,10 @@
 //! Numbers, places and names.
 
-use super::lines::Lines;
 use pddl_commands::Outcome;
+use pddl_row_driver::{Lines, text_of};
 use pddl_text::{Fixed, Pos, position, value_of};
 use pddl_tree::Name;
 use std::alloc::Allocator;
-use std::str;
 
 /// What each line of a text is.
 #[derive(Clone, Copy, Debug)]
@@ -16,14 +15,6 @@ pub enum Value {
     Billionths,
     /// A name.
     Name,
-}
-
-/// A text, which is empty where it is no UTF-8.
-pub fn text_of(text: &[u8]) -> &str {
-    match str::from_utf8(text) {
-        Ok(text) => text,
-        Err(_) => "",
-    }
 }
 
 /// A number in billionths.

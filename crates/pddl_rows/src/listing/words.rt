@@ -1,8 +1,7 @@
 //! Words and items of texts.
 
-use super::faults::add_text_fault;
-use super::lines::Lines;
 use pddl_commands::Outcome;
+use pddl_row_driver::{Lines, add_text_fault};
 use pddl_text::{Item, TextFault, Token, items_of, lex, lists};
 use std::alloc::Allocator;
 

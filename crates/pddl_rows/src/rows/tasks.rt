@@ -1,4 +1,4 @@
-//! What is asked of a task: numbers, subtypes, objects that fit, atoms, costs and sizes.
+//! What is asked of a task: numbers, subtypes, objects that fit, costs and sizes.
 
 pub static TASKS: &str = r"row the numbers of lamps, where b is a constant
 copy lamps
@@ -68,18 +68,6 @@ file
 | 0 1 2 - 0 1 2
 | 0 1 - 0 1
 good list fitting
-
-row what holds at the beginning
-copy lamps
-file
-copy two
-change (ok b) => (on b) (not (on a)) (ok b) (ok b)
-file
-| 1 0
-| 0 1
-| 1 1
-| 1 1
-good list atoms
 
 row costs, of which one is given twice
 copy lamps

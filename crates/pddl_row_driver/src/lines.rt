@@ -1,8 +1,29 @@
 //! Lines of words that are separated by blanks.
 
-use pddl_text::Span;
+use crate::row::Memory;
+use pddl_commands::{Outcome, RunFault};
+use pddl_text::{Sink, Span, write_text};
 use std::alloc::{AllocError, Allocator};
 use std::fmt::{Debug, Display};
+use std::str;
+
+/// A text, which is empty where it is no UTF-8.
+pub fn text_of(text: &[u8]) -> &str {
+    match str::from_utf8(text) {
+        Ok(text) => text,
+        Err(_) => "",
+    }
+}
+
+/// Whether a text has the same between two places as behind the second.
+fn is_repeated(text: &[u8], start: usize, half: usize) -> bool {
+    match text.split_at_checked(half) {
+        Some((front, behind)) => {
+            front.len().checked_sub(start) == Some(behind.len()) && front.ends_with(behind)
+        }
+        None => false,
+    }
+}
 
 /// Lines so far. Once memory is refused, they are no more than a beginning, and that is told at the end.
 #[derive(Drop)]
@@ -12,6 +33,8 @@ pub struct Lines<'a, B: Allocator> {
     /// Whether the line at hand has a word.
     has_word: bool,
     is_refused: bool,
+    /// Whether lines were dropped and made again.
+    has_begun_again: bool,
 }
 
 impl<'a, B: Allocator> Lines<'a, B> {
@@ -22,12 +45,38 @@ impl<'a, B: Allocator> Lines<'a, B> {
             text: Vec::new(alloc),
             has_word: false,
             is_refused: false,
+            has_begun_again: false,
         }
     }
 
     /// Memory was refused.
     pub fn refuse(&mut self) {
         self.is_refused = true;
+    }
+
+    /// Whether memory was refused. Then what was added past a place is dropped, to be made again by the same calls: since one growth
+    /// alone is refused in a run, these have to give what they give with ample memory.
+    pub fn begin_again(&mut self, start: usize) -> bool {
+        if !self.is_refused {
+            return false;
+        }
+        self.text.truncate(start);
+        self.has_word = false;
+        self.is_refused = false;
+        self.has_begun_again = true;
+        true
+    }
+
+    /// How many bytes there are.
+    pub fn size(&self) -> usize {
+        self.text.len()
+    }
+
+    /// Drops what was added past the second place, where the same was added between the two.
+    pub fn merge(&mut self, start: usize, half: usize) {
+        if is_repeated(&self.text, start, half) {
+            self.text.truncate(half);
+        }
     }
 
     /// What was made, where memory for it was given.
@@ -57,6 +106,23 @@ impl<'a, B: Allocator> Lines<'a, B> {
         self.add(word);
     }
 
+    /// Adds a word that opens a list.
+    pub fn open(&mut self, word: &[u8]) {
+        self.word(b"(");
+        self.add(word);
+    }
+
+    /// Closes a list.
+    pub fn close(&mut self) {
+        self.add(b")");
+    }
+
+    /// Adds lines.
+    pub fn lines(&mut self, lines: &[u8]) {
+        self.has_word = false;
+        self.add(lines);
+    }
+
     /// Adds a word that was made.
     fn made(&mut self, made: Result<String<&'a B>, AllocError>) {
         match made {
@@ -78,6 +144,12 @@ impl<'a, B: Allocator> Lines<'a, B> {
     /// Adds a number.
     pub fn number(&mut self, number: u64) {
         self.shown(&number);
+    }
+
+    /// Adds a number from 0 as it is shown, from 1, and a mark behind it.
+    pub fn counted(&mut self, number: usize, mark: &str) {
+        let number = number.saturating_add(1);
+        self.made(format!(in self.alloc; "{number}{mark}"));
     }
 
     /// Adds a number, or `none`.
@@ -123,5 +195,21 @@ impl<'a, B: Allocator> Lines<'a, B> {
         } else {
             Ok(&self.text)
         }
+    }
+}
+
+/// Writes lines, where they were made. Lines that were made again without a refused growth count as want of memory, which no row allows.
+pub fn write_lines<W: Sink>(
+    memory: &Memory,
+    outcome: Outcome,
+    lines: &Lines<'_, Memory>,
+    out: &mut W,
+) -> Result<Outcome, RunFault> {
+    if lines.has_begun_again && !memory.has_refused() {
+        return Err(RunFault::Memory);
+    }
+    match write_text(out, lines.text()?) {
+        Ok(()) => Ok(outcome),
+        Err(_) => Err(RunFault::WriteFailed),
     }
 }

@@ -3,11 +3,10 @@
 use crate::fault::RowFault;
 use crate::reader::Reader;
 use crate::report::report_few;
-use crate::row::Row;
-use crate::rows::SAMPLES;
+use crate::row::{Command, Ending, Row};
 use crate::running::{Seen, run};
+use crate::samples::SAMPLES;
 use crate::trouble::{TROUBLES, Trouble};
-use std::test::Fail;
 
 /// More calls than a row makes.
 const MANY: u64 = 1_000_000;
@@ -28,9 +27,9 @@ fn least(row: Row<'_>, trouble: Trouble) -> u64 {
 }
 
 /// Whether the row holds where each call fails in turn, up to a run in which none does.
-fn holds_in<R: Print + AllocGlobal>(rt: &R, row: Row<'_>, trouble: Trouble) -> bool {
+fn holds_in<R: Print + AllocGlobal, C: Command>(rt: &R, row: Row<'_>, trouble: Trouble) -> bool {
     for failed in 0..MANY {
-        match run(rt, row, trouble, failed.saturating_add(1)) {
+        match run::<R, C>(rt, row, trouble, failed.saturating_add(1)) {
             Seen::Wrong => return false,
             Seen::Failed => {}
             Seen::Calm if failed < least(row, trouble) => {
@@ -43,36 +42,59 @@ fn holds_in<R: Print + AllocGlobal>(rt: &R, row: Row<'_>, trouble: Trouble) -> b
     false
 }
 
+/// Whether the row holds, read whole.
+fn holds_whole<R: Print + AllocGlobal, C: Command>(rt: &R, row: Row<'_>) -> bool {
+    run::<R, C>(rt, row, Trouble::Pieces(usize::MAX), 0) == Seen::Calm
+}
+
 /// Whether the row holds, read whole and in pieces, and with each call failing in turn, or only whole where it says `once`.
-fn holds<R: Print + AllocGlobal>(rt: &R, row: Row<'_>) -> bool {
+fn holds_alone<R: Print + AllocGlobal, C: Command>(rt: &R, row: Row<'_>) -> bool {
     if row.ending.is_once {
-        return run(rt, row, Trouble::Pieces(usize::MAX), 0) == Seen::Calm;
+        return holds_whole::<R, C>(rt, row);
     }
     for size in SIZES.iter() {
-        if run(rt, row, Trouble::Pieces(*size), 0) != Seen::Calm {
+        if run::<R, C>(rt, row, Trouble::Pieces(*size), 0) != Seen::Calm {
             return false;
         }
     }
     for trouble in TROUBLES.iter() {
-        if !holds_in(rt, row, *trouble) {
+        if !holds_in::<R, C>(rt, row, *trouble) {
             return false;
         }
     }
     true
 }
 
+/// Whether the row holds, read whole, with another ending, if there is one.
+fn holds_too<'r, R: Print + AllocGlobal, C: Command>(
+    rt: &R,
+    row: Row<'r>,
+    ending: Option<Ending<'r>>,
+) -> bool {
+    match ending {
+        Some(ending) => holds_whole::<R, C>(rt, row.ended(ending)),
+        None => true,
+    }
+}
+
+/// Whether the row holds, and so by the command that has to print the same, if there is one.
+fn holds<R: Print + AllocGlobal, C: Command>(rt: &R, row: Row<'_>) -> bool {
+    let twin = row.ending.twin::<C>();
+    holds_alone::<R, C>(rt, row) && holds_too::<R, C>(rt, row, twin)
+}
+
 /// How many rows of a text hold.
-fn count_holding<R: Print + AllocGlobal>(
+fn count_holding<R: Print + AllocGlobal, C: Command>(
     rt: &R,
     reader: &mut Reader,
     text: &str,
 ) -> Result<u64, RowFault> {
     let mut held = 0u64;
     for (number, line) in text.lines().enumerate() {
-        match reader.take_line(line) {
+        match reader.take_line::<C>(line) {
             Ok(None) => {}
             Ok(Some(ending)) => {
-                if holds(rt, reader.row(ending)) {
+                if holds::<R, C>(rt, reader.row(ending)) {
                     held = held.saturating_add(1);
                 }
                 reader.end();
@@ -87,19 +109,26 @@ fn count_holding<R: Print + AllocGlobal>(
 }
 
 /// How many rows of a text hold. The samples are kept before it, and have no rows.
-fn count_rows<R: Print + AllocGlobal>(rt: &R, text: &str) -> Result<u64, RowFault> {
+fn count_rows<R: Print + AllocGlobal, C: Command>(rt: &R, text: &str) -> Result<u64, RowFault> {
     let mut reader = Reader::new(rt.alloc());
-    let samples = count_holding(rt, &mut reader, SAMPLES)?;
-    let held = count_holding(rt, &mut reader, text)?;
+    let samples = count_holding::<R, C>(rt, &mut reader, SAMPLES)?;
+    let held = count_holding::<R, C>(rt, &mut reader, text)?;
     Ok(held.saturating_add(samples))
 }
 
-/// All rows of a text hold, and there are so many.
-pub fn all_hold<R: Print + AllocGlobal>(rt: &R, text: &str, rows: u64) -> Result<(), Fail> {
-    let held = count_rows(rt, text).ok().ok_or("the rows cannot be read")?;
+/// All rows of a text hold, by the commands `C`, and there are so many; else what is wrong.
+pub fn all_hold<R: Print + AllocGlobal, C: Command>(
+    rt: &R,
+    text: &str,
+    rows: u64,
+) -> Result<(), &'static str> {
+    let held = match count_rows::<R, C>(rt, text) {
+        Ok(held) => held,
+        Err(_) => return Err("the rows cannot be read"),
+    };
     if held != rows {
         let _ = rt.println(format_args!("{held} rows hold, of {rows}"));
-        return Err("a row does not hold, or is lost")?;
+        return Err("a row does not hold, or is lost");
     }
     Ok(())
 }

@@ -1,8 +1,9 @@
 //! Faults of texts.
 
-use super::lines::Lines;
+use crate::lines::Lines;
 use pddl_commands::Outcome;
 use pddl_file::FileFault;
+use pddl_link::LinkFault;
 use pddl_text::{Span, TextFault};
 use pddl_tree::ReadFault;
 use std::alloc::Allocator;
@@ -56,4 +57,14 @@ pub fn add_file_fault<B: Allocator>(fault: &FileFault, lines: &mut Lines<'_, B>)
         FileFault::Twice { keyword, span } => add_numbered(13, keyword.text(), Some(*span), lines),
         FileFault::Missing { keyword } => add_numbered(14, keyword.text(), None, lines),
     }
+}
+
+/// Adds the line of a fault of linking.
+pub fn add_link_fault<B: Allocator>(fault: LinkFault<'_>, lines: &mut Lines<'_, B>) -> Outcome {
+    if matches!(fault, LinkFault::Memory) {
+        lines.refuse();
+    }
+    lines.shown(&fault);
+    lines.end();
+    Outcome::Refused
 }

@@ -1,7 +1,7 @@
 //! Rows that are read line by line.
 
 use crate::fault::RowFault;
-use crate::row::{Ending, Files, Row};
+use crate::row::{Command, Ending, Files, Row};
 use crate::spelled::{add, add_series, change_first, repeat};
 use std::alloc::Global;
 use std::mem;
@@ -22,6 +22,8 @@ pub struct Reader {
     text: Vec<u8>,
     files: Vec<Vec<u8>>,
     kept: Vec<Kept>,
+    /// What the row printed last.
+    printed: Vec<u8>,
     growths: u64,
 }
 
@@ -41,6 +43,7 @@ impl Reader {
             text: Vec::new(alloc),
             files: Vec::new(alloc),
             kept: Vec::new(alloc),
+            printed: Vec::new(alloc),
             growths: 0,
         }
     }
@@ -116,6 +119,14 @@ impl Reader {
         Ok(())
     }
 
+    /// What the row printed last takes the place of its last file.
+    fn again(&mut self) -> Result<(), RowFault> {
+        let _ = self.files.pop();
+        let printed = mem::replace(&mut self.printed, Vec::new(self.alloc));
+        self.files.push(printed)?;
+        Ok(())
+    }
+
     /// So many growths at least are refused in turn.
     fn grow(&mut self, rest: &str) -> Result<(), RowFault> {
         self.growths = rest.parse::<u64>().ok().ok_or(RowFault::Line)?;
@@ -135,6 +146,7 @@ impl Reader {
             "change" => self.change(rest),
             "keep" => self.keep(rest),
             "file" => self.file(rest),
+            "again" => self.again(),
             "growths" => self.grow(rest),
             _ => return Ok(false),
         }?;
@@ -142,12 +154,15 @@ impl Reader {
     }
 
     /// Reads a line, and answers the ending of the row at hand, if it is one.
-    pub fn take_line(&mut self, line: &str) -> Result<Option<Ending>, RowFault> {
+    pub fn take_line<'l, C: Command>(
+        &mut self,
+        line: &'l str,
+    ) -> Result<Option<Ending<'l>>, RowFault> {
         let (word, rest) = line.split_once(' ').unwrap_or((line, ""));
         if self.takes(word, rest)? {
             return Ok(None);
         }
-        match Ending::of(line) {
+        match Ending::of::<C>(line) {
             Some(ending) => Ok(Some(ending)),
             None => Err(RowFault::Line),
         }
@@ -162,13 +177,14 @@ impl Reader {
     }
 
     /// The row at hand, which ends so.
-    pub fn row(&self, ending: Ending) -> Row<'_> {
+    pub fn row<'r>(&'r self, ending: Ending<'r>) -> Row<'r> {
         Row {
             name: &self.name,
             files: Files {
                 first: self.file_text(0),
                 second: self.file_text(1),
                 third: self.file_text(2),
+                fourth: self.file_text(3),
             },
             printed: &self.text,
             growths: self.growths,
@@ -178,6 +194,6 @@ impl Reader {
 
     /// A new text begins, and the row's files stay.
     pub fn end(&mut self) {
-        self.text.clear();
+        self.printed = self.taken();
     }
 }

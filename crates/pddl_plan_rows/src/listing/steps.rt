@@ -1,11 +1,8 @@
-//! Steps of plans that are linked with a task.
+//! Steps of linked plans, and why a plan is not linked.
 
-use super::faults::add_read_fault;
-use super::lines::Lines;
 use pddl_commands::Outcome;
-use pddl_link::Task;
-use pddl_plan_link::{LinkedStep, StepFault, Steps, link_plan};
-use pddl_tree::read_plan;
+use pddl_plan_link::{LinkedStep, StepFault, Steps};
+use pddl_row_driver::Lines;
 use std::alloc::Allocator;
 
 /// Adds the numbers of a step's action and of its objects, and its moment.
@@ -20,7 +17,10 @@ fn add_step<B: Allocator>(step: LinkedStep<'_>, lines: &mut Lines<'_, B>) {
 }
 
 /// Adds a line for each step, and looks for one past the last.
-fn add_all<C: Allocator, B: Allocator>(steps: &Steps<'_, C>, lines: &mut Lines<'_, B>) -> Outcome {
+pub fn add_steps<C: Allocator, B: Allocator>(
+    steps: &Steps<'_, C>,
+    lines: &mut Lines<'_, B>,
+) -> Outcome {
     for number in 0..steps.len().saturating_add(1) {
         if let Some(step) = steps.get(number) {
             add_step(step, lines);
@@ -44,7 +44,7 @@ fn told(fault: StepFault) -> (u64, Option<usize>) {
 }
 
 /// Adds the line of a fault.
-fn add_step_fault<B: Allocator>(fault: StepFault, lines: &mut Lines<'_, B>) -> Outcome {
+pub fn add_step_fault<B: Allocator>(fault: StepFault, lines: &mut Lines<'_, B>) -> Outcome {
     let (number, step) = told(fault);
     if number == 0 {
         lines.refuse();
@@ -57,28 +57,4 @@ fn add_step_fault<B: Allocator>(fault: StepFault, lines: &mut Lines<'_, B>) -> O
     }
     lines.end();
     Outcome::Refused
-}
-
-/// Adds the steps of a linked plan, or why it is not linked.
-fn add_linked<C: Allocator, B: Allocator>(
-    linked: Result<Steps<'_, C>, StepFault>,
-    lines: &mut Lines<'_, B>,
-) -> Outcome {
-    match linked {
-        Ok(steps) => add_all(&steps, lines),
-        Err(fault) => add_step_fault(fault, lines),
-    }
-}
-
-/// Adds the steps of the plan that a text spells, linked with a task.
-pub fn add_steps<A: Allocator, C: Allocator, B: Allocator>(
-    alloc: &B,
-    task: &Task<'_, '_, A, C>,
-    text: &[u8],
-    lines: &mut Lines<'_, B>,
-) -> Outcome {
-    match read_plan(alloc, text) {
-        Ok(plan) => add_linked(link_plan(alloc, task, &plan), lines),
-        Err(fault) => add_read_fault(&fault, lines),
-    }
 }

@@ -1,8 +1,11 @@
-//! Rows.
+//! What rows run.
 
-use crate::layouts::Layout;
-use crate::listing::Value;
-use pddl_commands::Kind;
+use crate::layouts::{Layout, write_file, write_read};
+use crate::listing::{Value, list};
+use pddl_commands::{Kind, Outcome, RunFault, check_domain_file, check_problem_file, format};
+use pddl_fakes::FakeSink;
+use pddl_row_driver::{Files, Memory, Sources};
+use std::alloc::Global;
 
 /// What is listed of files, in lines: what calls below the commands answer.
 #[derive(Clone, Copy, Debug)]
@@ -22,20 +25,16 @@ pub enum Listing {
     /// The parts of a domain, of a problem, and of a plan.
     Parts(Kind),
     /// What is listed of the task of two files.
-    Task(OfTask),
+    Task(Listed),
 }
 
 /// What is listed of a task.
 #[derive(Clone, Copy, Debug)]
-pub enum OfTask {
+pub enum Listed {
     /// The numbers of its objects and predicates.
     Numbers,
-    /// What holds at the beginning.
-    Atoms,
     /// The ground size of the goal.
     Size,
-    /// The steps of the plan in the third file.
-    Steps,
     /// What it answers to each line of the third file.
     Answers(Asked),
 }
@@ -59,7 +58,6 @@ pub enum Command {
     Format(Kind),
     Domain,
     Problem,
-    Plan,
     /// Reads the first file up to the limit that the second says, and writes it.
     Read,
     /// Reads a file and writes its canonical text.
@@ -68,14 +66,13 @@ pub enum Command {
 }
 
 /// The words of each command.
-static COMMANDS: [(&str, Command); 32] = [
+static COMMANDS: [(&str, Command); 29] = [
     ("format domain", Command::Format(Kind::Domain)),
     ("format problem", Command::Format(Kind::Problem)),
     ("format plan", Command::Format(Kind::Plan)),
     ("read", Command::Read),
     ("domain", Command::Domain),
     ("problem", Command::Problem),
-    ("plan", Command::Plan),
     ("text domain", Command::Write(Layout::Text, Kind::Domain)),
     ("text problem", Command::Write(Layout::Text, Kind::Problem)),
     ("text plan", Command::Write(Layout::Text, Kind::Plan)),
@@ -105,31 +102,28 @@ static COMMANDS: [(&str, Command); 32] = [
     ("list domain", Command::List(Listing::Parts(Kind::Domain))),
     ("list problem", Command::List(Listing::Parts(Kind::Problem))),
     ("list plan", Command::List(Listing::Parts(Kind::Plan))),
-    ("list task", Command::List(Listing::Task(OfTask::Numbers))),
+    ("list task", Command::List(Listing::Task(Listed::Numbers))),
     (
         "list task names",
-        Command::List(Listing::Task(OfTask::Answers(Asked::Names))),
+        Command::List(Listing::Task(Listed::Answers(Asked::Names))),
     ),
     (
         "list subtypes",
-        Command::List(Listing::Task(OfTask::Answers(Asked::Subtypes))),
+        Command::List(Listing::Task(Listed::Answers(Asked::Subtypes))),
     ),
     (
         "list fitting",
-        Command::List(Listing::Task(OfTask::Answers(Asked::Fitting))),
+        Command::List(Listing::Task(Listed::Answers(Asked::Fitting))),
     ),
-    ("list atoms", Command::List(Listing::Task(OfTask::Atoms))),
     (
         "list costs",
-        Command::List(Listing::Task(OfTask::Answers(Asked::Costs))),
+        Command::List(Listing::Task(Listed::Answers(Asked::Costs))),
     ),
-    ("list size", Command::List(Listing::Task(OfTask::Size))),
-    ("list steps", Command::List(Listing::Task(OfTask::Steps))),
+    ("list size", Command::List(Listing::Task(Listed::Size))),
 ];
 
-impl Command {
-    /// The command of these words.
-    pub fn named(words: &str) -> Option<Command> {
+impl pddl_row_driver::Command for Command {
+    fn named(words: &str) -> Option<Command> {
         for (name, command) in COMMANDS.iter() {
             if *name == words {
                 return Some(*command);
@@ -138,92 +132,37 @@ impl Command {
         None
     }
 
-    /// How many files the command reads by readers.
     fn readers(self) -> u64 {
         match self {
             Command::Format(_) => 1,
             Command::Domain => 1,
             Command::Problem => 2,
-            Command::Plan => 3,
             Command::Read => 1,
             Command::Write(_, _) => 0,
             Command::List(_) => 0,
         }
     }
-}
 
-/// The exit status for the outcome that this word names.
-fn status_named(word: &str) -> Option<u8> {
-    match word {
-        "good" => Some(0),
-        "invalid" => Some(1),
-        "refused" => Some(2),
-        _ => None,
+    fn twin(self) -> Option<&'static str> {
+        None
     }
-}
 
-/// What the last line of a row says.
-#[derive(Clone, Copy, Debug)]
-pub struct Ending {
-    pub command: Command,
-    /// The exit status.
-    pub status: u8,
-    /// Whether the row is run only once, where nothing fails.
-    pub is_once: bool,
-    /// How many files are read by readers.
-    pub files_read: u64,
-}
-
-impl Ending {
-    /// What the line says: `[once] [only N] OUTCOME COMMAND`.
-    pub fn of(line: &str) -> Option<Ending> {
-        let (is_once, words) = flagged(line, "once ");
-        let (first_files, words) = limited(words)?;
-        let (word, words) = words.split_once(' ')?;
-        let command = Command::named(words)?;
-        Some(Ending {
-            command,
-            status: status_named(word)?,
-            is_once,
-            files_read: command.readers().min(first_files),
-        })
-    }
-}
-
-/// The number of a line `only N ..` and what stands behind it, or a number past all files and the line.
-fn limited(line: &str) -> Option<(u64, &str)> {
-    match line.strip_prefix("only ") {
-        Some(words) => {
-            let (number, words) = words.split_once(' ')?;
-            Some((number.parse::<u64>().ok()?, words))
+    fn run(
+        self,
+        memory: &Memory,
+        files: Files<'_>,
+        sources: &mut Sources<'_>,
+        out: &mut FakeSink<Global>,
+    ) -> Result<Outcome, RunFault> {
+        match self {
+            Command::Format(kind) => format(memory, kind, &mut sources.first, out),
+            Command::Domain => check_domain_file(memory, &mut sources.first, out),
+            Command::Problem => {
+                check_problem_file(memory, &mut sources.first, &mut sources.second, out)
+            }
+            Command::Read => write_read(memory, &mut sources.first, files.second, out),
+            Command::Write(layout, kind) => write_file(memory, layout, kind, files.first, out),
+            Command::List(listing) => list(memory, listing, files, out),
         }
-        None => Some((u64::MAX, line)),
     }
-}
-
-/// Whether the line begins so, and what stands behind that.
-fn flagged<'l>(line: &'l str, flag: &str) -> (bool, &'l str) {
-    match line.strip_prefix(flag) {
-        Some(words) => (true, words),
-        None => (false, line),
-    }
-}
-
-/// The texts of the files of a row. One that is not given is empty.
-#[derive(Clone, Copy)]
-pub struct Files<'r> {
-    pub first: &'r [u8],
-    pub second: &'r [u8],
-    pub third: &'r [u8],
-}
-
-/// A command, the texts of its files, and what it has to print and answer.
-#[derive(Clone, Copy)]
-pub struct Row<'r> {
-    pub name: &'r str,
-    pub files: Files<'r>,
-    pub printed: &'r [u8],
-    /// How many growths are refused in turn at least.
-    pub growths: u64,
-    pub ending: Ending,
 }

@@ -1,15 +1,11 @@
 //! One run of a row's command.
 
-use crate::layouts::{write_file, write_read};
-use crate::listing::list;
 use crate::report::report;
-use crate::row::{Command, Files, Row};
+use crate::row::{Command, Files, Memory, Row};
 use crate::trouble::{Setting, Trouble};
-use pddl_commands::{Outcome, RunFault, check_domain_file, check_problem_file, format, status};
+use pddl_commands::{Outcome, RunFault, status};
 use pddl_fakes::{FakeSink, FakeSource, Refusing};
-use pddl_plan_commands::check;
-use pddl_text::Sink;
-use std::alloc::Allocator;
+use std::alloc::Global;
 
 /// What a run shows.
 #[derive(Clone, Copy, Debug, PartialEq, Eq)]
@@ -24,10 +20,10 @@ pub enum Seen {
 
 /// The readers of a row's files.
 #[derive(Drop)]
-struct Sources<'r> {
-    first: FakeSource<'r>,
-    second: FakeSource<'r>,
-    third: FakeSource<'r>,
+pub struct Sources<'r> {
+    pub first: FakeSource<'r>,
+    pub second: FakeSource<'r>,
+    pub third: FakeSource<'r>,
 }
 
 /// Readers of these files that behave so.
@@ -107,33 +103,25 @@ fn shown_by(is_right: bool, failed: Failures) -> Seen {
 }
 
 /// Runs the row's command over these readers, this memory and this writer.
-fn called<B: Allocator, W: Sink>(
-    memory: &B,
+fn called<C: Command>(
+    memory: &Memory,
     row: Row<'_>,
     sources: &mut Sources<'_>,
-    out: &mut W,
+    out: &mut FakeSink<Global>,
 ) -> Result<Outcome, RunFault> {
-    match row.ending.command {
-        Command::Format(kind) => format(memory, kind, &mut sources.first, out),
-        Command::Domain => check_domain_file(memory, &mut sources.first, out),
-        Command::Problem => {
-            check_problem_file(memory, &mut sources.first, &mut sources.second, out)
-        }
-        Command::Plan => check(
-            memory,
-            &mut sources.first,
-            &mut sources.second,
-            &mut sources.third,
-            out,
-        ),
-        Command::Read => write_read(memory, &mut sources.first, row.files.second, out),
-        Command::Write(layout, kind) => write_file(memory, layout, kind, row.files.first, out),
-        Command::List(listing) => list(memory, listing, row.files, out),
+    match C::named(row.ending.words) {
+        Some(command) => command.run(memory, row.files, sources, out),
+        None => Err(RunFault::Memory),
     }
 }
 
 /// Runs the row where the call of this number fails, and says what differs.
-pub fn run<R: Print + AllocGlobal>(rt: &R, row: Row<'_>, trouble: Trouble, number: u64) -> Seen {
+pub fn run<R: Print + AllocGlobal, C: Command>(
+    rt: &R,
+    row: Row<'_>,
+    trouble: Trouble,
+    number: u64,
+) -> Seen {
     let setting = trouble.at(number);
     let memory = Refusing::nth(rt.alloc(), setting.refused_growth);
     let mut sources = sources_of(row.files, setting);
@@ -143,7 +131,7 @@ pub fn run<R: Print + AllocGlobal>(rt: &R, row: Row<'_>, trouble: Trouble, numbe
         setting.failing_write,
         setting.failure,
     );
-    let ended = called(&memory, row, &mut sources, &mut out);
+    let ended = called::<C>(&memory, row, &mut sources, &mut out);
     let failed = failures_of(row, &sources, out.failures(), memory.has_refused());
     let seen = shown_by(is_right(row, &ended, out.held(), failed), failed);
     if seen == Seen::Wrong {

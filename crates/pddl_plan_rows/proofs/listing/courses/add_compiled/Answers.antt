@@ -1,0 +1,6 @@
+use Rattle.std.proofs.Common.{sym, ap, ◌∙◌, length}
+use Rattle.pddl_plan_rows.proofs.listing.courses.add_compiled.Goals as goal
+
+-- the plan has as many steps as were compiled
+pub add_started-requires : goal.add_started-requires
+add_started-requires g c = ap length c.in_ok-plan.ensures.steps ∙ sym c.len.ensures

@@ -1,0 +1,192 @@
+//! What rows of plans run.
+
+use crate::listing::list;
+use pddl_commands::{Outcome, RunFault};
+use pddl_fakes::FakeSink;
+use pddl_plan_commands::{check, serial, serial_groups};
+use pddl_row_driver::{Files, Memory, Sources};
+use pddl_serial_plans::Order;
+use std::alloc::Global;
+
+/// What is listed of the task of the first two files.
+#[derive(Clone, Copy)]
+pub enum Listed {
+    /// The atoms that hold at first, by numbers.
+    Atoms,
+    /// What is listed of the plan in the third file.
+    Plan(OfPlan),
+}
+
+/// What is listed of a linked plan.
+#[derive(Clone, Copy)]
+pub enum OfPlan {
+    /// Its steps by numbers.
+    Steps,
+    /// The moment of each happening, and its steps.
+    Happenings,
+    /// The end of each serial run of which a line of the fourth file has the steps.
+    Replays,
+    /// What depends on a store of atoms.
+    Stored(Stored),
+}
+
+/// What is listed of a linked plan over a store of atoms.
+#[derive(Clone, Copy)]
+pub enum Stored {
+    /// The verdict, as `plan` prints it.
+    Verdict,
+    /// The verdict, and the end of an accepted plan.
+    End,
+    /// The plan that is made of an accepted one.
+    Made(Made),
+    /// What its steps are in the state that it starts in, and then that state and its goal.
+    Asked(Asked),
+}
+
+/// Plans that are made of an accepted one. Each is listed with its own verdict and end.
+#[derive(Clone, Copy)]
+pub enum Made {
+    /// Its serial form.
+    Serial(Order),
+    /// Its split by the groups of each line of the fourth file.
+    Splits,
+}
+
+/// What is asked of each step in a state.
+#[derive(Clone, Copy)]
+pub enum Asked {
+    /// Whether its precondition is true.
+    Truth,
+    /// The atoms that it reads.
+    Reads,
+    /// The atoms that it adds and deletes.
+    Fired,
+    /// What it costs.
+    Costs,
+}
+
+/// What a row runs.
+#[derive(Clone, Copy)]
+pub enum Command {
+    Plan,
+    Serial(Order),
+    /// The plan is cut into groups of so many steps.
+    Groups(Order, u32),
+    List(Listed),
+}
+
+/// The words of each listing over a store.
+static STORED: [(&str, Stored); 9] = [
+    ("list verdicts", Stored::Verdict),
+    ("list end", Stored::End),
+    ("list serial", Stored::Made(Made::Serial(Order::File))),
+    (
+        "list serial reverse",
+        Stored::Made(Made::Serial(Order::Reverse)),
+    ),
+    ("list splits", Stored::Made(Made::Splits)),
+    ("list truth", Stored::Asked(Asked::Truth)),
+    ("list reads", Stored::Asked(Asked::Reads)),
+    ("list fired", Stored::Asked(Asked::Fired)),
+    ("list costs", Stored::Asked(Asked::Costs)),
+];
+
+/// The listing over a store that these words ask for.
+fn stored_named(words: &str) -> Option<OfPlan> {
+    for (name, stored) in STORED.iter() {
+        if *name == words {
+            return Some(OfPlan::Stored(*stored));
+        }
+    }
+    None
+}
+
+/// The listing of a plan that these words ask for.
+fn listed_named(words: &str) -> Option<OfPlan> {
+    match words {
+        "list steps" => Some(OfPlan::Steps),
+        "list happenings" => Some(OfPlan::Happenings),
+        "list replays" => Some(OfPlan::Replays),
+        _ => stored_named(words),
+    }
+}
+
+/// The command that cuts a plan into groups: `groups N`, and `reverse` behind it or not.
+fn groups_named(words: &str) -> Option<Command> {
+    let rest = words.strip_prefix("groups ")?;
+    match rest.strip_suffix(" reverse") {
+        Some(number) => Some(Command::Groups(Order::Reverse, number.parse::<u32>().ok()?)),
+        None => Some(Command::Groups(Order::File, rest.parse::<u32>().ok()?)),
+    }
+}
+
+/// The listing of a task that these words ask for.
+fn list_named(words: &str) -> Option<Command> {
+    match words {
+        "list atoms" => Some(Command::List(Listed::Atoms)),
+        _ => Some(Command::List(Listed::Plan(listed_named(words)?))),
+    }
+}
+
+impl pddl_row_driver::Command for Command {
+    fn named(words: &str) -> Option<Command> {
+        match words {
+            "plan" => Some(Command::Plan),
+            "serial" => Some(Command::Serial(Order::File)),
+            "serial reverse" => Some(Command::Serial(Order::Reverse)),
+            _ => groups_named(words).or(list_named(words)),
+        }
+    }
+
+    fn readers(self) -> u64 {
+        match self {
+            Command::Plan => 3,
+            Command::Serial(_) => 3,
+            Command::Groups(_, _) => 3,
+            Command::List(_) => 0,
+        }
+    }
+
+    fn twin(self) -> Option<&'static str> {
+        match self {
+            Command::Plan => Some("list verdicts"),
+            _ => None,
+        }
+    }
+
+    fn run(
+        self,
+        memory: &Memory,
+        files: Files<'_>,
+        sources: &mut Sources<'_>,
+        out: &mut FakeSink<Global>,
+    ) -> Result<Outcome, RunFault> {
+        match self {
+            Command::Plan => check(
+                memory,
+                &mut sources.first,
+                &mut sources.second,
+                &mut sources.third,
+                out,
+            ),
+            Command::Serial(order) => serial(
+                memory,
+                &mut sources.first,
+                &mut sources.second,
+                &mut sources.third,
+                order,
+                out,
+            ),
+            Command::Groups(order, size) => serial_groups(
+                memory,
+                &mut sources.first,
+                &mut sources.second,
+                &mut sources.third,
+                order,
+                size.max(1),
+                out,
+            ),
+            Command::List(listed) => list(memory, listed, files, out),
+        }
+    }
+}

@@ -1,0 +1,45 @@
+//! What calls below the commands answer of plans, in lines.
+
+mod atoms;
+mod courses;
+mod ends;
+mod made;
+mod moments;
+mod plan;
+mod replays;
+mod steps;
+mod stores;
+
+use crate::command::Listed;
+use pddl_commands::{Outcome, RunFault};
+use pddl_link::Task;
+use pddl_row_driver::{Files, Lines, Memory, OfTask, add_task, write_lines};
+use pddl_text::Sink;
+use std::alloc::Allocator;
+
+impl OfTask for Listed {
+    fn add<A: Allocator, C: Allocator, B: Allocator>(
+        self,
+        alloc: &B,
+        task: &Task<'_, '_, A, C>,
+        files: Files<'_>,
+        lines: &mut Lines<'_, B>,
+    ) -> Outcome {
+        match self {
+            Listed::Atoms => atoms::add_first(alloc, task, lines),
+            Listed::Plan(listed) => plan::add_plan(alloc, listed, task, files, lines),
+        }
+    }
+}
+
+/// Writes a listing of texts.
+pub fn list<W: Sink>(
+    memory: &Memory,
+    listed: Listed,
+    files: Files<'_>,
+    out: &mut W,
+) -> Result<Outcome, RunFault> {
+    let mut lines = Lines::new(memory);
+    let outcome = add_task(memory, listed, files, &mut lines);
+    write_lines(memory, outcome, &lines, out)
+}

@@ -1,0 +1,214 @@
+//! What the steps of a plan and its goal are in the state that it starts in.
+
+ghost use Rattle.std.specs.Prelude.{◌≡◌, ◌<◌};
+ghost use Rattle.pddl_link.specs.LinkedTasks.{task_of_files};
+ghost use Rattle.pddl_plan_link.specs.LinkedSteps.{AreLinkedSteps};
+
+use super::atoms::add_set;
+use crate::command::Asked;
+use pddl_commands::Outcome;
+use pddl_judge::Course;
+use pddl_link::Task;
+use pddl_plan_link::Steps;
+use pddl_row_driver::Lines;
+use pddl_state::AtomStore;
+use pddl_step::compile_plan;
+use std::alloc::{AllocError, Allocator};
+use std::fmt::Debug;
+
+/// Adds what a call answers, where it does.
+fn add_answer<T: Drop + Debug, B: Allocator>(
+    answer: Result<T, AllocError>,
+    lines: &mut Lines<'_, B>,
+) {
+    match answer {
+        Ok(answer) => lines.shown(&answer),
+        Err(_) => lines.refuse(),
+    }
+}
+
+/// Adds the atoms that a step reads.
+fn add_reads<A: Allocator, C: Allocator, D: Allocator, B: Allocator, S: AtomStore<D>, P>(
+    step: u32,
+    task: &Task<'_, '_, A, C>,
+    course: &P,
+    store: &mut S,
+    state: &S::Set,
+    lines: &mut Lines<'_, B>,
+)
+where
+    P: Course<D, S>,
+    requires step { step < P.count_of course.now }
+    requires own { S.owns store.old state.now }
+    ensures { S.owns store.new state.now }
+{
+    match course.reads(step, store) {
+        Ok(set) => add_set(task, store, &set, lines),
+        Err(_) => lines.refuse(),
+    }
+}
+
+/// Adds the atoms that a step adds and deletes in a state.
+fn add_fired<A: Allocator, C: Allocator, D: Allocator, B: Allocator, S: AtomStore<D>, P>(
+    step: u32,
+    task: &Task<'_, '_, A, C>,
+    course: &P,
+    store: &mut S,
+    state: &S::Set,
+    lines: &mut Lines<'_, B>,
+)
+where
+    P: Course<D, S>,
+    requires step { step < P.count_of course.now }
+    requires own { S.owns store.old state.now }
+    ensures { S.owns store.new state.now }
+{
+    match course.fired(step, store, state) {
+        Ok((adds, dels)) => {
+            lines.word(b"adds");
+            add_set(task, store, &adds, lines);
+            lines.word(b"deletes");
+            add_set(task, store, &dels, lines);
+        }
+        Err(_) => lines.refuse(),
+    }
+}
+
+/// Adds what a step is in a state.
+fn add_step<A: Allocator, C: Allocator, D: Allocator, B: Allocator, S: AtomStore<D>, P>(
+    asked: Asked,
+    step: usize,
+    task: &Task<'_, '_, A, C>,
+    course: &P,
+    store: &mut S,
+    state: &S::Set,
+    lines: &mut Lines<'_, B>,
+)
+where
+    P: Course<D, S>,
+    requires step { step < P.count_of course.now }
+    requires own { S.owns store.old state.now }
+    ensures { S.owns store.new state.now }
+{
+    let Ok(step) = u32::try_from(step) else {
+        return;
+    };
+    match asked {
+        Asked::Truth => add_answer(course.holds(step, store, state), lines),
+        Asked::Costs => add_answer(course.cost(step, store, state), lines),
+        Asked::Reads => add_reads(step, task, course, store, state, lines),
+        Asked::Fired => add_fired(step, task, course, store, state, lines),
+    }
+    lines.end();
+}
+
+/// Adds a state, and whether the goal is true in it.
+fn add_state<A: Allocator, C: Allocator, D: Allocator, B: Allocator, S: AtomStore<D>, P>(
+    task: &Task<'_, '_, A, C>,
+    course: &P,
+    store: &S,
+    state: &S::Set,
+    lines: &mut Lines<'_, B>,
+)
+where
+    P: Course<D, S>,
+    requires { S.owns store.now state.now }
+{
+    lines.word(b"in");
+    add_set(task, store, state, lines);
+    lines.word(b"goal");
+    add_answer(course.goal_holds(store, state), lines);
+    lines.end();
+}
+
+/// Adds what each step is in a state, and then the state, which has not changed.
+fn add_steps<A: Allocator, C: Allocator, D: Allocator, B: Allocator, S: AtomStore<D>, P>(
+    asked: Asked,
+    count: usize,
+    task: &Task<'_, '_, A, C>,
+    course: &P,
+    store: &mut S,
+    state: &S::Set,
+    lines: &mut Lines<'_, B>,
+)
+where
+    P: Course<D, S>,
+    requires count { P.count_of course.now ≡ count }
+    requires own { S.owns store.old state.now }
+    ensures { S.owns store.new state.now }
+{
+    for step in 0..count {
+        add_step(asked, step, task, course, store, state, lines);
+    }
+    add_state(task, course, store, state, lines);
+}
+
+/// Adds what each step is in the state that a plan starts in, and once more in the same set of the same store, where memory was refused.
+fn add_started<A: Allocator, C: Allocator, D: Allocator, B: Allocator, S: AtomStore<D>, P>(
+    asked: Asked,
+    count: usize,
+    task: &Task<'_, '_, A, C>,
+    course: &P,
+    store: &mut S,
+    lines: &mut Lines<'_, B>,
+)
+where
+    P: Course<D, S>,
+    requires { P.count_of course.now ≡ count }
+{
+    let start = lines.size();
+    match course.start(store) {
+        Ok(state) => {
+            add_steps(asked, count, task, course, store, &state, lines);
+            if lines.begin_again(start) {
+                add_steps(asked, count, task, course, store, &state, lines);
+            }
+        }
+        Err(_) => lines.refuse(),
+    }
+}
+
+/// Compiles linked steps, and adds what each is in the state that they start in.
+fn add_compiled<'m, 'a, 'b, 'c, A, B, C, D, S>(
+    alloc: &'c D,
+    asked: Asked,
+    task: &Task<'m, 'a, A, B>,
+    steps: &Steps<'b, C>,
+    store: &mut S,
+    lines: &mut Lines<'_, D>,
+) -> Result<(), AllocError>
+where
+    A: Allocator,
+    B: Allocator,
+    C: Allocator,
+    D: Allocator,
+    S: AtomStore<&'c D>,
+    requires { AreLinkedSteps (task_of_files task.now) steps.now }
+{
+    let plan = compile_plan(alloc, task, steps)?;
+    add_started(asked, steps.len(), task, &plan, store, lines);
+    Ok(())
+}
+
+/// Adds what each linked step is in the state that they start in, over a store.
+pub fn add_course<'m, 'a, 'b, 'c, A, B, C, D, S>(
+    alloc: &'c D,
+    asked: Asked,
+    task: &Task<'m, 'a, A, B>,
+    steps: &Steps<'b, C>,
+    mut store: S,
+    lines: &mut Lines<'_, D>,
+) -> Outcome
+where
+    A: Allocator,
+    B: Allocator,
+    C: Allocator,
+    D: Allocator,
+    S: AtomStore<&'c D>,
+    requires { AreLinkedSteps (task_of_files task.now) steps.now }
+{
+    if add_compiled(alloc, asked, task, steps, &mut store, lines).is_err() {
+        lines.refuse();
+    }
+    Outcome::Good
+}

@@ -1,0 +1,136 @@
+//! Verdicts, and the ends of accepted plans.
+
+ghost use Rattle.pddl_link.specs.LinkedTasks.{task_of_files};
+ghost use Rattle.pddl_plan_link.specs.LinkedSteps.{AreLinkedSteps};
+
+use super::atoms::{add_atom, add_atoms};
+use pddl_commands::Outcome;
+use pddl_link::Task;
+use pddl_plan_link::Steps;
+use pddl_row_driver::Lines;
+use pddl_state::{Atom, AtomStore};
+use pddl_valid::{Accepted, Refusal, Verdict, validate};
+use std::alloc::Allocator;
+
+/// Adds the atoms that hold at an end, and what the steps before it cost.
+pub fn add_end<A: Allocator, C: Allocator, D: Allocator, B: Allocator>(
+    task: &Task<'_, '_, A, C>,
+    atoms: &[Atom<D>],
+    cost: u128,
+    lines: &mut Lines<'_, B>,
+) {
+    add_atoms(task, atoms, lines);
+    lines.word(b"cost");
+    lines.shown(&cost);
+    lines.end();
+}
+
+/// Adds the line of an accepted plan of so many steps.
+fn add_valid<B: Allocator>(steps: usize, happenings: usize, cost: u128, lines: &mut Lines<'_, B>) {
+    lines.word(b"valid:");
+    lines.number(steps as u64);
+    lines.word(b"steps in");
+    lines.number(happenings as u64);
+    lines.word(b"happenings, total-cost");
+    lines.shown(&cost);
+    lines.end();
+}
+
+/// Adds the line of two steps that interfere.
+fn add_clash<A: Allocator, C: Allocator, D: Allocator, B: Allocator>(
+    task: &Task<'_, '_, A, C>,
+    first: u32,
+    second: u32,
+    atom: &Atom<D>,
+    lines: &mut Lines<'_, B>,
+) {
+    lines.word(b"steps");
+    lines.counted(first as usize, "");
+    lines.word(b"and");
+    lines.counted(second as usize, "");
+    lines.word(b"interfere on");
+    add_atom(task, atom, lines);
+}
+
+/// Adds the line of a plan that is not accepted.
+pub fn add_refusal<A: Allocator, C: Allocator, D: Allocator, B: Allocator>(
+    task: &Task<'_, '_, A, C>,
+    refusal: &Refusal<D>,
+    lines: &mut Lines<'_, B>,
+) -> Outcome {
+    match refusal {
+        Refusal::Precondition { happening, step } => {
+            lines.word(b"invalid: happening");
+            lines.counted(*happening, ",");
+            lines.word(b"step");
+            lines.counted(*step as usize, ":");
+            lines.word(b"precondition is false");
+        }
+        Refusal::Interference {
+            happening,
+            first,
+            second,
+            atom,
+        } => {
+            lines.word(b"invalid: happening");
+            lines.counted(*happening, ",");
+            add_clash(task, *first, *second, atom, lines);
+        }
+        Refusal::Goal => lines.word(b"invalid: goal is false"),
+    }
+    lines.end();
+    Outcome::Invalid
+}
+
+/// Adds the line of an accepted plan of so many steps, and its end, if that is asked for.
+fn add_accepted<A: Allocator, C: Allocator, D: Allocator, E: Allocator, B, S: AtomStore<D>>(
+    task: &Task<'_, '_, A, C>,
+    count: usize,
+    has_end: bool,
+    accepted: &Accepted<D, E, S>,
+    lines: &mut Lines<'_, B>,
+) -> Outcome
+where
+    B: Allocator,
+    requires { S.owns accepted.now.store accepted.now.end }
+{
+    let cost = accepted.cost;
+    add_valid(count, accepted.happenings.len(), cost, lines);
+    if !has_end {
+        return Outcome::Good;
+    }
+    match accepted.store.list(&accepted.end) {
+        Ok(atoms) => add_end(task, &atoms, cost, lines),
+        Err(_) => lines.refuse(),
+    }
+    Outcome::Good
+}
+
+/// Adds the line of the verdict on linked steps, and the end of an accepted plan, if that is asked for.
+pub fn add_verdict<'m, 'a, 'b, 'c, A, B, C, D, S>(
+    alloc: &'c D,
+    has_end: bool,
+    task: &Task<'m, 'a, A, B>,
+    steps: &Steps<'b, C>,
+    store: S,
+    lines: &mut Lines<'_, D>,
+) -> Outcome
+where
+    A: Allocator,
+    B: Allocator,
+    C: Allocator,
+    D: Allocator,
+    S: AtomStore<&'c D>,
+    requires { AreLinkedSteps (task_of_files task.now) steps.now }
+{
+    match validate(alloc, task, steps, store) {
+        Ok(Verdict::Accepted(accepted)) => {
+            add_accepted(task, steps.len(), has_end, &accepted, lines)
+        }
+        Ok(Verdict::Refused(refusal)) => add_refusal(task, &refusal, lines),
+        Err(_) => {
+            lines.refuse();
+            Outcome::Refused
+        }
+    }
+}

@@ -1,0 +1,217 @@
+//! Serial forms and splits of accepted plans.
+
+ghost use Rattle.pddl_happenings.specs.NamedSteps.{by_name};
+ghost use Rattle.pddl_judge.specs.HappeningValues.{groups_of, moments_of};
+ghost use Rattle.pddl_link.specs.LinkedTasks.{task_of_files};
+ghost use Rattle.pddl_plan_link.specs.LinkedSteps.{AreLinkedSteps};
+ghost use Rattle.pddl_plan_steps.specs.NumberedSteps.{number_of};
+ghost use Rattle.pddl_serial_plans.specs.NewPlans.{IsAcceptedOf};
+
+use super::ends::{add_refusal, add_verdict};
+use super::replays::add_numbers;
+use super::steps::add_step_fault;
+use crate::command::Made;
+use pddl_commands::Outcome;
+use pddl_layout::plan_text;
+use pddl_link::Task;
+use pddl_plan_link::{Steps, link_plan};
+use pddl_row_driver::{Lines, text_of};
+use pddl_serial_plans::{Order, SplitFault, serialise, split};
+use pddl_state::{AtomStore, BitStore};
+use pddl_tree::Plan;
+use pddl_valid::{Accepted, Verdict, validate};
+use std::alloc::Allocator;
+
+/// Adds the canonical text of a plan.
+fn add_text<C: Allocator, D: Allocator>(alloc: &D, plan: &Plan<C>, lines: &mut Lines<'_, D>) {
+    match plan_text(alloc, plan) {
+        Ok(text) => lines.lines(&text),
+        Err(_) => lines.refuse(),
+    }
+}
+
+/// Adds the canonical text of a plan, and its verdict and end.
+fn add_plan<A: Allocator, B: Allocator, C: Allocator, D: Allocator>(
+    alloc: &D,
+    task: &Task<'_, '_, A, B>,
+    plan: &Plan<C>,
+    lines: &mut Lines<'_, D>,
+) -> Outcome {
+    add_text(alloc, plan, lines);
+    match link_plan(alloc, task, plan) {
+        Ok(steps) => add_verdict(alloc, true, task, &steps, BitStore::new(alloc), lines),
+        Err(fault) => add_step_fault(fault, lines),
+    }
+}
+
+/// Adds the serial form of an accepted plan.
+fn add_serial<'m, 'a, 'b, A, B, C, D, E, F, S>(
+    alloc: &D,
+    order: Order,
+    task: &Task<'m, 'a, A, B>,
+    steps: &Steps<'b, C>,
+    accepted: &Accepted<E, F, S>,
+    lines: &mut Lines<'_, D>,
+) -> Outcome
+where
+    A: Allocator,
+    B: Allocator,
+    C: Allocator,
+    D: Allocator,
+    E: Allocator,
+    F: Allocator,
+    S: AtomStore<E>,
+    requires { IsAcceptedOf (task_of_files task.now) steps.now (moments_of accepted.now.happenings.items) (groups_of accepted.now.happenings.items)
+        (by_name (number_of (task_of_files task.now)) (S.content accepted.now.store accepted.now.end)) accepted.now.cost }
+{
+    match serialise(alloc, task, steps, accepted, order) {
+        Ok(plan) => add_plan(alloc, task, &plan, lines),
+        Err(_) => {
+            lines.refuse();
+            Outcome::Refused
+        }
+    }
+}
+
+/// Adds a group of the steps that a part of a line has to others.
+fn add_group<'a, B: Allocator>(
+    alloc: &'a B,
+    part: &str,
+    groups: &mut Vec<Vec<u32, &'a B>, &'a B>,
+    lines: &mut Lines<'_, B>,
+) {
+    let mut group = Vec::new(alloc);
+    add_numbers(part, &mut group, lines);
+    if groups.push(group).is_err() {
+        lines.refuse();
+    }
+}
+
+/// Adds the groups of a line, between which strokes stand, to others. An empty line has no groups.
+fn add_groups<'a, B: Allocator>(
+    alloc: &'a B,
+    line: &str,
+    groups: &mut Vec<Vec<u32, &'a B>, &'a B>,
+    lines: &mut Lines<'_, B>,
+) {
+    if line.is_empty() {
+        return;
+    }
+    for part in line.split('/') {
+        add_group(alloc, part, groups, lines);
+    }
+}
+
+/// Adds the split of an accepted plan by the groups of a line.
+fn add_split<'m, 'a, 'b, A, B, C, D, E, F, S>(
+    alloc: &D,
+    line: &str,
+    task: &Task<'m, 'a, A, B>,
+    steps: &Steps<'b, C>,
+    accepted: &Accepted<E, F, S>,
+    lines: &mut Lines<'_, D>,
+)
+where
+    A: Allocator,
+    B: Allocator,
+    C: Allocator,
+    D: Allocator,
+    E: Allocator,
+    F: Allocator,
+    S: AtomStore<E>,
+    requires { IsAcceptedOf (task_of_files task.now) steps.now (moments_of accepted.now.happenings.items) (groups_of accepted.now.happenings.items)
+        (by_name (number_of (task_of_files task.now)) (S.content accepted.now.store accepted.now.end)) accepted.now.cost }
+{
+    let mut groups = Vec::new(alloc);
+    add_groups(alloc, line, &mut groups, lines);
+    match split(alloc, task, steps, accepted, &groups) {
+        Ok(plan) => {
+            let _ = add_plan(alloc, task, &plan, lines);
+        }
+        Err(SplitFault::NotASplit) => lines.lines(b"61 NotASplit\n"),
+        Err(SplitFault::Memory) => lines.refuse(),
+    }
+}
+
+/// Adds the split of an accepted plan by the groups of each line of a text.
+fn add_splits<'m, 'a, 'b, A, B, C, D, E, F, S>(
+    alloc: &D,
+    text: &[u8],
+    task: &Task<'m, 'a, A, B>,
+    steps: &Steps<'b, C>,
+    accepted: &Accepted<E, F, S>,
+    lines: &mut Lines<'_, D>,
+) -> Outcome
+where
+    A: Allocator,
+    B: Allocator,
+    C: Allocator,
+    D: Allocator,
+    E: Allocator,
+    F: Allocator,
+    S: AtomStore<E>,
+    requires { IsAcceptedOf (task_of_files task.now) steps.now (moments_of accepted.now.happenings.items) (groups_of accepted.now.happenings.items)
+        (by_name (number_of (task_of_files task.now)) (S.content accepted.now.store accepted.now.end)) accepted.now.cost }
+{
+    for line in text_of(text).lines() {
+        add_split(alloc, line, task, steps, accepted, lines);
+    }
+    Outcome::Good
+}
+
+/// Adds the plans that are made of an accepted one.
+fn add_of_accepted<'m, 'a, 'b, A, B, C, D, E, F, S>(
+    alloc: &D,
+    made: Made,
+    task: &Task<'m, 'a, A, B>,
+    steps: &Steps<'b, C>,
+    fourth: &[u8],
+    accepted: &Accepted<E, F, S>,
+    lines: &mut Lines<'_, D>,
+) -> Outcome
+where
+    A: Allocator,
+    B: Allocator,
+    C: Allocator,
+    D: Allocator,
+    E: Allocator,
+    F: Allocator,
+    S: AtomStore<E>,
+    requires { IsAcceptedOf (task_of_files task.now) steps.now (moments_of accepted.now.happenings.items) (groups_of accepted.now.happenings.items)
+        (by_name (number_of (task_of_files task.now)) (S.content accepted.now.store accepted.now.end)) accepted.now.cost }
+{
+    match made {
+        Made::Serial(order) => add_serial(alloc, order, task, steps, accepted, lines),
+        Made::Splits => add_splits(alloc, fourth, task, steps, accepted, lines),
+    }
+}
+
+/// Adds the plans that are made of linked steps, or why these are not accepted.
+pub fn add_made<'m, 'a, 'b, 'c, A, B, C, D, S>(
+    alloc: &'c D,
+    made: Made,
+    task: &Task<'m, 'a, A, B>,
+    steps: &Steps<'b, C>,
+    fourth: &[u8],
+    store: S,
+    lines: &mut Lines<'_, D>,
+) -> Outcome
+where
+    A: Allocator,
+    B: Allocator,
+    C: Allocator,
+    D: Allocator,
+    S: AtomStore<&'c D>,
+    requires { AreLinkedSteps (task_of_files task.now) steps.now }
+{
+    match validate(alloc, task, steps, store) {
+        Ok(Verdict::Accepted(accepted)) => {
+            add_of_accepted(alloc, made, task, steps, fourth, &accepted, lines)
+        }
+        Ok(Verdict::Refused(refusal)) => add_refusal(task, &refusal, lines),
+        Err(_) => {
+            lines.refuse();
+            Outcome::Refused
+        }
+    }
+}

@@ -1,0 +1,43 @@
+//! Happenings.
+
+use pddl_commands::Outcome;
+use pddl_plan_link::Steps;
+use pddl_row_driver::Lines;
+use pddl_valid::{Happening, happenings};
+use std::alloc::Allocator;
+
+/// The most steps of a linked plan.
+const MOST_STEPS: usize = 1_000_000;
+
+/// Adds the numbers of steps.
+fn add_numbers<B: Allocator>(steps: &[u32], lines: &mut Lines<'_, B>) {
+    for step in steps {
+        lines.number(u64::from(*step));
+    }
+}
+
+/// Adds the moment of each happening, if it has one, and its steps.
+fn add_each<A: Allocator, B: Allocator>(found: &[Happening<A>], lines: &mut Lines<'_, B>) {
+    for happening in found {
+        lines.number_or_none(happening.moment);
+        lines.word(b":");
+        add_numbers(&happening.steps, lines);
+        lines.end();
+    }
+}
+
+/// Adds the happenings of a linked plan.
+pub fn add_happenings<C: Allocator, B: Allocator>(
+    alloc: &B,
+    steps: &Steps<'_, C>,
+    lines: &mut Lines<'_, B>,
+) -> Outcome {
+    if steps.len() > MOST_STEPS {
+        return Outcome::Refused;
+    }
+    match happenings(alloc, steps) {
+        Ok(found) => add_each(&found, lines),
+        Err(_) => lines.refuse(),
+    }
+    Outcome::Good
+}

@@ -1,0 +1,100 @@
+//! Linked plans.
+
+ghost use Rattle.pddl_link.specs.LinkedTasks.{task_of_files};
+ghost use Rattle.pddl_plan_link.specs.LinkedSteps.{AreLinkedSteps};
+
+use super::moments::add_happenings;
+use super::replays::add_replays;
+use super::steps::{add_step_fault, add_steps};
+use super::stores::add_over_both;
+use crate::command::OfPlan;
+use pddl_commands::Outcome;
+use pddl_link::Task;
+use pddl_plan_link::{Steps, link_plan};
+use pddl_row_driver::{Files, Lines, add_read_fault};
+use pddl_tree::{Plan, read_plan};
+use std::alloc::Allocator;
+
+/// Adds what is listed of linked steps.
+fn add_listed<'m, 'a, 'b, A: Allocator, B: Allocator, C: Allocator, D: Allocator>(
+    alloc: &D,
+    listed: OfPlan,
+    task: &Task<'m, 'a, A, B>,
+    steps: &Steps<'b, C>,
+    fourth: &[u8],
+    lines: &mut Lines<'_, D>,
+) -> Outcome
+    requires { AreLinkedSteps (task_of_files task.now) steps.now }
+{
+    match listed {
+        OfPlan::Steps => add_steps(steps, lines),
+        OfPlan::Happenings => add_happenings(alloc, steps, lines),
+        OfPlan::Replays => add_replays(alloc, task, steps, fourth, lines),
+        OfPlan::Stored(stored) => add_over_both(alloc, stored, task, steps, fourth, lines),
+    }
+}
+
+/// The same, and once more of the same steps, where memory was refused.
+fn add_listed_again<'m, 'a, 'b, A: Allocator, B: Allocator, C: Allocator, D: Allocator>(
+    alloc: &D,
+    listed: OfPlan,
+    task: &Task<'m, 'a, A, B>,
+    steps: &Steps<'b, C>,
+    fourth: &[u8],
+    lines: &mut Lines<'_, D>,
+) -> Outcome
+    requires { AreLinkedSteps (task_of_files task.now) steps.now }
+{
+    let start = lines.size();
+    let outcome = add_listed(alloc, listed, task, steps, fourth, lines);
+    if lines.begin_again(start) {
+        return add_listed(alloc, listed, task, steps, fourth, lines);
+    }
+    outcome
+}
+
+/// Links a plan, and adds what is listed of its steps.
+fn add_linked<'m, 'a, A: Allocator, B: Allocator, C: Allocator, D: Allocator>(
+    alloc: &D,
+    listed: OfPlan,
+    task: &Task<'m, 'a, A, B>,
+    plan: &Plan<C>,
+    fourth: &[u8],
+    lines: &mut Lines<'_, D>,
+) -> Outcome {
+    match link_plan(alloc, task, plan) {
+        Ok(steps) => add_listed_again(alloc, listed, task, &steps, fourth, lines),
+        Err(fault) => add_step_fault(fault, lines),
+    }
+}
+
+/// The same, and once more of the same task and plan, where memory was refused.
+fn add_linked_again<'m, 'a, A: Allocator, B: Allocator, C: Allocator, D: Allocator>(
+    alloc: &D,
+    listed: OfPlan,
+    task: &Task<'m, 'a, A, B>,
+    plan: &Plan<C>,
+    fourth: &[u8],
+    lines: &mut Lines<'_, D>,
+) -> Outcome {
+    let start = lines.size();
+    let outcome = add_linked(alloc, listed, task, plan, fourth, lines);
+    if lines.begin_again(start) {
+        return add_linked(alloc, listed, task, plan, fourth, lines);
+    }
+    outcome
+}
+
+/// Adds what is listed of the plan in the third file with a task.
+pub fn add_plan<A: Allocator, B: Allocator, D: Allocator>(
+    alloc: &D,
+    listed: OfPlan,
+    task: &Task<'_, '_, A, B>,
+    files: Files<'_>,
+    lines: &mut Lines<'_, D>,
+) -> Outcome {
+    match read_plan(alloc, files.third) {
+        Ok(plan) => add_linked_again(alloc, listed, task, &plan, files.fourth, lines),
+        Err(fault) => add_read_fault(&fault, lines),
+    }
+}

@@ -1,0 +1,130 @@
+//! Listings over both stores of atoms.
+
+ghost use Rattle.pddl_link.specs.LinkedTasks.{task_of_files};
+ghost use Rattle.pddl_plan_link.specs.LinkedSteps.{AreLinkedSteps};
+
+use super::courses::add_course;
+use super::ends::add_verdict;
+use super::made::add_made;
+use crate::command::Stored;
+use pddl_commands::Outcome;
+use pddl_link::Task;
+use pddl_plan_link::Steps;
+use pddl_row_driver::Lines;
+use pddl_state::{AtomStore, BitStore, SortedStore};
+use std::alloc::Allocator;
+
+/// Adds what is listed of linked steps over a store.
+fn add_over<'m, 'a, 'b, 'c, A, B, C, D, S>(
+    alloc: &'c D,
+    stored: Stored,
+    task: &Task<'m, 'a, A, B>,
+    steps: &Steps<'b, C>,
+    fourth: &[u8],
+    store: S,
+    lines: &mut Lines<'_, D>,
+) -> Outcome
+where
+    A: Allocator,
+    B: Allocator,
+    C: Allocator,
+    D: Allocator,
+    S: AtomStore<&'c D>,
+    requires { AreLinkedSteps (task_of_files task.now) steps.now }
+{
+    match stored {
+        Stored::Verdict => add_verdict(alloc, false, task, steps, store, lines),
+        Stored::End => add_verdict(alloc, true, task, steps, store, lines),
+        Stored::Made(made) => add_made(alloc, made, task, steps, fourth, store, lines),
+        Stored::Asked(asked) => add_course(alloc, asked, task, steps, store, lines),
+    }
+}
+
+/// Adds what is listed of linked steps over a sorted store, and once more of the same steps, where memory was refused.
+fn add_over_sorted<'m, 'a, 'b, A: Allocator, B: Allocator, C: Allocator, D: Allocator>(
+    alloc: &D,
+    stored: Stored,
+    task: &Task<'m, 'a, A, B>,
+    steps: &Steps<'b, C>,
+    fourth: &[u8],
+    lines: &mut Lines<'_, D>,
+) -> Outcome
+    requires { AreLinkedSteps (task_of_files task.now) steps.now }
+{
+    let start = lines.size();
+    let outcome = add_over(
+        alloc,
+        stored,
+        task,
+        steps,
+        fourth,
+        SortedStore::new(alloc),
+        lines,
+    );
+    if lines.begin_again(start) {
+        return add_over(
+            alloc,
+            stored,
+            task,
+            steps,
+            fourth,
+            SortedStore::new(alloc),
+            lines,
+        );
+    }
+    outcome
+}
+
+/// Adds what is listed of linked steps over a store of rows of bits, and once more of the same steps, where memory was refused.
+fn add_over_bits<'m, 'a, 'b, A: Allocator, B: Allocator, C: Allocator, D: Allocator>(
+    alloc: &D,
+    stored: Stored,
+    task: &Task<'m, 'a, A, B>,
+    steps: &Steps<'b, C>,
+    fourth: &[u8],
+    lines: &mut Lines<'_, D>,
+) -> Outcome
+    requires { AreLinkedSteps (task_of_files task.now) steps.now }
+{
+    let start = lines.size();
+    let outcome = add_over(
+        alloc,
+        stored,
+        task,
+        steps,
+        fourth,
+        BitStore::new(alloc),
+        lines,
+    );
+    if lines.begin_again(start) {
+        return add_over(
+            alloc,
+            stored,
+            task,
+            steps,
+            fourth,
+            BitStore::new(alloc),
+            lines,
+        );
+    }
+    outcome
+}
+
+/// Adds what is listed of linked steps over both stores, once where it is the same.
+pub fn add_over_both<'m, 'a, 'b, A: Allocator, B: Allocator, C: Allocator, D: Allocator>(
+    alloc: &D,
+    stored: Stored,
+    task: &Task<'m, 'a, A, B>,
+    steps: &Steps<'b, C>,
+    fourth: &[u8],
+    lines: &mut Lines<'_, D>,
+) -> Outcome
+    requires { AreLinkedSteps (task_of_files task.now) steps.now }
+{
+    let start = lines.size();
+    let _ = add_over_sorted(alloc, stored, task, steps, fourth, lines);
+    let half = lines.size();
+    let outcome = add_over_bits(alloc, stored, task, steps, fourth, lines);
+    lines.merge(start, half);
+    outcome
+}

@@ -1,0 +1,81 @@
+//! Listings of linked tasks.
+
+use crate::faults::{add_file_fault, add_link_fault};
+use crate::lines::Lines;
+use crate::row::Files;
+use pddl_commands::Outcome;
+use pddl_domain::{Domain, read_domain};
+use pddl_link::{Task, link};
+use pddl_problem::{Problem, read_problem};
+use std::alloc::Allocator;
+
+/// What is listed of a task.
+pub trait OfTask: Copy {
+    /// Adds what is listed of the task of the first two files.
+    fn add<A: Allocator, C: Allocator, B: Allocator>(
+        self,
+        alloc: &B,
+        task: &Task<'_, '_, A, C>,
+        files: Files<'_>,
+        lines: &mut Lines<'_, B>,
+    ) -> Outcome;
+}
+
+/// Links a domain and a problem, and adds what is listed of their task.
+fn add_linked<A: Allocator, B: Allocator, T: OfTask>(
+    alloc: &B,
+    listed: T,
+    domain: &Domain<A>,
+    problem: &Problem<A>,
+    files: Files<'_>,
+    lines: &mut Lines<'_, B>,
+) -> Outcome {
+    match link(alloc, domain, problem) {
+        Ok(task) => listed.add(alloc, &task, files, lines),
+        Err(fault) => add_link_fault(fault, lines),
+    }
+}
+
+/// The same, and once more of the same domain and problem, where memory was refused.
+fn add_linked_again<A: Allocator, B: Allocator, T: OfTask>(
+    alloc: &B,
+    listed: T,
+    domain: &Domain<A>,
+    problem: &Problem<A>,
+    files: Files<'_>,
+    lines: &mut Lines<'_, B>,
+) -> Outcome {
+    let start = lines.size();
+    let outcome = add_linked(alloc, listed, domain, problem, files, lines);
+    if lines.begin_again(start) {
+        return add_linked(alloc, listed, domain, problem, files, lines);
+    }
+    outcome
+}
+
+/// Adds what is listed of the task of a domain and of the problem in the second file.
+fn add_with_problem<'a, B: Allocator, T: OfTask>(
+    alloc: &'a B,
+    listed: T,
+    domain: &Domain<&'a B>,
+    files: Files<'_>,
+    lines: &mut Lines<'_, B>,
+) -> Outcome {
+    match read_problem(alloc, files.second) {
+        Ok(problem) => add_linked_again(alloc, listed, domain, &problem, files, lines),
+        Err(fault) => add_file_fault(&fault, lines),
+    }
+}
+
+/// Adds what is listed of the task of the first two files, or the fault of one of them.
+pub fn add_task<B: Allocator, T: OfTask>(
+    alloc: &B,
+    listed: T,
+    files: Files<'_>,
+    lines: &mut Lines<'_, B>,
+) -> Outcome {
+    match read_domain(alloc, files.first) {
+        Ok(domain) => add_with_problem(alloc, listed, &domain, files, lines),
+        Err(fault) => add_file_fault(&fault, lines),
+    }
+}
