@@ -2,8 +2,8 @@
 # Prints MB/s and peak memory of `format`, and of the same work in plain Rust, on files of 1, 4 and 16 MiB: plans that are
 # plain, timed, and with many comments; domains of many actions; problems of many objects and facts. Then seconds and peak
 # memory of `domain` and `problem` on files that link, beside those of `format`, which reads and prints them; and of `plan` on
-# valid plans, beside those of the same work in plain Rust. Each figure is that of the best of five runs. Wants GNU time,
-# Python 3 and rustc.
+# valid plans, beside those of the same work in plain Rust; and of `plan` alone on actions that quantify over very many variables, and
+# of `serial` beside `plan`. Each figure is that of the best of five runs. Wants GNU time, Python 3 and rustc.
 here=$(cd "$(dirname "$0")" && pwd) || exit 1
 "$here/../pddlcheck" --help >/dev/null || exit 1
 program=$here/../crates/pddlcheck/out/pddlcheck
@@ -72,4 +72,12 @@ for case in walk together few moments adl; do
     theirs=$(seconds "$folder/plain_plans" "$@") || exit 1
     cmp -s "$folder/ours" "$folder/line" || echo "the two print different lines"
     printf '%-24s %8d  %s   %s\n' "plan, $case" "$(cat "$@" | wc -c)" "$ours" "$theirs"
+done
+
+printf '\n%-24s %8s   %-17s   %-17s\n' '' '' 'plan' 'serial'
+printf '%-24s %8s  %8s %8s   %8s %8s\n' files bytes seconds MiB seconds MiB
+for case in walk together variables nothing; do
+    python3 "$here/plan_files.py" "$case" "$folder" || exit 1
+    set -- "$folder/domain.pddl" "$folder/problem.pddl" "$folder/plan.plan"
+    printf '%-24s %8d  %s   %s\n' "$case" "$(cat "$@" | wc -c)" "$(seconds "$program" plan "$@")" "$(seconds "$program" serial "$@")"
 done

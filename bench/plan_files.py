@@ -6,8 +6,10 @@ together   20,000 steps at one moment, each of a lamp of its own
 few        2,000 steps at one moment, where 200,000 atoms hold at first
 moments    100,000 moments with ten steps each
 adl        200 steps, two at a moment, each of which quantifies over 2,000 objects with a condition for each
+variables  one step, whose action quantifies over 400,000 variables of a type with one object
+nothing    one step, whose action has 100,000 quantifiers under one over a type with no object
 
-Usage: plan_files.py walk|together|few|moments|adl FOLDER
+Usage: plan_files.py walk|together|few|moments|adl|variables|nothing FOLDER
 """
 import os
 import sys
@@ -58,6 +60,16 @@ HALLS = """\
       (forall (?l - lamp) (when (in ?l ?h) (not (on ?l)))))))
 """
 
+ROOMS = """\
+(define (domain rooms)
+  (:requirements :adl)
+  (:types room hole)
+  (:predicates (done))
+  (:action s
+    :parameters ()
+    :effect {effect}))
+"""
+
 
 def problem(domain, objects, init, goal):
     return (f"(define (problem bench)\n  (:domain {domain})\n  (:objects {objects})\n  (:init {init})\n"
@@ -101,7 +113,20 @@ def adl():
     return HALLS, problem("halls", f"{halls} - hall {' '.join(names)} - lamp", init, "(and)"), "".join(lines)
 
 
-CASES = {"walk": walk, "together": together, "few": few, "moments": moments, "adl": adl}
+def rooms(effect, goal):
+    files = "(define (problem bench) (:domain rooms) (:objects r - room) (:init) (:goal " + goal + "))\n"
+    return ROOMS.replace("{effect}", effect), files, "(s)\n"
+
+
+def variables():
+    return rooms("(forall (" + " ".join(f"?v{n}" for n in range(400_000)) + " - room) (done))", "(done)")
+
+
+def nothing():
+    return rooms("(forall (?h - hole) (and" + " (forall (?r - room) (done))" * 100_000 + "))", "(not (done))")
+
+
+CASES = {"walk": walk, "together": together, "few": few, "moments": moments, "adl": adl, "variables": variables, "nothing": nothing}
 
 
 def main():
