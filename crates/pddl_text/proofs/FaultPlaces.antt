@@ -1,10 +1,10 @@
 -- A fault of a text stands in the text, and so do its items.
-use Rattle.std.proofs.Common.{◌≡◌, ℕ, ◌≤◌, ◌<◌, List, [], ◌∷◌, ◌++◌, length, drop, refl, sym, ap, subst, ◌∙◌, arith}
+use Rattle.std.proofs.Common.{◌≡◌, ℕ, ◌≤◌, ◌<◌, List, [], ◌∷◌, ◌++◌, length, drop, sym, ap, subst, arith}
 use Rattle.std.specs.Prelude.{All, Some}
 use Rattle.std.proofs.lemmas.List.{length-append, length-drop}
 use Rattle.std.proofs.lemmas.List.Elements.{All-head, All-tail, All-nil, All-cons}
 use Rattle.pddl_text.specs.declared.fault.TextFault.{TextFault}
-use Rattle.pddl_text.specs.declared.fault.TextFault.TheVariants.{Memory, TooLong, Stray, Glued, NumberRange, Unopened, TooDeep, Unclosed}
+use Rattle.pddl_text.specs.declared.fault.TextFault.TheVariants.{Memory, TooLong, Stray, Glued, NumberRange, Unopened, TooDeep, Unclosed, AlreadyFailed}
 use Rattle.pddl_text.specs.Spelling.{PlacedWord, Spells}
 use Rattle.pddl_text.specs.Spans.{IsSlice}
 use Rattle.pddl_text.specs.Faults.{IsLongestNumber}
@@ -89,6 +89,7 @@ misplaced_inside Fault words text at spells within first =
 pub text_inside : (fault : TextFault) (text : List ℕ) (at : ℕ) → TextStands fault text → text_place fault ≡ Some at → IsInside text at
 text_inside Memory text at stands e = absurd (cc (e))
 text_inside TooLong text at stands e = absurd (cc (e))
+text_inside AlreadyFailed text at stands e = absurd stands
 text_inside (Stray place) text at stands e = subst (IsInside text) (same_place place at e) (let le : place ≤ length text = in_text text place stands.leftmost.fault.some_byte in (le, omega (arith, le, stands.within)))
   where
     same_place : (a b : ℕ) → Some a ≡ Some b → a ≡ b

@@ -6,6 +6,7 @@ pub mod OneReading
 pub mod NextReads
 pub mod Lexed
 pub mod WordSpans
+pub mod Tests
 pub mod Values
 pub mod Nests
 pub mod Stacks
@@ -18,3 +19,8 @@ pub mod Behind
 pub mod NumberTexts
 pub mod Known
 pub mod FaultPlaces
+pub mod Ended
+pub mod PartsRead
+pub mod PiecesRead
+pub mod AllGiven
+pub mod LinesBegun

@@ -151,6 +151,7 @@ list_reason faults.TooLong words stands = absurd stands
 list_reason (faults.Stray at) words stands = absurd stands
 list_reason (faults.Glued at) words stands = absurd stands
 list_reason (faults.NumberRange at) words stands = absurd stands
+list_reason faults.AlreadyFailed words stands = absurd stands
 
 -- two first misplaced words are one
 one_misplaced : (fault other : TextFault) (words : List PlacedWord) → IsMisplacedFault fault words → IsMisplacedFault other words → fault ≡ other

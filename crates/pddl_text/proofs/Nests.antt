@@ -328,6 +328,7 @@ refused_stands faults.TooLong before w after words nest stands words_are refused
 refused_stands (faults.Stray at) before w after words nest stands words_are refused = absurd refused
 refused_stands (faults.Glued at) before w after words nest stands words_are refused = absurd refused
 refused_stands (faults.NumberRange at) before w after words nest stands words_are refused = absurd refused
+refused_stands faults.AlreadyFailed before w after words nest stands words_are refused = absurd refused
 
 -- words with a misplaced one form no items
 pub no_items : (before : List PlacedWord) (w : PlacedWord) (after : List PlacedWord) (words : List PlacedWord) (items : List Placed) → words ≡ before ++ w ∷ after → IsMisplaced before w → AreItems 128 words items → ⊥
@@ -346,6 +347,7 @@ refused_only faults.TooLong before w after words nest items stands words_are ref
 refused_only (faults.Stray at) before w after words nest items stands words_are refused form = absurd refused
 refused_only (faults.Glued at) before w after words nest items stands words_are refused form = absurd refused
 refused_only (faults.NumberRange at) before w after words nest items stands words_are refused form = absurd refused
+refused_only faults.AlreadyFailed before w after words nest items stands words_are refused form = absurd refused
 
 -- ---- the end
 

@@ -175,7 +175,7 @@ angle_reads b bytes angle = cond_both (begins (λ x. x == 61) bytes) (next.Word 
 -- ---- comments
 
 -- a line with its LF
-lf_at : (bytes : List ℕ) → prefix_len is_line_byte bytes < length bytes → take (prefix_len is_line_byte bytes + 1) bytes ≡ take (prefix_len is_line_byte bytes) bytes ++ 10 ∷ []
+pub lf_at : (bytes : List ℕ) → prefix_len is_line_byte bytes < length bytes → take (prefix_len is_line_byte bytes + 1) bytes ≡ take (prefix_len is_line_byte bytes) bytes ++ 10 ∷ []
 lf_at bytes lt =
     let n = prefix_len is_line_byte bytes in
     let lf : get_or bytes n 0 ≡ 10 = eqb-true (get_or bytes n 0) 10 (grind (arith, prefix_len_stops is_line_byte bytes 0 lt)) in

@@ -1,6 +1,6 @@
 -- The canonical text of a number has its value.
-use Rattle.std.proofs.Common.{◌≡◌, ℕ, zero, suc, ◌+◌, ◌*◌, ◌/◌, ◌%◌, ◌^◌, ◌≤◌, ◌<◌, Bool, true, false, List, [], ◌∷◌, ◌++◌, length, take, drop, replicate, Some, refl, sym, ap, subst, ◌∙◌, arith, inl, inr}
-use Rattle.std.specs.Prelude.{◌==◌, ◌&&◌}
+use Rattle.std.proofs.Common.{◌≡◌, ℕ, zero, suc, ◌+◌, ◌*◌, ◌/◌, ◌%◌, ◌^◌, ◌≤◌, ◌<◌, true, false, List, [], ◌∷◌, ◌++◌, length, take, drop, replicate, Some, refl, sym, ap, subst, ◌∙◌, arith, inl, inr}
+use Rattle.std.specs.Prelude.{◌==◌}
 use Rattle.std.specs.List.{AllPass, fold, list_all, prefix_len}
 use Rattle.std.specs.Char.{is_ascii_digit}
 use Rattle.std.specs.Fmt.{decimal}
@@ -16,6 +16,7 @@ use Rattle.pddl_text.specs.Number.{decimals_of, nine_of, add_digit, billionths_o
 use Rattle.pddl_text.specs.NumberText.{padded, trimmed, pointed, number_text}
 use Rattle.pddl_text.proofs.Runs.{run_len}
 use Rattle.pddl_text.proofs.Values.{within}
+use Rattle.pddl_text.proofs.Tests.{both_true}
 
 -- the code of an ASCII digit
 abbrev IsDigit : ℕ → Type 0
@@ -71,11 +72,6 @@ padded_value (suc len) a n lt =
     let rest = padded_value len a (n / 10) (omega (arith, lt, power len)) in
     let on = fold_push a (n % 10) (padded len (n / 10)) in
     omega (arith, rest, on, ap (λ (p : ℕ). a * p) (power len))
-
--- both sides of a true `&&`
-both_true : (a b : Bool) → (a && b) ≡ true → (a ≡ true) × (b ≡ true)
-both_true false b e = absurd cc
-both_true true b e = (refl, e)
 
 -- zeros alone are copies of zero
 zeros : (digits : List ℕ) (n : ℕ) → length digits ≤ n → list_all (λ b. b == 48) digits ≡ true → take (length digits) (replicate n 48) ≡ digits

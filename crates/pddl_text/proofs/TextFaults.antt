@@ -111,6 +111,7 @@ reason (faults.NumberRange at) text stands = inr (inl (record { wrong = out_of_r
 reason (faults.Unopened at) text stands = inr (inr stands)
 reason (faults.TooDeep at) text stands = inr (inr stands)
 reason (faults.Unclosed at) text stands = inr (inr stands)
+reason faults.AlreadyFailed text stands = absurd stands
 
 -- two faults of words are one
 one_words_fault : (fault other : TextFault) (text : List ℕ) → IsWordsFault fault text → IsWordsFault other text → fault ≡ other

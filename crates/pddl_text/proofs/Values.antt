@@ -1,12 +1,14 @@
 -- The value of a number, digit by digit.
-use Rattle.std.proofs.Common.{◌≡◌, ℕ, ◌+◌, ◌-◌, ◌≤◌, ◌<◌, true, false, List, [], ◌∷◌, ◌++◌, length, take, drop, get_or, replicate, Some, None, refl, sym, ap, ◌∙◌, arith}
-use Rattle.std.specs.Prelude.{◌==◌}
+use Rattle.std.proofs.Common.{◌≡◌, ℕ, ◌+◌, ◌-◌, ◌≤◌, ◌<◌, true, false, List, [], ◌∷◌, ◌++◌, length, take, drop, get_or, replicate, Some, None, refl, sym, ap, ◌∙◌, arith, subst}
+use Rattle.std.specs.Prelude.{◌==◌, nat_le, ◌&&◌}
 use Rattle.std.specs.List.{fold, list_all, prefix_len}
 use Rattle.std.specs.Char.{is_ascii_digit}
 use Rattle.std.proofs.lemmas.Bool.{cond-true, cond-false, and_from, and_left, and_right, le-leb, lt-leb}
 use Rattle.std.proofs.lemmas.List.{take-append-drop, get_or-take, get_or_append_left, get_or-append_right, get_or-replicate}
 use Rattle.std.proofs.lemmas.List.Sums.{fold-append, fold_more}
-use Rattle.pddl_text.specs.Number.{decimals_of, nine_of, add_digit, billionths_of, value_of}
+use Rattle.std.proofs.lemmas.Option.{cond_some}
+use Rattle.pddl_text.specs.Number.{decimals_of, nine_of, add_digit, billionths_of, value_of, largest}
+use Rattle.pddl_text.proofs.Tests.{both_true}
 
 -- digits never make a number less
 fold_grows : (n : ℕ) (digits : List ℕ) → n ≤ fold add_digit n digits
@@ -52,3 +54,10 @@ pub whole_over : (text : List ℕ) → 9999999999999999999 < fold add_digit 0 (t
 whole_over text lt =
     let whole : List ℕ = take (prefix_len is_ascii_digit text) text in
     over text (omega (arith, lt, fold-append add_digit 0 whole (nine_of (decimals_of text)), fold_grows (fold add_digit 0 whole) (nine_of (decimals_of text))))
+
+-- a value is in range
+pub value_in_range : (text : List ℕ) (n : ℕ) → value_of text ≡ Some n → nat_le n largest ≡ true
+value_in_range text n e =
+    let nine = list_all (λ b. b == 48) (drop 9 (decimals_of text)) in
+    let parts = cond_some (nine && nat_le (billionths_of text) largest) (billionths_of text) n e in
+    subst (λ m. nat_le m largest ≡ true) parts.1 (both_true nine (nat_le (billionths_of text) largest) parts.0).1

@@ -1,6 +1,6 @@
 -- Bytes of a text, by what they are and by what stands at its front. The bytes of names: Kovacs, BNF definition of PDDL 3.1.
 use Rattle.std.specs.Prelude.{ℕ, Bool, false, List, [], ◌∷◌, ◌==◌, ◌||◌, ◌&&◌, not}
-use Rattle.std.specs.Char.{is_ascii_digit, is_ascii_alphanumeric}
+use Rattle.std.specs.Char.{is_ascii_digit, is_ascii_alphanumeric, is_ascii_whitespace}
 
 -- an ASCII letter, a digit, `-` or `_`
 abbrev pub is_word_byte : ℕ → Bool
@@ -19,3 +19,7 @@ begins_decimals (b ∷ bytes) = (b == 46) && begins is_ascii_digit bytes
 -- no LF
 abbrev pub is_line_byte : ℕ → Bool
 is_line_byte b = not (b == 10)
+
+-- no blank, no parenthesis and no `;`
+abbrev pub is_inner_byte : ℕ → Bool
+is_inner_byte b = not (is_ascii_whitespace b || ((b == 40) || ((b == 41) || (b == 59))))

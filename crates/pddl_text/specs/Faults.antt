@@ -79,3 +79,5 @@ Stands (faults.NumberRange at) text = HasFaultAt IsOutOfRange text at
 Stands (faults.Unopened at) text = ⊥
 Stands (faults.TooDeep at) text = ⊥
 Stands (faults.Unclosed at) text = ⊥
+-- nor is one of pieces
+Stands faults.AlreadyFailed text = ⊥

@@ -8,6 +8,9 @@ pub mod Faults
 pub mod Places
 pub mod Reading
 pub mod Scanning
+pub mod Parts
+pub mod InPieces
+pub mod StandsFor
 pub mod Trees
 pub mod Items
 pub mod Lists
@@ -15,5 +18,6 @@ pub mod Nesting
 pub mod Texts
 pub mod Pieces
 pub mod Positions
+pub mod LineStarts
 pub mod NumberText
 pub mod Device

@@ -81,3 +81,4 @@ ListStands faults.TooLong words = ⊥
 ListStands (faults.Stray at) words = ⊥
 ListStands (faults.Glued at) words = ⊥
 ListStands (faults.NumberRange at) words = ⊥
+ListStands faults.AlreadyFailed words = ⊥

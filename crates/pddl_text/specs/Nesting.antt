@@ -63,3 +63,4 @@ IsRefused faults.TooLong w nest = ⊥
 IsRefused (faults.Stray at) w nest = ⊥
 IsRefused (faults.Glued at) w nest = ⊥
 IsRefused (faults.NumberRange at) w nest = ⊥
+IsRefused faults.AlreadyFailed w nest = ⊥

@@ -1,7 +1,7 @@
 -- Where the faults of a text stand. Own.
 use Rattle.std.specs.Prelude.{ℕ, Option, Some, None}
 use Rattle.pddl_text.specs.declared.fault.TextFault.{TextFault}
-use Rattle.pddl_text.specs.declared.fault.TextFault.TheVariants.{Memory, TooLong, Stray, Glued, NumberRange, Unopened, TooDeep, Unclosed}
+use Rattle.pddl_text.specs.declared.fault.TextFault.TheVariants.{Memory, TooLong, Stray, Glued, NumberRange, Unopened, TooDeep, Unclosed, AlreadyFailed}
 
 -- the place of a fault, where it has one
 abbrev pub text_place : TextFault → Option ℕ
@@ -13,3 +13,4 @@ text_place (NumberRange at) = Some at
 text_place (Unopened at) = Some at
 text_place (TooDeep at) = Some at
 text_place (Unclosed at) = Some at
+text_place AlreadyFailed = None

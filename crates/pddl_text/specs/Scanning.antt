@@ -3,7 +3,7 @@ use Rattle.std.specs.Prelude.{◌<◌, ◌≤◌, ℕ, List, [], ◌∷◌, ◌+
 use Rattle.pddl_text.specs.declared.scanner.Scanned.{Scanned}
 use Rattle.pddl_text.specs.declared.scanner.Scanned.TheVariants.{Word, End, Fault}
 use Rattle.pddl_text.specs.Spelling.{PlacedWord, SpelledUpTo, Spells, view}
-use Rattle.pddl_text.specs.Faults.{AreValued}
+use Rattle.pddl_text.specs.Faults.{AreValued, IsFaulty, IsLeftmost}
 
 -- the words spell the text up to the place, and each number among them has a value
 pub record LexedTo (text : List ℕ) (words : List PlacedWord) (at : ℕ) : Type 0 where
@@ -11,11 +11,12 @@ pub record LexedTo (text : List ℕ) (words : List PlacedWord) (at : ℕ) : Type
   pub spelled : SpelledUpTo words (take at text) (drop at text)
   pub valued : AreValued words
 
--- what an answer says of a text of which these words were read: one word more up to its end, or that these are all
+-- what an answer says of a text of which these words were read: one word more up to its end, that these are all, or that a fault stands
+-- leftmost at some place
 abbrev pub Continues : Scanned → List ℕ → List PlacedWord → Type 0
 Continues (Word token) text words = LexedTo text (words ++ view token ∷ []) token.span.end
 Continues End text words = Spells words text
-Continues Fault text words = Unit {0}
+Continues Fault text words = (place : ℕ) × IsLeftmost IsFaulty text place
 
 -- a word that is answered ends further on in the text
 abbrev pub MovesOn : Scanned → List ℕ → ℕ → Type 0

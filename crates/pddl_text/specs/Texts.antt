@@ -39,3 +39,4 @@ TextStands (faults.NumberRange at) text = Stands (faults.NumberRange at) text
 TextStands (faults.Unopened at) text = HasListFault (faults.Unopened at) text
 TextStands (faults.TooDeep at) text = HasListFault (faults.TooDeep at) text
 TextStands (faults.Unclosed at) text = HasListFault (faults.Unclosed at) text
+TextStands faults.AlreadyFailed text = ⊥

@@ -11,7 +11,7 @@ use thiserror::Error;
 ///
 /// Printed faults bear the number that each one has here. `at` is a place, in bytes from the beginning of the text. Of
 /// faults 2 to 4, and then of 5 and 6, the leftmost is answered; 5 to 7 come only where a text has words, and 7 only
-/// where neither 5 nor 6 stands.
+/// where neither 5 nor 6 stands. 9 comes only where a text is read in pieces.
 #[derive(Clone, Copy, Debug, PartialEq, Eq, Error)]
 pub enum TextFault {
     /// 0: a growth was refused. It says nothing of the text.
@@ -40,15 +40,18 @@ pub enum TextFault {
     /// 7: a `(` stands there that has no `)`; it is the leftmost such one.
     #[error("the list at byte {at} is not closed")]
     Unclosed { at: u32 },
+    /// 9: a piece was refused before, so nothing is known of the text that the pieces make.
+    #[error("an earlier piece of the text was refused")]
+    AlreadyFailed,
 }
 
 impl TextFault {
-    /// The place of the fault in bytes. Want of memory and too long a text have none.
+    /// The place of the fault in bytes. Want of memory, too long a text and what comes after a refused piece have none.
     pub fn place(&self) -> Option<u32>
         ensures { result ≡ text_place self.now }
     {
         match self {
-            TextFault::Memory | TextFault::TooLong => None,
+            TextFault::Memory | TextFault::TooLong | TextFault::AlreadyFailed => None,
             TextFault::Stray { at } => Some(*at),
             TextFault::Glued { at } => Some(*at),
             TextFault::NumberRange { at } => Some(*at),

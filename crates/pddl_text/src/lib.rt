@@ -2,11 +2,12 @@
 //!
 //! [`lex`] gives the words of a text as tokens, [`lists`] the lists that tokens form, and [`items_of`] both at once.
 //! [`value_of`] gives the value of a number's text as a [`Fixed`], [`position`] the line and column of a place. A place
-//! is a number of bytes from the beginning of the text.
+//! is a number of bytes from the beginning of the text. Of a text that comes in pieces, of which none is kept, a
+//! [`PlanLexer`] gives the words and [`Places`] the positions.
 //!
 //! Each of these calls answers exactly what the definitions in `specs/` give, and else the fault that stands first:
-//! `Spelling` and `Words` (which words spell a text), `Number`, `Faults`, `Lists`, `Texts` (both together) and
-//! `Positions`. The functions with no body are laws on these definitions, for the crates above: a text has at most one
+//! `Spelling` and `Words` (which words spell a text), `Number`, `Faults`, `Lists`, `Texts` (both together),
+//! `Positions`, and `StandsFor`, `InPieces` and `LineStarts` (texts in pieces). The functions with no body are laws on these definitions, for the crates above: a text has at most one
 //! reading and at most one fault, and texts and numbers written in canonical form read back.
 #![tactic(auto)]
 
@@ -19,8 +20,12 @@ mod lexer;
 mod nesting;
 mod next;
 mod number;
+mod parts;
 mod pieces;
+mod piecewise;
 mod place;
+mod places;
+mod plan_lexer;
 mod reading;
 mod scanner;
 mod std_devices;
@@ -37,9 +42,11 @@ pub use nesting::{DEEPEST, lists, one_nesting};
 pub use number::value_of;
 pub use pieces::{pieces_read_back, tree_reads_back};
 pub use place::{Pos, position};
+pub use places::Places;
+pub use plan_lexer::PlanLexer;
 pub use reading::{SourceFault, read_all};
 pub use scanner::{Scanned, next_token};
 pub use std_devices::{FromRead, ToWrite};
 pub use texts::{items_of, no_fault_in_items, one_items, one_reading, one_text_fault};
-pub use token::{Span, Token, TokenKind};
+pub use token::{Span, Token, TokenKind, Word};
 pub use writing::{WriteFault, write_text};

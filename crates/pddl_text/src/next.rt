@@ -1,11 +1,12 @@
 //! What stands at the front of a text.
 
-ghost use Rattle.std.specs.Prelude.{◌≡◌, ◌<◌, ◌≤◌, length, ◌==◌};
+ghost use Rattle.std.specs.Prelude.{◌≡◌, ◌<◌, ◌≤◌, ℕ, List, length, ◌==◌};
 ghost use Rattle.std.specs.List.{prefix_len};
 ghost use Rattle.std.specs.Char.{is_ascii_digit, is_ascii_alphabetic};
 ghost use Rattle.pddl_text.specs.Bytes.{begins, is_line_byte, is_word_byte};
 ghost use Rattle.pddl_text.specs.Number.{value_of};
 ghost use Rattle.pddl_text.specs.Reading.{number_len, next_comment, next_number, next_by, next_of, Reads};
+ghost use Rattle.pddl_text.specs.Parts.{Settles, ReadsOn};
 
 use crate::bytes::{ByteClass, class_of, is_line_byte, is_word_byte};
 use crate::number::{digits_len, value_of};
@@ -93,7 +94,7 @@ fn number_len(text: &[u8]) -> usize
 }
 
 /// How many bytes stand before the first LF.
-fn line_len(text: &[u8]) -> usize
+pub fn line_len(text: &[u8]) -> usize
     ensures value { result ≡ prefix_len is_line_byte text.now }
     ensures in_range { result ≤ length text.now }
 {
@@ -152,7 +153,9 @@ fn scan(text: &[u8]) -> Next
 /// What stands at the front of a text that has a byte.
 pub fn next_part(text: &[u8]) -> Next
     requires { 0 < length text.now }
-    ensures { Reads result text.now }
+    ensures reads { Reads result text.now }
+    // It stands there too where more bytes follow, unless they could change it.
+    ensures ahead { (more : List ℕ) → Settles text.now more → ReadsOn result text.now more }
 {
     scan(text)
 }

@@ -1,6 +1,6 @@
 //! A text read whole.
 
-ghost use Rattle.std.specs.Prelude.{◌≡◌, ◌<◌, ◌≤◌, ℕ, List, true, vec_len, length, IfOk, OnOk, IfSome, IsErrOf};
+ghost use Rattle.std.specs.Prelude.{◌≡◌, ◌<◌, ◌≤◌, ◌+◌, ℕ, List, true, vec_len, length, IfOk, OnOk, IfSome, IsErrOf};
 ghost use Rattle.std.specs.Io.KnownBytes.{Consumes};
 ghost use Rattle.pddl_text.specs.Device.{HasFailed};
 ghost use Rattle.pddl_text.specs.declared.reading.SourceFault.TheVariants.{Memory};
@@ -59,10 +59,10 @@ pub fn read_all<A: Allocator, S: Source>(
     ensures memory_unfailed { IsErrOf result SourceFault.Memory → S.failures reader.new ≡ S.failures reader.old }
     ensures too_long_unfailed { IsErrOf result SourceFault.TooLong → S.failures reader.new ≡ S.failures reader.old }
 
-    // The reader stands after the bytes that it gave: those of the text, or more than the limit.
+    // The reader stands after the bytes that it gave: those of the text, or, in one piece that passes it, more than the limit.
     ensures taken { IfOk result (λ text. Consumes (S.remaining reader.old) (S.remaining reader.new) text.items) }
     ensures stands { (given : List ℕ) × Consumes (S.remaining reader.old) (S.remaining reader.new) given
-        × (IsErrOf result SourceFault.TooLong → limit < length given) }
+        × (IsErrOf result SourceFault.TooLong → (limit < length given) × (length given ≤ limit + PIECE)) }
 {
     let mut text = Vec::new(alloc);
     let mut piece = [0u8; PIECE];

@@ -25,7 +25,7 @@ pub enum Scanned<'t> {
 pub fn next_token<'t>(text: &'t [u8], at: usize) -> Scanned<'t>
     requires in_range { at ≤ length text.now }
     requires within { length text.now ≤ LONGEST }
-    // It goes on from whatever words were read up to the place.
+    // It goes on from whatever words were read up to the place, and a fault that is answered is one.
     ensures next { (words : List PlacedWord) → LexedTo text.now words at → Continues result text.now words }
     ensures moves { MovesOn result text.now at }
 {
@@ -46,7 +46,9 @@ pub fn next_token<'t>(text: &'t [u8], at: usize) -> Scanned<'t>
                 });
             }
             Next::OpenComment => return Scanned::End,
-            Next::Stray | Next::Glued | Next::OutOfRange => return Scanned::Fault,
+            Next::Stray => return Scanned::Fault,
+            Next::Glued => return Scanned::Fault,
+            Next::OutOfRange => return Scanned::Fault,
         }
     }
     Scanned::End

@@ -1,5 +1,7 @@
 //! Words of a text and their places.
 
+use std::alloc::Allocator;
+
 /// A range of places in a text, in bytes from its beginning: `start` belongs to it, `end` does not.
 #[derive(Clone, Copy, Debug, PartialEq, Eq)]
 pub struct Span {
@@ -45,5 +47,14 @@ pub enum TokenKind {
 pub struct Token<'a> {
     pub kind: TokenKind,
     pub text: &'a [u8],
+    pub span: Span,
+}
+
+/// A word with a text of its own, in all else a [`Token`].
+#[derive(Drop)]
+#[derive_where(Debug)]
+pub struct Word<A: Allocator> {
+    pub kind: TokenKind,
+    pub text: Vec<u8, A>,
     pub span: Span,
 }

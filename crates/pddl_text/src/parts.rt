@@ -1,0 +1,111 @@
+//! Parts of a text, read one after the other.
+
+ghost use Rattle.std.specs.Prelude.{◌≡◌, ◌≤◌, ◌+◌, ◌++◌, ◌∷◌, [], ℕ, List, length, map, IfOk, IfErr};
+ghost use Rattle.pddl_text.specs.declared.fault.TextFault.TheVariants.{Memory};
+ghost use Rattle.pddl_text.specs.Spelling.{PlacedWord};
+ghost use Rattle.pddl_text.specs.Scanning.{LexedTo};
+ghost use Rattle.pddl_text.specs.Parts.{Settles, StoppedAt};
+ghost use Rattle.pddl_text.specs.InPieces.{word_view};
+
+use crate::fault::TextFault;
+use crate::lexer::LONGEST;
+use crate::next::{Next, next_part};
+use crate::token::{Span, TokenKind, Word};
+use std::alloc::Allocator;
+
+/// What stands behind the parts that were read.
+#[derive(Clone, Copy, Debug)]
+pub enum Progress {
+    /// Nothing, or a word's beginning.
+    Words,
+    /// A comment that no LF has ended yet.
+    Comment,
+    /// The fault of this name.
+    Stray { at: u32 },
+    Glued { at: u32 },
+    NumberRange { at: u32 },
+}
+
+/// Why reading stopped, and at which place.
+#[derive(Clone, Copy, Debug)]
+pub struct Stop {
+    pub progress: Progress,
+    pub at: usize,
+}
+
+fn add_word<'a, B: Allocator>(
+    alloc: &'a B,
+    words: &mut Vec<Word<&'a B>, &'a B>,
+    kind: TokenKind,
+    bytes: &[u8],
+    start: usize,
+) -> Result<(), TextFault>
+    requires { start + length bytes.now ≤ LONGEST }
+    ensures memory { IfErr result (λ fault. fault ≡ Memory) }
+    ensures pushed { IfOk result (λ _. map word_view words.new.items ≡ map word_view words.old.items
+        ++ record { kind = kind; text = bytes.now; span = record { start = start; end = start + length bytes.now } } ∷ []) }
+{
+    let span = Span {
+        start: start as u32,
+        end: (start + bytes.len()) as u32,
+    };
+    let text = bytes.to_vec(alloc)?;
+    words.push(Word { kind, text, span })?;
+    Ok(())
+}
+
+/// Reads the parts of a text of which the bytes before it were read, and adds their words.
+pub fn read_parts<'a, B: Allocator>(
+    alloc: &'a B,
+    start: usize,
+    text: &[u8],
+    words: &mut Vec<Word<&'a B>, &'a B>,
+) -> Result<Stop, TextFault>
+    requires { start + length text.now ≤ LONGEST }
+    ensures memory { IfErr result (λ fault. fault ≡ Memory) }
+    ensures read { (before more : List ℕ) (given : List PlacedWord) → length before ≡ start → Settles text.now more
+        → LexedTo (before ++ (text.now ++ more)) (given ++ map word_view words.old.items) start
+        → IfOk result (λ stop. StoppedAt stop.progress (before ++ (text.now ++ more)) (before ++ text.now)
+        (given ++ map word_view words.new.items) stop.at) }
+{
+    let mut at = 0;
+    while at < text.len() {
+        let rest = text.split_at(at).1;
+        let place = start + at;
+        match next_part(rest) {
+            Next::Gap { len } => at += len,
+            Next::Word { kind, len } => {
+                add_word(alloc, words, kind, rest.split_at(len).0, place)?;
+                at += len;
+            }
+            Next::OpenComment => {
+                return Ok(Stop {
+                    progress: Progress::Comment,
+                    at: place,
+                });
+            }
+            Next::Stray => {
+                return Ok(Stop {
+                    progress: Progress::Stray { at: place as u32 },
+                    at: place,
+                });
+            }
+            Next::Glued => {
+                return Ok(Stop {
+                    progress: Progress::Glued { at: place as u32 },
+                    at: place,
+                });
+            }
+            Next::OutOfRange => {
+                return Ok(Stop {
+                    progress: Progress::NumberRange { at: place as u32 },
+                    at: place,
+                });
+            }
+        }
+    }
+    Ok(Stop {
+        progress: Progress::Words,
+        at: start + text.len(),
+    })
+}
