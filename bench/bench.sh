@@ -1,9 +1,10 @@
 #!/bin/sh
 # Prints MB/s and peak memory of `format`, and of the same work in plain Rust, on files of 1, 4 and 16 MiB: plans that are
 # plain, timed, and with many comments; domains of many actions; problems of many objects and facts. Then seconds and peak
-# memory of `domain` and `problem` on files that link, beside those of `format`, which reads and prints them; and of `plan` on
-# valid plans, beside those of the same work in plain Rust; and of `plan` alone on actions that quantify over very many variables, and
-# of `serial` beside `plan`. Each figure is that of the best of five runs. Wants GNU time, Python 3 and rustc.
+# memory of `format` on plans of many short steps and of many long ones, beside those of plain Rust; of `domain` and `problem` on
+# files that link, beside those of `format`, which reads and prints them; of `plan` on valid plans, beside those of the same work
+# in plain Rust; and of `plan` alone on actions that quantify over very many variables, and of `serial` beside `plan`. Each
+# figure is that of the best of five runs. Wants GNU time, Python 3 and rustc.
 here=$(cd "$(dirname "$0")" && pwd) || exit 1
 "$here/../pddlcheck" --help >/dev/null || exit 1
 program=$here/../crates/pddlcheck/out/pddlcheck
@@ -47,6 +48,15 @@ seconds() {
         /usr/bin/time -f '%e %M' "$@" 2>&1 >"$folder/line" || exit 1
     done | sort -n | head -n 1 | awk '{ printf "%8.2f %8.0f", $1, $2 / 1024 }'
 }
+
+printf '\n%-24s %8s   %-17s   %-17s\n' '' '' 'format' 'plain Rust'
+printf '%-24s %8s  %8s %8s   %8s %8s\n' file bytes seconds MiB seconds MiB
+for case in 'short 1000000' 'long 100000'; do
+    # shellcheck disable=SC2086
+    python3 "$here/files.py" $case >"$folder/file" || exit 1
+    printf '%-24s %8d  %s   %s\n' "plan, ${case#* } $(echo "$case" | cut -d ' ' -f 1) steps" "$(wc -c <"$folder/file")" \
+        "$(seconds "$program" format plan "$folder/file")" "$(seconds "$folder/plain" plan "$folder/file")"
+done
 
 printf '\n%-24s %8s   %-17s   %-17s\n' '' '' 'format' 'linked'
 printf '%-24s %8s  %8s %8s   %8s %8s\n' file bytes seconds MiB seconds MiB

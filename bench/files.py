@@ -5,9 +5,10 @@ A plan has steps with three objects each: plain, timed, or with a comment before
 actions; a problem has many objects and a long `:init`.
 
 Usage: files.py plain|timed|comments|domain|problem MIB
-       files.py actions|items N
+       files.py actions|items|short|long N
 
 The second form makes a domain with so many actions, or a problem of it with so many items in `:init` and two objects for each five of them: these link.
+Or a plan of so many steps, each with two objects of few letters, or with eight of many.
 """
 import itertools
 import random
@@ -109,6 +110,18 @@ def linked_problem(items):
     return f"(define (problem day)\n  (:domain depot)\n  (:objects\n{objects})\n  (:init\n{init})\n  (:goal (and (at truck0 depot0) (in crate0 truck0)))\n  (:metric minimize (total-cost)))\n"
 
 
+def short_plan(steps):
+    return "".join(f"(go a{number % 97} b{number % 89})\n" for number in range(steps))
+
+
+def long_plan(steps):
+    names = [f"crate-in-yard-{number}" for number in range(100)]
+    return "".join(f"(load-them-all {' '.join(names[(number * 7 + k) % 100] for k in range(8))})\n" for number in range(steps))
+
+
+COUNTED = {"actions": linked_domain, "items": linked_problem, "short": short_plan, "long": long_plan}
+
+
 def parts(kind, mib):
     """The head of a file of the kind, its lines or actions by their numbers, and its tail."""
     if kind == "domain":
@@ -120,9 +133,8 @@ def parts(kind, mib):
 
 
 def main():
-    if len(sys.argv) == 3 and sys.argv[1] in ("actions", "items") and sys.argv[2].isdigit():
-        make = linked_domain if sys.argv[1] == "actions" else linked_problem
-        sys.stdout.write(make(int(sys.argv[2])))
+    if len(sys.argv) == 3 and sys.argv[1] in COUNTED and sys.argv[2].isdigit():
+        sys.stdout.write(COUNTED[sys.argv[1]](int(sys.argv[2])))
         return
     if len(sys.argv) != 3 or sys.argv[1] not in ("plain", "timed", "comments", "domain", "problem") or not sys.argv[2].isdigit():
         sys.exit(__doc__)

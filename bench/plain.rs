@@ -1,4 +1,4 @@
-//! The same work as `format` in plain Rust, for comparison: words, steps or lists with names of their own, canonical text.
+//! The same work as `format` in plain Rust, for comparison: plans in one buffer, words and lists with names of their own, canonical text.
 //! It accepts files without looking for every fault, and proves nothing.
 //!
 //! Build: rustc --edition 2021 -O plain.rs. Usage: plain domain|problem|plan FILE.
@@ -24,32 +24,42 @@ fn is_word_byte(byte: u8) -> bool {
     byte.is_ascii_alphanumeric() || byte == b'-' || byte == b'_'
 }
 
-fn words(text: &[u8]) -> Vec<Word<'_>> {
-    let mut words = Vec::new();
+/// The word that stands first, if one does and no blank or comment, and the length of what stands there.
+fn first_word(rest: &[u8]) -> (Option<Word<'_>>, usize) {
+    let is_marked = rest.get(1).is_some_and(u8::is_ascii_alphabetic);
+    match rest[0] {
+        b' ' | b'\t' | b'\n' | b'\r' | 12 => (None, 1),
+        b';' => (None, run_length(rest, |byte| byte != b'\n')),
+        b'(' => (Some(Word::Open), 1),
+        b')' => (Some(Word::Close), 1),
+        b'-' | b'=' => (Some(Word::Text(&rest[..1])), 1),
+        b':' if !is_marked => (Some(Word::Colon), 1),
+        b'0'..=b'9' => {
+            let length = run_length(rest, |byte| byte.is_ascii_digit() || byte == b'.');
+            (Some(Word::Number(&rest[..length])), length)
+        }
+        byte if byte.is_ascii_alphabetic() || is_marked && matches!(byte, b':' | b'?') => {
+            let length = 1 + run_length(&rest[1..], is_word_byte);
+            (Some(Word::Text(&rest[..length])), length)
+        }
+        byte => panic!("no word begins with {byte}"),
+    }
+}
+
+fn each_word<'a>(text: &'a [u8], mut take: impl FnMut(Word<'a>)) {
     let mut at = 0;
     while at < text.len() {
-        let rest = &text[at..];
-        let is_marked = rest.get(1).is_some_and(u8::is_ascii_alphabetic);
-        let (word, length) = match rest[0] {
-            b' ' | b'\t' | b'\n' | b'\r' | 12 => (None, 1),
-            b';' => (None, run_length(rest, |byte| byte != b'\n')),
-            b'(' => (Some(Word::Open), 1),
-            b')' => (Some(Word::Close), 1),
-            b'-' | b'=' => (Some(Word::Text(&rest[..1])), 1),
-            b':' if !is_marked => (Some(Word::Colon), 1),
-            b'0'..=b'9' => {
-                let length = run_length(rest, |byte| byte.is_ascii_digit() || byte == b'.');
-                (Some(Word::Number(&rest[..length])), length)
-            }
-            byte if byte.is_ascii_alphabetic() || is_marked && matches!(byte, b':' | b'?') => {
-                let length = 1 + run_length(&rest[1..], is_word_byte);
-                (Some(Word::Text(&rest[..length])), length)
-            }
-            _ => panic!("no word at byte {at}"),
-        };
-        words.extend(word);
+        let (word, length) = first_word(&text[at..]);
+        if let Some(word) = word {
+            take(word);
+        }
         at += length;
     }
+}
+
+fn words(text: &[u8]) -> Vec<Word<'_>> {
+    let mut words = Vec::new();
+    each_word(text, |word| words.push(word));
     words
 }
 
@@ -72,35 +82,49 @@ fn put_number(text: &mut Vec<u8>, value: u64) {
 
 // ---- plans
 
-struct Step {
-    moment: Option<u64>,
-    names: Vec<Vec<u8>>,
+/// The names of all steps side by side, where each name ends, and behind which name each step does.
+#[derive(Default)]
+struct Plan {
+    names: Vec<u8>,
+    ends: Vec<u32>,
+    steps: Vec<u32>,
+    moments: Vec<u64>,
 }
 
-fn steps(words: &[Word]) -> Vec<Step> {
-    let mut steps = Vec::new();
-    let mut moment = None;
-    let mut names = Vec::new();
-    for word in words {
-        match word {
-            Word::Number(number) => moment = Some(billionths(number)),
-            Word::Text(name) => names.push(name.to_ascii_lowercase()),
-            Word::Close => steps.push(Step { moment: moment.take(), names: std::mem::take(&mut names) }),
-            Word::Open | Word::Colon => {}
+fn plan(text: &[u8]) -> Plan {
+    let mut plan = Plan::default();
+    each_word(text, |word| match word {
+        Word::Number(number) => plan.moments.push(billionths(number)),
+        Word::Text(name) => {
+            let start = plan.names.len();
+            plan.names.extend_from_slice(name);
+            plan.names[start..].make_ascii_lowercase();
+            plan.ends.push(plan.names.len() as u32);
         }
-    }
-    steps
+        Word::Close => plan.steps.push(plan.ends.len() as u32),
+        Word::Open | Word::Colon => {}
+    });
+    plan
 }
 
-fn plan_text(words: &[Word]) -> Vec<u8> {
+fn plan_text(plan: &Plan) -> Vec<u8> {
     let mut text = Vec::new();
-    for step in steps(words) {
-        if let Some(moment) = step.moment {
-            put_number(&mut text, moment);
+    let mut first = 0;
+    let mut start = 0;
+    for (number, step) in plan.steps.iter().enumerate() {
+        if let Some(moment) = plan.moments.get(number) {
+            put_number(&mut text, *moment);
             text.extend_from_slice(b": ");
         }
         text.push(b'(');
-        text.extend_from_slice(&step.names.join(&b' '));
+        for (place, end) in plan.ends[first..*step as usize].iter().enumerate() {
+            if place > 0 {
+                text.push(b' ');
+            }
+            text.extend_from_slice(&plan.names[start..*end as usize]);
+            start = *end as usize;
+        }
+        first = *step as usize;
         text.extend_from_slice(b")\n");
     }
     text
@@ -284,11 +308,10 @@ fn main() {
     let kind = arguments.next().expect("a kind");
     let path = arguments.next().expect("a file");
     let text = std::fs::read(path).expect("a file that opens");
-    let words = words(&text);
     let printed = match kind.as_str() {
-        "domain" => file_text(&words, &DOMAIN),
-        "problem" => file_text(&words, &PROBLEM),
-        _ => plan_text(&words),
+        "domain" => file_text(&words(&text), &DOMAIN),
+        "problem" => file_text(&words(&text), &PROBLEM),
+        _ => plan_text(&plan(&text)),
     };
     std::io::stdout().write_all(&printed).expect("a writer that takes it");
 }

@@ -1,3 +1,4 @@
+mod PlanLines
 pub mod Printed
 pub mod Digits
 pub mod PlanPieces

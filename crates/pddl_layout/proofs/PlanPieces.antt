@@ -1,15 +1,16 @@
 -- The canonical text of a plan reads back as the plan.
-use Rattle.std.proofs.Common.{◌≡◌, ℕ, ◌≤◌, Bool, true, false, cond, List, [], ◌∷◌, ◌++◌, length, drop, map, refl, sym, ap, subst, ◌∙◌, arith, append_assoc}
-use Rattle.std.specs.Prelude.{◌&&◌, ◌==◌, nat_le, nat_lt, codes, Some, None, IsSome}
+use Rattle.std.proofs.Common.{◌≡◌, ℕ, ◌≤◌, true, List, [], ◌∷◌, ◌++◌, length, map, refl, sym, ap, subst, ◌∙◌, arith, append_assoc}
+use Rattle.std.specs.Prelude.{nat_le, nat_lt, codes, Some, IsSome}
 use Rattle.std.specs.List.{AllPass, flat_map, list_all}
-use Rattle.std.specs.Char.{to_ascii_lowercase, is_ascii_whitespace, is_ascii_alphabetic}
+use Rattle.std.specs.Char.{is_ascii_whitespace, is_ascii_alphabetic}
 use Rattle.std.proofs.lemmas.List.Elements.{All-nil, All-cons}
 use Rattle.std.proofs.lemmas.Grind.{flat_map-append}
 use Rattle.std.proofs.lemmas.Bool.Decides.{nat_tests}
+use Rattle.std.proofs.lemmas.Bool.{and_from}
 use Rattle.pddl_text.specs.declared.token.TokenKind.TheVariants.{Close, Name, Number, Colon}
 use Rattle.pddl_text.specs.Bytes.{is_word_byte}
 use Rattle.pddl_text.specs.Words.{IsName}
-use Rattle.pddl_text.specs.Number.{billionths_of, decimals_of, value_of}
+use Rattle.pddl_text.specs.Number.{value_of}
 use Rattle.pddl_text.specs.NumberText.{number_text}
 use Rattle.pddl_text.specs.Spelling.{Word}
 use Rattle.pddl_text.specs.Trees.{Tree, leaf, node, Trees, no_trees, tree, list_of, erased}
@@ -18,12 +19,15 @@ use Rattle.pddl_text.specs.Texts.{HasItems, ReadsAs}
 use Rattle.pddl_text.proofs.Written.{written_append, tokens_append, tree_written, tree_tokens}
 use Rattle.pddl_text.proofs.Listed.{reads_back}
 use Rattle.pddl_text.proofs.NumberTexts.{reads_as_it}
-use Rattle.pddl_tree.specs.Names.{folded, is_first_byte, is_later_byte, is_name}
-use Rattle.pddl_tree.specs.Plans.{StepValue, TimedValue, PlanValue, plain, timed, is_step, is_timed, is_plan, AreNamed, IsStep, IsMoment, ArePlain, AreTimed, AreSteps}
+use Rattle.pddl_text.proofs.Tests.{both_true}
+use Rattle.pddl_text.proofs.Values.{value_in_range}
+use Rattle.pddl_tree.specs.Names.{is_first_byte, is_later_byte, is_name}
+use Rattle.pddl_tree.specs.Plans.{StepValue, TimedValue, PlanValue, plain, timed, is_step, is_timed, is_plan, AreNamed, IsStep, ArePlain, AreTimed, AreSteps}
 use Rattle.pddl_tree.specs.PlanTexts.{SpellsPlan}
+use Rattle.pddl_tree.specs.Words.{SpellsNumber}
+use Rattle.pddl_tree.proofs.FoldedNames.{name_folded}
 use Rattle.pddl_tree.proofs.PlanTextLaws.{one_plan}
 use Rattle.pddl_layout.specs.PlanLayout.{spaced, plain_line, timed_line, plan_text}
-use Rattle.pddl_layout.proofs.Printed.{both_true, both_pass}
 
 -- ---- names
 
@@ -33,33 +37,15 @@ first_letter b e = grind (arith, nat_tests, e)
 later_word_byte : (b : ℕ) → is_later_byte b ≡ true → is_word_byte b ≡ true
 later_word_byte b e = grind (arith, nat_tests, e)
 
-later_folded : (b : ℕ) → is_later_byte b ≡ true → to_ascii_lowercase b ≡ b
-later_folded b e = grind (arith, nat_tests, e)
-
-first_folded : (b : ℕ) → is_first_byte b ≡ true → to_ascii_lowercase b ≡ b
-first_folded b e = grind (arith, nat_tests, e)
-
 all_word_bytes : (bytes : List ℕ) → list_all is_later_byte bytes ≡ true → AllPass is_word_byte bytes
 all_word_bytes [] e = All-nil (λ x. is_word_byte x ≡ true)
 all_word_bytes (b ∷ bytes) e =
     let parts = both_true (is_later_byte b) (list_all is_later_byte bytes) e in
     All-cons (λ x. is_word_byte x ≡ true) b bytes (later_word_byte b parts.0) (all_word_bytes bytes parts.1)
 
-all_folded : (bytes : List ℕ) → list_all is_later_byte bytes ≡ true → folded bytes ≡ bytes
-all_folded [] e = refl
-all_folded (b ∷ bytes) e =
-    let parts = both_true (is_later_byte b) (list_all is_later_byte bytes) e in
-    ap (λ (x : ℕ). x ∷ folded bytes) (later_folded b parts.0) ∙ ap (λ (t : List ℕ). b ∷ t) (all_folded bytes parts.1)
-
 name_spelled : (name : List ℕ) → is_name name ≡ true → IsName name
 name_spelled [] e = absurd (cc (e))
 name_spelled (b ∷ bytes) e = let parts = both_true (is_first_byte b) (list_all is_later_byte bytes) e in (first_letter b parts.0, all_word_bytes bytes parts.1)
-
-name_folded : (name : List ℕ) → is_name name ≡ true → folded name ≡ name
-name_folded [] e = refl
-name_folded (b ∷ bytes) e =
-    let parts = both_true (is_first_byte b) (list_all is_later_byte bytes) e in
-    ap (λ (x : ℕ). x ∷ folded bytes) (first_folded b parts.0) ∙ ap (λ (t : List ℕ). b ∷ t) (all_folded bytes parts.1)
 
 -- ---- the trees of a plan
 
@@ -95,7 +81,7 @@ plan_trees (timed steps) = timed_trees steps
 
 names_named : (names : List (List ℕ)) → list_all is_name names ≡ true → AreNamed names (names_trees names)
 names_named [] e = tt
-names_named (name ∷ names) e = let parts = both_true (is_name name) (list_all is_name names) e in ((parts.0, refl, name_folded name parts.0), names_named names parts.1)
+names_named (name ∷ names) e = let parts = both_true (is_name name) (list_all is_name names) e in ((parts.0, (refl, name_folded name parts.0)), names_named names parts.1)
 
 step_is : (step : StepValue) → is_step step ≡ true → IsStep step (step_tree step)
 step_is step e = names_named (step.action ∷ step.objects) e
@@ -272,8 +258,8 @@ plan_reads_back plan good short =
 names_are_good : (names : List (List ℕ)) (ts : Trees) → AreNamed names ts → list_all is_name names ≡ true
 names_are_good [] ts named = refl
 names_are_good (name ∷ names) no_trees bad = absurd bad
-names_are_good (name ∷ names) (tree (leaf w) ts) (first, rest) = both_pass (is_name name) (list_all is_name names) first.0 (names_are_good names ts rest)
-names_are_good (name ∷ names) (tree (node us) ts) (bad, rest) = absurd bad
+names_are_good (name ∷ names) (tree (leaf w) ts) (first, rest) = and_from (is_name name) (list_all is_name names) first.0 (names_are_good names ts rest)
+names_are_good (name ∷ names) (tree (node us) ts) (bad, rest) = absurd bad.1
 
 step_is_good : (step : StepValue) (t : Tree) → IsStep step t → is_step step ≡ true
 step_is_good step (leaf w) bad = absurd bad
@@ -282,32 +268,23 @@ step_is_good step (node ts) is = names_are_good (step.action ∷ step.objects) t
 plain_are_good : (steps : List StepValue) (ts : List Tree) → ArePlain steps ts → list_all is_step steps ≡ true
 plain_are_good [] ts are = refl
 plain_are_good (step ∷ steps) [] bad = absurd bad
-plain_are_good (step ∷ steps) (t ∷ ts) (first, rest) = both_pass (is_step step) (list_all is_step steps) (step_is_good step t first) (plain_are_good steps ts rest)
+plain_are_good (step ∷ steps) (t ∷ ts) (first, rest) = and_from (is_step step) (list_all is_step steps) (step_is_good step t first) (plain_are_good steps ts rest)
 
-where_true : {A : Type 0} (b : Bool) (x y : A) → cond b (Some x) None ≡ Some y → (b ≡ true) × (x ≡ y)
-where_true true x y e = (refl, cc (e))
-where_true false x y e = absurd (cc (e))
-
-value_in_range : (text : List ℕ) (n : ℕ) → value_of text ≡ Some n → nat_le n 9999999999999999999 ≡ true
-value_in_range text n e =
-    let parts = where_true (list_all (λ b. b == 48) (drop 9 (decimals_of text)) && nat_le (billionths_of text) 9999999999999999999) (billionths_of text) n e in
-    ap (λ m. nat_le m 9999999999999999999) (sym parts.1) ∙ (both_true (list_all (λ b. b == 48) (drop 9 (decimals_of text))) (nat_le (billionths_of text) 9999999999999999999) parts.0).1
-
-moment_is_good : (m : ℕ) (t : Tree) → IsMoment m t → nat_le m 9999999999999999999 ≡ true
+moment_is_good : (m : ℕ) (t : Tree) → SpellsNumber m t → nat_le m 9999999999999999999 ≡ true
 moment_is_good m (leaf w) (is, value) = value_in_range w.text m value
 moment_is_good m (node ts) bad = absurd bad
 
 timed_are_good : (steps : List TimedValue) (ts : List Tree) → AreTimed steps ts → list_all is_timed steps ≡ true
 timed_are_good [] ts are = refl
 timed_are_good (s ∷ steps) (number ∷ colon ∷ t ∷ ts) (first, rest) =
-    both_pass (is_timed s) (list_all is_timed steps) (both_pass (nat_le s.moment 9999999999999999999) (is_step s.step) (moment_is_good s.moment number first.0) (step_is_good s.step t first.2)) (timed_are_good steps ts rest)
+    and_from (is_timed s) (list_all is_timed steps) (and_from (nat_le s.moment 9999999999999999999) (is_step s.step) (moment_is_good s.moment number first.0) (step_is_good s.step t first.2)) (timed_are_good steps ts rest)
 timed_are_good (s ∷ steps) [] bad = absurd bad
 timed_are_good (s ∷ steps) (number ∷ []) bad = absurd bad
 timed_are_good (s ∷ steps) (number ∷ colon ∷ []) bad = absurd bad
 
 spelled_is_good : (plan : PlanValue) (ts : List Tree) → AreSteps plan ts → is_plan plan ≡ true
 spelled_is_good (plain steps) ts are = plain_are_good steps ts are
-spelled_is_good (timed steps) ts are = both_pass (nat_lt 0 (length steps)) (list_all is_timed steps) (grind (arith, nat_tests, are.0)) (timed_are_good steps ts are.1)
+spelled_is_good (timed steps) ts are = and_from (nat_lt 0 (length steps)) (list_all is_timed steps) (grind (arith, nat_tests, are.0)) (timed_are_good steps ts are.1)
 
 pub one_canonical_plan : (plan other : PlanValue) (text more : List ℕ) → SpellsPlan plan text → SpellsPlan other more → length (plan_text plan) ≤ 16777216 → length (plan_text other) ≤ 16777216
     → plan_text plan ≡ plan_text other → plan ≡ other

@@ -1,7 +1,7 @@
 -- Texts written piece by piece.
 use Rattle.std.proofs.Common.{◌≡◌, ℕ, ◌+◌, ◌<◌, List, [], ◌∷◌, ◌++◌, length, get_or, take, drop, refl, sym, ap, subst, ◌∙◌, add-one, drop-cons}
-use Rattle.std.specs.Prelude.{Bool, true, false, ◌&&◌, Option, Some, None, Result, Ok, Err, OnOk}
-use Rattle.std.specs.List.{flat_map, list_all}
+use Rattle.std.specs.Prelude.{Option, Some, None, Result, Ok, Err}
+use Rattle.std.specs.List.{flat_map}
 use Rattle.std.specs.Io.KnownBytes.{Appends}
 use Rattle.std.proofs.lemmas.List.{append-nil, take_more, take-append-drop}
 use Rattle.std.proofs.lemmas.Grind.{flat_map-append}
@@ -37,10 +37,6 @@ wrote_as a b before after xs ys e wrote = (subst (Appends a b) e wrote.0, wrote.
 pub prints_as : {T E : Type 0} (a b : Option (List ℕ)) (before after : ℕ) (xs ys : List ℕ) (r : Result T E) → xs ≡ ys → Prints a b before after xs r → Prints a b before after ys r
 prints_as a b before after xs ys r e printed = subst (λ t. Prints a b before after t r) e printed
 
-pub on_ok : {T E P Q : Type 0} (r : Result T E) → (P → Q) → OnOk r P → OnOk r Q
-on_ok (Ok x) on p = on p
-on_ok (Err e) on p = p
-
 -- ---- one text for each element of a list
 
 behind : {A : Type 0} (xs : List A) (i : ℕ) (d : A) → i < length xs → drop i xs ≡ get_or xs i d ∷ drop (i + 1) xs
@@ -67,19 +63,3 @@ module _ {A : Type 0} (f : A → List ℕ) where
   element_stops a b c before middle after xs i d lt first stopped =
       subst (Stops a c before after) (sym (texts_at xs i d lt))
       (stops_on a b c before middle after (flat_map f (take i xs)) (f (get_or xs i d) ++ flat_map f (drop (i + 1) xs)) first (stops_more b c middle after (f (get_or xs i d)) (flat_map f (drop (i + 1) xs)) stopped))
-
--- ---- a test of each element
-
-pub both_true : (a b : Bool) → (a && b) ≡ true → (a ≡ true) × (b ≡ true)
-both_true false b e = absurd (cc (e))
-both_true true b e = (refl, e)
-
-pub both_pass : (a b : Bool) → a ≡ true → b ≡ true → (a && b) ≡ true
-both_pass a b p q = ap (λ t. t && b) p ∙ q
-
-passes_push : {A : Type 0} (p : A → Bool) (xs : List A) (x : A) → list_all p xs ≡ true → p x ≡ true → list_all p (xs ++ x ∷ []) ≡ true
-passes_push p [] x so_far here = ap (λ b. b && true) here
-passes_push p (y ∷ ys) x so_far here = let parts = both_true (p y) (list_all p ys) so_far in both_pass (p y) (list_all p (ys ++ x ∷ [])) parts.0 (passes_push p ys x parts.1 here)
-
-pub passes_more : {A : Type 0} (p : A → Bool) (xs : List A) (i : ℕ) (d : A) → i < length xs → list_all p (take i xs) ≡ true → p (get_or xs i d) ≡ true → list_all p (take (i + 1) xs) ≡ true
-passes_more p xs i d lt so_far here = ap (list_all p) (take_more xs i d lt) ∙ passes_push p (take i xs) (get_or xs i d) so_far here

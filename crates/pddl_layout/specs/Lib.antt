@@ -1,2 +1,3 @@
 pub mod Printing
 pub mod PlanLayout
+pub mod PlanLines

@@ -1,92 +1,75 @@
 //! The canonical text of plans.
 
-ghost use Rattle.std.specs.Prelude.{◌≡◌, ◌≤◌, ◌↔◌, ℕ, List, IsTrue, IfOk, OnOk, OnErr, length, map, vec_len};
-ghost use Rattle.std.specs.List.{flat_map, list_all};
-ghost use Rattle.pddl_tree.specs.Names.{is_name};
-ghost use Rattle.pddl_tree.specs.Plans.{PlanValue, step_view, timed_view, plan_view, is_step, is_timed, is_plan};
+ghost use Rattle.std.specs.Prelude.{◌≡◌, ◌<◌, ◌≤◌, ◌↔◌, ℕ, List, IsTrue, IfOk, OnOk, OnErr, length, vec_len};
+ghost use Rattle.pddl_tree.specs.Plans.{PlanValue, plan_view, steps_of, is_plan};
 ghost use Rattle.pddl_tree.specs.PlanTexts.{SpellsPlan};
 ghost use Rattle.std.specs.Io.KnownBytes.{Appends};
 ghost use Rattle.pddl_text.specs.Device.{AppendsBeginning, HasFailed};
 ghost use Rattle.pddl_layout.specs.Printing.{Prints};
-ghost use Rattle.pddl_layout.specs.PlanLayout.{spaced, plain_line, timed_line, plan_text};
+ghost use Rattle.pddl_layout.specs.PlanLayout.{spaced, plain_line, plan_text};
+ghost use Rattle.pddl_layout.specs.PlanLines.{moment_text, line_at};
 
 use crate::number::put_number;
 use crate::printing::put;
-use pddl_text::{LONGEST, Sink, ToWrite, WriteFault};
-use pddl_tree::{Name, Plan, Step, TimedStep};
+use pddl_text::{Fixed, LONGEST, Sink, ToWrite, WriteFault};
+use pddl_tree::{Plan, Step};
 use std::alloc::{AllocError, Allocator};
 
-/// Writes names, each behind a space.
-fn put_names<A: Allocator, W: Sink>(out: &mut W, names: &[Name<A>]) -> Result<(), WriteFault>
-    ensures printed { Prints (W.contents out.old) (W.contents out.new) (W.failures out.old) (W.failures out.new) (spaced names.now) result }
-    ensures good { OnOk result (IsTrue (list_all is_name names.now)) }
+/// Writes the names of a step's objects, each behind a space.
+fn put_objects<A: Allocator, W: Sink>(out: &mut W, step: &Step<'_, A>) -> Result<(), WriteFault>
+    ensures { Prints (W.contents out.old) (W.contents out.new) (W.failures out.old) (W.failures out.new) (spaced step.now.objects) result }
 {
-    for name in names {
+    for number in 0..step.arity() {
         put(out, b" ")?;
-        put(out, name.as_bytes())?;
+        put(out, step.object(number))?;
     }
     Ok(())
 }
 
 /// Writes a step on a line.
-fn put_plain<A: Allocator, W: Sink>(out: &mut W, step: &Step<A>) -> Result<(), WriteFault>
-    ensures printed { Prints (W.contents out.old) (W.contents out.new) (W.failures out.old) (W.failures out.new) (plain_line (step_view step.now)) result }
-    ensures good { OnOk result (IsTrue (is_step (step_view step.now))) }
+fn put_plain<A: Allocator, W: Sink>(out: &mut W, step: &Step<'_, A>) -> Result<(), WriteFault>
+    ensures { Prints (W.contents out.old) (W.contents out.new) (W.failures out.old) (W.failures out.new) (plain_line step.now) result }
 {
     put(out, b"(")?;
-    put(out, step.action.as_bytes())?;
-    put_names(out, &step.objects)?;
+    put(out, step.action())?;
+    put_objects(out, step)?;
     put(out, b")\n")?;
     Ok(())
 }
 
-/// Writes a timed step on a line.
-fn put_timed<A: Allocator, W: Sink>(out: &mut W, timed: &TimedStep<A>) -> Result<(), WriteFault>
-    ensures printed { Prints (W.contents out.old) (W.contents out.new) (W.failures out.old) (W.failures out.new) (timed_line (timed_view timed.now)) result }
-    ensures good { OnOk result (IsTrue (is_timed (timed_view timed.now))) }
+/// Writes a moment, a colon and a space, where there is a moment.
+fn put_moment<W: Sink>(out: &mut W, moment: Option<Fixed>) -> Result<(), WriteFault>
+    ensures { Prints (W.contents out.old) (W.contents out.new) (W.failures out.old) (W.failures out.new) (moment_text moment) result }
 {
-    put_number(out, timed.moment)?;
-    put(out, b": ")?;
-    put_plain(out, &timed.step)?;
-    Ok(())
+    let Some(moment) = moment else {
+        return Ok(());
+    };
+    put_number(out, moment)?;
+    put(out, b": ")
 }
 
-/// Writes steps, each on a line.
-fn put_plain_lines<A: Allocator, W: Sink>(out: &mut W, steps: &[Step<A>]) -> Result<(), WriteFault>
-    ensures printed { Prints (W.contents out.old) (W.contents out.new) (W.failures out.old) (W.failures out.new)
-        (flat_map (λ step. plain_line (step_view step)) steps.now) result }
-    ensures good { OnOk result (IsTrue (list_all (λ step. is_step (step_view step)) steps.now)) }
-{
-    for step in steps {
-        put_plain(out, step)?;
-    }
-    Ok(())
-}
-
-/// Writes timed steps, each on a line.
-fn put_timed_lines<A: Allocator, W: Sink>(
+/// Writes the step of a number on a line.
+fn put_step<A: Allocator, W: Sink>(
     out: &mut W,
-    steps: &[TimedStep<A>],
+    plan: &Plan<A>,
+    number: usize,
 ) -> Result<(), WriteFault>
-    ensures printed { Prints (W.contents out.old) (W.contents out.new) (W.failures out.old) (W.failures out.new)
-        (flat_map (λ step. timed_line (timed_view step)) steps.now) result }
-    ensures good { OnOk result (IsTrue (list_all (λ step. is_timed (timed_view step)) steps.now)) }
+    requires { number < length (steps_of (plan_view plan.now)) }
+    ensures { Prints (W.contents out.old) (W.contents out.new) (W.failures out.old) (W.failures out.new) (line_at (plan_view plan.now) number) result }
 {
-    for step in steps {
-        put_timed(out, step)?;
-    }
-    Ok(())
+    put_moment(out, plan.moment(number))?;
+    put_plain(out, &plan.step(number))
 }
 
 /// Writes the canonical text of a plan. Each plan of the program is one of the values that texts spell.
 fn put_plan<A: Allocator, W: Sink>(out: &mut W, plan: &Plan<A>) -> Result<(), WriteFault>
     ensures printed { Prints (W.contents out.old) (W.contents out.new) (W.failures out.old) (W.failures out.new) (plan_text (plan_view plan.now)) result }
-    ensures good { OnOk result (IsTrue (is_plan (plan_view plan.now))) }
+    ensures good { IsTrue (is_plan (plan_view plan.now)) }
 {
-    match plan {
-        Plan::Plain(steps) => put_plain_lines(out, steps),
-        Plan::Timed(steps) => put_timed_lines(out, &steps.steps),
+    for number in 0..plan.len() {
+        put_step(out, plan, number)?;
     }
+    Ok(())
 }
 
 /// Writes the canonical text of a plan: one step a line in file order, a timed one behind its number, a colon and a space.

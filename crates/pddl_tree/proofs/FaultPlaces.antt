@@ -21,7 +21,7 @@ rest_of n [] after starts = starts
 rest_of n (item ∷ before) after starts = rest_of n before after starts.1
 
 -- the first of the items behind others
-next_inside : (text : List ℕ) (kind : StepKind) (before after items : List Placed) (span : Span) → HasItems text items → IsReached kind before after items → IsNext span after → IsInside text span.start
+pub next_inside : (text : List ℕ) (kind : StepKind) (before after items : List Placed) (span : Span) → HasItems text items → IsReached kind before after items → IsNext span after → IsInside text span.start
 next_inside text kind before [] items span has reached bad = absurd bad
 next_inside text kind before (item ∷ after) items span has reached next =
     let starts = items_inside text items has in

@@ -1,3 +1,11 @@
+mod CutLists
+mod NamesHeld
+mod BuiltPlans
+mod LentSteps
+mod MadePlans
+mod GotNames
+pub mod BuiltSteps
+pub mod FoldedNames
 pub mod Options
 pub mod TreeLists
 pub mod Readers

@@ -1,5 +1,5 @@
 -- Reading from the left answers the plan that items spell, or the fault that stands in them, and no other.
-use Rattle.std.proofs.Common.{◌≡◌, ℕ, ◌≤◌, Bool, true, false, List, [], ◌∷◌, ◌++◌, map, IsTrue, refl, sym, ap, subst, ◌∙◌, cond, arith}
+use Rattle.std.proofs.Common.{◌≡◌, ℕ, Bool, true, false, List, [], ◌∷◌, ◌++◌, map, IsTrue, refl, sym, ap, subst, ◌∙◌, cond, arith}
 use Rattle.std.specs.Prelude.{◌≢◌, Option, Some, None, Result, Ok, Err, is_some, ◌&&◌}
 use Rattle.std.proofs.lemmas.Bool.{cond_both}
 use Rattle.std.proofs.lemmas.List.{append_assoc, append-nil}
@@ -9,12 +9,14 @@ use Rattle.pddl_text.specs.declared.token.Span.{Span}
 use Rattle.pddl_text.specs.Number.{value_of}
 use Rattle.pddl_text.specs.Spelling.{PlacedWord}
 use Rattle.pddl_text.specs.Trees.{tree, Placed, placed_leaf, placed_node, PlacedList, no_placed, placed_tree, erased, all_erased}
+use Rattle.pddl_text.proofs.Tests.{both_true}
 use Rattle.pddl_tree.specs.declared.fault.ReadFault.{ReadFault}
 use Rattle.pddl_tree.specs.declared.fault.ReadFault.TheVariants as faults
 use Rattle.pddl_tree.specs.Names.{folded, is_name}
-use Rattle.pddl_tree.specs.Plans.{StepValue, TimedValue, PlanValue, plain, timed, IsNamed, AreNamed, IsStep, IsMoment, IsColon, ArePlain, IsTimed, AreTimed, AreSteps}
+use Rattle.pddl_tree.specs.Plans.{StepValue, TimedValue, PlanValue, plain, timed, AreNamed, IsStep, IsColon, ArePlain, IsTimed, AreTimed, AreSteps}
 use Rattle.pddl_tree.specs.PlanFaults.{StepKind, alone, at_moments, other_kind, span_of, Follows, NoneFollows, IsNext, IsNextBracket, IsReached, IsMixed, IsDuration, IsNoStep}
 use Rattle.pddl_tree.specs.PlanReading.{name_by, name_at, both, names_at, step_of, placed_items, step_at, moment_by, moment_at, colon_by, is_colon, timed_of, timed_by, timed_at, bracket_by, is_bracket, no_step, timed_span, plain_fault, timed_fault, is_behind, where_some, plain_from, timed_from, plan_at}
+use Rattle.pddl_tree.specs.Words.{SpellsName, SpellsNumber}
 use Rattle.pddl_tree.proofs.PlanSteps.{plain_some, plain_none, timed_some, timed_none}
 
 -- ---- what a computed answer says of its parts
@@ -47,13 +49,13 @@ named_complete : (kind : TokenKind) (text name : List ℕ) → IsTrue (is_name n
 named_complete kind text name good is folds =
     ap (λ k. name_by k text) is ∙ ap (λ t. cond (is_name t) (Some t) None) folds ∙ ap (λ b. cond b (Some name) None) good
 
-name_sound : (item : Placed) (name : List ℕ) → name_at item ≡ Some name → IsNamed name (erased item)
-name_sound (placed_leaf w) name e = named_sound w.kind w.text name e
+name_sound : (item : Placed) (name : List ℕ) → name_at item ≡ Some name → SpellsName name (erased item)
+name_sound (placed_leaf w) name e = let n = named_sound w.kind w.text name e in (n.0, (n.1, n.2))
 name_sound (placed_node span items) name e = absurd (cc)
 
-name_complete : (item : Placed) (name : List ℕ) → IsNamed name (erased item) → name_at item ≡ Some name
-name_complete (placed_leaf w) name (good, is, folds) = named_complete w.kind w.text name good is folds
-name_complete (placed_node span items) name bad = absurd bad
+name_complete : (item : Placed) (name : List ℕ) → SpellsName name (erased item) → name_at item ≡ Some name
+name_complete (placed_leaf w) name (good, (is, folds)) = named_complete w.kind w.text name good is folds
+name_complete (placed_node span items) name bad = absurd bad.1
 
 names_sound : (items : PlacedList) (names : List (List ℕ)) → names_at (placed_items items) ≡ Some names → AreNamed names (all_erased items)
 names_sound no_placed [] e = tt
@@ -90,11 +92,11 @@ moment_by_sound : (kind : TokenKind) (text : List ℕ) (m : ℕ) → moment_by k
 moment_by_sound Number text m e = (refl, e)
 moment_by_sound _ text m e = absurd (cc)
 
-moment_sound : (item : Placed) (m : ℕ) → moment_at item ≡ Some m → IsMoment m (erased item)
+moment_sound : (item : Placed) (m : ℕ) → moment_at item ≡ Some m → SpellsNumber m (erased item)
 moment_sound (placed_leaf w) m e = moment_by_sound w.kind w.text m e
 moment_sound (placed_node span items) m e = absurd (cc)
 
-moment_complete : (item : Placed) (m : ℕ) → IsMoment m (erased item) → moment_at item ≡ Some m
+moment_complete : (item : Placed) (m : ℕ) → SpellsNumber m (erased item) → moment_at item ≡ Some m
 moment_complete (placed_leaf w) m (is, value) = ap (λ k. moment_by k w.text) is ∙ value
 moment_complete (placed_node span items) m bad = absurd bad
 
@@ -272,7 +274,7 @@ plan_plain : (item : Placed) (items : List Placed) (step : StepValue) → IsStep
 plan_plain (placed_leaf w) items step bad = absurd bad
 plan_plain (placed_node span children) items step is = refl
 
-plan_timed : (item : Placed) (items : List Placed) (m : ℕ) → IsMoment m (erased item) → plan_at (item ∷ items) ≡ timed_from [] (item ∷ items)
+plan_timed : (item : Placed) (items : List Placed) (m : ℕ) → SpellsNumber m (erased item) → plan_at (item ∷ items) ≡ timed_from [] (item ∷ items)
 plan_timed (placed_leaf w) items m is = refl
 plan_timed (placed_node span children) items m bad = absurd bad
 
@@ -327,7 +329,7 @@ plan_sound (placed_node span children ∷ items) plan e =
 -- what a fault says of the items
 abbrev pub ItemsStand : ReadFault → List Placed → Type 0
 ItemsStand (faults.Text fault) items = ⊥
-ItemsStand (faults.Step span near) items = IsNoStep span items × (span.start ≤ near)
+ItemsStand (faults.Step span near) items = IsNoStep span items × (span.start ≡ near)
 ItemsStand (faults.Mixed span) items = IsMixed span items
 ItemsStand (faults.Duration span) items = IsDuration span items
 
@@ -360,12 +362,8 @@ no_step_stands kind before item after items behind reached none some back =
     (λ is. let parts = both_true behind (is_bracket item) is in record { kind = kind; before = before; after = item ∷ after; reached = reached; some_before = some parts.0; none_follows = none; bracket = bracket_sound item after parts.1 })
     (λ other. (
       record { kind = kind; before = before; after = item ∷ after; reached = reached; none_follows = none; no_duration = λ some_there bracket. absurd (cc (other, back some_there, (bracket_complete item after (span_of item) bracket).0)); next = refl },
-      omega arith,
+      refl,
     ))
-  where
-    both_true : (a b : Bool) → (a && b) ≡ true → (a ≡ true) × (b ≡ true)
-    both_true false b e = absurd (cc (e))
-    both_true true b e = (refl, e)
 
 node_no_timed : (span : Span) (children : PlacedList) (items : List Placed) → None ≡ timed_at (placed_node span children ∷ items)
 node_no_timed span children [] = refl
@@ -376,7 +374,7 @@ step_no_timed : (item : Placed) (items : List Placed) (step : StepValue) → IsS
 step_no_timed (placed_leaf w) items step bad = absurd bad
 step_no_timed (placed_node span children) items step is = node_no_timed span children items
 
-moment_no_step : (item : Placed) (m : ℕ) → IsMoment m (erased item) → None ≡ step_at item
+moment_no_step : (item : Placed) (m : ℕ) → SpellsNumber m (erased item) → None ≡ step_at item
 moment_no_step (placed_leaf w) m is = refl
 moment_no_step (placed_node span children) m bad = absurd bad
 

@@ -1,17 +1,22 @@
 -- Words read one by one form the items of a plan.
-use Rattle.std.proofs.Common.{◌≡◌, ℕ, List, [], ◌∷◌, ◌++◌, map, IsTrue, refl, sym, subst}
-use Rattle.std.specs.Prelude.{◌≢◌}
-use Rattle.std.proofs.lemmas.List.{append_assoc, map_push, map-append}
+use Rattle.std.proofs.Common.{◌≡◌, ◌<◌, ℕ, List, [], ◌∷◌, ◌++◌, length, map, IsTrue, refl, sym, ap, subst, ◌∙◌, arith}
+use Rattle.std.specs.Prelude.{◌≢◌, Option, Some, None, Result, Ok, Err, IfOk, IfSome}
+use Rattle.std.proofs.lemmas.List.{append_assoc, map_push, map-append, length-append, length-map}
 use Rattle.pddl_text.specs.declared.token.TokenKind.TheVariants.{Open, Close, Name}
 use Rattle.pddl_text.specs.Spelling.{PlacedWord}
 use Rattle.pddl_text.specs.Scanning.{LexedTo}
 use Rattle.pddl_text.specs.Trees.{Tree, leaf, node, Placed, placed_leaf, placed_node, placed_of, erased, all_erased}
-use Rattle.pddl_text.specs.Lists.{span_over, AreItems, none, plain, nested}
+use Rattle.pddl_text.specs.Lists.{span_over, AreItems, none, nested}
 use Rattle.pddl_text.proofs.Nests.{items_append}
 use Rattle.pddl_text.proofs.Lexed.{nothing_lexed}
 use Rattle.pddl_tree.specs.Names.{is_name, folded}
-use Rattle.pddl_tree.specs.Plans.{StepValue, TimedValue, AreNamed, IsStep, IsMoment, IsColon, ArePlain, IsTimed, AreTimed}
+use Rattle.pddl_text.specs.Texts.{HasItems}
+use Rattle.pddl_tree.specs.Building.{Building, HasNamesMore, HasNames}
+use Rattle.pddl_tree.specs.Plans.{StepValue, TimedValue, PlanValue, step_of_names, plan_of, built_plan, AreNamed, IsStep, IsColon, ArePlain, IsTimed, AreTimed}
+use Rattle.pddl_tree.specs.PlanTexts.{SpellsPlan}
+use Rattle.pddl_tree.proofs.BuiltSteps.{built_steps, built_timed, some_timed, plan_is_timed}
 use Rattle.pddl_tree.specs.PlanScanning.{ItemsTo, AreNames, NamesTo, AreNamedIn, SpellPlain, SpellTimed}
+use Rattle.pddl_tree.specs.Words.{SpellsNumber}
 
 -- one word more may be read, whatever was read before
 abbrev GoesOn : List ℕ → ℕ → PlacedWord → ℕ → Type 0
@@ -29,13 +34,45 @@ names_form : (names : List (List ℕ)) (words : List PlacedWord) → AreNames na
 names_form [] [] named = none
 names_form [] (w ∷ words) bad = absurd bad
 names_form (name ∷ names) [] bad = absurd bad
-names_form (name ∷ names) (w ∷ words) (first, rest) = plain w (λ e. absurd (cc (first.1, e))) (λ e. absurd (cc (first.1, e))) (names_form names words rest)
+names_form (name ∷ names) (w ∷ words) (first, rest) = AreItems.plain w (λ e. absurd (cc (first.1, e))) (λ e. absurd (cc (first.1, e))) (names_form names words rest)
 
 names_named : (names : List (List ℕ)) (words : List PlacedWord) → AreNames names words → AreNamed names (all_erased (placed_of (map placed_leaf words)))
 names_named [] [] named = tt
 names_named [] (w ∷ words) bad = absurd bad
 names_named (name ∷ names) [] bad = absurd bad
-names_named (name ∷ names) (w ∷ words) (first, rest) = (first, names_named names words rest)
+names_named (name ∷ names) (w ∷ words) (first, rest) = ((first.0, (first.1, first.2)), names_named names words rest)
+
+-- ---- names in a plan in making
+
+-- names grow, and nothing else
+pub no_names_more : (b : Building) → HasNamesMore b b
+no_names_more b = record { moments = refl; steps = refl; names = omega (arith) }
+
+pub names_more : (old now new : Building) (name : List ℕ) → HasNamesMore old now → new.names ≡ now.names ++ name ∷ [] → new.moments ≡ now.moments → new.steps ≡ now.steps → HasNamesMore old new
+names_more old now new name more names moments steps = record {
+  moments = moments ∙ more.moments;
+  steps = steps ∙ more.steps;
+  names = omega (arith, more.names, ap length names, length-append now.names (name ∷ []));
+}
+
+pub some_names : (old now new : Building) (name : List ℕ) → old.names ≡ [] → now.names ≡ old.names ++ name ∷ [] → now.moments ≡ old.moments → now.steps ≡ old.steps → HasNamesMore now new → HasNames old new
+some_names old now new name empty names moments steps more = record {
+  moments = more.moments ∙ moments;
+  steps = more.steps ∙ steps;
+  names = omega (arith, more.names, ap length names, length-append old.names (name ∷ []), ap length empty);
+}
+
+-- what is found where an answer has something
+pub if_found : {A E : Type 0} (P Q : A → Type 0) (r : Result (Option A) E) → ((a : A) → P a → Q a) → IfOk r (λ found. IfSome found P) → IfOk r (λ found. IfSome found Q)
+if_found P Q (Ok (Some a)) on h = on a h
+if_found P Q (Ok None) on h = h
+if_found P Q (Err e) on h = h
+
+pub if_both_found : {A E : Type 0} (P Q R : A → Type 0) (r : Result (Option A) E) → ((a : A) → P a → Q a → R a)
+    → IfOk r (λ found. IfSome found P) → IfOk r (λ found. IfSome found Q) → IfOk r (λ found. IfSome found R)
+if_both_found P Q R (Ok (Some a)) on h k = on a h k
+if_both_found P Q R (Ok None) on h k = h
+if_both_found P Q R (Err e) on h k = h
 
 -- ---- one word more
 
@@ -43,7 +80,7 @@ pub opening_to : (text : List ℕ) (items : List Placed) (at end : ℕ) (w : Pla
 opening_to text items at end w is_open on to = record { words = to.words; opening = w; inner = []; lexed = on to.words to.lexed; form = to.form; is_opening = is_open; named = tt }
 
 pub word_to : (text : List ℕ) (items : List Placed) (at end : ℕ) (w : PlacedWord) → w.kind ≢ Open → w.kind ≢ Close → GoesOn text at w end → ItemsTo text items at → ItemsTo text (items ++ placed_leaf w ∷ []) end
-word_to text items at end w no_open no_close on to = record { words = to.words ++ w ∷ []; lexed = on to.words to.lexed; form = items_append to.form (w ∷ []) (placed_leaf w ∷ []) (plain w no_open no_close none) }
+word_to text items at end w no_open no_close on to = record { words = to.words ++ w ∷ []; lexed = on to.words to.lexed; form = items_append to.form (w ∷ []) (placed_leaf w ∷ []) (AreItems.plain w no_open no_close none) }
 
 pub name_to : (text : List ℕ) (items : List Placed) (front : List (List ℕ)) (name : List ℕ) (at end : ℕ) (w : PlacedWord) → IsTrue (is_name name) × (w.kind ≡ Name) × (folded w.text ≡ name) → GoesOn text at w end → NamesTo text items front at → NamesTo text items (front ++ name ∷ []) end
 name_to text items front name at end w here on to = record {
@@ -73,9 +110,23 @@ closing_to text items names at end w is_close on to =
 
 -- ---- steps
 
-pub named_step : (step : StepValue) (t : Tree) → AreNamedIn (step.action ∷ step.objects) t → IsStep step t
-named_step step (node ts) named = named
-named_step step (leaf w) bad = absurd bad
+pub named_step : (names : List (List ℕ)) (t : Tree) → 0 < length names → AreNamedIn names t → IsStep (step_of_names names) t
+named_step [] t some named = absurd (omega (arith, some))
+named_step (name ∷ names) (node ts) some named = named
+named_step (name ∷ names) (leaf w) some bad = absurd bad
+
+module _ (text : List ℕ) (b : Building) (at : ℕ) where
+  pub plain_spelled : b.moments ≡ [] → (to : SpellPlain text (built_steps b) at) → HasItems text to.items → SpellsPlan (built_plan b) text
+  plain_spelled empty to has =
+      subst (λ (ms : List ℕ). SpellsPlan (plan_of ms (built_steps b)) text) (sym empty) (record { items = to.items; has = has; steps = to.steps_are })
+
+  pub timed_spelled : length b.moments ≡ length b.steps → 0 < length b.steps → (to : SpellTimed text (built_timed b) at) → HasItems text to.items → SpellsPlan (built_plan b) text
+  timed_spelled same some to has =
+      let steps = built_steps b in
+      let as_many : length b.moments ≡ length steps = same ∙ sym (length-map b.steps step_of_names) in
+      let has_some : 0 < length steps = omega (arith, some, length-map b.steps step_of_names) in
+      subst (λ (p : PlanValue). SpellsPlan p text) (sym (plan_is_timed b.moments steps as_many has_some))
+      (record { items = to.items; has = has; steps = (some_timed b.moments steps as_many has_some, to.steps_are) })
 
 plain_push : (steps : List StepValue) (ts : List Tree) (step : StepValue) (t : Tree) → ArePlain steps ts → IsStep step t → ArePlain (steps ++ step ∷ []) (ts ++ t ∷ [])
 plain_push [] [] step t are is = (is, tt)
@@ -113,7 +164,7 @@ plain_more text steps step at inside end so_far opens scanned =
     }
 
 pub timed_more : (text : List ℕ) (steps : List TimedValue) (s : TimedValue) (at behind end : ℕ) → SpellTimed text steps at
-    → ((items : List Placed) → ItemsTo text items at → (number : Placed) × IsMoment s.moment (erased number) × ItemsTo text (items ++ number ∷ []) behind)
+    → ((items : List Placed) → ItemsTo text items at → (number : Placed) × SpellsNumber s.moment (erased number) × ItemsTo text (items ++ number ∷ []) behind)
     → ((items : List Placed) → ItemsTo text items behind → (colon item : Placed) × IsColon (erased colon) × IsStep s.step (erased item) × ItemsTo text (items ++ colon ∷ item ∷ []) end)
     → SpellTimed text (steps ++ s ∷ []) end
 timed_more text steps s at behind end so_far numbers scanned =

@@ -1,9 +1,8 @@
 -- Items as the code goes over them, and steps read from them.
-use Rattle.std.proofs.Common.{◌≡◌, ℕ, ◌+◌, ◌<◌, ◌≤◌, Bool, false, List, [], ◌∷◌, ◌++◌, length, get_or, drop, map, Vec, refl, sym, ap, subst, ◌∙◌, add-one, arith, drop-cons}
-use Rattle.std.specs.Prelude.{Option, Some, None, Result, Ok, Err, is_some, ◌&&◌, ◌==◌, not}
+use Rattle.std.proofs.Common.{◌≡◌, ℕ, ◌+◌, ◌<◌, ◌≤◌, Bool, true, false, List, [], ◌∷◌, ◌++◌, length, get_or, drop, Vec, refl, sym, ap, subst, ◌∙◌, add-one, arith, drop-cons}
+use Rattle.std.specs.Prelude.{Option, Some, None, Result, Ok, Err, is_some, ◌&&◌, option_map}
 use Rattle.std.proofs.lemmas.Bool.{cond_both}
-use Rattle.std.proofs.lemmas.Bool.Decides.{nat_tests}
-use Rattle.std.proofs.lemmas.List.{drop-map, drop-drop, length-map, length-drop}
+use Rattle.std.proofs.lemmas.List.{append-nil, append_assoc, length-append, drop-map, drop-drop, length-map, length-drop}
 use Rattle.pddl_text.specs.declared.token.Span.{Span}
 use Rattle.pddl_text.specs.declared.token.Token.{Token}
 use Rattle.pddl_text.specs.declared.item.Item.{Item}
@@ -14,10 +13,14 @@ use Rattle.pddl_text.specs.Spelling.{view}
 use Rattle.pddl_text.specs.Trees.{Placed, placed_leaf, placed_node, placed_of}
 use Rattle.pddl_text.specs.Items.{item_step, item_view, items_view}
 use Rattle.pddl_tree.specs.declared.fault.ReadFault.{ReadFault}
-use Rattle.pddl_tree.specs.Plans.{StepValue, TimedValue, PlanValue, plain, timed}
+use Rattle.pddl_tree.specs.Plans.{StepValue, TimedValue, PlanValue, plain, timed, step_of_names}
+use Rattle.pddl_tree.specs.NameLists.{AddsName}
+use Rattle.pddl_tree.specs.Building.{Building, AddsWord, AddsNames}
+use Rattle.pddl_tree.specs.StepNames.{names_of_step, AddsTimed}
 use Rattle.pddl_tree.specs.PlanFaults.{span_of}
-use Rattle.pddl_tree.specs.PlanReading.{plan_at, timed_span, both, name_at, names_at, placed_items, step_at, is_bracket, no_step, timed_at, plain_fault, timed_fault, is_behind, where_some, plain_from, timed_from, Refuses}
-use Rattle.pddl_tree.proofs.Options.{with_front, front_more}
+use Rattle.pddl_tree.specs.PlanReading.{plan_at, moment_at, is_colon, timed_span, both, name_at, names_at, placed_items, step_of, step_at, is_bracket, no_step, timed_at, plain_fault, timed_fault, is_behind, where_some, plain_from, timed_from, Refuses}
+use Rattle.pddl_tree.proofs.Options.{with_front, front_more, front_none}
+use Rattle.pddl_tree.proofs.GotNames.{GotName}
 
 -- ---- items as the code holds them
 
@@ -51,6 +54,146 @@ names_stop xs i d front whole lt so_far missing =
     let rest : Option (List (List ℕ)) = names_at (items_view (drop (i + 1) xs)) in
     ap (λ o. with_front front (both o rest)) missing ∙ ap (λ items. with_front front (names_at items)) (sym (view_from xs i d lt)) ∙ so_far
 
+-- the names that were added, and the items that are left
+pub record NamesSoFar (whole : Option (List (List ℕ))) (rest : List Placed) (old now : Building) : Type 0 where
+  pub names : List (List ℕ)
+  pub added : now.names ≡ old.names ++ names
+  pub read : with_front names (names_at rest) ≡ whole
+  pub moments : now.moments ≡ old.moments
+  pub steps : now.steps ≡ old.steps
+
+pub no_names_added : (items : List Placed) (b : Building) → NamesSoFar (names_at items) items b b
+no_names_added items b = record { names = []; added = sym (append-nil b.names); read = front_none (names_at items); moments = refl; steps = refl }
+
+pub name_added : {A : Type 0} (xs : List (Item A)) (i : ℕ) (d : Item A) (old now new : Building) (whole : Option (List (List ℕ))) → i < length xs
+    → NamesSoFar whole (items_view (drop i xs)) old now → GotName (name_at (item_view (get_or xs i d))) now new → NamesSoFar whole (items_view (drop (i + 1) xs)) old new
+name_added xs i d old now new whole lt so_far got = record {
+  names = so_far.names ++ got.name ∷ [];
+  added = got.names ∙ ap (λ (ns : List (List ℕ)). ns ++ got.name ∷ []) so_far.added ∙ append_assoc old.names so_far.names (got.name ∷ []);
+  read = names_on xs i d so_far.names (so_far.names ++ got.name ∷ []) got.name whole lt so_far.read (sym got.some) refl;
+  moments = got.moments ∙ so_far.moments;
+  steps = got.steps ∙ so_far.steps;
+}
+
+-- an item that is no name
+pub not_added : {A : Type 0} (xs : List (Item A)) (i : ℕ) (d : Item A) (old now new : Building) (whole : Option (List (List ℕ))) (is : Bool) → i < length xs
+    → NamesSoFar whole (items_view (drop i xs)) old now → is ≡ false → AddsWord is (name_at (item_view (get_or xs i d))) now new → AddsNames false whole old new
+not_added xs i d old now new whole is lt so_far fails adds =
+    let missing : None ≡ name_at (item_view (get_or xs i d)) = no_word is (name_at (item_view (get_or xs i d))) fails adds.names in
+    subst (λ o. AddsNames false o old new) (names_stop xs i d so_far.names whole lt so_far.read missing)
+    (record { moments = adds.moments ∙ so_far.moments; steps = adds.steps ∙ so_far.steps; names = tt })
+  where
+    no_word : (is : Bool) (o : Option (List ℕ)) → is ≡ false → AddsName is o now.names new.names → None ≡ o
+    no_word false None e h = refl
+    no_word false (Some n) e h = absurd h
+    no_word true o e h = absurd (cc (e))
+
+pub all_names_added : (whole : Option (List (List ℕ))) (rest : List Placed) (old now : Building) → rest ≡ [] → NamesSoFar whole rest old now → AddsNames true whole old now
+all_names_added whole rest old now none so_far =
+    let read : Some so_far.names ≡ whole = ap Some (sym (append-nil so_far.names)) ∙ ap (λ (r : List Placed). with_front so_far.names (names_at r)) (sym none) ∙ so_far.read in
+    subst (λ o. AddsNames true o old now) read (record { moments = so_far.moments; steps = so_far.steps; names = so_far.added })
+
+-- a step that was added
+pub record GotStep (o : Option StepValue) (old new : Building) : Type 0 where
+  pub step : StepValue
+  pub some : Some step ≡ o
+  pub names : new.names ≡ old.names ++ names_of_step step
+  pub moments : new.moments ≡ old.moments
+  pub steps : new.steps ≡ old.steps
+
+pub got_step : (is : Bool) (o : Option StepValue) (old new : Building) → is ≡ true → AddsNames is (option_map names_of_step o) old new → GotStep o old new
+got_step true (Some step) old new e adds = record { step = step; some = refl; names = adds.names; moments = adds.moments; steps = adds.steps }
+got_step true None old new e adds = absurd adds.names
+got_step false o old new e adds = absurd (cc (e))
+
+pub no_step_added : (is : Bool) (o : Option StepValue) (old new : Building) → is ≡ false → AddsNames is (option_map names_of_step o) old new → None ≡ o
+no_step_added false None old new e adds = refl
+no_step_added false (Some step) old new e adds = absurd adds.names
+no_step_added true o old new e adds = absurd (cc (e))
+
+pub step_test : (is : Bool) (o : Option StepValue) (old new : Building) → AddsNames is (option_map names_of_step o) old new → is ≡ is_some o
+step_test true (Some step) old new adds = refl
+step_test false None old new adds = refl
+step_test true None old new adds = absurd adds.names
+step_test false (Some step) old new adds = absurd adds.names
+
+-- the names of some items are those of the step that they are
+pub step_names : (items : List Placed) → 0 < length items → names_at items ≡ option_map names_of_step (step_of (names_at items))
+step_names [] some = absurd (omega (arith, some))
+step_names (item ∷ items) some = of_both (name_at item) (names_at items)
+  where
+    of_both : (o : Option (List ℕ)) (os : Option (List (List ℕ))) → both o os ≡ option_map names_of_step (step_of (both o os))
+    of_both None os = refl
+    of_both (Some x) None = refl
+    of_both (Some x) (Some xs) = refl
+
+-- a timed step that was added
+pub record GotTimed (moment : ℕ) (o : Option TimedValue) (old new : Building) : Type 0 where
+  pub step : StepValue
+  pub some : Some (record { moment = moment; step = step }) ≡ o
+  pub names : new.names ≡ old.names ++ names_of_step step
+  pub moments : new.moments ≡ old.moments
+  pub steps : new.steps ≡ old.steps
+
+pub got_timed : (found : Option ℕ) (moment : ℕ) (o : Option TimedValue) (old new : Building) → found ≡ Some moment → AddsTimed found o old new → GotTimed moment o old new
+got_timed (Some m) moment (Some s) old new e adds =
+    let same : m ≡ moment = cc (e) in
+    record {
+      step = s.step;
+      some = ap (λ (n : ℕ). Some (record { moment = n; step = s.step })) (sym same ∙ adds.0);
+      names = adds.1.names;
+      moments = adds.1.moments;
+      steps = adds.1.steps;
+    }
+got_timed (Some m) moment None old new e adds = absurd adds
+got_timed None moment o old new e adds = absurd (cc (e))
+
+pub timed_added : (moment : ℕ) (step : StepValue) (o : Option TimedValue) (old new : Building) → o ≡ Some (record { moment = moment; step = step }) → GotStep (Some step) old new → AddsTimed (Some moment) o old new
+timed_added moment step o old new is got =
+    let same : step ≡ got.step = let e = got.some in cc in
+    subst (λ o. AddsTimed (Some moment) o old new) (sym is)
+    (refl, record { moments = got.moments; steps = got.steps; names = got.names ∙ ap (λ (s : StepValue). old.names ++ names_of_step s) (sym same) })
+
+-- the first three items are a timed step
+pub timed_three : {A : Type 0} (xs : List (Item A)) (d e f : Item A) → 3 ≤ length xs → (moment : ℕ) (step : StepValue) → is_colon (item_view (get_or xs 1 e)) ≡ true
+    → moment_at (item_view (get_or xs 0 d)) ≡ Some moment → step_at (item_view (get_or xs 2 f)) ≡ Some step → timed_at (items_view xs) ≡ Some (record { moment = moment; step = step })
+timed_three [] d e f le moment step colon at is = absurd (omega (arith, le))
+timed_three (x ∷ []) d e f le moment step colon at is = absurd (omega (arith, le))
+timed_three (x ∷ y ∷ []) d e f le moment step colon at is = absurd (omega (arith, le))
+timed_three (x ∷ y ∷ z ∷ xs) d e f le moment step colon at is = rw (colon, at, is) refl
+
+pub none_timed : (o : Option TimedValue) (old new : Building) → None ≡ o → new.moments ≡ old.moments → new.steps ≡ old.steps → AddsTimed None o old new
+none_timed o old new none moments steps = subst (λ o. AddsTimed None o old new) none (moments, steps)
+
+pub no_timed_added : (found : Option ℕ) (o : Option TimedValue) (old new : Building) → found ≡ None → AddsTimed found o old new → None ≡ o
+no_timed_added None None old new e adds = refl
+no_timed_added None (Some s) old new e adds = absurd adds
+no_timed_added (Some m) o old new e adds = absurd (cc (e))
+
+pub timed_kept : (found : Option ℕ) (o : Option TimedValue) (old new : Building) → found ≡ None → AddsTimed found o old new → new.steps ≡ old.steps
+timed_kept None None old new e adds = adds.1
+timed_kept None (Some s) old new e adds = absurd adds
+timed_kept (Some m) o old new e adds = absurd (cc (e))
+
+pub timed_test : (found : Option ℕ) (o : Option TimedValue) (old new : Building) → AddsTimed found o old new → is_some found ≡ is_some o
+timed_test (Some m) (Some s) old new adds = refl
+timed_test None None old new adds = refl
+timed_test (Some m) None old new adds = absurd adds
+timed_test None (Some s) old new adds = absurd adds
+
+-- a step that is added is that of its names
+pub step_got : {o : Option StepValue} {old new : Building} → old.names ≡ [] → (got : GotStep o old new) → step_of_names new.names ≡ got.step
+step_got none got = ap step_of_names (got.names ∙ ap (λ (ns : List (List ℕ)). ns ++ names_of_step got.step) none)
+
+pub some_got : {o : Option StepValue} {old new : Building} → GotStep o old new → 0 < length new.names
+some_got {old = old} got = omega (arith, ap length got.names, length-append old.names (names_of_step got.step))
+
+pub timed_got : {moment : ℕ} {o : Option TimedValue} {old new : Building} → old.names ≡ [] → (got : GotTimed moment o old new) → step_of_names new.names ≡ got.step
+timed_got none got = ap step_of_names (got.names ∙ ap (λ (ns : List (List ℕ)). ns ++ names_of_step got.step) none)
+
+pub some_timed_got : {moment : ℕ} {o : Option TimedValue} {old new : Building} → GotTimed moment o old new → 0 < length new.names
+some_timed_got {old = old} got = omega (arith, ap length got.names, length-append old.names (names_of_step got.step))
+
 -- ---- spans
 
 pub span_over_three : {A : Type 0} (xs : List (Item A)) (d e : Item A) → 3 ≤ length xs
@@ -76,13 +219,11 @@ refused_timed behind [] answer some e = absurd (omega (arith, some))
 refused_timed behind (item ∷ items) answer some e =
     cond_both (is_some (step_at item)) _ _ (λ f. answer ≡ Err f → Refuses f answer) (λ is e. e) (λ other. refused_no_step behind item answer) e
 
--- whether some value was found, in the code and in its view
-by_length : {A B : Type 0} (view : A → B) (xs : List A) (n : ℕ) (empty : Bool) → n ≡ length xs → empty ≡ (n == 0) → not empty ≡ is_behind (map view xs)
-by_length view [] n empty len e = ap not (e ∙ ap (λ (k : ℕ). k == 0) len)
-by_length view (x ∷ xs) n empty len e = let test : (length (x ∷ xs) == 0) ≡ false = grind (arith, nat_tests) in ap not (e ∙ ap (λ (k : ℕ). k == 0) len ∙ test)
-
-pub found_some : {A B Z : Type 0} (view : A → B) (v : Vec A Z) (empty : Bool) → empty ≡ (v.len == 0) → not empty ≡ is_behind (map view v.items)
-found_some view v empty e = by_length view v.items v.len empty (omega (arith, v.ok)) e
+-- no timed step stands first, so the fault is that of no step
+pub no_timed_first : {A : Type 0} (xs : List (Item A)) (d : Item A) (behind : Bool) (fault : ReadFault) → 1 ≤ length xs → is_some (timed_at (items_view xs)) ≡ false
+    → fault ≡ no_step behind (item_view (get_or xs 0 d)) → fault ≡ plain_fault behind (items_view xs)
+no_timed_first [] d behind fault le fails is = absurd (omega (arith, le))
+no_timed_first (x ∷ xs) d behind fault le fails is = rw fails is
 
 -- ---- plain steps
 

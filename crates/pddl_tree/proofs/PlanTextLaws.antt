@@ -1,5 +1,5 @@
 -- A text has one plan or one fault, and reading answers it.
-use Rattle.std.proofs.Common.{◌≡◌, ℕ, List, refl, sym, ap, subst, ◌∙◌, inl, inr}
+use Rattle.std.proofs.Common.{◌≡◌, ◌≤◌, ℕ, List, length, refl, sym, ap, subst, ◌∙◌, arith, inl, inr}
 use Rattle.std.specs.Prelude.{◌≢◌, ◌⊎◌, Ok, Err}
 use Rattle.pddl_text.specs.declared.fault.TextFault.{TextFault}
 use Rattle.pddl_text.specs.declared.fault.TextFault.TheVariants.{Memory}
@@ -12,6 +12,7 @@ use Rattle.pddl_tree.specs.declared.fault.ReadFault.TheVariants as faults
 use Rattle.pddl_tree.specs.Plans.{PlanValue}
 use Rattle.pddl_tree.specs.PlanTexts.{SpellsPlan, PlanStands, without_near}
 use Rattle.pddl_tree.specs.PlanReading.{plan_at, Refuses}
+use Rattle.pddl_tree.proofs.FaultPlaces.{next_inside}
 use Rattle.pddl_tree.proofs.PlanLaws.{plan_complete, plan_sound, ItemsStand, fault_sound, mixed_complete, duration_complete, no_step_complete}
 
 pub one_plan : (text : List ℕ) (plan other : PlanValue) → SpellsPlan plan text → SpellsPlan other text → plan ≡ other
@@ -65,7 +66,10 @@ read_spells text items plan has read = record { items = items; has = has; steps 
 -- a fault of items is one of their text
 items_stand : (fault : ReadFault) (text : List ℕ) (items : List Placed) → HasItems text items → ItemsStand fault items → PlanStands fault text
 items_stand (faults.Text t) text items has bad = absurd bad
-items_stand (faults.Step span near) text items has stands = (record { items = items; has = has; fault = stands.0 }, stands.1)
+items_stand (faults.Step span near) text items has stands =
+    let f = stands.0 in
+    let inside = next_inside text f.kind f.before f.after items span has f.reached f.next in
+    (record { items = items; has = has; fault = f }, omega (arith, stands.1), subst (λ n. n ≤ length text) stands.1 inside.0)
 items_stand (faults.Mixed span) text items has stands = record { items = items; has = has; fault = stands }
 items_stand (faults.Duration span) text items has stands = record { items = items; has = has; fault = stands }
 

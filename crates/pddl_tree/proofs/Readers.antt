@@ -1,16 +1,15 @@
 -- The readers of words read what is spelled, and nothing else; readers of values that stand in turn.
-use Rattle.std.proofs.Common.{◌≡◌, ◌≢◌, ℕ, Bool, true, false, List, [], ◌∷◌, map, IsTrue, refl, sym, ap, ◌∙◌, subst}
-use Rattle.std.specs.Prelude.{Option, Some, None, ◌==◌, if◌then◌else◌}
+use Rattle.std.proofs.Common.{◌≡◌, ◌≢◌, ℕ, Bool, true, false, List, [], ◌∷◌, map, IsTrue, refl, ap, ◌∙◌, subst}
+use Rattle.std.specs.Prelude.{Option, Some, ◌==◌}
 use Rattle.std.proofs.lemmas.Slice.Eq.{bytes_eq-Decides}
-use Rattle.std.proofs.lemmas.Bool.{cond_both, eqb-true}
+use Rattle.std.proofs.lemmas.Bool.{eqb-true}
 use Rattle.std.specs.Str.{bytes_eq}
 use Rattle.pddl_text.specs.declared.token.TokenKind.{TokenKind}
 use Rattle.pddl_text.specs.declared.token.TokenKind.TheVariants.{Open, Close, Name, Variable, Keyword, Number, Dash, Equal, Colon, Bracket, Compare, Arithmetic}
-use Rattle.pddl_text.specs.Spelling.{Word}
 use Rattle.pddl_text.specs.Trees.{Tree, leaf, node}
 use Rattle.pddl_tree.specs.Names.{folded, is_name, name_of}
 use Rattle.pddl_tree.specs.Words.{IsWord, IsKeyword, IsDash, SpellsName, SpellsVariable, Each}
-use Rattle.pddl_tree.specs.PlanReading.{name_by, both}
+use Rattle.pddl_tree.specs.PlanReading.{name_by}
 use Rattle.pddl_tree.specs.TreeReading.{name_at, variable_name, variable_by, variable_at, word_by, is_word_at, keyword_by, is_keyword_at, dash_by, is_dash, all_of}
 use Rattle.pddl_tree.proofs.Options.{if_some, both_some}
 

@@ -1,5 +1,5 @@
 -- Which plan a text spells, and what is wrong where it spells none.
-use Rattle.std.specs.Prelude.{◌≤◌, ℕ, List, map}
+use Rattle.std.specs.Prelude.{◌≤◌, ℕ, List, length, map}
 use Rattle.pddl_text.specs.Trees.{Placed, erased}
 use Rattle.pddl_text.specs.Texts.{HasItems, TextStands}
 use Rattle.pddl_tree.specs.declared.fault.ReadFault.{ReadFault}
@@ -20,10 +20,10 @@ pub record HasPlanFault (Fault : List Placed → Type 0) (text : List ℕ) : Typ
   pub fault : Fault items
 
 -- What each answer of `read_plan` says of the text. A text without items has a fault of its tokens or lists;
--- else the fault is that of the first place where no step follows. `near` is any place at or after the span's start.
+-- else the fault is that of the first place where no step follows. `near` is any place of the text at or after the span's start.
 abbrev pub PlanStands : ReadFault → List ℕ → Type 0
 PlanStands (faults.Text fault) text = TextStands fault text
-PlanStands (faults.Step span near) text = HasPlanFault (IsNoStep span) text × (span.start ≤ near)
+PlanStands (faults.Step span near) text = HasPlanFault (IsNoStep span) text × (span.start ≤ near) × (near ≤ length text)
 PlanStands (faults.Mixed span) text = HasPlanFault (IsMixed span) text
 PlanStands (faults.Duration span) text = HasPlanFault (IsDuration span) text
 

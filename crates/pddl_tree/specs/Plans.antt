@@ -1,14 +1,12 @@
 -- Plans, and the items that spell them, in the form of VAL's plan files.
-use Rattle.std.specs.Prelude.{◌≡◌, ◌<◌, ℕ, Bool, ◌&&◌, nat_le, nat_lt, List, [], ◌∷◌, length, map, Some, IsTrue}
+use Rattle.std.specs.Prelude.{◌≡◌, ◌<◌, ℕ, Bool, ◌&&◌, nat_le, nat_lt, List, [], ◌∷◌, length, map, slice_get, Option, None, option_map}
 use Rattle.std.specs.List.{list_all}
-use Rattle.pddl_text.specs.declared.token.TokenKind.TheVariants.{Name, Number, Colon}
-use Rattle.pddl_text.specs.Number.{value_of}
+use Rattle.pddl_text.specs.declared.token.TokenKind.TheVariants.{Colon}
 use Rattle.pddl_text.specs.Trees.{Tree, leaf, node, Trees, no_trees, tree}
-use Rattle.pddl_tree.specs.declared.plan.Step.{Step}
-use Rattle.pddl_tree.specs.declared.plan.TimedStep.{TimedStep}
 use Rattle.pddl_tree.specs.declared.plan.Plan.{Plan}
-use Rattle.pddl_tree.specs.declared.plan.Plan.TheVariants.{Plain, Timed}
-use Rattle.pddl_tree.specs.Names.{is_name, folded}
+use Rattle.pddl_tree.specs.Building.{Building}
+use Rattle.pddl_tree.specs.Names.{is_name}
+use Rattle.pddl_tree.specs.Words.{SpellsName, SpellsNumber}
 
 -- a step: an action's name and the names of objects
 pub record StepValue : Type 0 where
@@ -42,30 +40,48 @@ is_plan (timed steps) = nat_lt 0 (length steps) && list_all is_timed steps
 
 -- ---- a plan of the program as a value
 
--- a step without where it lies in memory
-abbrev pub step_view : {A : _} → Step A → StepValue
-step_view step = record { action = step.action; objects = step.objects.items }
+-- a step of these names, the action's first
+abbrev pub step_of_names : List (List ℕ) → StepValue
+step_of_names [] = record { action = []; objects = [] }
+step_of_names (name ∷ names) = record { action = name; objects = names }
 
--- a timed step, likewise
-abbrev pub timed_view : {A : _} → TimedStep A → TimedValue
-timed_view s = record { moment = s.moment; step = step_view s.step }
+-- steps, each at its moment
+abbrev pub at_moments : List ℕ → List StepValue → List TimedValue
+at_moments [] steps = []
+at_moments (m ∷ moments) [] = []
+at_moments (m ∷ moments) (step ∷ steps) = record { moment = m; step = step } ∷ at_moments moments steps
 
--- a plan, likewise
+-- the plan of steps and their moments; without moments it is plain
+abbrev pub plan_of : List ℕ → List StepValue → PlanValue
+plan_of [] steps = plain steps
+plan_of (m ∷ moments) steps = timed (at_moments (m ∷ moments) steps)
+
+-- a plan in making, but for the step that is not ended
+abbrev pub built_plan : Building → PlanValue
+built_plan b = plan_of b.moments (map step_of_names b.steps)
+
+-- a plan of the program
 abbrev pub plan_view : {A : _} → Plan A → PlanValue
-plan_view (Plain steps) = plain (map step_view steps.items)
-plan_view (Timed steps) = timed (map timed_view steps.steps.items)
+plan_view plan = built_plan plan.parts
+
+-- ---- the steps of a plan
+
+-- in file order
+abbrev pub steps_of : PlanValue → List StepValue
+steps_of (plain steps) = steps
+steps_of (timed steps) = map (λ s. s.step) steps
+
+-- the moment of the step of a number, from 0; none has one in a plain plan
+abbrev pub moment_at : PlanValue → ℕ → Option ℕ
+moment_at (plain steps) n = None
+moment_at (timed steps) n = option_map (λ s. s.moment) (slice_get steps n)
 
 -- ---- which trees spell a plan
-
--- the tree is a name, letter case aside
-abbrev pub IsNamed : List ℕ → Tree → Type 0
-IsNamed name (leaf w) = IsTrue (is_name name) × (w.kind ≡ Name) × (folded w.text ≡ name)
-IsNamed name (node ts) = ⊥
 
 -- the trees are these names, in turn
 abbrev pub AreNamed : List (List ℕ) → Trees → Type 0
 AreNamed [] no_trees = Unit {0}
-AreNamed (name ∷ names) (tree t ts) = IsNamed name t × AreNamed names ts
+AreNamed (name ∷ names) (tree t ts) = SpellsName name t × AreNamed names ts
 AreNamed [] (tree t ts) = ⊥
 AreNamed (name ∷ names) no_trees = ⊥
 
@@ -73,11 +89,6 @@ AreNamed (name ∷ names) no_trees = ⊥
 abbrev pub IsStep : StepValue → Tree → Type 0
 IsStep step (node ts) = AreNamed (step.action ∷ step.objects) ts
 IsStep step (leaf w) = ⊥
-
--- the tree is a number, and the moment is its value
-abbrev pub IsMoment : ℕ → Tree → Type 0
-IsMoment moment (leaf w) = (w.kind ≡ Number) × (value_of w.text ≡ Some moment)
-IsMoment moment (node ts) = ⊥
 
 -- the tree is a colon
 abbrev pub IsColon : Tree → Type 0
@@ -93,7 +104,7 @@ ArePlain (step ∷ steps) [] = ⊥
 
 -- a timed step is a number, a colon and a step (VAL)
 abbrev pub IsTimed : TimedValue → Tree → Tree → Tree → Type 0
-IsTimed s number colon t = IsMoment s.moment number × IsColon colon × IsStep s.step t
+IsTimed s number colon t = SpellsNumber s.moment number × IsColon colon × IsStep s.step t
 
 -- the trees are these timed steps, in turn
 abbrev pub AreTimed : List TimedValue → List Tree → Type 0

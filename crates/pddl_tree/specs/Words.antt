@@ -1,7 +1,8 @@
 -- Words among trees, letter case aside, and values that trees spell in turn.
-use Rattle.std.specs.Prelude.{◌≡◌, ◌≢◌, ℕ, List, [], ◌∷◌, ◌++◌, IsTrue, codes}
+use Rattle.std.specs.Prelude.{◌≡◌, ◌≢◌, ℕ, List, [], ◌∷◌, ◌++◌, Some, IsTrue, codes}
 use Rattle.pddl_text.specs.declared.token.TokenKind.{TokenKind}
-use Rattle.pddl_text.specs.declared.token.TokenKind.TheVariants.{Name, Variable, Keyword, Dash, Equal}
+use Rattle.pddl_text.specs.declared.token.TokenKind.TheVariants.{Name, Variable, Keyword, Number, Dash, Equal}
+use Rattle.pddl_text.specs.Number.{value_of}
 use Rattle.pddl_text.specs.Trees.{Tree, leaf, node, trees_of}
 use Rattle.pddl_tree.specs.Names.{folded, is_name}
 
@@ -30,6 +31,11 @@ SpellsName name t = IsTrue (is_name name) × IsFolded Name name t
 abbrev pub SpellsVariable : List ℕ → Tree → Type 0
 SpellsVariable name (leaf w) = IsTrue (is_name name) × (w.kind ≡ Variable) × ((text : List ℕ) × (w.text ≡ codes "?" ++ text) × (folded text ≡ name))
 SpellsVariable name (node ts) = ⊥
+
+-- a number, and its value in billionths
+abbrev pub SpellsNumber : ℕ → Tree → Type 0
+SpellsNumber value (leaf w) = (w.kind ≡ Number) × (value_of w.text ≡ Some value)
+SpellsNumber value (node ts) = ⊥
 
 -- `-`
 abbrev pub IsDash : Tree → Type 0

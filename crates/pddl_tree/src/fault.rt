@@ -15,7 +15,7 @@ pub enum ReadFault {
     /// The text has no items: it is too long, or a fault of its tokens, or of its lists; or memory was refused.
     #[error("{0}")]
     Text(TextFault),
-    /// 15: no step follows here. The span is that of the next item; `near` is a place at or after its start.
+    /// 15: no step follows here. The span is that of the next item; `near` is a place of the text at or after its start.
     #[error("no step at byte {}", span.start)]
     Step { span: Span, near: u32 },
     /// 16: a step of the other kind follows, plain behind timed ones or timed behind plain ones. The span is that of the step.

@@ -5,11 +5,16 @@
 
 mod fault;
 mod name;
+mod name_list;
 mod plan;
+mod plan_builder;
 mod plan_reader;
 mod plan_scanner;
+mod step;
 
 pub use fault::ReadFault;
 pub use name::Name;
-pub use plan::{Plan, Step, TimedStep, TimedSteps};
+pub use plan::Plan;
+pub use plan_builder::PlanBuilder;
 pub use plan_reader::{no_fault_in_plan, one_plan, one_plan_fault, plan_fault_in_text, read_plan};
+pub use step::Step;

@@ -81,7 +81,7 @@ fn are_later_bytes(text: &[u8]) -> bool
     text.iter().all(|byte| is_later_byte(*byte))
 }
 
-fn is_name(text: &[u8]) -> bool
+pub(crate) fn is_name(text: &[u8]) -> bool
     ensures { result ≡ is_name text.now }
 {
     match text {

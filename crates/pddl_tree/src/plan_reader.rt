@@ -1,85 +1,79 @@
 //! Plans read from items.
 
-ghost use Rattle.std.specs.Prelude.{◌≡◌, ◌≢◌, ◌<◌, ◌≤◌, Some, ℕ, List, [], length, map, vec_len, IfOk, IfErr, MatchResult, Ok, option_map};
+ghost use Rattle.std.specs.Prelude.{◌≡◌, ◌≢◌, ◌<◌, ◌≤◌, Some, ℕ, List, [], length, IfOk, OnOk, IfErr, MatchResult, Ok, option_map};
 ghost use Rattle.pddl_text.specs.Items.{item_view, items_view};
 ghost use Rattle.pddl_text.specs.declared.fault.TextFault.TheVariants.{Memory};
 ghost use Rattle.pddl_tree.specs.declared.fault.ReadFault.{ReadFault};
 ghost use Rattle.pddl_tree.specs.declared.fault.ReadFault.TheVariants.{Text};
-ghost use Rattle.pddl_tree.specs.Plans.{PlanValue, plain, timed, step_view, timed_view, plan_view};
+ghost use Rattle.pddl_tree.specs.Building.{nothing_built, AddsWord, AddsNames};
+ghost use Rattle.pddl_tree.specs.Plans.{PlanValue, built_plan, plan_view};
+ghost use Rattle.pddl_tree.specs.StepNames.{names_of_step, AddsTimed};
 ghost use Rattle.pddl_tree.specs.Places.{fault_place};
 ghost use Rattle.pddl_tree.specs.PlanFaults.{span_of};
 ghost use Rattle.pddl_tree.specs.PlanTexts.{SpellsPlan, PlanStands, without_near};
 ghost use Rattle.pddl_tree.specs.PlanReading.{name_at, names_at, step_of, step_at, moment_at, is_colon, is_bracket, timed_at, no_step, timed_span, plain_fault, timed_fault, plain_from, timed_from, plan_at, Refuses};
 
 use crate::fault::ReadFault;
-use crate::name::Name;
-use crate::plan::{Plan, Step, TimedStep, TimedSteps};
+use crate::plan::Plan;
+use crate::plan_builder::PlanBuilder;
 use crate::plan_scanner::scan_plan;
 use pddl_text::{Fixed, Item, LONGEST, Span, TextFault, TokenKind, items_of, value_of};
 use std::alloc::{AllocError, Allocator};
 
-/// The name that an item is.
-fn name_at<'a, B: Allocator>(
-    alloc: &'a B,
+/// Adds the name that an item is, and answers whether it is one.
+fn add_name<'a, B: Allocator>(
+    plan: &mut PlanBuilder<&'a B>,
     item: &Item<'_, &'a B>,
-) -> Result<Option<Name<&'a B>>, AllocError>
-    ensures { IfOk result (λ name. name ≡ name_at (item_view item.now)) }
+) -> Result<bool, AllocError>
+    ensures { IfOk result (λ is. AddsWord is (name_at (item_view item.now)) plan.old plan.new) }
 {
     match item {
         Item::Word(token) => match token.kind {
-            TokenKind::Name => Name::new(alloc, token.text),
-            _ => Ok(None),
+            TokenKind::Name => plan.push_word(token.text),
+            _ => Ok(false),
         },
-        Item::List(_, _) => Ok(None),
+        Item::List(_, _) => Ok(false),
     }
 }
 
-/// The names that some items are, each of them.
-fn names_at<'a, B: Allocator>(
-    alloc: &'a B,
+/// Adds the names that some items are, and answers whether each of them is one.
+fn add_names<'a, B: Allocator>(
+    plan: &mut PlanBuilder<&'a B>,
     items: &[Item<'_, &'a B>],
-) -> Result<Option<Vec<Name<&'a B>, &'a B>>, AllocError>
-    ensures { IfOk result (λ names. option_map (λ v. v.items) names ≡ names_at (items_view items.now)) }
+) -> Result<bool, AllocError>
+    ensures { IfOk result (λ is. AddsNames is (names_at (items_view items.now)) plan.old plan.new) }
 {
-    let mut names = Vec::with_capacity(alloc, items.len())?;
     for item in items {
-        let Some(name) = name_at(alloc, item)? else {
-            return Ok(None);
-        };
-        names.push(name)?;
+        if !add_name(plan, item)? {
+            return Ok(false);
+        }
     }
-    Ok(Some(names))
+    Ok(true)
 }
 
-/// The step whose names some items are.
-fn step_of<'a, B: Allocator>(
-    alloc: &'a B,
+/// Adds the names of the step that some items are, and answers whether they are one.
+fn add_step_of<'a, B: Allocator>(
+    plan: &mut PlanBuilder<&'a B>,
     items: &[Item<'_, &'a B>],
-) -> Result<Option<Step<&'a B>>, AllocError>
-    ensures { IfOk result (λ step. option_map step_view step ≡ step_of (names_at (items_view items.now))) }
+) -> Result<bool, AllocError>
+    ensures { IfOk result (λ is. AddsNames is (option_map names_of_step (step_of (names_at (items_view items.now)))) plan.old plan.new) }
 {
-    let [action, objects @ ..] = items else {
-        return Ok(None);
+    let [_action, ..] = items else {
+        return Ok(false);
     };
-    let Some(action) = name_at(alloc, action)? else {
-        return Ok(None);
-    };
-    let Some(objects) = names_at(alloc, objects)? else {
-        return Ok(None);
-    };
-    Ok(Some(Step { action, objects }))
+    add_names(plan, items)
 }
 
-/// The step that an item is.
-fn step_at<'a, B: Allocator>(
-    alloc: &'a B,
+/// Adds the names of the step that an item is, and answers whether it is one.
+fn add_step<'a, B: Allocator>(
+    plan: &mut PlanBuilder<&'a B>,
     item: &Item<'_, &'a B>,
-) -> Result<Option<Step<&'a B>>, AllocError>
-    ensures { IfOk result (λ step. option_map step_view step ≡ step_at (item_view item.now)) }
+) -> Result<bool, AllocError>
+    ensures { IfOk result (λ is. AddsNames is (option_map names_of_step (step_at (item_view item.now))) plan.old plan.new) }
 {
     match item {
-        Item::List(items, _) => step_of(alloc, items),
-        Item::Word(_) => Ok(None),
+        Item::List(items, _) => add_step_of(plan, items),
+        Item::Word(_) => Ok(false),
     }
 }
 
@@ -123,12 +117,13 @@ fn span_of<A: Allocator>(item: &Item<'_, A>) -> Span
     }
 }
 
-/// The timed step that stands first among some items.
-fn timed_at<'a, B: Allocator>(
-    alloc: &'a B,
+/// Adds the names of the timed step that stands first among some items, and answers its moment.
+#[tactic(auto, using(crate::proofs::PlanSteps::none_timed))]
+fn add_timed<'a, B: Allocator>(
+    plan: &mut PlanBuilder<&'a B>,
     items: &[Item<'_, &'a B>],
-) -> Result<Option<TimedStep<&'a B>>, AllocError>
-    ensures { IfOk result (λ step. option_map timed_view step ≡ timed_at (items_view items.now)) }
+) -> Result<Option<Fixed>, AllocError>
+    ensures { IfOk result (λ moment. AddsTimed moment (timed_at (items_view items.now)) plan.old plan.new) }
 {
     let [number, colon, item, ..] = items else {
         return Ok(None);
@@ -139,10 +134,10 @@ fn timed_at<'a, B: Allocator>(
     if !is_colon(colon) {
         return Ok(None);
     }
-    let Some(step) = step_at(alloc, item)? else {
+    if !add_step(plan, item)? {
         return Ok(None);
-    };
-    Ok(Some(TimedStep { moment, step }))
+    }
+    Ok(Some(moment))
 }
 
 /// What is wrong where no step stands first: whether steps stand before, and the item.
@@ -172,9 +167,10 @@ fn timed_span<A: Allocator>(items: &[Item<'_, A>]) -> Span
     }
 }
 
-/// What is wrong at some items where no plain step stands first.
+/// What is wrong at some items where no plain step stands first. The plan is given up.
+#[tactic(auto, using(crate::proofs::PlanSteps::timed_test))]
 fn plain_fault<'a, B: Allocator>(
-    alloc: &'a B,
+    plan: &mut PlanBuilder<&'a B>,
     behind: bool,
     items: &[Item<'_, &'a B>],
 ) -> Result<ReadFault, AllocError>
@@ -183,16 +179,17 @@ fn plain_fault<'a, B: Allocator>(
     let [item, ..] = items else {
         return Ok(ReadFault::Text(TextFault::Memory));
     };
-    if timed_at(alloc, items)?.is_some() {
+    if add_timed(plan, items)?.is_some() {
         let span = timed_span(items);
         return Ok(ReadFault::Mixed { span });
     }
     Ok(no_step(behind, item))
 }
 
-/// What is wrong at some items where no timed step stands first.
+/// What is wrong at some items where no timed step stands first. The plan is given up.
+#[tactic(auto, using(crate::proofs::PlanSteps::step_test))]
 fn timed_fault<'a, B: Allocator>(
-    alloc: &'a B,
+    plan: &mut PlanBuilder<&'a B>,
     behind: bool,
     items: &[Item<'_, &'a B>],
 ) -> Result<ReadFault, AllocError>
@@ -201,52 +198,71 @@ fn timed_fault<'a, B: Allocator>(
     let [item, ..] = items else {
         return Ok(ReadFault::Text(TextFault::Memory));
     };
-    if step_at(alloc, item)?.is_some() {
+    if add_step(plan, item)? {
         let span = span_of(item);
         return Ok(ReadFault::Mixed { span });
     }
     Ok(no_step(behind, item))
 }
 
-/// The plain steps that some items are.
-fn plain_steps<'a, B: Allocator>(
-    alloc: &'a B,
+/// Adds the plain steps that some items are.
+fn add_plain_steps<'a, B: Allocator>(
+    plan: &mut PlanBuilder<&'a B>,
     items: &[Item<'_, &'a B>],
-) -> Result<Vec<Step<&'a B>, &'a B>, ReadFault>
-    ensures steps { IfOk result (λ steps. plain_from [] (items_view items.now) ≡ Ok (plain (map step_view steps.items))) }
+) -> Result<(), ReadFault>
+    requires { plan.old ≡ nothing_built }
+    ensures steps { OnOk result (plain_from [] (items_view items.now) ≡ Ok (built_plan plan.new)) }
     ensures refused { IfErr result (λ fault. Refuses fault (plain_from [] (items_view items.now))) }
 {
-    let mut steps = Vec::new(alloc);
     for (index, item) in items.iter().enumerate() {
-        let Some(step) = step_at(alloc, item)? else {
-            let rest = items.split_at(index).1;
-            return Err(plain_fault(alloc, !steps.is_empty(), rest)?);
-        };
-        steps.push(step)?;
+        if !add_step(plan, item)? {
+            let behind = plan.len() > 0;
+            return Err(plain_fault(plan, behind, items.split_at(index).1)?);
+        }
+        plan.end_step()?;
     }
-    Ok(steps)
+    Ok(())
 }
 
-/// The timed steps that some items are.
-fn timed_steps<'a, B: Allocator>(
-    alloc: &'a B,
+/// Adds the timed steps that some items are.
+fn add_timed_steps<'a, B: Allocator>(
+    plan: &mut PlanBuilder<&'a B>,
     items: &[Item<'_, &'a B>],
-) -> Result<Vec<TimedStep<&'a B>, &'a B>, ReadFault>
-    ensures steps { IfOk result (λ steps. timed_from [] (items_view items.now) ≡ Ok (timed (map timed_view steps.items))) }
-    ensures some { IfOk result (λ steps. 0 < length items.now → 0 < vec_len steps) }
+) -> Result<(), ReadFault>
+    requires none { plan.old ≡ nothing_built }
+    requires some { 0 < length items.now }
+    ensures steps { OnOk result (timed_from [] (items_view items.now) ≡ Ok (built_plan plan.new)) }
     ensures refused { IfErr result (λ fault. Refuses fault (timed_from [] (items_view items.now))) }
 {
-    let mut steps = Vec::new(alloc);
     let mut at = 0;
     while at < items.len() {
         let rest = items.split_at(at).1;
-        let Some(step) = timed_at(alloc, rest)? else {
-            return Err(timed_fault(alloc, !steps.is_empty(), rest)?);
+        let Some(moment) = add_timed(plan, rest)? else {
+            let behind = plan.len() > 0;
+            return Err(timed_fault(plan, behind, rest)?);
         };
-        steps.push(step)?;
+        plan.end_step_at(moment)?;
         at += 3;
     }
-    Ok(steps)
+    Ok(())
+}
+
+/// Adds the steps that some items are.
+fn add_steps<'a, B: Allocator>(
+    plan: &mut PlanBuilder<&'a B>,
+    items: &[Item<'_, &'a B>],
+) -> Result<(), ReadFault>
+    requires { plan.old ≡ nothing_built }
+    ensures steps { OnOk result (plan_at (items_view items.now) ≡ Ok (built_plan plan.new)) }
+    ensures refused { IfErr result (λ fault. Refuses fault (plan_at (items_view items.now))) }
+{
+    let [first, ..] = items else {
+        return Ok(());
+    };
+    match first {
+        Item::List(_, _) => add_plain_steps(plan, items),
+        Item::Word(_) => add_timed_steps(plan, items),
+    }
 }
 
 /// The plan that some items are.
@@ -257,16 +273,9 @@ fn plan_at<'a, B: Allocator>(
     ensures plan { IfOk result (λ plan. plan_at (items_view items.now) ≡ Ok (plan_view plan)) }
     ensures refused { IfErr result (λ fault. Refuses fault (plan_at (items_view items.now))) }
 {
-    let [first, ..] = items else {
-        return Ok(Plan::Plain(Vec::new(alloc)));
-    };
-    match first {
-        Item::List(_, _) => Ok(Plan::Plain(plain_steps(alloc, items)?)),
-        Item::Word(_) => {
-            let steps = timed_steps(alloc, items)?;
-            Ok(Plan::Timed(TimedSteps { steps }))
-        }
-    }
+    let mut plan = PlanBuilder::new(alloc);
+    let made = add_steps(&mut plan, items);
+    made.and(Ok(plan.finish()))
 }
 
 /// The plan that a text spells, in the form of VAL's plan files: steps, each a list of names, either all alone or each

@@ -3,15 +3,17 @@
 //! Each function here answers nothing where it meets something else than it looks for. What is wrong then, the reading of
 //! items says.
 
-ghost use Rattle.std.specs.Prelude.{◌≡◌, ◌<◌, ◌≤◌, ◌++◌, [], ◌∷◌, true, ℕ, List, length, map, vec_len, IfOk, IfSome};
+ghost use Rattle.std.specs.Prelude.{◌≡◌, ◌<◌, ◌≤◌, ◌++◌, [], ◌∷◌, true, List, length, IfOk, IfSome};
 ghost use Rattle.pddl_text.specs.Trees.{Placed, erased};
 ghost use Rattle.pddl_text.specs.Texts.{HasItems};
-ghost use Rattle.pddl_tree.specs.Plans.{plain, timed, step_view, timed_view, plan_view, IsStep, IsMoment, IsColon};
+ghost use Rattle.pddl_tree.specs.Building.{nothing_built, HasNames, HasNamesMore};
+ghost use Rattle.pddl_tree.specs.Plans.{step_of_names, built_plan, plan_view, IsStep, IsColon};
 ghost use Rattle.pddl_tree.specs.PlanTexts.{SpellsPlan};
 ghost use Rattle.pddl_tree.specs.PlanScanning.{ItemsTo, NamesTo, AreNamedIn};
+ghost use Rattle.pddl_tree.specs.Words.{SpellsNumber};
 
-use crate::name::Name;
-use crate::plan::{Plan, Step, TimedStep, TimedSteps};
+use crate::plan::Plan;
+use crate::plan_builder::PlanBuilder;
 use pddl_text::{Fixed, LONGEST, Scanned, TokenKind, next_token, value_of};
 use std::alloc::{AllocError, Allocator};
 
@@ -68,7 +70,7 @@ fn scan_moment(text: &[u8], at: usize) -> Option<(Fixed, usize)>
     requires in_range { at ≤ length text.now }
     requires within { length text.now ≤ LONGEST }
     ensures moment { IfSome result (λ found. (items : List Placed) → ItemsTo text.now items at
-        → (number : Placed) × IsMoment found.0 (erased number) × ItemsTo text.now (items ++ number ∷ []) found.1) }
+        → (number : Placed) × SpellsNumber found.0 (erased number) × ItemsTo text.now (items ++ number ∷ []) found.1) }
     ensures moves { IfSome result (λ found. (at < found.1) × (found.1 ≤ length text.now)) }
 {
     match next_token(text, at) {
@@ -83,19 +85,19 @@ fn scan_moment(text: &[u8], at: usize) -> Option<(Fixed, usize)>
     }
 }
 
-/// The names up to a closing parenthesis, behind names of the same list, and the place behind it.
+/// Adds the names up to a closing parenthesis, behind names of the same list, and answers the place behind it.
 fn scan_names<'a, B: Allocator>(
-    alloc: &'a B,
+    plan: &mut PlanBuilder<&'a B>,
     text: &[u8],
     at: usize,
-) -> Result<Option<(Vec<Name<&'a B>, &'a B>, usize)>, AllocError>
+) -> Result<Option<usize>, AllocError>
     requires in_range { at ≤ length text.now }
     requires within { length text.now ≤ LONGEST }
-    ensures names { IfOk result (λ found. IfSome found (λ found. (items : List Placed) (front : List (List ℕ)) → NamesTo text.now items front at
-        → (item : Placed) × AreNamedIn (front ++ found.0.items) (erased item) × ItemsTo text.now (items ++ item ∷ []) found.1)) }
-    ensures moves { IfOk result (λ found. IfSome found (λ found. (at < found.1) × (found.1 ≤ length text.now))) }
+    ensures names { IfOk result (λ found. IfSome found (λ end. (items : List Placed) → NamesTo text.now items plan.old.names at
+        → (item : Placed) × AreNamedIn plan.new.names (erased item) × ItemsTo text.now (items ++ item ∷ []) end)) }
+    ensures kept { IfOk result (λ found. IfSome found (λ end. HasNamesMore plan.old plan.new)) }
+    ensures moves { IfOk result (λ found. IfSome found (λ end. (at < end) × (end ≤ length text.now))) }
 {
-    let mut names = Vec::new(alloc);
     let mut at = at;
     loop {
         let Scanned::Word(token) = next_token(text, at) else {
@@ -103,12 +105,11 @@ fn scan_names<'a, B: Allocator>(
         };
         let end = token.span.end as usize;
         match token.kind {
-            TokenKind::Close => return Ok(Some((names, end))),
+            TokenKind::Close => return Ok(Some(end)),
             TokenKind::Name => {
-                let Some(name) = Name::new(alloc, token.text)? else {
+                if !plan.push_word(token.text)? {
                     return Ok(None);
-                };
-                names.push(name)?;
+                }
                 at = end;
             }
             _ => return Ok(None),
@@ -116,17 +117,19 @@ fn scan_names<'a, B: Allocator>(
     }
 }
 
-/// The step whose names follow up to a closing parenthesis, and the place behind it.
+/// Adds the names of the step that follows up to a closing parenthesis, and answers the place behind it.
 fn scan_step<'a, B: Allocator>(
-    alloc: &'a B,
+    plan: &mut PlanBuilder<&'a B>,
     text: &[u8],
     at: usize,
-) -> Result<Option<(Step<&'a B>, usize)>, AllocError>
+) -> Result<Option<usize>, AllocError>
+    requires none { plan.old.names ≡ [] }
     requires in_range { at ≤ length text.now }
     requires within { length text.now ≤ LONGEST }
-    ensures step { IfOk result (λ found. IfSome found (λ found. (items : List Placed) → NamesTo text.now items [] at
-        → (item : Placed) × IsStep (step_view found.0) (erased item) × ItemsTo text.now (items ++ item ∷ []) found.1)) }
-    ensures moves { IfOk result (λ found. IfSome found (λ found. (at < found.1) × (found.1 ≤ length text.now))) }
+    ensures step { IfOk result (λ found. IfSome found (λ end. (items : List Placed) → NamesTo text.now items [] at
+        → (item : Placed) × IsStep (step_of_names plan.new.names) (erased item) × ItemsTo text.now (items ++ item ∷ []) end)) }
+    ensures kept { IfOk result (λ found. IfSome found (λ end. HasNames plan.old plan.new)) }
+    ensures moves { IfOk result (λ found. IfSome found (λ end. (at < end) × (end ≤ length text.now))) }
 {
     let Scanned::Word(token) = next_token(text, at) else {
         return Ok(None);
@@ -134,50 +137,45 @@ fn scan_step<'a, B: Allocator>(
     let TokenKind::Name = token.kind else {
         return Ok(None);
     };
-    let Some(action) = Name::new(alloc, token.text)? else {
+    if !plan.push_word(token.text)? {
         return Ok(None);
-    };
-    let Some((objects, end)) = scan_names(alloc, text, token.span.end as usize)? else {
-        return Ok(None);
-    };
-    Ok(Some((Step { action, objects }, end)))
+    }
+    scan_names(plan, text, token.span.end as usize)
 }
 
-/// The plain steps of a text, where it has no other items.
+/// Adds the plain steps of a text, and answers whether it has no other items.
 fn scan_plain<'a, B: Allocator>(
-    alloc: &'a B,
+    plan: &mut PlanBuilder<&'a B>,
     text: &[u8],
-) -> Result<Option<Vec<Step<&'a B>, &'a B>>, AllocError>
-    requires { length text.now ≤ LONGEST }
-    ensures { IfOk result (λ steps. IfSome steps (λ steps. SpellsPlan (plain (map step_view steps.items)) text.now)) }
+) -> Result<bool, AllocError>
+    requires none { plan.old ≡ nothing_built }
+    requires within { length text.now ≤ LONGEST }
+    ensures { IfOk result (λ is. is ≡ true → SpellsPlan (built_plan plan.new) text.now) }
 {
-    let mut steps = Vec::new(alloc);
     let mut at = 0;
     while let Some(inside) = after_opening(text, at) {
-        let Some((step, end)) = scan_step(alloc, text, inside)? else {
-            return Ok(None);
+        let Some(end) = scan_step(plan, text, inside)? else {
+            return Ok(false);
         };
-        steps.push(step)?;
+        plan.end_step()?;
         at = end;
     }
-    if is_end(text, at) {
-        Ok(Some(steps))
-    } else {
-        Ok(None)
-    }
+    Ok(is_end(text, at))
 }
 
-/// The timed step whose moment was read, and the place behind it.
+/// Adds the names of the timed step whose moment was read, and answers the place behind it.
 fn scan_timed_step<'a, B: Allocator>(
-    alloc: &'a B,
+    plan: &mut PlanBuilder<&'a B>,
     text: &[u8],
     at: usize,
-) -> Result<Option<(Step<&'a B>, usize)>, AllocError>
+) -> Result<Option<usize>, AllocError>
+    requires none { plan.old.names ≡ [] }
     requires in_range { at ≤ length text.now }
     requires within { length text.now ≤ LONGEST }
-    ensures step { IfOk result (λ found. IfSome found (λ found. (items : List Placed) → ItemsTo text.now items at
-        → (colon item : Placed) × IsColon (erased colon) × IsStep (step_view found.0) (erased item) × ItemsTo text.now (items ++ colon ∷ item ∷ []) found.1)) }
-    ensures moves { IfOk result (λ found. IfSome found (λ found. (at < found.1) × (found.1 ≤ length text.now))) }
+    ensures step { IfOk result (λ found. IfSome found (λ end. (items : List Placed) → ItemsTo text.now items at
+        → (colon item : Placed) × IsColon (erased colon) × IsStep (step_of_names plan.new.names) (erased item) × ItemsTo text.now (items ++ colon ∷ item ∷ []) end)) }
+    ensures kept { IfOk result (λ found. IfSome found (λ end. HasNames plan.old plan.new)) }
+    ensures moves { IfOk result (λ found. IfSome found (λ end. (at < end) × (end ≤ length text.now))) }
 {
     let Some(behind_colon) = after_colon(text, at) else {
         return Ok(None);
@@ -185,30 +183,42 @@ fn scan_timed_step<'a, B: Allocator>(
     let Some(inside) = after_opening(text, behind_colon) else {
         return Ok(None);
     };
-    scan_step(alloc, text, inside)
+    scan_step(plan, text, inside)
 }
 
-/// The timed steps of a text, where it has no other items and at least one step.
+/// Adds the timed steps of a text, and answers whether it has no other items and at least one step.
 fn scan_timed<'a, B: Allocator>(
-    alloc: &'a B,
+    plan: &mut PlanBuilder<&'a B>,
     text: &[u8],
-) -> Result<Option<Vec<TimedStep<&'a B>, &'a B>>, AllocError>
-    requires { length text.now ≤ LONGEST }
-    ensures { IfOk result (λ steps. IfSome steps (λ steps. (0 < vec_len steps) × SpellsPlan (timed (map timed_view steps.items)) text.now)) }
+) -> Result<bool, AllocError>
+    requires none { plan.old ≡ nothing_built }
+    requires within { length text.now ≤ LONGEST }
+    ensures { IfOk result (λ is. is ≡ true → SpellsPlan (built_plan plan.new) text.now) }
 {
-    let mut steps = Vec::new(alloc);
     let mut at = 0;
     while let Some((moment, behind_moment)) = scan_moment(text, at) {
-        let Some((step, end)) = scan_timed_step(alloc, text, behind_moment)? else {
-            return Ok(None);
+        let Some(end) = scan_timed_step(plan, text, behind_moment)? else {
+            return Ok(false);
         };
-        steps.push(TimedStep { moment, step })?;
+        plan.end_step_at(moment)?;
         at = end;
     }
-    if steps.len() > 0 && is_end(text, at) {
-        Ok(Some(steps))
+    Ok(plan.len() > 0 && is_end(text, at))
+}
+
+/// Adds the steps of a text in which nothing is wrong, and answers whether it is one. A number stands at the front of timed steps.
+fn scan_steps<'a, B: Allocator>(
+    plan: &mut PlanBuilder<&'a B>,
+    text: &[u8],
+) -> Result<bool, AllocError>
+    requires none { plan.old ≡ nothing_built }
+    requires within { length text.now ≤ LONGEST }
+    ensures { IfOk result (λ is. is ≡ true → SpellsPlan (built_plan plan.new) text.now) }
+{
+    if scan_moment(text, 0).is_some() {
+        scan_timed(plan, text)
     } else {
-        Ok(None)
+        scan_plain(plan, text)
     }
 }
 
@@ -220,11 +230,10 @@ pub fn scan_plan<'a, B: Allocator>(
     requires { length text.now ≤ LONGEST }
     ensures { IfOk result (λ plan. IfSome plan (λ plan. SpellsPlan (plan_view plan) text.now)) }
 {
-    if let Some(steps) = scan_plain(alloc, text)? {
-        return Ok(Some(Plan::Plain(steps)));
-    }
-    match scan_timed(alloc, text)? {
-        Some(steps) => Ok(Some(Plan::Timed(TimedSteps { steps }))),
-        None => Ok(None),
+    let mut plan = PlanBuilder::new(alloc);
+    match scan_steps(&mut plan, text) {
+        Ok(true) => Ok(Some(plan.finish())),
+        Ok(false) => Ok(None),
+        Err(error) => Err(error),
     }
 }

@@ -15,4 +15,4 @@ returns-in-Ok-clause-reads_back g c = λ short.
     let begun = same c.new-out.result.inner.items c.new.result.items c.new-out.ensures.contents ∙ c.new.ensures.items in
     let text : c.into_inner.result.items ≡ plan_text plan =
     same c.into_inner.result.items c.put_plan.new.out.inner.items c.into_inner.ensures.contents ∙ c.in-Ok.ensures.printed.0 ∙ ap (λ (t : List ℕ). t ++ plan_text plan) begun in
-    subst (SpellsPlan plan) (sym text) (plan_reads_back plan c.in-Ok.ensures.good (omega (arith, short, c.into_inner.result.ok, ap (λ (t : List ℕ). length t) text)))
+    subst (SpellsPlan plan) (sym text) (plan_reads_back plan c.put_plan.ensures.good (omega (arith, short, c.into_inner.result.ok, ap (λ (t : List ℕ). length t) text)))

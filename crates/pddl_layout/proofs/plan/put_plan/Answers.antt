@@ -1,38 +1,34 @@
-use Rattle.std.proofs.Common.{◌≡◌, true, length, map, sym, ap, ◌∙◌, arith}
-use Rattle.std.specs.Prelude.{nat_lt}
-use Rattle.std.specs.List.{flat_map, list_all}
-use Rattle.std.proofs.lemmas.List.{length-map}
-use Rattle.std.proofs.lemmas.List.Folds.{flat_map-map, list_all-map}
-use Rattle.std.proofs.lemmas.Bool.Decides.{nat_tests}
-use Rattle.pddl_tree.specs.Plans.{step_view, timed_view, plan_view, is_step, is_timed, is_plan}
-use Rattle.pddl_layout.specs.PlanLayout.{plain_line, timed_line, plan_text}
-use Rattle.pddl_layout.proofs.Printed.{prints_as, on_ok, both_pass}
+use Rattle.std.proofs.Common.{◌<◌, ◌≤◌, ℕ, List, [], length, refl, ap, ◌∙◌, arith}
+use Rattle.std.specs.List.{flat_map}
+use Rattle.std.proofs.lemmas.List.{take_all}
+use Rattle.std.proofs.lemmas.Result.{err_from_is_err_and}
+use Rattle.pddl_tree.specs.Plans.{plan_view}
+use Rattle.pddl_layout.specs.PlanLines.{lines_of}
+use Rattle.pddl_layout.proofs.PlanLines.{as_many, text_of_lines}
+use Rattle.pddl_layout.proofs.Printed.{nothing, stops_as, wrote_as, element_on, element_stops}
 use Rattle.pddl_layout.proofs.plan.put_plan.Goals as goal
 
-pub returns-in-Plain-clause-printed : goal.returns-in-Plain-clause-printed
-returns-in-Plain-clause-printed g c =
-    prints_as _ _ _ _ _ _ c.put_plain_lines.result
-    (ap (flat_map (λ step. plain_line (step_view step))) c.deref.ensures.value ∙ sym (flat_map-map plain_line step_view c.in-Plain.steps.items) ∙ ap (λ plan. plan_text (plan_view plan)) (sym c.in-Plain.is))
-    c.put_plain_lines.ensures.printed
+pub loop-number-init : goal.loop-number-init
+loop-number-init g c = (nothing (g.W.Sink.contents c.args.out.now), refl)
 
-pub returns-in-Plain-clause-good : goal.returns-in-Plain-clause-good
-returns-in-Plain-clause-good g c =
-    on_ok c.put_plain_lines.result
-    (λ good. ap (λ plan. is_plan (plan_view plan)) c.in-Plain.is ∙ list_all-map is_step step_view c.in-Plain.steps.items ∙ ap (list_all (λ step. is_step (step_view step))) (sym c.deref.ensures.value) ∙ good)
-    c.put_plain_lines.ensures.good
+pub returns-in_err-put_step-clause-printed : goal.returns-in_err-put_step-clause-printed
+returns-in_err-put_step-clause-printed g c =
+    let l = c.loop-number in
+    let plan = plan_view c.args.plan.now in
+    let lt : l.number < length (lines_of plan) = omega (arith, as_many plan, c.len-number-end.ensures.value, c.loop-number-test.true) in
+    let p = err_from_is_err_and c.from_residual.result c.from_residual.ensures.1 in
+    rw p.1 (stops_as _ _ _ _ _ _ (text_of_lines plan) (element_stops (λ (line : List ℕ). line) _ _ _ _ _ _ (lines_of plan) l.number [] lt l.invariant c.in_err-put_step.ensures))
 
-pub returns-in-Timed-clause-printed : goal.returns-in-Timed-clause-printed
-returns-in-Timed-clause-printed g c =
-    prints_as _ _ _ _ _ _ c.put_timed_lines.result
-    (ap (flat_map (λ step. timed_line (timed_view step))) c.deref-in-Timed.ensures.value ∙ sym (flat_map-map timed_line timed_view c.in-Timed.steps.steps.items) ∙ ap (λ plan. plan_text (plan_view plan)) (sym c.in-Timed.is))
-    c.put_timed_lines.ensures.printed
+pub loop-number-preserved : goal.loop-number-preserved
+loop-number-preserved g c =
+    let l = c.loop-number in
+    let plan = plan_view c.args.plan.now in
+    let lt : l.number < length (lines_of plan) = omega (arith, as_many plan, c.len-number-end.ensures.value, c.loop-number-test.true) in
+    element_on (λ (line : List ℕ). line) _ _ _ _ _ _ (lines_of plan) l.number [] lt l.invariant c.in_ok-put_step.ensures
 
-pub returns-in-Timed-clause-good : goal.returns-in-Timed-clause-good
-returns-in-Timed-clause-good g c =
-    let steps = c.in-Timed.steps.steps in
-    let some : nat_lt 0 (length (map timed_view steps.items)) ≡ true = grind (arith, nat_tests, c.in-Timed.steps.has_step, steps.ok, length-map steps.items timed_view) in
-    on_ok c.put_timed_lines.result
-    (λ good. ap (λ plan. is_plan (plan_view plan)) c.in-Timed.is
-    ∙ both_pass (nat_lt 0 (length (map timed_view steps.items))) (list_all is_timed (map timed_view steps.items)) some
-    (list_all-map is_timed timed_view steps.items ∙ ap (list_all (λ step. is_timed (timed_view step))) (sym c.deref-in-Timed.ensures.value) ∙ good))
-    c.put_timed_lines.ensures.good
+pub returns-clause-printed : goal.returns-clause-printed
+returns-clause-printed g c =
+    let l = c.loop-number in
+    let plan = plan_view c.args.plan.now in
+    let past : length (lines_of plan) ≤ l.number = omega (arith, as_many plan, c.len-number-end.ensures.value, c.loop-number-test.false) in
+    wrote_as _ _ _ _ _ _ (ap (flat_map (λ (line : List ℕ). line)) (take_all l.number (lines_of plan) past) ∙ text_of_lines plan) l.invariant
