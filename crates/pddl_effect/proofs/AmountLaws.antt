@@ -7,7 +7,7 @@ use Rattle.pddl_text.specs.declared.token.TokenKind.TheVariants.{Open, Close, Na
 use Rattle.pddl_text.specs.Number.{value_of}
 use Rattle.pddl_text.specs.Trees.{Tree, leaf, node, list_of}
 use Rattle.pddl_tree.specs.PlanReading.{moment_by}
-use Rattle.pddl_tree.specs.Words.{list, IsWord}
+use Rattle.pddl_tree.specs.Words.{list, IsWord, SpellsNumber}
 use Rattle.pddl_tree.specs.TreeReading.{name_at, all_of}
 use Rattle.pddl_tree.proofs.Options.{map_some, bind_some, if_some, unless_some}
 use Rattle.pddl_tree.proofs.TreeLists.{list_of_trees_of, trees_of_list_of}
@@ -16,7 +16,7 @@ use Rattle.pddl_formula.specs.Terms.{TermValue, IsTerm}
 use Rattle.pddl_formula.specs.Reading.{term_at}
 use Rattle.pddl_formula.proofs.TermLaws.{term_reads}
 use Rattle.pddl_effect.specs.StaticNames.{static_function_of}
-use Rattle.pddl_effect.specs.Effects.{FunctionTermValue, AmountValue, number, function, IsCall, IsFunctionTerm, IsNumber, IsAmount, IsTotalCost, IsIncrease}
+use Rattle.pddl_effect.specs.Effects.{FunctionTermValue, AmountValue, number, function, IsCall, IsFunctionTerm, IsAmount, IsTotalCost, IsIncrease}
 use Rattle.pddl_effect.specs.EffectReading.{call_of_list, call_at, static_term, function_term_at, number_at, amount_of, amount_at, is_cost_list, is_total_cost_at, increase_of}
 
 -- ---- calls
@@ -102,15 +102,15 @@ by_number Bracket text n e = absurd (cc)
 by_number Compare text n e = absurd (cc)
 by_number Arithmetic text n e = absurd (cc)
 
-number_sound : (t : Tree) (n : ℕ) → number_at t ≡ Some n → IsNumber n t
+number_sound : (t : Tree) (n : ℕ) → number_at t ≡ Some n → SpellsNumber n t
 number_sound (leaf w) n e = by_number w.kind w.text n e
 number_sound (node ts) n e = absurd (cc)
 
-number_complete : (t : Tree) (n : ℕ) → IsNumber n t → number_at t ≡ Some n
+number_complete : (t : Tree) (n : ℕ) → SpellsNumber n t → number_at t ≡ Some n
 number_complete (leaf w) n (kind, value) = ap (λ k. moment_by k w.text) kind ∙ value
 number_complete (node ts) n none = absurd none
 
-pub number_reads : Reads IsNumber number_at
+pub number_reads : Reads SpellsNumber number_at
 number_reads = record { sound = number_sound; complete = number_complete }
 
 -- ---- amounts

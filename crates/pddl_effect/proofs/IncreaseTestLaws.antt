@@ -1,15 +1,16 @@
 -- The tests of increases tell what is spelled.
-use Rattle.std.proofs.Common.{◌≡◌, ◌≢◌, inl, inr, ℕ, Bool, true, false, List, [], ◌∷◌, IsTrue, refl, sym, ap, ◌∙◌, subst, codes}
+use Rattle.std.proofs.Common.{◌≡◌, ◌≢◌, inl, inr, ℕ, Bool, true, List, [], ◌∷◌, IsTrue, refl, sym, ap, ◌∙◌, subst, codes}
 use Rattle.std.specs.Prelude.{Option, Some, None, ◌&&◌, ◌==◌, ◌↔◌, not, is_some}
 use Rattle.std.specs.List.{list_all}
 use Rattle.std.specs.Char.{to_ascii_lowercase}
 use Rattle.std.specs.Str.{bytes_eq}
-use Rattle.std.proofs.lemmas.Bool.{eqb-true}
+use Rattle.std.proofs.lemmas.Bool.{eqb-true, not-true}
 use Rattle.pddl_text.specs.declared.token.TokenKind.{TokenKind}
 use Rattle.pddl_text.specs.declared.token.TokenKind.TheVariants.{Open, Close, Name, Variable, Keyword, Number, Dash, Equal, Colon, Bracket, Compare, Arithmetic}
 use Rattle.pddl_text.specs.Number.{value_of}
 use Rattle.pddl_text.specs.Spelling.{Word}
 use Rattle.pddl_text.specs.Trees.{Tree, leaf, node, list_of}
+use Rattle.pddl_text.proofs.Tests.{both_true}
 use Rattle.pddl_tree.specs.Names.{folded, is_name, is_first_byte, is_later_byte}
 use Rattle.pddl_tree.specs.Words.{list, SpellsName, Each}
 use Rattle.pddl_tree.specs.TreeReading.{is_word_at}
@@ -22,14 +23,6 @@ use Rattle.pddl_effect.specs.IncreaseTests.{is_name_text, is_variable_text, is_s
 use Rattle.pddl_effect.proofs.AmountLaws.{cost_sound, cost_complete}
 
 -- ---- tests
-
-both_true : (a b : Bool) → (a && b) ≡ true → (a ≡ true) × (b ≡ true)
-both_true true b e = (refl, e)
-both_true false b e = absurd (cc)
-
-not_true : (a : Bool) → not a ≡ true → a ≡ false
-not_true true e = absurd (cc)
-not_true false e = refl
 
 some_of : {A : Type 0} (o : Option A) → is_some o ≡ true → (x : A) × (o ≡ Some x)
 some_of None e = absurd (cc)
@@ -106,7 +99,7 @@ static_told : (text : List ℕ) → is_static_text text ≡ true → IsTrue (is_
 static_told text e =
     let h = both_true (is_name_text text) (not (bytes_eq (folded text) (codes "total-cost"))) e in (
       name_told text h.0,
-      λ is. let free = not_true (bytes_eq (folded text) (codes "total-cost")) h.1 in let clash = equal_bytes (folded text) (codes "total-cost") is in cc,
+      λ is. let free = not-true (bytes_eq (folded text) (codes "total-cost")) h.1 in let clash = equal_bytes (folded text) (codes "total-cost") is in cc,
     )
 
 static_tested : (text n : List ℕ) → IsTrue (is_name n) → n ≢ codes "total-cost" → folded text ≡ n → is_static_text text ≡ true

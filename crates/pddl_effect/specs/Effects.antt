@@ -2,8 +2,7 @@
 -- freely is own).
 use Rattle.std.specs.Prelude.{◌≡◌, ◌≢◌, ◌⊎◌, ℕ, List, [], ◌∷◌, map, codes}
 use Rattle.pddl_text.specs.Trees.{Tree}
-use Rattle.pddl_tree.specs.Plans.{IsMoment}
-use Rattle.pddl_tree.specs.Words.{list, IsWord, SpellsName, Each}
+use Rattle.pddl_tree.specs.Words.{list, IsWord, SpellsName, Each, SpellsNumber}
 use Rattle.pddl_formula.specs.Terms.{TermValue, AtomValue, term_view, atom_view, IsTerm, IsAtom}
 use Rattle.pddl_formula.specs.TypedLists.{TypedValue, typed_view, IsVariableList}
 use Rattle.pddl_formula.specs.Formulas.{FormulaValue, formula_view, IsFormula}
@@ -79,13 +78,9 @@ IsCall IsArgument f xs t =
 abbrev pub IsFunctionTerm : FunctionTermValue → Tree → Type 0
 IsFunctionTerm f t = (f.function ≢ codes "total-cost") × IsCall IsTerm f.function f.terms t
 
--- a number, by its value in billionths
-abbrev pub IsNumber : ℕ → Tree → Type 0
-IsNumber n t = IsMoment n t
-
 -- what an increase adds
 abbrev pub IsAmount : AmountValue → Tree → Type 0
-IsAmount (number n) t = IsNumber n t
+IsAmount (number n) t = SpellsNumber n t
 IsAmount (function f) t = IsFunctionTerm f t
 
 -- `(total-cost)` or `total-cost`

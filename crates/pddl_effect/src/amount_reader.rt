@@ -4,8 +4,9 @@ ghost use Rattle.std.specs.Prelude.{◌≡◌, ℕ, [], IfOk, MatchOption, optio
 ghost use Rattle.pddl_build.specs.Results.{map_found, both_of};
 ghost use Rattle.pddl_tree.specs.ItemTrees.{item_tree, item_trees};
 ghost use Rattle.pddl_tree.specs.TreeReading.{name_at};
+ghost use Rattle.pddl_tree.specs.Words.{SpellsNumber};
 ghost use Rattle.pddl_formula.specs.Reading.{term_at};
-ghost use Rattle.pddl_effect.specs.Effects.{FunctionTermValue, AmountValue, function_term_view, amount_view, IsFunctionTerm, IsNumber, IsAmount};
+ghost use Rattle.pddl_effect.specs.Effects.{FunctionTermValue, AmountValue, function_term_view, amount_view, IsFunctionTerm, IsAmount};
 ghost use Rattle.pddl_effect.specs.StaticNames.{static_function_of};
 ghost use Rattle.pddl_effect.specs.EffectReading.{call_of_list, static_term, function_term_at, number_at, amount_at};
 
@@ -17,7 +18,7 @@ use std::alloc::{AllocError, Allocator};
 
 /// The number that an item spells, or `None` where it spells none, or one that is out of range (the range is own).
 pub fn number_of<A: Allocator>(item: &Item<'_, A>) -> Option<Fixed>
-    ensures spelled { MatchOption result ((n : ℕ) → IsNumber n (item_tree item.now) → ⊥) (λ n. IsNumber n (item_tree item.now)) }
+    ensures spelled { MatchOption result ((n : ℕ) → SpellsNumber n (item_tree item.now) → ⊥) (λ n. SpellsNumber n (item_tree item.now)) }
     ensures read { result ≡ number_at (item_tree item.now) }
 {
     item_number(item)

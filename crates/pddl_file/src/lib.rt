@@ -5,11 +5,13 @@
 mod fault;
 mod flag;
 mod keyword;
+mod laws;
 mod mark;
 mod unfit;
 
 pub use fault::FileFault;
 pub use flag::{flag_of, flags_of};
 pub use keyword::{SectionKeyword, Seen, head_keyword_of, keyword_of};
+pub use laws::{flags_as_spelled, keywords_as_spelled, marks_as_spelled};
 pub use mark::{Mark, first_marked};
 pub use unfit::refusal;

@@ -1,11 +1,13 @@
 //! Sections that fit no rule.
 
-ghost use Rattle.std.specs.Prelude.{◌≡◌};
+ghost use Rattle.std.specs.Prelude.{◌≡◌, ◌≢◌};
+ghost use Rattle.pddl_text.specs.declared.fault.TextFault.TheVariants.{Memory};
 ghost use Rattle.pddl_text.specs.Items.{item_view};
 ghost use Rattle.pddl_tree.specs.ItemTrees.{item_tree};
 ghost use Rattle.pddl_tree.specs.PlanFaults.{span_of};
 ghost use Rattle.pddl_sections.specs.Sections.{lists_in};
 ghost use Rattle.pddl_sections.specs.Verdicts.{first_mark, refusal};
+ghost use Rattle.pddl_file.specs.declared.fault.FileFault.TheVariants.{Text};
 ghost use Rattle.pddl_file.specs.WordReading.{key_at, types_key, mark_at};
 ghost use Rattle.pddl_file.specs.FileReading.{IsFaultAt};
 
@@ -19,9 +21,11 @@ use std::alloc::Allocator;
 /// What a section that fits no rule is refused as (own): where a list in it is refused by name, the word and the span of the
 /// first such list; else its own span, `near` being where that starts.
 pub fn refusal<A: Allocator>(item: &Item<'_, A>) -> FileFault
-    ensures { IsFaultAt result (refusal
+    ensures fault { IsFaultAt result (refusal
         (first_mark (mark_at (item_tree item.now)) (lists_in (item_view item.now)))
         (span_of (item_view item.now))) }
+    // It takes no memory, and so wants none.
+    ensures no_memory { result ≢ Text Memory }
 {
     match first_marked(item, is_of_types(item)) {
         Some((word, span)) => FileFault::Unsupported { word, span },

@@ -1,5 +1,5 @@
 -- What a list's head is, by the words of the grammar.
-use Rattle.std.proofs.Common.{◌≡◌, ◌≢◌, ℕ, false, List, refl, ap, ◌∙◌, codes}
+use Rattle.std.proofs.Common.{◌≡◌, ◌≢◌, ℕ, false, List, refl, ap, subst, ◌∙◌, codes}
 use Rattle.std.proofs.lemmas.Bool.{cond_both}
 use Rattle.std.specs.Str.{bytes_eq}
 use Rattle.pddl_text.specs.declared.token.TokenKind.{TokenKind}
@@ -93,6 +93,9 @@ head_sound (node ts) = tt
 pub head_of_word : (word : List ℕ) (t : Tree) → IsWord word t → head_at t ≡ word_head word
 head_of_word word (leaf w) (kind, is) = ap (λ k. head_by k w.text) kind ∙ ap word_head is
 head_of_word word (node ts) none = absurd none
+
+pub equal_head : (t : Tree) → head_at t ≡ heads.Equal → IsEqualSign t
+equal_head t is = subst (λ k. HeadIs k t) is (head_sound t)
 
 pub head_of_equal : (t : Tree) → IsEqualSign t → head_at t ≡ heads.Equal
 head_of_equal (leaf w) kind = ap (λ k. head_by k w.text) kind

@@ -15,7 +15,10 @@ mod typed_reader;
 pub use formula::Formula;
 pub use formula_reader::{condition_of, formula_of};
 pub use head::{Head, head_of, is_word};
-pub use laws::{formulas_as_spelled, one_formula, terms_as_spelled, typed_lists_as_spelled};
+pub use laws::{
+    formulas_as_spelled, heads_as_spelled, one_formula, terms_as_spelled, typed_lists_as_spelled,
+    words_as_spelled,
+};
 pub use term::{Atom, Predicate, Term};
 pub use term_reader::{
     atom_of, atom_of_list, name_of, names_of, predicate_of, term_of, terms_of, variable_of,

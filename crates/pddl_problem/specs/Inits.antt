@@ -1,9 +1,9 @@
 -- Items of `:init`, metrics, and the trees that spell them (Kovacs, `<init-el>`, `<metric-spec>`, of which parts are left out).
 use Rattle.std.specs.Prelude.{◌≡◌, ℕ, List, [], ◌∷◌, codes}
 use Rattle.pddl_text.specs.Trees.{Tree}
-use Rattle.pddl_tree.specs.Words.{list, IsWord, IsEqualSign, SpellsName, Each}
+use Rattle.pddl_tree.specs.Words.{list, IsWord, IsEqualSign, SpellsName, Each, SpellsNumber}
 use Rattle.pddl_formula.specs.Terms.{IsPredicate}
-use Rattle.pddl_effect.specs.Effects.{IsCall, IsNumber}
+use Rattle.pddl_effect.specs.Effects.{IsCall}
 use Rattle.pddl_problem.specs.declared.problem.Fact.{Fact}
 use Rattle.pddl_problem.specs.declared.problem.GroundFunction.{GroundFunction}
 use Rattle.pddl_problem.specs.declared.problem.InitItem.{InitItem}
@@ -62,7 +62,7 @@ IsGroundFunction f t = IsCall SpellsName f.name f.objects t
 abbrev pub IsInit : InitValue → Tree → Type 0
 IsInit (holds f) t = IsFact f t
 IsInit (fails f) t = (head x : Tree) × (t ≡ list (head ∷ x ∷ [])) × IsWord (codes "not") head × IsFact f x
-IsInit (value f n) t = (head g x : Tree) × (t ≡ list (head ∷ g ∷ x ∷ [])) × IsEqualSign head × IsGroundFunction f g × IsNumber n x
+IsInit (value f n) t = (head g x : Tree) × (t ≡ list (head ∷ g ∷ x ∷ [])) × IsEqualSign head × IsGroundFunction f g × SpellsNumber n x
 
 -- the word of a direction
 abbrev pub direction_word : Direction → List ℕ

@@ -1,6 +1,7 @@
 -- The computed answer for a file is that of the relation: it is a file of this kind, or it has exactly one first fault.
 use Rattle.std.proofs.Common.{◌≡◌, ◌⊎◌, inl, inr, ℕ, List, [], ◌∷◌, ◌++◌, map, Bool, true, false, Option, Some, None, refl, sym, ap, ◌∙◌, subst}
 use Rattle.std.specs.Prelude.{if◌then◌else◌, option_map, Result, Ok, Err, codes}
+use Rattle.std.proofs.lemmas.Bool.{false_from_ne_true}
 use Rattle.pddl_text.specs.declared.token.Span.{Span}
 use Rattle.pddl_text.specs.Trees.{Tree, leaf, node, list_of, Placed, placed_leaf, placed_node, PlacedList, no_placed, placed_tree, placed_of, erased}
 use Rattle.pddl_tree.specs.Words.{list}
@@ -15,7 +16,7 @@ use Rattle.pddl_sections.specs.Sections.{Rules, AllOf}
 use Rattle.pddl_sections.specs.Verdicts.{Readers, Verdict, fine, bad, verdict}
 use Rattle.pddl_sections.specs.Files.{IsTitle, Opens, Begins, IsOpened, HeadFault, nothing, other, several, FileFault, head, at_section, missing, StandsIn, IsFile, HasFault}
 use Rattle.pddl_sections.specs.Answers.{title_of, title_at, opening_of, opening_at, opened_or, none_behind, opened, Answer, right, wrong, first_missing, missing_answer, sections_answer, opened_answer, file_answer}
-use Rattle.pddl_sections.proofs.SectionLaws.{Lawful, State, Says, answer_says, fits_answered, fault_answered, not_true, false_true}
+use Rattle.pddl_sections.proofs.SectionLaws.{Lawful, State, Says, answer_says, fits_answered, fault_answered, false_true}
 
 -- ---- the head of a file
 
@@ -192,7 +193,7 @@ module _ {P K W S : Type 0} (rules : Rules P K W) (readers : Readers P K W S) (l
 
   missing_is : (s : S) (xs : List P) (sections : List Placed) (before : List K) (k : K) (after : List K) → Ended s xs sections → AllOf rules.IsSingle (before ++ k ∷ after)
       → AllOf (StandsIn rules word required sections) before → (StandsIn rules word required sections k → ⊥) → first_missing (readers.has_seen s) (before ++ k ∷ after) ≡ Some k
-  missing_is s xs sections [] k after state single all none = rw (not_true (readers.has_seen s k) (λ e. none (state.only_seen k e).1)) refl
+  missing_is s xs sections [] k after state single all none = rw (false_from_ne_true (readers.has_seen s k) (λ e. none (state.only_seen k e).1)) refl
   missing_is s xs sections (b ∷ bs) k after state single all none =
       rw (state.all_seen b single.0 all.0) (missing_is s xs sections bs k after state single.1 all.1 none)
 

@@ -1,5 +1,6 @@
 -- The computed answer for sections is that of the relation: they fit, or they have exactly one first fault.
 use Rattle.std.proofs.Common.{◌≡◌, ◌⊎◌, inl, inr, List, [], ◌∷◌, ◌++◌, map, Bool, true, false, Option, Some, None, refl, sym, ap, ap₂, ◌∙◌, subst, append_assoc}
+use Rattle.std.proofs.lemmas.Bool.{false_from_ne_true}
 use Rattle.pddl_text.specs.declared.token.Span.{Span}
 use Rattle.pddl_text.specs.Trees.{Tree, Placed, erased}
 use Rattle.pddl_tree.specs.PlanFaults.{span_of}
@@ -80,10 +81,6 @@ map_append f (x ∷ xs) ys = ap (λ zs. f x ∷ zs) (map_append f xs ys)
 
 pub false_true : (b : Bool) → b ≡ false → b ≡ true → ⊥
 false_true b is_false is_true = let bad : false ≡ true = sym is_false ∙ is_true in absurd (cc)
-
-pub not_true : (b : Bool) → (b ≡ true → ⊥) → b ≡ false
-not_true true h = absurd (h refl)
-not_true false h = refl
 
 module _ {P K W S : Type 0} (rules : Rules P K W) (readers : Readers P K W S) (law : Lawful rules readers) where
   -- one of these sections has the keyword
@@ -243,7 +240,7 @@ module _ {P K W S : Type 0} (rules : Rules P K W) (readers : Readers P K W S) (l
   unfit_turn s found front p None q state key part once none = refl
   unfit_turn s found front p (Some l) (Some x) state key part once none = absurd (none x (law.parts.sound (erased p) x part))
   unfit_turn s found front p (Some l) None state key part once none =
-      rw (not_true (readers.has_seen s l) (λ e. let o = state.only_seen l e in once (l, o.0, law.keys.sound (erased p) l key, o.1))) refl
+      rw (false_from_ne_true (readers.has_seen s l) (λ e. let o = state.only_seen l e in once (l, o.0, law.keys.sound (erased p) l key, o.1))) refl
 
   fault_turn : (s : S) (found : List P) (front : List Tree) (p : Placed) (f : SectionFault K W) → State s found front → IsFault rules front p f → turn readers s p ≡ stop f
   fault_turn s found front p (twice k span) state (single, has, any, span_is) =
@@ -282,7 +279,7 @@ module _ {P K W S : Type 0} (rules : Rules P K W) (readers : Readers P K W S) (l
       let key = law.keys.complete (erased p) k has.1 in
       let part = law.parts.complete (erased p) x each.0 in
       let fresh : readers.has_seen s k ≡ false =
-      not_true (readers.has_seen s k) (λ e. let o = state.only_seen k e in
+      false_from_ne_true (readers.has_seen s k) (λ e. let o = state.only_seen k e in
       once (map erased front) (erased p) (map erased ps) (map_append erased front (p ∷ ps)) (k, o.0, has.1, o.1)) in
       let next_state : State (readers.with_seen s k) (found ++ x ∷ []) (map erased (front ++ p ∷ [])) =
       subst (State (readers.with_seen s k) (found ++ x ∷ [])) (sym (map_append erased front (p ∷ [])))

@@ -8,7 +8,7 @@ use Rattle.pddl_domain.proofs.section_reader.add_section.Goals as goal
 
 pub returns-in_default-clause-refused : goal.returns-in_default-clause-refused
 returns-in_default-clause-refused g c =
-    no_key_stops domain_readers c.args.seen c.args.item.now c.refusal.result (sym c.in_default.is ∙ c.keyword_of.ensures.reads) c.refusal.ensures
+    no_key_stops domain_readers c.args.seen c.args.item.now c.refusal.result (sym c.in_default.is ∙ c.keyword_of.ensures.reads) c.refusal.ensures.fault
 
 pub returns-then-has-clause-refused : goal.returns-then-has-clause-refused
 returns-then-has-clause-refused g c =
@@ -19,7 +19,7 @@ pub returns-then-not-branch-clause-refused : goal.returns-then-not-branch-clause
 returns-then-not-branch-clause-refused g c =
     unfit_stops domain_readers c.args.seen c.args.item.now c.in-Some.keyword (sym c.in-Some.is ∙ c.keyword_of.ensures.reads)
     c.refusal-then-not-branch.result (sym c.if-has.false ∙ c.has.ensures)
-    (none_added (domain_view c.args.domain.now) (part_at (item_tree c.args.item.now)) (rw c.if-not-branch.true at c.in_ok-add_item.ensures)) c.refusal-then-not-branch.ensures
+    (none_added (domain_view c.args.domain.now) (part_at (item_tree c.args.item.now)) (rw c.if-not-branch.true at c.in_ok-add_item.ensures)) c.refusal-then-not-branch.ensures.fault
 
 pub returns-clause-section : goal.returns-clause-section
 returns-clause-section g c =

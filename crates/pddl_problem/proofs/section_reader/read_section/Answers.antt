@@ -8,7 +8,7 @@ use Rattle.pddl_problem.proofs.section_reader.read_section.Goals as goal
 
 pub returns-in_default-clause-stops : goal.returns-in_default-clause-stops
 returns-in_default-clause-stops g c =
-    no_key_stops problem_readers c.args.seen c.args.item.now c.refusal.result (sym c.in_default.is ∙ c.keyword_of.ensures.reads) c.refusal.ensures
+    no_key_stops problem_readers c.args.seen c.args.item.now c.refusal.result (sym c.in_default.is ∙ c.keyword_of.ensures.reads) c.refusal.ensures.fault
 
 pub returns-then-has-clause-stops : goal.returns-then-has-clause-stops
 returns-then-has-clause-stops g c =
@@ -19,7 +19,7 @@ pub returns-then-not-branch-clause-stops : goal.returns-then-not-branch-clause-s
 returns-then-not-branch-clause-stops g c =
     unfit_stops problem_readers c.args.seen c.args.item.now c.in-Some.keyword (sym c.in-Some.is ∙ c.keyword_of.ensures.reads)
     c.refusal-then-not-branch.result (sym c.if-has.false ∙ c.has.ensures)
-    (none_filled (slots_view c.args.slots.now) (part_at (item_tree c.args.item.now)) (rw c.if-not-branch.true at c.in_ok-read_item.ensures)) c.refusal-then-not-branch.ensures
+    (none_filled (slots_view c.args.slots.now) (part_at (item_tree c.args.item.now)) (rw c.if-not-branch.true at c.in_ok-read_item.ensures)) c.refusal-then-not-branch.ensures.fault
 
 pub returns-clause-fits : goal.returns-clause-fits
 returns-clause-fits g c =
