@@ -2,6 +2,7 @@ pub mod Lists
 pub mod Subtypes
 pub mod TypeCycles
 pub mod LowestFault
+pub mod LaterWords
 pub mod DistinctNames
 pub mod LinkedTasks
 pub mod Numbers

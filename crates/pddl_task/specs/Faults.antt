@@ -1,18 +1,17 @@
 -- The faults of linking, 20 to 33 and 35 (own). Each is the list of its words, one for each place where it stands, in the order of the
 -- canonical text, the domain before the problem; it does not stand where the list is empty. A fault without a word (33, 35) has
 -- the empty name there. A variable's word is its name without `?`.
-use Rattle.std.specs.Prelude.{ℕ, Bool, true, false, not, ◌&&◌, ◌||◌, ◌==◌, ◌%◌, nat_lt, List, [], ◌∷◌, ◌++◌, map, filter, find, length, Option, Some, None, bytes_eq}
+use Rattle.std.specs.Prelude.{ℕ, Bool, false, not, ◌&&◌, ◌||◌, ◌==◌, ◌%◌, nat_lt, List, [], ◌∷◌, ◌++◌, map, filter, find, length, Option, Some, None, bytes_eq}
 use Rattle.std.specs.List.{list_any, flat_map}
 use Rattle.pddl_formula.specs.Terms.{TermValue, name, variable}
 use Rattle.pddl_formula.specs.TypedLists.{TypedValue}
 use Rattle.pddl_effect.specs.Effects as effects
-use Rattle.pddl_effect.specs.Effects.{EffectValue, EffectValues, conditional, addition, deletion, increase, no_effects, effect}
 use Rattle.pddl_domain.specs.Declarations.{TypeValue, Signature, number}
 use Rattle.pddl_domain.specs.Actions.{ActionValue}
 use Rattle.pddl_domain.specs.Domains.{DomainValue}
 use Rattle.pddl_problem.specs.Inits.{GroundValue, InitValue, holds, fails, value, MetricValue}
 use Rattle.pddl_problem.specs.Problems.{ProblemValue}
-use Rattle.pddl_task.specs.Names.{Name, is_in, same_names, word_if, repeated, item_of, is_named}
+use Rattle.pddl_task.specs.Names.{Name, is_in, same_names, word_if, wrong_words, repeated, item_of, is_named}
 use Rattle.pddl_task.specs.Types.{types_of, pairs, is_cyclic, fits}
 use Rattle.pddl_task.specs.Places.{total_cost, Part, says, calls, equates, binds, counts, Place, action_places, domain_places, problem_places, is_taken}
 use Rattle.pddl_task.specs.Settings.{symbol_of, parameters_of, function_signatures, Setting, in_problem}
@@ -64,10 +63,13 @@ problem_typed p = p.objects ++ flat_map variables_at (problem_places p)
 -- ---- 24 NameTwice: two predicates, two functions or two actions of one name; one variable twice in the parameters of an action or
 -- in the list of one quantifier; a constant or an object listed with two different types. The word is the name
 
--- of names with types that follow those already seen, each that is seen with another type
+-- one of these has the name, and another type
+abbrev pub has_other_type : List TypedValue → TypedValue → Bool
+has_other_type before x = list_any (λ y. is_named y.item x && not (same_names y.of x.of)) before
+
+-- of names with types behind others, each that stands before it with another type
 abbrev pub retyped : List TypedValue → List TypedValue → List Name
-retyped seen [] = []
-retyped seen (x ∷ xs) = word_if (list_any (λ y. is_named y.item x && not (same_names y.of x.of)) seen) x.item ++ retyped (seen ++ x ∷ []) xs
+retyped = wrong_words has_other_type item_of
 
 abbrev pub repeated_at : Place → List Name
 repeated_at pl = repeated [] (map item_of (variables_at pl))
@@ -178,10 +180,9 @@ init_name (holds f) = f.name
 init_name (fails f) = f.name
 init_name (value f n) = f.name
 
--- of items that follow those already seen, the name of each that clashes with one before it
+-- of items behind others, the name of each that clashes with one before it
 abbrev pub clashing : (InitValue → InitValue → Bool) → List InitValue → List InitValue → List Name
-clashing clash seen [] = []
-clashing clash seen (i ∷ is) = word_if (list_any (clash i) seen) (init_name i) ++ clashing clash (seen ++ i ∷ []) is
+clashing clash = wrong_words (λ before i. list_any (clash i) before) init_name
 
 abbrev pub contradictions : ProblemValue → List Name
 contradictions p = clashing contradicts [] p.init
@@ -211,10 +212,9 @@ abbrev pub starts_above_zero : InitValue → Bool
 starts_above_zero (value f n) = bytes_eq f.name total_cost && not (n == 0)
 starts_above_zero _ = false
 
--- of items that follow those already seen, the function of each that is wrong by itself or beside one before it
+-- of items behind others, the function of each that is wrong by itself or clashes with one before it
 abbrev pub wrong_values : List InitValue → List InitValue → List Name
-wrong_values seen [] = []
-wrong_values seen (i ∷ is) = word_if (starts_above_zero i || list_any (revalues i) seen) (init_name i) ++ wrong_values (seen ++ i ∷ []) is
+wrong_values = wrong_words (λ before i. starts_above_zero i || list_any (revalues i) before) init_name
 
 abbrev pub cost_values : ProblemValue → List Name
 cost_values p = wrong_values [] p.init

@@ -1,5 +1,5 @@
 -- Names in lists.
-use Rattle.std.specs.Prelude.{ℕ, Bool, not, cond, List, [], ◌∷◌, ◌++◌, filter, bytes_eq}
+use Rattle.std.specs.Prelude.{◌≡◌, ℕ, Bool, true, not, cond, List, [], ◌∷◌, ◌++◌, filter, bytes_eq}
 use Rattle.std.specs.List.{list_any, position_or_len}
 use Rattle.std.specs.Cmp.Lexicographic.{pointwise}
 use Rattle.pddl_formula.specs.TypedLists.{WithType, TypedValue}
@@ -24,10 +24,23 @@ same_names = pointwise bytes_eq
 abbrev pub word_if : Bool → Name → List Name
 word_if holds word = cond holds (word ∷ []) []
 
--- of names that follow those already seen, each that stands before it too
+-- of items behind others, the word of each that is wrong behind those before it
+abbrev pub wrong_words : {X : Type 0} → (List X → X → Bool) → (X → Name) → List X → List X → List Name
+wrong_words wrong word before [] = []
+wrong_words wrong word before (x ∷ xs) = word_if (wrong before x) (word x) ++ wrong_words wrong word (before ++ x ∷ []) xs
+
+-- the word is that of an item which is wrong behind those before it in the list: `wrong_words`, as a relation
+pub record IsWrongBehind {X : Type 0} (wrong : List X → X → Bool) (word : X → Name) (xs : List X) (w : Name) : Type 0 where
+  pub before : List X
+  pub here : X
+  pub after : List X
+  pub xs_are : xs ≡ before ++ here ∷ after
+  pub is_wrong : wrong before here ≡ true
+  pub word_is : word here ≡ w
+
+-- of names behind others, each that stands before it too
 abbrev pub repeated : List Name → List Name → List Name
-repeated seen [] = []
-repeated seen (n ∷ ns) = word_if (is_in seen n) n ++ repeated (seen ++ n ∷ []) ns
+repeated = wrong_words is_in (λ n. n)
 
 -- what is typed
 abbrev pub item_of : {X T : Type 0} → WithType X T → X

@@ -10,7 +10,7 @@ mod type_laws;
 
 pub use fault_laws::{
     domain_faults_are_faults, first_is_lowest, linked_domain_is_good, linked_or_lowest,
-    none_is_lowest, one_lowest,
+    none_is_lowest, one_lowest, words_of_later_items,
 };
 pub use task_laws::{
     actions_stand_once, costs_are_known, costs_are_single, costs_are_whole, fitting_are_objects,
