@@ -1,56 +1,22 @@
 -- Tables whose types are all below `object`, in which no type is above itself.
-use Rattle.std.proofs.Common.{◌≡◌, ℕ, zero, suc, ◌+◌, ◌<◌, Bool, true, false, ◌&&◌, ◌==◌, List, [], ◌∷◌, map, filter, cond, length, replicate, refl, sym, ap, ◌∙◌, subst, arith, bytes_eq, inl, inr}
-use Rattle.std.specs.List.{slice_index_or}
-use Rattle.std.proofs.lemmas.Bool.{cases_lt}
+use Rattle.std.proofs.Common.{◌≡◌, ℕ, zero, suc, ◌<◌, Bool, true, false, ◌&&◌, ◌==◌, List, [], ◌∷◌, map, filter, cond, length, refl, sym, ap, ◌∙◌, bytes_eq, inl, inr}
 use Rattle.pddl_domain.specs.Declarations.{TypeValue}
 use Rattle.pddl_task.specs.Names.{Name, item_of}
 use Rattle.pddl_task.specs.Types.{root, says_nothing, pairs, is_under, is_cyclic}
 use Rattle.pddl_task.specs.Faults.{first_alone}
 use Rattle.pddl_task.proofs.Lists.{and_left, and_right, and_both, any_found, or_right, or_cases, bytes_same, same_bytes}
-use Rattle.pddl_link.specs.TypeTables.{Row, name_at, parent_place, parent_in, climbs, IsTypeTable, ComesToRoot, MarksBelowRoot, AllBelowRoot, AddsMark}
+use Rattle.pddl_link.specs.TypeTables.{Row, name_at, parent_place, parent_in, climbs, IsTypeTable}
 use Rattle.pddl_link.proofs.TypeClimbs.{pair_is, once_declared, parent_at, climb_stays, climb_here, climbs_decide, has_row, place_of, same_place, place_same}
 use Rattle.pddl_link.proofs.CyclicTypes.{pair_says}
 
--- ---- ways to `object`
+-- a place from which that of `object` is come to
+abbrev pub ComesToRoot : List Row → ℕ → Type 0
+ComesToRoot rows i = (n : ℕ) × (climbs rows n i 0 ≡ true)
 
-pub comes_from_parent : (rows : List Row) (i p : ℕ) → p ≡ parent_place rows i → ComesToRoot rows p → ComesToRoot rows i
-comes_from_parent rows i p is h = (suc h.0, or_right (i == 0) (climbs rows h.0 (parent_place rows i) 0) (ap (λ k. climbs rows h.0 k 0) (sym is) ∙ h.1))
-
-root_comes : (rows : List Row) → ComesToRoot rows 0
-root_comes rows = (0, refl)
-
-pub parent_comes : (rows : List Row) (i p : ℕ) → p ≡ parent_place rows i → parent_place rows 0 ≡ 0 → ComesToRoot rows i → ComesToRoot rows p
-parent_comes rows i p is top (zero, h) = (0, place_same p 0 (is ∙ ap (parent_place rows) (same_place i 0 h) ∙ top))
-parent_comes rows i p is top (suc n, h) =
-    elim (or_cases (i == 0) (climbs rows n (parent_place rows i) 0) h) as (λ _. ComesToRoot rows p) [
-      | inl here ↦ (0, place_same p 0 (is ∙ ap (parent_place rows) (same_place i 0 here) ∙ top))
-      | inr more ↦ (n, ap (λ k. climbs rows n k 0) is ∙ more)
-    ]
-
--- ---- marks
-
-pub more_marks : (rows : List Row) (old new : List Bool) (place : ℕ) → ComesToRoot rows place → MarksBelowRoot rows old → AddsMark old new place → MarksBelowRoot rows new
-more_marks rows old new place below marks adds i on =
-    elim (adds i on) as (λ _. ComesToRoot rows i) [
-      | inl is ↦ subst (ComesToRoot rows) (sym is) below
-      | inr was ↦ marks i was
-    ]
-
-no_mark : (n i : ℕ) → slice_index_or (replicate n false) i false ≡ false
-no_mark zero i = refl
-no_mark (suc n) zero = refl
-no_mark (suc n) (suc i) = no_mark n i
-
-pub root_marked : (rows : List Row) (n : ℕ) (old new : List Bool) → old ≡ replicate n false → AddsMark old new 0 → MarksBelowRoot rows new
-root_marked rows n old new none adds i on =
-    elim (adds i on) as (λ _. ComesToRoot rows i) [
-      | inl is ↦ subst (ComesToRoot rows) (sym is) (root_comes rows)
-      | inr was ↦ let off : slice_index_or old i false ≡ false = ap (λ (ms : List Bool). slice_index_or ms i false) none ∙ no_mark n i in cc
-    ]
-
-pub next_below : (rows : List Row) (from : ℕ) → ((i : ℕ) → i < from → ComesToRoot rows i) → ComesToRoot rows from → (i : ℕ) → i < from + 1 → ComesToRoot rows i
-next_below rows from h here i low =
-    elim (cases_lt i from) as (λ _. ComesToRoot rows i) [ inl before ↦ h i before | inr past ↦ let is : i ≡ from = omega (arith, low, past) in subst (ComesToRoot rows) (sym is) here ]
+-- `object` is come to from each place, and no other from its own
+pub record AllBelowRoot (rows : List Row) : Type 0 where
+  pub top : parent_place rows 0 ≡ 0
+  pub below : (i : ℕ) → i < length rows → ComesToRoot rows i
 
 -- ---- no way round
 

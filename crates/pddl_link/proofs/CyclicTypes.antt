@@ -3,21 +3,22 @@ use Rattle.std.proofs.Common.{◌≡◌, Bool, true, false, not, ◌&&◌, List,
 use Rattle.std.specs.Prelude.{Contains}
 use Rattle.std.specs.List.{IsDistinct}
 use Rattle.std.proofs.lemmas.List.Elements.{Contains-append_left, Contains-append_cases}
+use Rattle.std.proofs.lemmas.Bool.{not-true}
 use Rattle.pddl_domain.specs.Declarations.{TypeValue}
 use Rattle.pddl_task.specs.Names.{is_in, repeated, item_of}
 use Rattle.pddl_task.specs.Types.{root, parent_of, says_nothing, under_root, only_parents, pairs, is_under, is_cyclic}
 use Rattle.pddl_task.proofs.Lists.{and_left, and_right, and_both, any_found, found_any, none_left, bytes_same, same_bytes, kept_is, is_kept, mapped_is}
 use Rattle.pddl_link.specs.TypeTables.{parent_in}
-use Rattle.pddl_link.proofs.TypeClimbs.{not_true, same_tests, once_declared, parent_declared, pair_is}
+use Rattle.pddl_link.proofs.TypeClimbs.{same_tests, once_declared, parent_declared, pair_is}
 
 pub pair_says : (declared : List TypeValue) (e : TypeValue) → Contains (pairs declared) e → says_nothing e ≡ false
 pair_says declared e has =
     elim (Contains-append_cases (filter (λ d. not (says_nothing d)) declared) (map under_root (only_parents declared)) e has) as (λ _. says_nothing e ≡ false) [
-      | inl kept ↦ not_true (says_nothing e) (kept_is (λ d. not (says_nothing d)) declared e kept).1
+      | inl kept ↦ not-true (says_nothing e) (kept_is (λ d. not (says_nothing d)) declared e kept).1
       | inr added ↦
           let from = mapped_is under_root (only_parents declared) e added in
           let new = kept_is (λ t. not (is_in (root ∷ map item_of declared) t)) (map parent_of declared) from.0 from.1 in
-          let other = none_left (bytes_eq from.0 root) (is_in (map item_of declared) from.0) (not_true (is_in (root ∷ map item_of declared) from.0) new.1) in
+          let other = none_left (bytes_eq from.0 root) (is_in (map item_of declared) from.0) (not-true (is_in (root ∷ map item_of declared) from.0) new.1) in
           subst (λ d. says_nothing d ≡ false) from.2 (ap (λ b. b && bytes_eq root root) other)
     ]
 

@@ -22,6 +22,7 @@ pub mod Sizes
 pub mod Slots
 pub mod SoundInits
 pub mod TypeClimbs
+pub mod TypeForests
 pub mod TypeLookups
 pub mod TypeTables
 pub mod TypesTold

@@ -15,7 +15,7 @@ use Rattle.pddl_task.specs.Faults.{primitives_of, takes_others}
 use Rattle.pddl_link.specs.KnownNames.{signature_in, object_in}
 use Rattle.pddl_link.proofs.ListPasses.{views_drop}
 
-found_or : {X : Type 0} (b : Bool) (x : X) (o : Option X) → is_some (cond b (Some x) o) ≡ b || is_some o
+pub found_or : {X : Type 0} (b : Bool) (x : X) (o : Option X) → is_some (cond b (Some x) o) ≡ b || is_some o
 found_or true x o = refl
 found_or false x o = refl
 

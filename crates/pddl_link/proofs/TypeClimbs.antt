@@ -8,6 +8,7 @@ use Rattle.std.proofs.lemmas.Cmp.{nat_list_eq_equiv}
 use Rattle.std.proofs.lemmas.List.{length-map}
 use Rattle.std.proofs.lemmas.List.Elements.{Contains-append_left, Contains-append_right, Contains-append_cases}
 use Rattle.std.proofs.lemmas.Map.Keys.{IsDistinct-head, IsDistinct-tail}
+use Rattle.std.proofs.lemmas.Bool.{not-true}
 use Rattle.pddl_domain.specs.Declarations.{TypeValue}
 use Rattle.pddl_task.specs.Names.{Name, is_in, repeated, item_of}
 use Rattle.pddl_task.specs.Types.{root, parent_of, types_of, says_nothing, under_root, only_parents, pairs, Under, itself, climb, reaches, is_under, is_subtype}
@@ -49,9 +50,6 @@ once_declared declared h = no_repetition [] (map item_of declared) tt h
 
 -- ---- the pairs, as the table has them
 
-pub not_true : (b : Bool) → not b ≡ true → b ≡ false
-not_true b h = grind arith
-
 type_declared : (declared : List TypeValue) (t : Name) → Contains (map item_of declared) t → is_in (types_of declared) t ≡ true
 type_declared declared t c = has_in (types_of declared) t (has_later root (map item_of declared ++ map parent_of declared) t (Contains-append_left (map item_of declared) (map parent_of declared) t c))
 
@@ -69,7 +67,7 @@ pair_is declared e once has =
       | inr added ↦
           let from = mapped_is under_root (only_parents declared) e added in
           let new = kept_is (λ t. not (is_in (root ∷ map item_of declared) t)) (map parent_of declared) from.0 from.1 in
-          let other = none_right (bytes_eq from.0 root) (is_in (map item_of declared) from.0) (not_true (is_in (root ∷ map item_of declared) from.0) new.1) in
+          let other = none_right (bytes_eq from.0 root) (is_in (map item_of declared) from.0) (not-true (is_in (root ∷ map item_of declared) from.0) new.1) in
           let item : from.0 ≡ e.item = ap item_of from.2 in
           let of : root ≡ e.of = ap parent_of from.2 in (
             type_above declared e.item (subst (Contains (map parent_of declared)) item new.0),
@@ -157,7 +155,7 @@ same_place i g h = grind arith
 pub place_same : (i g : ℕ) → i ≡ g → (i == g) ≡ true
 place_same i g h = grind arith
 
-climbs_sound : (declared : List TypeValue) (rows : List Row) (n i g : ℕ) → IsTypeTable declared rows → i < length rows → climbs rows n i g ≡ true
+pub climbs_sound : (declared : List TypeValue) (rows : List Row) (n i g : ℕ) → IsTypeTable declared rows → i < length rows → climbs rows n i g ≡ true
     → Under (pairs declared) (name_at rows i) (name_at rows g)
 climbs_sound declared rows zero i g h low up = itself (ap (name_at rows) (same_place i g up))
 climbs_sound declared rows (suc n) i g h low up =

@@ -1,9 +1,10 @@
 -- How the types of a domain are held for look-ups by name.
-use Rattle.std.specs.Prelude.{◌≡◌, ℕ, zero, suc, Bool, true, false, ◌||◌, ◌==◌, ◌<◌, List, [], ◌∷◌, map, length, cond, bytes_eq, Contains, slice_get, ◌⊎◌}
+use Rattle.std.specs.Prelude.{◌≡◌, ℕ, zero, suc, Bool, ◌||◌, ◌==◌, ◌<◌, List, [], ◌∷◌, map, length, cond, bytes_eq, Contains, slice_get, Option, IfSome}
 use Rattle.std.specs.Option.{option_map_or}
 use Rattle.indexmap.specs.IndexMap.{insert_entry}
 use Rattle.std.specs.List.{IsDistinct, slice_index_or}
 use Rattle.std.specs.Borrow.{Bor}
+use Rattle.pddl_forest.specs.Forests.{IsForest}
 use Rattle.pddl_domain.specs.Declarations.{TypeValue}
 use Rattle.pddl_task.specs.Names.{Name, is_in, repeated, item_of}
 use Rattle.pddl_task.specs.Types.{root, types_of}
@@ -55,19 +56,6 @@ abbrev pub climbs : List Row → ℕ → ℕ → ℕ → Bool
 climbs rows zero i g = i == g
 climbs rows (suc n) i g = (i == g) || climbs rows n (parent_place rows i) g
 
--- a place from which that of `object` is come to
-abbrev pub ComesToRoot : List Row → ℕ → Type 0
-ComesToRoot rows i = (n : ℕ) × (climbs rows n i 0 ≡ true)
-
--- marks stand at such places alone
-abbrev pub MarksBelowRoot : List Row → List Bool → Type 0
-MarksBelowRoot rows marks = (i : ℕ) → slice_index_or marks i false ≡ true → ComesToRoot rows i
-
--- a mark more, at this place
-abbrev pub AddsMark : List Bool → List Bool → ℕ → Type 0
-AddsMark old new place = (i : ℕ) → slice_index_or new i false ≡ true → (i ≡ place) ⊎ (slice_index_or old i false ≡ true)
-
--- `object` is come to from each place, and no other from its own
-pub record AllBelowRoot (rows : List Row) : Type 0 where
-  pub top : parent_place rows 0 ≡ 0
-  pub below : (i : ℕ) → i < length rows → ComesToRoot rows i
+-- where the places are numbered, they are those of a forest, each with its parent's
+abbrev pub AreNumbered : List Row → Option (List ℕ) → Type 0
+AreNumbered rows order = IfSome order (λ ps. (ps ≡ map (λ r. r.1) rows) × IsForest ps)

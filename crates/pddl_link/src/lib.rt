@@ -6,7 +6,6 @@
 #![tactic(auto)]
 
 mod arity;
-mod below_object;
 mod bound;
 mod check;
 mod declared_types;

@@ -13,7 +13,8 @@ pub(crate) struct ObjectCounts<'t, 'm, 'a, A: Allocator, B: Allocator> {
     pub objects: &'t Objects<'m, 'a, A, B>,
 }
 
-impl<'t, 'm, 'a, A: Allocator, B: Allocator> FittingCount<A> for ObjectCounts<'t, 'm, 'a, A, B> {
+impl<'t, 'm, 'a, A: Allocator, B: Allocator, N: Allocator> FittingCount<N>
+    for ObjectCounts<'t, 'm, 'a, A, B> {
     ghost use Rattle.std.specs.Prelude.{map};
     ghost use Rattle.pddl_task.specs.Types.{pairs};
     ghost use Rattle.pddl_task.specs.GroundSize.{fitting_count};
@@ -21,7 +22,7 @@ impl<'t, 'm, 'a, A: Allocator, B: Allocator> FittingCount<A> for ObjectCounts<'t
 
     ghost count = { λ counts slot. fitting_count (pairs counts.types.now) (map object_in counts.objects.now.entries) slot };
 
-    fn fitting_count(&self, types: &TypeNames<A>) -> usize {
+    fn fitting_count(&self, types: &TypeNames<N>) -> usize {
         let mut count = 0;
         for place in 0..self.objects.len() {
             match self.objects.get_index(place) {

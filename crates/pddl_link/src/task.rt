@@ -137,7 +137,7 @@ impl<'m, 'a, A: Allocator, B: Allocator> Task<'m, 'a, A, B> {
     }
 
     /// The ground size of a formula over the task's objects, or 1,000,001 where it is over 1,000,000.
-    pub fn ground_size(&self, formula: &Formula<A>) -> u32
+    pub fn ground_size<N: Allocator>(&self, formula: &Formula<N>) -> u32
         ensures { result ≡ capped (formula_size (task_count (task_of_files self.now)) (formula_view formula.now)) }
     {
         let counts = ObjectCounts {
@@ -148,7 +148,7 @@ impl<'m, 'a, A: Allocator, B: Allocator> Task<'m, 'a, A, B> {
     }
 
     /// The ground size of a step of an action over the task's objects, or 1,000,001 where it is over 1,000,000.
-    pub fn action_ground_size(&self, action: &Action<A>) -> u32
+    pub fn action_ground_size<N: Allocator>(&self, action: &Action<N>) -> u32
         ensures { result ≡ capped (action_size (task_count (task_of_files self.now)) (action_view action.now)) }
     {
         let counts = ObjectCounts {

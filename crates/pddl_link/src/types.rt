@@ -8,37 +8,39 @@ ghost use Rattle.pddl_task.specs.Names.{is_in, repeated, item_of};
 ghost use Rattle.pddl_task.specs.Types.{root, says_nothing, types_of, pairs, is_under, is_subtype, is_cyclic, fits};
 ghost use Rattle.pddl_task.specs.Faults.{primitives_of, first_alone};
 ghost use Rattle.pddl_link.specs.Passes.{Passes};
-ghost use Rattle.pddl_link.specs.TypeTables.{IsTableOf, IsTypeTable, with_name, name_at, climbs};
+ghost use Rattle.pddl_link.specs.TypeTables.{IsTableOf, IsTypeTable, AreNumbered, with_name, name_at, parent_place, climbs};
 
-use crate::below_object::all_below_object;
 use crate::fault::LinkFault;
 use crate::hashed::Hashed;
 use indexmap::IndexMap;
 use pddl_domain::DeclaredType;
+use pddl_forest::Preorder;
 use pddl_formula::{TypeNames, Typed};
 use std::alloc::{AllocError, Allocator};
 use std::marker::Model;
 
 /// The types of a domain, each with the place of its parent in the table; `object` is at place 0, and is its own parent where no
-/// other is declared.
+/// other is declared. Where all are below `object`, as in each domain without a cycle, their places are numbered in pre-order, and what is under what
+/// is told by two comparisons.
 ///
 /// Contracts see it as the list of the declared types.
 #[derive(Drop)]
 pub struct Types<'m, 'a, A: Allocator, B: Allocator> {
     declared: &'m [DeclaredType<A>],
     parents: IndexMap<&'m [u8], usize, Hashed, &'a B>,
+    order: Option<Preorder<'a, B>>,
 }
 
 impl<'m, 'a, A: Allocator, B: Allocator> Model for Types<'m, 'a, A, B> {
     ghost use Rattle.std.specs.Prelude.{List, map};
     ghost use Rattle.pddl_domain.specs.Declarations.{TypeValue, type_view};
-    ghost use Rattle.pddl_link.specs.TypeTables.{IsTypeTable};
+    ghost use Rattle.pddl_link.specs.TypeTables.{IsTypeTable, AreNumbered};
 
     ghost Value = { List TypeValue };
 
     ghost view = { λ t. map type_view t.declared.now };
 
-    ghost invariant = { λ t. IsTypeTable (map type_view t.declared.now) t.parents.entries };
+    ghost invariant = { λ t. IsTypeTable (map type_view t.declared.now) t.parents.entries × AreNumbered t.parents.entries t.order };
 }
 
 /// The place of a type in the table; it is put there under `object` where it does not stand yet.
@@ -87,6 +89,35 @@ fn put_under_parents<'m, 'a, A: Allocator, B: Allocator>(
         parents.insert(declared_type.name.as_bytes(), place)?;
     }
     Ok(())
+}
+
+/// The place of the parent of the type at a place.
+fn parent_of<'m, 'a, B: Allocator>(
+    parents: &IndexMap<&'m [u8], usize, Hashed, &'a B>,
+    place: usize,
+) -> usize
+    ensures { result ≡ parent_place parents.now.entries place }
+{
+    match parents.get_index(place) {
+        Some((_, parent)) => *parent,
+        None => place,
+    }
+}
+
+/// The places of a table, numbered where all are below `object`.
+///
+/// Fails where memory for the numbers is refused.
+fn numbered<'m, 'a, B: Allocator>(
+    alloc: &'a B,
+    parents: &IndexMap<&'m [u8], usize, Hashed, &'a B>,
+) -> Result<Option<Preorder<'a, B>>, AllocError>
+    ensures { IfOk result (λ order. AreNumbered parents.now.entries order) }
+{
+    let mut places = Vec::with_capacity(alloc, parents.len())?;
+    for place in 0..parents.len() {
+        places.push(parent_of(parents, place))?;
+    }
+    Preorder::of(alloc, places)
 }
 
 /// Whether one place is come to from another, from parent to parent.
@@ -138,7 +169,12 @@ impl<'m, 'a, A: Allocator, B: Allocator> Types<'m, 'a, A, B> {
         parents.insert(b"object".as_slice(), 0)?;
         put_under_object(&mut parents, declared)?;
         put_under_parents(&mut parents, declared)?;
-        Ok(Types { declared, parents })
+        let order = numbered(alloc, &parents)?;
+        Ok(Types {
+            declared,
+            parents,
+            order,
+        })
     }
 
     /// Whether a name is a type: `object`, a declared type, or one that stands as a parent.
@@ -159,7 +195,10 @@ impl<'m, 'a, A: Allocator, B: Allocator> Types<'m, 'a, A, B> {
             None => false,
             Some(from) => match self.parents.get_index_of(over) {
                 None => false,
-                Some(to) => climbs(&self.parents, from, to),
+                Some(to) => match &self.order {
+                    Some(order) => order.is_under(from, to),
+                    None => climbs(&self.parents, from, to),
+                },
             },
         }
     }
@@ -211,14 +250,11 @@ impl<'m, 'a, A: Allocator, B: Allocator> Types<'m, 'a, A, B> {
             && self.is_under(declared.parent.as_bytes(), declared.name.as_bytes())
     }
 
-    /// No declared type is above itself. In a domain without a cycle one walk over the table shows it.
-    ///
-    /// Fails where memory for the walk is refused.
+    /// No declared type is above itself. In a domain without a cycle all places are numbered, which shows it.
     pub fn cycle(&self) -> Result<(), LinkFault<'m>>
         ensures { Passes 22 (first_alone (filter (is_cyclic (pairs self.now)) (map item_of self.now))) result }
     {
-        let all_below = all_below_object(&self.parents)?;
-        if all_below {
+        if self.order.is_some() {
             return Ok(());
         }
         for declared in self.declared {

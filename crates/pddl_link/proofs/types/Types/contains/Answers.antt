@@ -7,5 +7,5 @@ use Rattle.pddl_link.proofs.types.Types.contains.Goals as goal
 
 pub returns : goal.returns
 returns g c =
-    c.contains_key.ensures ∙ contained (map type_view c.self.inside.declared.now) c.self.inside.parents.entries c.args.name.now c.self.invariant
+    c.contains_key.ensures ∙ contained (map type_view c.self.inside.declared.now) c.self.inside.parents.entries c.args.name.now c.self.invariant.0
     ∙ ap (λ ts. is_in (types_of ts) c.args.name.now) c.self.view_is

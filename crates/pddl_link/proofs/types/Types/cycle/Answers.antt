@@ -1,8 +1,11 @@
-use Rattle.std.proofs.Common.{map}
+use Rattle.std.proofs.Common.{map, sym, ◌∙◌}
 use Rattle.pddl_domain.specs.Declarations.{type_view}
 use Rattle.pddl_link.proofs.BelowRoot.{no_cycle}
+use Rattle.pddl_link.proofs.TypeForests.{below_where_numbered}
 use Rattle.pddl_link.proofs.types.Types.cycle.Goals as goal
 
-pub returns-then-all_below : goal.returns-then-all_below
-returns-then-all_below g c =
-    no_cycle (map type_view c.self.inside.declared.now) c.args.self.now c.self.inside.parents.entries c.self.view_is c.self.invariant (c.in_ok-all_below.ensures c.if-all_below.true)
+pub returns-then-is_some : goal.returns-then-is_some
+returns-then-is_some g c =
+    let rows = c.self.inside.parents.entries in
+    no_cycle (map type_view c.self.inside.declared.now) c.args.self.now rows c.self.view_is c.self.invariant.0
+    (below_where_numbered rows c.self.inside.order c.self.invariant.1 (sym c.is_some.ensures ∙ c.if-is_some.true))

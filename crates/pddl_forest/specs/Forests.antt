@@ -1,0 +1,35 @@
+-- Places that each have a parent's place, and which are under which. Own.
+use Rattle.std.specs.Prelude.{◌≡◌, ◌≤◌, ◌<◌, ℕ, zero, suc, List, length}
+use Rattle.std.specs.List.{slice_index_or}
+
+-- the place of a place's parent
+abbrev pub parent_of : List ℕ → ℕ → ℕ
+parent_of ps i = slice_index_or ps i i
+
+-- so many steps from parent to parent
+abbrev pub up : List ℕ → ℕ → ℕ → ℕ
+up ps zero i = i
+up ps (suc n) i = up ps n (parent_of ps i)
+
+-- a place is another or below it: that is come to from it, from parent to parent
+abbrev pub IsUnder : List ℕ → ℕ → ℕ → Type 0
+IsUnder ps i g = (n : ℕ) × (up ps n i ≡ g)
+
+-- the number at a place, or 0 where none stands
+abbrev pub number_at : List ℕ → ℕ → ℕ
+number_at numbers i = slice_index_or numbers i 0
+
+-- A place's number is among those from another's number to that of the last place below this.
+abbrev pub IsWithin : List ℕ → List ℕ → ℕ → ℕ → Type 0
+IsWithin first last i g = (number_at first g ≤ number_at first i) × (number_at first i ≤ number_at last g)
+
+-- each place is 0 or below it, and 0 is its own parent
+pub record IsForest (ps : List ℕ) : Type 0 where
+  pub top : parent_of ps 0 ≡ 0
+  pub below : (i : ℕ) → i < length ps → IsUnder ps i 0
+
+-- The places of a forest are numbered so that those under one have the numbers from its own to a last one.
+pub record IsPreorder (ps first last : List ℕ) : Type 0 where
+  pub forest : IsForest ps
+  pub within : (i g : ℕ) → i < length ps → g < length ps → IsUnder ps i g → IsWithin first last i g
+  pub under : (i g : ℕ) → i < length ps → g < length ps → IsWithin first last i g → IsUnder ps i g

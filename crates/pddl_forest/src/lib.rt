@@ -1,0 +1,10 @@
+//! Numbers of places in a forest, by which a test of what is under what is two comparisons.
+#![tactic(auto)]
+
+mod checking;
+mod numbering;
+mod preorder;
+#[cfg(test)]
+mod tests;
+
+pub use preorder::Preorder;

@@ -1,0 +1,67 @@
+//! Numbers of the places of a forest, by which whether one is under another is two comparisons.
+
+ghost use Rattle.std.specs.Prelude.{◌≡◌, ◌<◌, ◌↔◌, IsTrue, IfOk, IfSome, length};
+ghost use Rattle.pddl_forest.specs.Forests.{IsUnder, IsForest};
+
+use crate::checking::{is_preorder, number_at};
+use crate::numbering::{Numbers, numbered};
+use std::alloc::{AllocError, Allocator};
+use std::marker::Model;
+
+/// The places of a forest, numbered in pre-order: each place comes behind its parent, and what is below a place directly behind it.
+///
+/// Contracts see it as the list of the parents' places.
+#[derive(Drop)]
+pub struct Preorder<'a, B: Allocator> {
+    parents: Vec<usize, &'a B>,
+    /// The number of each place.
+    first: Vec<usize, &'a B>,
+    /// The largest number of the places under each.
+    last: Vec<usize, &'a B>,
+}
+
+impl<'a, B: Allocator> Model for Preorder<'a, B> {
+    ghost use Rattle.std.specs.Prelude.{List, ℕ};
+    ghost use Rattle.pddl_forest.specs.Forests.{IsPreorder};
+
+    ghost Value = { List ℕ };
+
+    ghost view = { λ t. t.parents.items };
+
+    ghost invariant = { λ t. IsPreorder t.parents.items t.first.items t.last.items };
+}
+
+impl<'a, B: Allocator> Preorder<'a, B> {
+    /// The numbers of the places whose parents stand at these places, or `None` where no numbers were found, as in a forest in which place 0 is not come to
+    /// from each place, or has another parent than itself.
+    ///
+    /// Fails where memory for them is refused.
+    pub fn of(
+        alloc: &'a B,
+        parents: Vec<usize, &'a B>,
+    ) -> Result<Option<Preorder<'a, B>>, AllocError>
+        ensures parents { IfOk result (λ found. IfSome found (λ t. t ≡ parents.entry.items)) }
+        ensures forest { IfOk result (λ found. IfSome found (λ t. IsForest t)) }
+    {
+        let Numbers { order, first, last } = numbered(alloc, &parents)?;
+        if is_preorder(alloc, &parents, &order, &first, &last)? {
+            Ok(Some(Preorder {
+                parents,
+                first,
+                last,
+            }))
+        } else {
+            Ok(None)
+        }
+    }
+
+    /// Whether a place is under another: that place, or below it.
+    pub fn is_under(&self, place: usize, over: usize) -> bool
+        requires place { place < length self.now }
+        requires over { over < length self.now }
+        ensures { IsTrue result ↔ IsUnder self.now place over }
+    {
+        let number = number_at(&self.first, place);
+        number_at(&self.first, over) <= number && number <= number_at(&self.last, over)
+    }
+}
