@@ -4,6 +4,7 @@ use Rattle.std.specs.Prelude.{Option, Some, None, is_some, find, position}
 use Rattle.std.specs.Borrow.{Bor}
 use Rattle.std.specs.Map.{keys_of}
 use Rattle.std.specs.List.{slice_get, position_or_len}
+use Rattle.pddl_link.proofs.Lookups.{found_or}
 use Rattle.pddl_task.specs.Names.{Name, is_in, number_in}
 
 -- ---- what stands at a name's number
@@ -19,10 +20,6 @@ at_front false x xs found k is = is ∙ one_more_get x xs k
 pub found_at_number : {X : Type 0} (key : X → Name) (xs : List X) (n : Name) → find (λ x. bytes_eq n (key x)) xs ≡ slice_get xs (number_in (map key xs) n)
 found_at_number key [] n = refl
 found_at_number key (x ∷ xs) n = at_front (bytes_eq n (key x)) x xs (find (λ y. bytes_eq n (key y)) xs) (number_in (map key xs) n) (found_at_number key xs n)
-
-pub found_or : {X : Type 0} (b : Bool) (x : X) (found : Option X) → is_some (cond b (Some x) found) ≡ b || is_some found
-found_or true x found = refl
-found_or false x found = refl
 
 -- something is found by a name where the name is among theirs
 pub is_found : {X : Type 0} (key : X → Name) (xs : List X) (n : Name) → is_in (map key xs) n ≡ is_some (find (λ x. bytes_eq n (key x)) xs)

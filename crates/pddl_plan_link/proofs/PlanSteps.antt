@@ -1,18 +1,14 @@
 -- The steps of a plan, linked one after another.
 use Rattle.std.proofs.Common.{◌≡◌, ◌<◌, ◌≤◌, ℕ, ◌+◌, List, [], ◌∷◌, ◌++◌, map, length, get_or, drop, take, refl, sym, ap, ◌∙◌, subst, arith}
-use Rattle.std.specs.Prelude.{Option, Some, None, Result, Ok, Err, IfOk, OnOk, IfSome, Vec}
+use Rattle.std.specs.Prelude.{Option, Some, None, Result, Ok, Err, IfOk, OnOk, IfSome, slice_get, option_map}
 use Rattle.std.specs.Result.{result_and}
 use Rattle.std.specs.List.{AllByRecursion}
+use Rattle.std.proofs.lemmas.Option.{slice_get-map, get_or_from_slice_get}
 use Rattle.std.proofs.lemmas.List.{map_more, take_all, length-map, length-take-le, take-append-drop, map-append}
 use Rattle.pddl_task.specs.Names.{number_in}
-use Rattle.pddl_tree.specs.declared.plan.Step.{Step}
-use Rattle.pddl_tree.specs.declared.plan.TimedStep.{TimedStep}
-use Rattle.pddl_tree.specs.declared.plan.TimedSteps.{TimedSteps}
-use Rattle.pddl_tree.specs.declared.plan.Plan.{Plan}
-use Rattle.pddl_tree.specs.declared.plan.Plan.TheVariants.{Plain, Timed}
-use Rattle.pddl_tree.specs.Plans.{StepValue, PlanValue, plain, timed, step_view, timed_view, plan_view}
+use Rattle.pddl_tree.specs.Plans.{StepValue, TimedValue, PlanValue, plain, timed, steps_of, moment_at}
 use Rattle.pddl_task.specs.Tasks.{TaskValue, object_names}
-use Rattle.pddl_plan_link.specs.StepFaults.{action_names, step_faults, IsGoodStep, most_steps, steps_of, IsLinkedPlan, IsFirstFault, IsPlanFault}
+use Rattle.pddl_plan_link.specs.StepFaults.{action_names, step_faults, IsGoodStep, most_steps, IsLinkedPlan, IsFirstFault, IsPlanFault}
 use Rattle.pddl_plan_link.specs.LinkedSteps.{LinkedStepValue, linked_step, linked_steps}
 use Rattle.pddl_plan_link.specs.declared.fault.StepFault.{StepFault}
 use Rattle.pddl_plan_link.specs.StepVerdicts.{plan_fault_of, PlanVerdict}
@@ -68,9 +64,6 @@ module _ {X : Type 0} (task : TaskValue) (view : X → StepValue) (link : X → 
   pub none_linked : (done : List LinkedStepValue) → done ≡ [] → AreLinked 0 done
   none_linked done none = record { good = tt; done_are = none }
 
-  pub too_long : most_steps < length plan → IsPlanFault task (plain (map view plan)) 45 None
-  too_long long = (refl, omega (arith, long, length-map plan view))
-
   pub all_linked : (i : ℕ) (done : List LinkedStepValue) → length plan ≤ i → length plan ≤ most_steps → AreLinked i done → IsLinkedPlan task (plain (map view plan))
   all_linked i done past short so_far = record { short = omega (arith, short, length-map plan view); good = all_good i done past so_far }
 
@@ -95,14 +88,22 @@ pub steps_made : {T U : Type 0} (made : Result U StepFault) (steps linked : T) �
 steps_made (Ok u) steps linked h = h
 steps_made (Err e) steps linked h = tt
 
--- ---- plain and timed plans
+-- ---- a plan by its steps and their moments
+
+map_in_turn : {A B C : Type 0} (f : A → B) (g : B → C) (h : A → C) (xs : List A) → ((x : A) → g (f x) ≡ h x) → map g (map f xs) ≡ map h xs
+map_in_turn f g h [] same = refl
+map_in_turn f g h (x ∷ xs) same = rw (same x, map_in_turn f g h xs same) refl
+
+map_same : {A : Type 0} (xs : List A) → map (λ (x : A). x) xs ≡ xs
+map_same [] = refl
+map_same (x ∷ xs) = ap (λ ys. x ∷ ys) (map_same xs)
 
 module _ (task : TaskValue) (p q : PlanValue) (same : steps_of p ≡ steps_of q) where
   same_fault : (n : ℕ) (o : Option ℕ) → IsPlanFault task p n o → IsPlanFault task q n o
   same_fault n None h = (h.0, subst (λ ss. most_steps < length ss) same h.1)
   same_fault n (Some place) h = (subst (λ ss. length ss ≤ most_steps) same h.0, subst (λ ss. IsFirstFault task ss n place) same h.1)
 
-  some_fault : (o : Option (ℕ × Option ℕ)) → IfSome o (λ f. IsPlanFault task p f.0 f.1) → IfSome o (λ f. IsPlanFault task q f.0 f.1)
+  pub some_fault : (o : Option (ℕ × Option ℕ)) → IfSome o (λ f. IsPlanFault task p f.0 f.1) → IfSome o (λ f. IsPlanFault task q f.0 f.1)
   some_fault None h = tt
   some_fault (Some f) h = same_fault f.0 f.1 h
 
@@ -111,49 +112,52 @@ module _ (task : TaskValue) (p q : PlanValue) (same : steps_of p ≡ steps_of q)
   same_verdict (Ok u) h = record { short = subst (λ ss. length ss ≤ most_steps) same h.short; good = subst (AllByRecursion (IsGoodStep task)) same h.good }
   same_verdict (Err e) h = some_fault (plan_fault_of e) h
 
-pub steps_timed : {A : Type 0} (xs : List (TimedStep A)) → map (λ (s : TimedStep A). step_view s.step) xs ≡ steps_of (timed (map timed_view xs))
-steps_timed [] = refl
-steps_timed (x ∷ xs) = ap (λ ss. step_view x.step ∷ ss) (steps_timed xs)
+abbrev pub Row : Type 0
+Row = Option ℕ × StepValue
 
-pub linked_as_plain : {A : Type 0} (task : TaskValue) (xs : List (Step A)) → map (λ (s : Step A). linked_step task None (step_view s)) xs ≡ linked_steps task (plain (map step_view xs))
-linked_as_plain task [] = refl
-linked_as_plain task (x ∷ xs) = ap (λ ss. linked_step task None (step_view x) ∷ ss) (linked_as_plain task xs)
+abbrev pub rows_of : PlanValue → List Row
+rows_of (plain steps) = map (λ s. (None, s)) steps
+rows_of (timed steps) = map (λ s. (Some s.moment, s.step)) steps
 
-pub linked_as_timed : {A : Type 0} (task : TaskValue) (xs : List (TimedStep A)) → map (λ (s : TimedStep A). linked_step task (Some s.moment) (step_view s.step)) xs ≡ linked_steps task (timed (map timed_view xs))
-linked_as_timed task [] = refl
-linked_as_timed task (x ∷ xs) = ap (λ ss. linked_step task (Some x.moment) (step_view x.step) ∷ ss) (linked_as_timed task xs)
+abbrev pub row_step : Row → StepValue
+row_step r = r.1
 
--- ---- a plan of the program, by its steps
+abbrev pub row_link : TaskValue → Row → LinkedStepValue
+row_link task r = linked_step task r.0 r.1
 
-abbrev plain_step : {A : Type 0} → TaskValue → Step A → LinkedStepValue
-plain_step task s = linked_step task None (step_view s)
+module _ (task : TaskValue) where
+  pub steps_of_rows : (p : PlanValue) → map row_step (rows_of p) ≡ steps_of p
+  steps_of_rows (plain steps) = map_in_turn (λ s. (None, s)) row_step (λ s. s) steps (λ s. refl) ∙ map_same steps
+  steps_of_rows (timed steps) = map_in_turn (λ s. (Some s.moment, s.step)) row_step (λ s. s.step) steps (λ s. refl)
 
-abbrev timed_step : {A : Type 0} → TaskValue → TimedStep A → LinkedStepValue
-timed_step task s = linked_step task (Some s.moment) (step_view s.step)
+  pub linked_rows : (p : PlanValue) → map (row_link task) (rows_of p) ≡ linked_steps task p
+  linked_rows (plain steps) = map_in_turn (λ s. (None, s)) (row_link task) (linked_step task None) steps (λ s. refl)
+  linked_rows (timed steps) = map_in_turn (λ s. (Some s.moment, s.step)) (row_link task) (λ s. linked_step task (Some s.moment) s.step) steps (λ s. refl)
 
-linked_is : {T : Type 0} (see : T → List LinkedStepValue) (r : Result T StepFault) (a b : List LinkedStepValue) → a ≡ b → IfOk r (λ y. see y ≡ a) → IfOk r (λ y. see y ≡ b)
-linked_is see (Ok y) a b same h = h ∙ same
-linked_is see (Err e) a b same h = tt
+  pub as_many_rows : (p : PlanValue) → length (rows_of p) ≡ length (steps_of p)
+  as_many_rows p = sym (length-map (rows_of p) row_step) ∙ ap length (steps_of_rows p)
 
-module _ {A T : Type 0} (task : TaskValue) (see : T → List LinkedStepValue) (plan : Plan A) (r : Result T StepFault) where
-  module _ (own : Vec (Step A) A) (xs : List (Step A)) (is : plan ≡ Plain own) (are : xs ≡ own.items) where
-    pub plain_steps : IfOk r (λ y. see y ≡ map (plain_step task) xs) → IfOk r (λ y. see y ≡ linked_steps task (plan_view plan))
-    plain_steps h =
-        linked_is see r (map (plain_step task) xs) (linked_steps task (plan_view plan))
-        (ap (map (plain_step task)) are ∙ linked_as_plain task own.items ∙ ap (λ (p : Plan A). linked_steps task (plan_view p)) (sym is)) h
+  -- the step of a number, with its moment
+  pub row_at : (p : PlanValue) (n : ℕ) (step : StepValue) → Some step ≡ slice_get (steps_of p) n → (moment_at p n, step) ≡ get_or (rows_of p) n (moment_at p n, step)
+  row_at (plain steps) n step is =
+      sym (get_or_from_slice_get (rows_of (plain steps)) n (None, step) (None, step) (slice_get-map (λ s. (None, s)) steps n ∙ ap (option_map (λ s. (None, s))) (sym is)))
+  row_at (timed steps) n step is = of_timed (slice_get steps n) refl
+    where
+      of_timed : (o : Option TimedValue) → slice_get steps n ≡ o → (moment_at (timed steps) n, step) ≡ get_or (rows_of (timed steps)) n (moment_at (timed steps) n, step)
+      of_timed None none =
+          let bad : Some step ≡ None = is ∙ slice_get-map (λ s. s.step) steps n ∙ ap (option_map (λ s. s.step)) none in
+          absurd (cc (bad))
+      of_timed (Some s) some =
+          let own : Some step ≡ Some s.step = is ∙ slice_get-map (λ s. s.step) steps n ∙ ap (option_map (λ s. s.step)) some in
+          let same : step ≡ s.step = cc (own) in
+          let time : moment_at (timed steps) n ≡ Some s.moment = ap (option_map (λ s. s.moment)) some in
+          let row : Row = (Some s.moment, s.step) in
+          let here : (moment_at (timed steps) n, step) ≡ row = rw (time, same) refl in
+          here ∙ sym (get_or_from_slice_get (rows_of (timed steps)) n row (moment_at (timed steps) n, step) (slice_get-map (λ s. (Some s.moment, s.step)) steps n ∙ ap (option_map (λ s. (Some s.moment, s.step))) some))
 
-    pub plain_verdict : PlanVerdict task (plain (map step_view xs)) r → PlanVerdict task (plan_view plan) r
-    plain_verdict h =
-        subst (λ (p : Plan A). PlanVerdict task (plan_view p) r) (sym is) (subst (λ (ys : List (Step A)). PlanVerdict task (plain (map step_view ys)) r) are h)
+  -- the verdict on the steps is that on the plan
+  pub plan_verdict : {T : Type 0} (p : PlanValue) (r : Result T StepFault) → PlanVerdict task (plain (map row_step (rows_of p))) r → PlanVerdict task p r
+  plan_verdict p r h = same_verdict task (plain (map row_step (rows_of p))) p (steps_of_rows p) r h
 
-  module _ (own : TimedSteps A) (xs : List (TimedStep A)) (is : plan ≡ Timed own) (are : xs ≡ own.steps.items) where
-    pub timed_steps : IfOk r (λ y. see y ≡ map (timed_step task) xs) → IfOk r (λ y. see y ≡ linked_steps task (plan_view plan))
-    timed_steps h =
-        linked_is see r (map (timed_step task) xs) (linked_steps task (plan_view plan))
-        (ap (map (timed_step task)) are ∙ linked_as_timed task own.steps.items ∙ ap (λ (p : Plan A). linked_steps task (plan_view p)) (sym is)) h
-
-    pub timed_verdict : PlanVerdict task (plain (map (λ (s : TimedStep A). step_view s.step) xs)) r → PlanVerdict task (plan_view plan) r
-    timed_verdict h =
-        subst (λ (p : Plan A). PlanVerdict task (plan_view p) r) (sym is)
-        (same_verdict task (plain (map (λ (s : TimedStep A). step_view s.step) own.steps.items)) (timed (map timed_view own.steps.items)) (steps_timed own.steps.items) r
-        (subst (λ (ys : List (TimedStep A)). PlanVerdict task (plain (map (λ (s : TimedStep A). step_view s.step) ys)) r) are h))
+  pub plan_fault : (p : PlanValue) (o : Option (ℕ × Option ℕ)) → IfSome o (λ f. IsPlanFault task (plain (map row_step (rows_of p))) f.0 f.1) → IfSome o (λ f. IsPlanFault task p f.0 f.1)
+  plan_fault p o h = some_fault task (plain (map row_step (rows_of p))) p (steps_of_rows p) o h

@@ -2,7 +2,7 @@
 use Rattle.std.specs.Prelude.{◌≡◌, ◌≤◌, ◌<◌, ℕ, Bool, false, not, ◌&&◌, ◌||◌, ◌==◌, nat_lt, cond, List, [], ◌∷◌, ◌++◌, map, length, find, Option, Some, None, is_some, bytes_eq}
 use Rattle.std.specs.List.{list_any, AllByRecursion}
 use Rattle.std.specs.Option.{option_map_or}
-use Rattle.pddl_tree.specs.Plans.{StepValue, PlanValue, plain, timed}
+use Rattle.pddl_tree.specs.Plans.{StepValue, PlanValue, steps_of}
 use Rattle.pddl_formula.specs.Terms.{name}
 use Rattle.pddl_formula.specs.TypedLists.{TypedValue}
 use Rattle.pddl_effect.specs.Effects as effects
@@ -126,11 +126,6 @@ IsGoodStep task s = step_faults task s ≡ []
 -- the most steps that a plan may have
 abbrev pub most_steps : ℕ
 most_steps = 1000000
-
--- its steps in file order
-abbrev pub steps_of : PlanValue → List StepValue
-steps_of (plain steps) = steps
-steps_of (timed steps) = map (λ s. s.step) steps
 
 -- a plan is linked where it has at most 1,000,000 steps and none of them has a fault
 pub record IsLinkedPlan (task : TaskValue) (plan : PlanValue) : Type 0 where

@@ -3,7 +3,6 @@
 ghost use Rattle.std.specs.Prelude.{◌≡◌, true, Some, map, reverse, slice_get, not, IfOk, OnOk};
 ghost use Rattle.std.specs.List.{list_any};
 ghost use Rattle.pddl_formula.specs.TypedLists.{typed_view};
-ghost use Rattle.pddl_tree.specs.Plans.{step_view};
 ghost use Rattle.pddl_domain.specs.Actions.{action_view};
 ghost use Rattle.pddl_task.specs.Names.{is_in, number_in};
 ghost use Rattle.pddl_task.specs.Tasks.{object_names};
@@ -25,23 +24,23 @@ use pddl_domain::Action;
 use pddl_formula::Typed;
 use pddl_link::Task;
 use pddl_state::Atom;
-use pddl_tree::{Name, Step};
+use pddl_tree::Step;
 use std::alloc::{AllocError, Allocator};
 
-/// Puts the numbers of named objects in place of what is listed, and answers whether all of them are known.
+/// Puts the numbers of a step's objects in place of what is listed, and answers whether all of them are known.
 ///
 /// Fails where memory for them is refused.
 fn number_objects<'m, 'a, 'c, A: Allocator, B: Allocator, C: Allocator, D: Allocator>(
     task: &Task<'m, 'a, A, B>,
-    names: &[Name<D>],
+    step: &Step<'_, D>,
     numbers: &mut Vec<usize, &'c C>,
 ) -> Result<bool, AllocError>
-    ensures known { IfOk result (λ yes. yes ≡ not (list_any (λ o. not (is_in (object_names (task_of_files task.now)) o)) names.now)) }
-    ensures numbers { IfOk result (λ yes. yes ≡ true → numbers.new.items ≡ map (number_in (object_names (task_of_files task.now))) names.now) }
+    ensures known { IfOk result (λ yes. yes ≡ not (list_any (λ o. not (is_in (object_names (task_of_files task.now)) o)) step.now.objects)) }
+    ensures numbers { IfOk result (λ yes. yes ≡ true → numbers.new.items ≡ map (number_in (object_names (task_of_files task.now))) step.now.objects) }
 {
     numbers.clear();
-    for object in names {
-        match task.object_number(object.as_bytes()) {
+    for place in 0..step.arity() {
+        match task.object_number(step.object(place)) {
             Some(number) => numbers.push(number)?,
             None => return Ok(false),
         }
@@ -94,7 +93,7 @@ fn lacks_cost<'t, 'm, 'a, 'c, A: Allocator, B: Allocator, C: Allocator>(
 pub(crate) fn check_step<'t, 'm, 'a, 'c, A, B, C, D>(
     tables: &PlanTables<'t, 'm, 'a, 'c, A, B, C>,
     place: usize,
-    step: &Step<D>,
+    step: &Step<'_, D>,
     numbers: &mut Vec<usize, &'c C>,
     changes: &mut Changes<'c, C>,
     call: &mut Atom<&'c C>,
@@ -107,18 +106,18 @@ where
     requires tables { ArePlanTables tables.now }
     requires changes { AreChangesOf (task_of_files tables.now.task.now) changes.old.items }
     ensures changes { OnOk result (AreChangesOf (task_of_files tables.now.task.now) changes.new.items) }
-    ensures verdict { StepVerdict (step_faults (task_of_files tables.now.task.now) (step_view step.now)) place result }
+    ensures verdict { StepVerdict (step_faults (task_of_files tables.now.task.now) step.now) place result }
     ensures action { IfOk result (λ n. n ≡ number_in (action_names (task_of_files tables.now.task.now)) step.now.action) }
-    ensures objects { OnOk result (numbers.new.items ≡ map (number_in (object_names (task_of_files tables.now.task.now))) step.now.objects.items) }
+    ensures objects { OnOk result (numbers.new.items ≡ map (number_in (object_names (task_of_files tables.now.task.now))) step.now.objects) }
 {
-    let Some((number, _, found)) = tables.actions.get_full(step.action.as_bytes()) else {
+    let Some((number, _, found)) = tables.actions.get_full(step.action()) else {
         return Err(StepFault::UnknownAction { step: place });
     };
     let action = found.action;
-    if step.objects.len() != action.parameters.len() {
+    if step.arity() != action.parameters.len() {
         return Err(StepFault::StepArity { step: place });
     }
-    if !number_objects(tables.task, &step.objects, numbers)? {
+    if !number_objects(tables.task, step, numbers)? {
         return Err(StepFault::UnknownObject { step: place });
     }
     if some_unfit(tables.task, numbers, &action.parameters) {

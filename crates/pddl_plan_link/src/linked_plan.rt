@@ -1,10 +1,10 @@
 //! Links plans.
 
-ghost use Rattle.std.specs.Prelude.{◌≡◌, ◌≤◌, [], map, length, IfOk, OnOk};
-ghost use Rattle.pddl_tree.specs.Plans.{plain, step_view, plan_view};
+ghost use Rattle.std.specs.Prelude.{◌≡◌, ◌≤◌, [], length, IfOk, OnOk};
+ghost use Rattle.pddl_tree.specs.Plans.{plan_view, steps_of};
 ghost use Rattle.pddl_link.specs.LinkedTasks.{task_of_files};
 ghost use Rattle.pddl_plan_link.specs.StepFaults.{most_steps};
-ghost use Rattle.pddl_plan_link.specs.LinkedSteps.{linked_step, linked_steps};
+ghost use Rattle.pddl_plan_link.specs.LinkedSteps.{linked_steps};
 ghost use Rattle.pddl_plan_link.specs.ActionChanges.{AreChangesOf};
 ghost use Rattle.pddl_plan_link.specs.PlanTables.{ArePlanTables};
 ghost use Rattle.pddl_plan_link.specs.StepVerdicts.{PlanVerdict};
@@ -16,62 +16,11 @@ use crate::steps::Steps;
 use crate::tables::{PlanTables, plan_tables};
 use pddl_link::Task;
 use pddl_state::Atom;
-use pddl_text::Fixed;
-use pddl_tree::{Plan, Step, TimedStep};
+use pddl_tree::Plan;
 use std::alloc::Allocator;
 
 /// The most steps that a plan may have.
 const MOST_STEPS: usize = 1_000_000;
-
-/// A step of a plan, plain or at a moment.
-trait PlanStep<D: Allocator> {
-    ghost use Rattle.std.specs.Prelude.{ℕ, Option};
-    ghost use Rattle.pddl_tree.specs.Plans.{StepValue};
-
-    ghost step_value: { Self → StepValue };
-
-    ghost moment_value: { Self → Option ℕ };
-
-    /// The action's name and the objects'.
-    fn step(&self) -> &Step<D>
-        ensures { step_view result.now ≡ step_value self.now };
-
-    /// The step's moment, of which a step of a plain plan has none.
-    fn moment(&self) -> Option<Fixed>
-        ensures { result ≡ moment_value self.now };
-}
-
-impl<D: Allocator> PlanStep<D> for Step<D> {
-    ghost use Rattle.std.specs.Prelude.{None};
-
-    ghost step_value = { step_view };
-
-    ghost moment_value = { λ _. None };
-
-    fn step(&self) -> &Step<D> {
-        self
-    }
-
-    fn moment(&self) -> Option<Fixed> {
-        None
-    }
-}
-
-impl<D: Allocator> PlanStep<D> for TimedStep<D> {
-    ghost use Rattle.std.specs.Prelude.{Some};
-
-    ghost step_value = { λ s. step_view s.step };
-
-    ghost moment_value = { λ s. Some s.moment };
-
-    fn step(&self) -> &Step<D> {
-        &self.step
-    }
-
-    fn moment(&self) -> Option<Fixed> {
-        Some(self.moment)
-    }
-}
 
 /// An atom to look others up with.
 fn no_call<'c, C: Allocator>(alloc: &'c C) -> Atom<&'c C> {
@@ -81,10 +30,10 @@ fn no_call<'c, C: Allocator>(alloc: &'c C) -> Atom<&'c C> {
     }
 }
 
-/// Links steps one by one, and puts them in an empty list.
-fn link_each<'t, 'm, 'a, 'b, A, B, C, D, S>(
+/// Links the steps of a plan one by one, and puts them in an empty list.
+fn link_each<'t, 'm, 'a, 'b, A, B, C, D>(
     tables: &PlanTables<'t, 'm, 'a, 'b, A, B, C>,
-    plan: &[S],
+    plan: &Plan<D>,
     numbers: &mut Vec<usize, &'b C>,
     changes: &mut Changes<'b, C>,
     call: &mut Atom<&'b C>,
@@ -95,37 +44,34 @@ where
     B: Allocator,
     C: Allocator,
     D: Allocator,
-    S: PlanStep<D>,
     requires tables { ArePlanTables tables.now }
-    requires short { length plan.now ≤ most_steps }
+    requires short { length (steps_of (plan_view plan.now)) ≤ most_steps }
     requires changes { AreChangesOf (task_of_files tables.now.task.now) changes.old.items }
     requires steps { steps.old ≡ [] }
-    ensures steps { OnOk result (steps.new ≡ map (λ s. linked_step (task_of_files tables.now.task.now) (S.moment_value s) (S.step_value s)) plan.now) }
-    ensures verdict { PlanVerdict (task_of_files tables.now.task.now) (plain (map S.step_value plan.now)) result }
+    ensures steps { OnOk result (steps.new ≡ linked_steps (task_of_files tables.now.task.now) (plan_view plan.now)) }
+    ensures verdict { PlanVerdict (task_of_files tables.now.task.now) (plan_view plan.now) result }
 {
     for place in 0..plan.len() {
-        let own = &plan[place];
-        let action = check_step(tables, place, own.step(), numbers, changes, call)?;
-        steps.push(action, numbers, own.moment())?;
+        let action = check_step(tables, place, &plan.step(place), numbers, changes, call)?;
+        steps.push(action, numbers, plan.moment(place))?;
     }
     Ok(())
 }
 
-/// Links steps, each with its moment, by the tables of a task.
-fn link_in<'t, 'm, 'a, 'b, A, B, C, D, S>(
+/// Links the steps of a plan by the tables of a task.
+fn link_in<'t, 'm, 'a, 'b, A, B, C, D>(
     tables: &PlanTables<'t, 'm, 'a, 'b, A, B, C>,
-    plan: &[S],
+    plan: &Plan<D>,
 ) -> Result<Steps<'b, C>, StepFault>
 where
     A: Allocator,
     B: Allocator,
     C: Allocator,
     D: Allocator,
-    S: PlanStep<D>,
     requires tables { ArePlanTables tables.now }
-    requires short { length plan.now ≤ most_steps }
-    ensures steps { IfOk result (λ steps. steps ≡ map (λ s. linked_step (task_of_files tables.now.task.now) (S.moment_value s) (S.step_value s)) plan.now) }
-    ensures verdict { PlanVerdict (task_of_files tables.now.task.now) (plain (map S.step_value plan.now)) result }
+    requires short { length (steps_of (plan_view plan.now)) ≤ most_steps }
+    ensures steps { IfOk result (λ steps. steps ≡ linked_steps (task_of_files tables.now.task.now) (plan_view plan.now)) }
+    ensures verdict { PlanVerdict (task_of_files tables.now.task.now) (plan_view plan.now) result }
 {
     let mut changes = no_changes(tables.alloc, tables.actions.len())?;
     let mut numbers = Vec::new(tables.alloc);
@@ -140,28 +86,6 @@ where
         &mut steps,
     );
     made.and(Ok(steps))
-}
-
-/// Links steps, each with its moment.
-fn link_steps<'m, 'a, 'b, A, B, C, D, S>(
-    alloc: &'b C,
-    task: &Task<'m, 'a, A, B>,
-    plan: &[S],
-) -> Result<Steps<'b, C>, StepFault>
-where
-    A: Allocator,
-    B: Allocator,
-    C: Allocator,
-    D: Allocator,
-    S: PlanStep<D>,
-    ensures steps { IfOk result (λ steps. steps ≡ map (λ s. linked_step (task_of_files task.now) (S.moment_value s) (S.step_value s)) plan.now) }
-    ensures verdict { PlanVerdict (task_of_files task.now) (plain (map S.step_value plan.now)) result }
-{
-    if plan.len() > MOST_STEPS {
-        return Err(StepFault::PlanTooLong);
-    }
-    let tables = plan_tables(alloc, task)?;
-    link_in(&tables, plan)
 }
 
 /// Links a plan to a task: its steps by numbers, in file order.
@@ -179,8 +103,9 @@ pub fn link_plan<'m, 'a, 'b, A: Allocator, B: Allocator, C: Allocator, D: Alloca
     ensures steps { IfOk result (λ steps. steps ≡ linked_steps (task_of_files task.now) (plan_view plan.now)) }
     ensures verdict { PlanVerdict (task_of_files task.now) (plan_view plan.now) result }
 {
-    match plan {
-        Plan::Plain(steps) => link_steps(alloc, task, steps),
-        Plan::Timed(timed) => link_steps(alloc, task, &timed.steps),
+    if plan.len() > MOST_STEPS {
+        return Err(StepFault::PlanTooLong);
     }
+    let tables = plan_tables(alloc, task)?;
+    link_in(&tables, plan)
 }

@@ -3,3 +3,4 @@ pub mod PickedSteps
 pub mod ScaledMoments
 pub mod NewPlans
 pub mod Replays
+mod AddedNames

@@ -1,18 +1,20 @@
 //! Linked steps by their names.
 
-ghost use Rattle.std.specs.Prelude.{◌≡◌, ◌<◌, ◌≤◌, ◌*◌, All, map, length, IfOk};
-ghost use Rattle.pddl_tree.specs.Plans.{step_view, timed_view};
+ghost use Rattle.std.specs.Prelude.{◌≡◌, ◌<◌, ◌≤◌, ◌*◌, All, map, length, OnOk};
+ghost use Rattle.pddl_tree.specs.Building.{nothing_built, with_names};
+ghost use Rattle.pddl_tree.specs.Plans.{built_plan};
+ghost use Rattle.pddl_tree.specs.StepNames.{names_of_step};
 ghost use Rattle.pddl_task.specs.Tasks.{object_names};
 ghost use Rattle.pddl_link.specs.LinkedTasks.{task_of_files};
 ghost use Rattle.pddl_plan_link.specs.LinkedSteps.{AreLinkedSteps};
 ghost use Rattle.pddl_plan_link.specs.LinkedLaws.{name_at, named_step, IsLinkedStep};
 ghost use Rattle.pddl_plan_link.specs.StepParts.{lent_step};
-ghost use Rattle.pddl_serial_plans.specs.NewSteps.{picked, at_moments, timed_step};
+ghost use Rattle.pddl_serial_plans.specs.NewSteps.{picked, at_moments, plain_plan, timed_plan};
 
 use pddl_link::Task;
 use pddl_plan_link::{LinkedStep, Steps};
 use pddl_text::Fixed;
-use pddl_tree::{Name, Step, TimedStep};
+use pddl_tree::{Name, PlanBuilder};
 use std::alloc::{AllocError, Allocator};
 
 /// The name of an object of the task.
@@ -26,64 +28,63 @@ fn object_name<'t, 'm, 'a, A: Allocator, B: Allocator>(
     task.object_name(number).unwrap()
 }
 
-/// The names of objects of the task, in memory of their own.
-///
-/// Fails where that is refused.
-fn copied_names<'m, 'a, 'c, A: Allocator, B: Allocator, D: Allocator>(
-    alloc: &'c D,
-    task: &Task<'m, 'a, A, B>,
-    numbers: &[usize],
-) -> Result<Vec<Name<&'c D>, &'c D>, AllocError>
-    requires { All (λ n. n < length (object_names (task_of_files task.now))) numbers.now }
-    ensures { IfOk result (λ names. names.items ≡ map (name_at (object_names (task_of_files task.now))) numbers.now) }
-{
-    let mut names = Vec::with_capacity(alloc, numbers.len())?;
-    for number in numbers {
-        names.push(object_name(task, *number).copy(alloc)?)?;
-    }
-    Ok(names)
-}
-
-/// A linked step by its names, in memory of their own.
-///
-/// Fails where that is refused.
-fn named<'m, 'a, 'c, A: Allocator, B: Allocator, D: Allocator>(
-    alloc: &'c D,
-    task: &Task<'m, 'a, A, B>,
-    step: LinkedStep<'_>,
-) -> Result<Step<&'c D>, AllocError>
-    requires { IsLinkedStep (task_of_files task.now) (lent_step step) }
-    ensures { IfOk result (λ own. step_view own ≡ named_step (task_of_files task.now) (lent_step step.entry)) }
-{
-    let action = task.action(step.action).name.copy(alloc)?;
-    let objects = copied_names(alloc, task, step.objects)?;
-    Ok(Step { action, objects })
-}
-
-/// The steps of some numbers, in turn, by their names.
+/// Adds the names of objects of the task.
 ///
 /// Fails where memory for them is refused.
-pub(crate) fn named_steps<'m, 'a, 'b, 'c, A, B, C, D>(
-    alloc: &'c D,
+fn add_objects<'m, 'a, 'c, A: Allocator, B: Allocator, D: Allocator>(
+    plan: &mut PlanBuilder<&'c D>,
+    task: &Task<'m, 'a, A, B>,
+    numbers: &[usize],
+) -> Result<(), AllocError>
+    requires { All (λ n. n < length (object_names (task_of_files task.now))) numbers.now }
+    ensures { OnOk result (plan.new ≡ with_names plan.old (map (name_at (object_names (task_of_files task.now))) numbers.now)) }
+{
+    for number in numbers {
+        plan.push_name(object_name(task, *number))?;
+    }
+    Ok(())
+}
+
+/// Adds the names of a linked step.
+///
+/// Fails where memory for them is refused.
+fn add_names<'m, 'a, 'c, A: Allocator, B: Allocator, D: Allocator>(
+    plan: &mut PlanBuilder<&'c D>,
+    task: &Task<'m, 'a, A, B>,
+    step: LinkedStep<'_>,
+) -> Result<(), AllocError>
+    requires { IsLinkedStep (task_of_files task.now) (lent_step step) }
+    ensures { OnOk result (plan.new ≡ with_names plan.old (names_of_step (named_step (task_of_files task.now) (lent_step step.entry)))) }
+{
+    plan.push_name(&task.action(step.action).name)?;
+    add_objects(plan, task, step.objects)
+}
+
+/// Adds the steps of some numbers, in turn, by their names.
+///
+/// Fails where memory for them is refused.
+pub(crate) fn add_steps<'m, 'a, 'b, 'c, A, B, C, D>(
+    plan: &mut PlanBuilder<&'c D>,
     task: &Task<'m, 'a, A, B>,
     steps: &Steps<'b, C>,
     order: &[u32],
-) -> Result<Vec<Step<&'c D>, &'c D>, AllocError>
+) -> Result<(), AllocError>
 where
     A: Allocator,
     B: Allocator,
     C: Allocator,
     D: Allocator,
+    requires none { plan.old ≡ nothing_built }
     requires linked { AreLinkedSteps (task_of_files task.now) steps.now }
     requires within { All (λ k. k < length steps.now) order.now }
-    ensures { IfOk result (λ own. map step_view own.items ≡ map (named_step (task_of_files task.now)) (picked steps.now order.now)) }
+    ensures { OnOk result (built_plan plan.new ≡ plain_plan (task_of_files task.now) (picked steps.now order.now)) }
 {
     let _linked = task.domain();
-    let mut own = Vec::with_capacity(alloc, order.len())?;
     for number in order {
-        own.push(named(alloc, task, steps.step(*number as usize))?)?;
+        add_names(plan, task, steps.step(*number as usize))?;
+        plan.end_step()?;
     }
-    Ok(own)
+    Ok(())
 }
 
 /// A moment of so many whole units.
@@ -94,35 +95,32 @@ fn whole(units: u64) -> Fixed
     Fixed::new(units * 1_000_000_000).unwrap()
 }
 
-/// The steps of some numbers, in turn, by their names, each at its moment.
+/// Adds the steps of some numbers, in turn, by their names, each at its moment.
 ///
 /// Fails where memory for them is refused.
-pub(crate) fn timed_steps<'m, 'a, 'b, 'c, A, B, C, D>(
-    alloc: &'c D,
+pub(crate) fn add_timed_steps<'m, 'a, 'b, 'c, A, B, C, D>(
+    plan: &mut PlanBuilder<&'c D>,
     task: &Task<'m, 'a, A, B>,
     steps: &Steps<'b, C>,
     order: &[u32],
     moments: &[u64],
-) -> Result<Vec<TimedStep<&'c D>, &'c D>, AllocError>
+) -> Result<(), AllocError>
 where
     A: Allocator,
     B: Allocator,
     C: Allocator,
     D: Allocator,
+    requires none { plan.old ≡ nothing_built }
     requires linked { AreLinkedSteps (task_of_files task.now) steps.now }
     requires within { All (λ k. k < length steps.now) order.now }
     requires as_many { length moments.now ≡ length order.now }
     requires small { All (λ m. m ≤ 1000000) moments.now }
-    ensures { IfOk result (λ own. map timed_view own.items ≡ map (timed_step (task_of_files task.now)) (at_moments (picked steps.now order.now) moments.now)) }
+    ensures { OnOk result (built_plan plan.new ≡ timed_plan (task_of_files task.now) (at_moments (picked steps.now order.now) moments.now)) }
 {
     let _linked = task.domain();
-    let mut own = Vec::with_capacity(alloc, order.len())?;
     for i in 0..order.len() {
-        let step = named(alloc, task, steps.step(order[i] as usize))?;
-        own.push(TimedStep {
-            moment: whole(moments[i]),
-            step,
-        })?;
+        add_names(plan, task, steps.step(order[i] as usize))?;
+        plan.end_step_at(whole(moments[i]))?;
     }
-    Ok(own)
+    Ok(())
 }

@@ -9,12 +9,12 @@ ghost use Rattle.pddl_plan_steps.specs.NumberedSteps.{number_of};
 ghost use Rattle.pddl_serial.specs.Orders.{in_order};
 ghost use Rattle.pddl_serial_plans.specs.NewPlans.{IsAcceptedOf, IsSerialPlan};
 
-use crate::named::named_steps;
+use crate::named::add_steps;
 use pddl_link::Task;
 use pddl_plan_link::Steps;
 use pddl_serial::Order;
 use pddl_state::AtomStore;
-use pddl_tree::Plan;
+use pddl_tree::{Plan, PlanBuilder};
 use pddl_valid::Accepted;
 use std::alloc::{AllocError, Allocator};
 
@@ -44,6 +44,7 @@ where
 {
     let _linked = task.domain();
     let order = pddl_serial::serialise(alloc, &accepted.happenings, order)?;
-    let own = named_steps(alloc, task, steps, &order)?;
-    Ok(Plan::Plain(own))
+    let mut plan = PlanBuilder::new(alloc);
+    let made = add_steps(&mut plan, task, steps, &order);
+    made.and(Ok(plan.finish()))
 }

@@ -13,12 +13,12 @@ ghost use Rattle.pddl_serial_plans.specs.NewPlans.{IsAcceptedOf, IsSplitPlan};
 ghost use Rattle.pddl_serial_plans.specs.NewSteps.{picked, at_moments, timed_plan};
 
 use crate::fault::SplitFault;
-use crate::named::timed_steps;
+use crate::named::add_timed_steps;
 use pddl_link::Task;
 use pddl_plan_link::Steps;
 use pddl_serial::{Order, groups_of_at_most};
 use pddl_state::AtomStore;
-use pddl_tree::{Plan, TimedSteps};
+use pddl_tree::{Plan, PlanBuilder};
 use pddl_valid::Accepted;
 use std::alloc::{AllocError, Allocator};
 
@@ -43,12 +43,9 @@ where
     requires small { All (λ m. m ≤ 1000000) moments.now }
     ensures { IfOk result (λ plan. plan_view plan ≡ timed_plan (task_of_files task.now) (at_moments (picked steps.now order.now) moments.now)) }
 {
-    let own = timed_steps(alloc, task, steps, order, moments)?;
-    if own.is_empty() {
-        Ok(Plan::Plain(Vec::new(alloc)))
-    } else {
-        Ok(Plan::Timed(TimedSteps { steps: own }))
-    }
+    let mut plan = PlanBuilder::new(alloc);
+    let made = add_timed_steps(&mut plan, task, steps, order, moments);
+    made.and(Ok(plan.finish()))
 }
 
 /// The timed plan of groups of an accepted plan's steps: those of the k-th group, in its order, at the moment k, from 1; of no groups

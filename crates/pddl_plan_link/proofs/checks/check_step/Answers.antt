@@ -1,6 +1,5 @@
 use Rattle.std.proofs.Common.{refl, sym, ap, ◌∙◌, subst}
 use Rattle.std.specs.List.{slice_get}
-use Rattle.pddl_tree.specs.Plans.{step_view}
 use Rattle.pddl_task.specs.Tasks.{TaskValue}
 use Rattle.pddl_link.specs.LinkedTasks.{files_of, task_of_files}
 use Rattle.pddl_tables.specs.Lookups.{task_in, price_in}
@@ -10,46 +9,46 @@ use Rattle.pddl_plan_link.proofs.checks.check_step.Goals as goal
 
 pub returns-in_default-clause-verdict : goal.returns-in_default-clause-verdict
 returns-in_default-clause-verdict g c =
-    (refl, action_unknown (task_of_files c.args.tables.now.task.now) c.args.tables.now.actions.entries (step_view c.args.step.now) c.as_bytes.result.now c.requires.tables.actions c.as_bytes.ensures.value c.in_default.ensures.index)
+    (refl, action_unknown (task_of_files c.args.tables.now.task.now) c.args.tables.now.actions.entries c.args.step.now c.action.result.now c.requires.tables.actions c.action.ensures c.in_default.ensures.index)
 
-pub returns-then-len-clause-verdict : goal.returns-then-len-clause-verdict
-returns-then-len-clause-verdict g c = (
+pub returns-then-arity-len-clause-verdict : goal.returns-then-arity-len-clause-verdict
+returns-then-arity-len-clause-verdict g c = (
   refl,
-  arity_differs (task_of_files c.args.tables.now.task.now) c.args.tables.now.actions.entries (step_view c.args.step.now) c.as_bytes.result.now c.requires.tables.actions c.as_bytes.ensures.value
-      c.in-Some.number c.in-Some.field-0-1.now c.in-Some.found.now c.in-Some.ensures.index c.in-Some.ensures.entry c.len.result c.len-2.result (as_long c.args.step.now.objects c.len.result c.len.ensures) (as_long c.in-Some.found.now.action.now.parameters c.len-2.result c.len-2.ensures) c.if-len.true,
+  arity_differs (task_of_files c.args.tables.now.task.now) c.args.tables.now.actions.entries c.args.step.now c.action.result.now c.requires.tables.actions c.action.ensures
+      c.in-Some.number c.in-Some.field-0-1.now c.in-Some.found.now c.in-Some.ensures.index c.in-Some.ensures.entry c.arity.result c.len.result c.arity.ensures (as_long c.in-Some.found.now.action.now.parameters c.len.result c.len.ensures) c.if-arity-len.true,
 )
 
 pub returns-then-not-branch-clause-verdict : goal.returns-then-not-branch-clause-verdict
 returns-then-not-branch-clause-verdict g c = (
   refl,
-  object_unknown (task_of_files c.args.tables.now.task.now) c.args.tables.now.actions.entries (step_view c.args.step.now) c.as_bytes.result.now c.requires.tables.actions c.as_bytes.ensures.value
-      c.in-Some.number c.in-Some.field-0-1.now c.in-Some.found.now c.in-Some.ensures.index c.in-Some.ensures.entry c.len.result c.len-2.result (as_long c.args.step.now.objects c.len.result c.len.ensures) (as_long c.in-Some.found.now.action.now.parameters c.len-2.result c.len-2.ensures) c.if-len.false
-      c.deref.result.now c.in_ok-number_objects.field-0 c.deref.ensures.value c.in_ok-number_objects.ensures.known c.if-not-branch.true,
+  object_unknown (task_of_files c.args.tables.now.task.now) c.args.tables.now.actions.entries c.args.step.now c.action.result.now c.requires.tables.actions c.action.ensures
+      c.in-Some.number c.in-Some.field-0-1.now c.in-Some.found.now c.in-Some.ensures.index c.in-Some.ensures.entry c.arity.result c.len.result c.arity.ensures (as_long c.in-Some.found.now.action.now.parameters c.len.result c.len.ensures) c.if-arity-len.false
+      c.args.step.now.objects c.in_ok-number_objects.field-0 refl c.in_ok-number_objects.ensures.known c.if-not-branch.true,
 )
 
 pub returns-then-some_unfit-clause-verdict : goal.returns-then-some_unfit-clause-verdict
 returns-then-some_unfit-clause-verdict g c = (
   refl,
-  type_differs (task_of_files c.args.tables.now.task.now) c.args.tables.now.actions.entries (step_view c.args.step.now) c.as_bytes.result.now c.requires.tables.actions c.as_bytes.ensures.value
-      c.in-Some.number c.in-Some.field-0-1.now c.in-Some.found.now c.in-Some.ensures.index c.in-Some.ensures.entry c.len.result c.len-2.result (as_long c.args.step.now.objects c.len.result c.len.ensures) (as_long c.in-Some.found.now.action.now.parameters c.len-2.result c.len-2.ensures) c.if-len.false
-      c.deref.result.now c.in_ok-number_objects.field-0 c.deref.ensures.value c.in_ok-number_objects.ensures.known c.number_objects.new.numbers.items c.in_ok-number_objects.ensures.numbers c.if-not-branch.false
-      c.deref-2.result.now c.deref-3.result.now c.some_unfit.result c.deref-2.ensures.value c.deref-3.ensures.value c.some_unfit.ensures c.if-some_unfit.true,
+  type_differs (task_of_files c.args.tables.now.task.now) c.args.tables.now.actions.entries c.args.step.now c.action.result.now c.requires.tables.actions c.action.ensures
+      c.in-Some.number c.in-Some.field-0-1.now c.in-Some.found.now c.in-Some.ensures.index c.in-Some.ensures.entry c.arity.result c.len.result c.arity.ensures (as_long c.in-Some.found.now.action.now.parameters c.len.result c.len.ensures) c.if-arity-len.false
+      c.args.step.now.objects c.in_ok-number_objects.field-0 refl c.in_ok-number_objects.ensures.known c.number_objects.new.numbers.items c.in_ok-number_objects.ensures.numbers c.if-not-branch.false
+      c.deref.result.now c.deref-2.result.now c.some_unfit.result c.deref.ensures.value c.deref-2.ensures.value c.some_unfit.ensures c.if-some_unfit.true,
 )
 
 pub returns-then-found-gt1000000-clause-verdict : goal.returns-then-found-gt1000000-clause-verdict
 returns-then-found-gt1000000-clause-verdict g c = (
   refl,
-  step_is_large (task_of_files c.args.tables.now.task.now) c.args.tables.now.actions.entries (step_view c.args.step.now) c.as_bytes.result.now c.requires.tables.actions c.as_bytes.ensures.value
-      c.in-Some.number c.in-Some.field-0-1.now c.in-Some.found.now c.in-Some.ensures.index c.in-Some.ensures.entry c.len.result c.len-2.result (as_long c.args.step.now.objects c.len.result c.len.ensures) (as_long c.in-Some.found.now.action.now.parameters c.len-2.result c.len-2.ensures) c.if-len.false
-      c.deref.result.now c.in_ok-number_objects.field-0 c.deref.ensures.value c.in_ok-number_objects.ensures.known c.number_objects.new.numbers.items c.in_ok-number_objects.ensures.numbers c.if-not-branch.false
-      c.deref-2.result.now c.deref-3.result.now c.some_unfit.result c.deref-2.ensures.value c.deref-3.ensures.value c.some_unfit.ensures c.if-some_unfit.false c.if-found-gt1000000.true,
+  step_is_large (task_of_files c.args.tables.now.task.now) c.args.tables.now.actions.entries c.args.step.now c.action.result.now c.requires.tables.actions c.action.ensures
+      c.in-Some.number c.in-Some.field-0-1.now c.in-Some.found.now c.in-Some.ensures.index c.in-Some.ensures.entry c.arity.result c.len.result c.arity.ensures (as_long c.in-Some.found.now.action.now.parameters c.len.result c.len.ensures) c.if-arity-len.false
+      c.args.step.now.objects c.in_ok-number_objects.field-0 refl c.in_ok-number_objects.ensures.known c.number_objects.new.numbers.items c.in_ok-number_objects.ensures.numbers c.if-not-branch.false
+      c.deref.result.now c.deref-2.result.now c.some_unfit.result c.deref.ensures.value c.deref-2.ensures.value c.some_unfit.ensures c.if-some_unfit.false c.if-found-gt1000000.true,
 )
 
 pub lacks_cost-requires : goal.lacks_cost-requires
 lacks_cost-requires g c =
     record {
       action = ap (λ (t : TaskValue). slice_get t.actions c.in-Some.number) c.requires.tables.lookups
-          ∙ found_there (task_of_files c.args.tables.now.task.now) c.args.tables.now.actions.entries (step_view c.args.step.now) c.as_bytes.result.now c.requires.tables.actions c.as_bytes.ensures.value
+          ∙ found_there (task_of_files c.args.tables.now.task.now) c.args.tables.now.actions.entries c.args.step.now c.action.result.now c.requires.tables.actions c.action.ensures
           c.in-Some.number c.in-Some.field-0-1.now c.in-Some.found.now c.in-Some.ensures.index c.in-Some.ensures.entry;
       changes = subst (λ t. AreChangesOf t c.args.changes.now.items) (sym c.requires.tables.lookups) c.requires.changes;
     }
@@ -58,34 +57,34 @@ pub returns-then-branch-clause-verdict : goal.returns-then-branch-clause-verdict
 returns-then-branch-clause-verdict g c =
     let files = files_of c.args.tables.now.task.now in (
       refl,
-      cost_is_undefined (task_of_files c.args.tables.now.task.now) c.args.tables.now.actions.entries (step_view c.args.step.now) c.as_bytes.result.now c.requires.tables.actions c.as_bytes.ensures.value
-          c.in-Some.number c.in-Some.field-0-1.now c.in-Some.found.now c.in-Some.ensures.index c.in-Some.ensures.entry c.len.result c.len-2.result (as_long c.args.step.now.objects c.len.result c.len.ensures) (as_long c.in-Some.found.now.action.now.parameters c.len-2.result c.len-2.ensures) c.if-len.false
-          c.deref.result.now c.in_ok-number_objects.field-0 c.deref.ensures.value c.in_ok-number_objects.ensures.known c.number_objects.new.numbers.items c.in_ok-number_objects.ensures.numbers c.if-not-branch.false
-          c.deref-2.result.now c.deref-3.result.now c.some_unfit.result c.deref-2.ensures.value c.deref-3.ensures.value c.some_unfit.ensures
+      cost_is_undefined (task_of_files c.args.tables.now.task.now) c.args.tables.now.actions.entries c.args.step.now c.action.result.now c.requires.tables.actions c.action.ensures
+          c.in-Some.number c.in-Some.field-0-1.now c.in-Some.found.now c.in-Some.ensures.index c.in-Some.ensures.entry c.arity.result c.len.result c.arity.ensures (as_long c.in-Some.found.now.action.now.parameters c.len.result c.len.ensures) c.if-arity-len.false
+          c.args.step.now.objects c.in_ok-number_objects.field-0 refl c.in_ok-number_objects.ensures.known c.number_objects.new.numbers.items c.in_ok-number_objects.ensures.numbers c.if-not-branch.false
+          c.deref.result.now c.deref-2.result.now c.some_unfit.result c.deref.ensures.value c.deref-2.ensures.value c.some_unfit.ensures
           c.if-some_unfit.false c.if-found-gt1000000.false files.domain files.problem c.requires.tables.linked refl (task_in c.args.tables.now.lookups) (price_in c.args.tables.now.prices)
-          c.requires.tables.lookups c.requires.tables.prices c.deref-4.result.now c.in_ok-lacks_cost.field-0 c.deref-4.ensures.value c.in_ok-lacks_cost.ensures.answer c.if-branch.true,
+          c.requires.tables.lookups c.requires.tables.prices c.deref-3.result.now c.in_ok-lacks_cost.field-0 c.deref-3.ensures.value c.in_ok-lacks_cost.ensures.answer c.if-branch.true,
     )
 
 pub returns-clause-verdict : goal.returns-clause-verdict
 returns-clause-verdict g c =
     let files = files_of c.args.tables.now.task.now in
-    step_is_good (task_of_files c.args.tables.now.task.now) c.args.tables.now.actions.entries (step_view c.args.step.now) c.as_bytes.result.now c.requires.tables.actions c.as_bytes.ensures.value
-    c.in-Some.number c.in-Some.field-0-1.now c.in-Some.found.now c.in-Some.ensures.index c.in-Some.ensures.entry c.len.result c.len-2.result (as_long c.args.step.now.objects c.len.result c.len.ensures) (as_long c.in-Some.found.now.action.now.parameters c.len-2.result c.len-2.ensures) c.if-len.false
-    c.deref.result.now c.in_ok-number_objects.field-0 c.deref.ensures.value c.in_ok-number_objects.ensures.known c.number_objects.new.numbers.items c.in_ok-number_objects.ensures.numbers c.if-not-branch.false
-    c.deref-2.result.now c.deref-3.result.now c.some_unfit.result c.deref-2.ensures.value c.deref-3.ensures.value c.some_unfit.ensures
+    step_is_good (task_of_files c.args.tables.now.task.now) c.args.tables.now.actions.entries c.args.step.now c.action.result.now c.requires.tables.actions c.action.ensures
+    c.in-Some.number c.in-Some.field-0-1.now c.in-Some.found.now c.in-Some.ensures.index c.in-Some.ensures.entry c.arity.result c.len.result c.arity.ensures (as_long c.in-Some.found.now.action.now.parameters c.len.result c.len.ensures) c.if-arity-len.false
+    c.args.step.now.objects c.in_ok-number_objects.field-0 refl c.in_ok-number_objects.ensures.known c.number_objects.new.numbers.items c.in_ok-number_objects.ensures.numbers c.if-not-branch.false
+    c.deref.result.now c.deref-2.result.now c.some_unfit.result c.deref.ensures.value c.deref-2.ensures.value c.some_unfit.ensures
     c.if-some_unfit.false c.if-found-gt1000000.false files.domain files.problem c.requires.tables.linked refl (task_in c.args.tables.now.lookups) (price_in c.args.tables.now.prices)
-    c.requires.tables.lookups c.requires.tables.prices c.deref-4.result.now c.in_ok-lacks_cost.field-0 c.deref-4.ensures.value c.in_ok-lacks_cost.ensures.answer c.if-branch.false
+    c.requires.tables.lookups c.requires.tables.prices c.deref-3.result.now c.in_ok-lacks_cost.field-0 c.deref-3.ensures.value c.in_ok-lacks_cost.ensures.answer c.if-branch.false
 
 pub returns-clause-action : goal.returns-clause-action
 returns-clause-action g c =
-    number_is (task_of_files c.args.tables.now.task.now) c.args.tables.now.actions.entries (step_view c.args.step.now) c.as_bytes.result.now c.requires.tables.actions c.as_bytes.ensures.value
+    number_is (task_of_files c.args.tables.now.task.now) c.args.tables.now.actions.entries c.args.step.now c.action.result.now c.requires.tables.actions c.action.ensures
     c.in-Some.number c.in-Some.field-0-1.now c.in-Some.found.now c.in-Some.ensures.index c.in-Some.ensures.entry
 
 pub returns-clause-objects : goal.returns-clause-objects
 returns-clause-objects g c =
-    numbers_are (task_of_files c.args.tables.now.task.now) c.args.tables.now.actions.entries (step_view c.args.step.now) c.as_bytes.result.now c.requires.tables.actions c.as_bytes.ensures.value
-    c.in-Some.number c.in-Some.field-0-1.now c.in-Some.found.now c.in-Some.ensures.index c.in-Some.ensures.entry c.len.result c.len-2.result (as_long c.args.step.now.objects c.len.result c.len.ensures) (as_long c.in-Some.found.now.action.now.parameters c.len-2.result c.len-2.ensures) c.if-len.false
-    c.deref.result.now c.in_ok-number_objects.field-0 c.deref.ensures.value c.in_ok-number_objects.ensures.known c.number_objects.new.numbers.items c.in_ok-number_objects.ensures.numbers c.if-not-branch.false
+    numbers_are (task_of_files c.args.tables.now.task.now) c.args.tables.now.actions.entries c.args.step.now c.action.result.now c.requires.tables.actions c.action.ensures
+    c.in-Some.number c.in-Some.field-0-1.now c.in-Some.found.now c.in-Some.ensures.index c.in-Some.ensures.entry c.arity.result c.len.result c.arity.ensures (as_long c.in-Some.found.now.action.now.parameters c.len.result c.len.ensures) c.if-arity-len.false
+    c.args.step.now.objects c.in_ok-number_objects.field-0 refl c.in_ok-number_objects.ensures.known c.number_objects.new.numbers.items c.in_ok-number_objects.ensures.numbers c.if-not-branch.false
 
 pub returns-clause-changes : goal.returns-clause-changes
 returns-clause-changes g c = subst (λ t. AreChangesOf t c.lacks_cost.new.changes.items) c.requires.tables.lookups c.in_ok-lacks_cost.ensures.changes

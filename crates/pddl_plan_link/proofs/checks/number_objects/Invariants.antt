@@ -4,5 +4,5 @@ use Rattle.pddl_plan_link.proofs.NumberedObjects.{AreNumbered}
 use Rattle.pddl_plan_link.proofs.checks.number_objects.Given as goal
 
 -- the objects so far are known, and these are their numbers
-abbrev pub invariant-loop-object : goal.invariant-loop-object
-invariant-loop-object g l = AreNumbered (object_names (task_of_files l.task)) l.names l.object-index l.numbers.items
+abbrev pub invariant-loop-place : goal.invariant-loop-place
+invariant-loop-place g l = AreNumbered (object_names (task_of_files l.task)) l.step.objects l.place l.numbers.items

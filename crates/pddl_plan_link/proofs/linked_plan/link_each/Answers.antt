@@ -1,44 +1,52 @@
-use Rattle.std.proofs.Common.{◌∙◌}
+use Rattle.std.proofs.Common.{◌<◌, ◌≤◌, length, refl, ◌∙◌, arith}
+use Rattle.std.specs.Prelude.{Ok}
 use Rattle.std.proofs.lemmas.Result.{err_from_is_err_and}
-use Rattle.pddl_tree.specs.Plans.{step_view}
+use Rattle.pddl_tree.specs.Plans.{plan_view, moment_at}
 use Rattle.pddl_link.specs.LinkedTasks.{task_of_files}
-use Rattle.pddl_plan_link.specs.LinkedSteps.{LinkedStepValue, linked_step}
-use Rattle.pddl_plan_link.specs.StepFaults.{step_faults}
+use Rattle.pddl_plan_link.specs.LinkedSteps.{LinkedStepValue}
+use Rattle.pddl_plan_link.specs.StepFaults.{step_faults, most_steps}
 use Rattle.pddl_plan_link.specs.StepVerdicts.{plan_fault_of}
-use Rattle.pddl_plan_link.proofs.PlanSteps.{none_linked, linked_more, fault_found, all_linked, all_done, step_is, faults_are}
+use Rattle.pddl_plan_link.proofs.PlanSteps.{none_linked, linked_more, fault_found, all_linked, all_done, step_is, Row, rows_of, row_step, row_link, as_many_rows, row_at, linked_rows, plan_verdict, plan_fault}
 use Rattle.pddl_plan_link.proofs.linked_plan.link_each.Goals as goal
 
 pub loop-place-init : goal.loop-place-init
 loop-place-init g c =
     let task = task_of_files c.args.tables.now.task.now in
     record {
-      linked = none_linked task g.S.PlanStep.step_value (λ s. linked_step task (g.S.PlanStep.moment_value s) (g.S.PlanStep.step_value s)) c.args.plan.now c.args.steps.now c.requires.steps;
+      linked = none_linked task row_step (row_link task) (rows_of (plan_view c.args.plan.now)) c.args.steps.now c.requires.steps;
       changes = c.requires.changes;
     }
 
 pub returns-in_err-action-clause-verdict : goal.returns-in_err-action-clause-verdict
 returns-in_err-action-clause-verdict g c =
     let task = task_of_files c.args.tables.now.task.now in
-    let x = c.index-plan-place.result in
-    let found = step_view c.step.result.now in
+    let plan = plan_view c.args.plan.now in
+    let place = c.loop-place.place in
+    let step = c.step.result in
+    let row : Row = (moment_at plan place, step) in
+    let low : place < length (rows_of plan) = omega (arith, as_many_rows task plan, c.len-place-end.ensures.value, c.loop-place-test.true) in
+    let short : length (rows_of plan) ≤ most_steps = omega (arith, as_many_rows task plan, c.requires.short) in
     let p = err_from_is_err_and c.from_residual.result c.from_residual.ensures.1 in
     rw (p.1, p.2)
-    (fault_found task g.S.PlanStep.step_value (λ s. linked_step task (g.S.PlanStep.moment_value s) (g.S.PlanStep.step_value s)) c.args.plan.now c.loop-place.place c.loop-place.steps x (step_faults task found)
-    (plan_fault_of c.in_err-action.field-0.0) c.loop-place-test.true c.index-plan-place.is c.requires.short (faults_are task found (g.S.PlanStep.step_value x) c.step.ensures)
-    c.in_err-action.ensures.verdict c.loop-place.invariant.linked)
+    (plan_fault task plan (plan_fault_of c.in_err-action.field-0.0)
+    (fault_found task row_step (row_link task) (rows_of plan) place c.loop-place.steps row (step_faults task step)
+    (plan_fault_of c.in_err-action.field-0.0) low (row_at task plan place step c.step.ensures) short refl
+    c.in_err-action.ensures.verdict c.loop-place.invariant.linked))
 
 pub loop-place-preserved : goal.loop-place-preserved
 loop-place-preserved g c =
     let task = task_of_files c.args.tables.now.task.now in
-    let x = c.index-plan-place.result in
-    let found = step_view c.step.result.now in
-    let own = g.S.PlanStep.step_value x in
+    let plan = plan_view c.args.plan.now in
+    let place = c.loop-place.place in
+    let step = c.step.result in
+    let row : Row = (moment_at plan place, step) in
+    let low : place < length (rows_of plan) = omega (arith, as_many_rows task plan, c.len-place-end.ensures.value, c.loop-place-test.true) in
     let s : LinkedStepValue = record { action = c.in_ok-action.action; objects = c.deref.result.now; moment = c.moment.result } in
     record {
       linked = rw c.in_ok-push.ensures
-          (linked_more task g.S.PlanStep.step_value (λ s. linked_step task (g.S.PlanStep.moment_value s) (g.S.PlanStep.step_value s)) c.args.plan.now c.loop-place.place c.loop-place.steps x s c.loop-place-test.true c.index-plan-place.is
-          (faults_are task found own c.step.ensures ∙ c.in_ok-action.ensures.verdict)
-          (step_is task found own c.step.ensures c.in_ok-action.action c.deref.result.now c.moment.result (g.S.PlanStep.moment_value x) c.in_ok-action.ensures.action
+          (linked_more task row_step (row_link task) (rows_of plan) place c.loop-place.steps row s low (row_at task plan place step c.step.ensures)
+          c.in_ok-action.ensures.verdict
+          (step_is task step step refl c.in_ok-action.action c.deref.result.now c.moment.result (moment_at plan place) c.in_ok-action.ensures.action
           (c.deref.ensures.value ∙ c.in_ok-action.ensures.objects) c.moment.ensures) c.loop-place.invariant.linked);
       changes = c.in_ok-action.ensures.changes;
     }
@@ -46,9 +54,10 @@ loop-place-preserved g c =
 pub returns : goal.returns
 returns g c =
     let task = task_of_files c.args.tables.now.task.now in
+    let plan = plan_view c.args.plan.now in
+    let past : length (rows_of plan) ≤ c.loop-place.place = omega (arith, as_many_rows task plan, c.len-place-end.ensures.value, c.loop-place-test.false) in
+    let short : length (rows_of plan) ≤ most_steps = omega (arith, as_many_rows task plan, c.requires.short) in
     record {
-      steps = all_done task g.S.PlanStep.step_value (λ s. linked_step task (g.S.PlanStep.moment_value s) (g.S.PlanStep.step_value s)) c.args.plan.now c.loop-place.place c.loop-place.steps c.loop-place-test.false
-          c.loop-place.invariant.linked;
-      verdict = all_linked task g.S.PlanStep.step_value (λ s. linked_step task (g.S.PlanStep.moment_value s) (g.S.PlanStep.step_value s)) c.args.plan.now c.loop-place.place c.loop-place.steps c.loop-place-test.false
-          c.requires.short c.loop-place.invariant.linked;
+      steps = all_done task row_step (row_link task) (rows_of plan) c.loop-place.place c.loop-place.steps past c.loop-place.invariant.linked ∙ linked_rows task plan;
+      verdict = plan_verdict task plan (Ok (tt {0})) (all_linked task row_step (row_link task) (rows_of plan) c.loop-place.place c.loop-place.steps past short c.loop-place.invariant.linked);
     }

@@ -1,7 +1,7 @@
-use Rattle.std.proofs.Common.{map, subst, sym, ◌≡◌, ◌∙◌, IfOk}
+use Rattle.std.proofs.Common.{subst, sym, ◌≡◌, ◌∙◌, IfOk}
+use Rattle.pddl_tree.specs.Plans.{plan_view}
 use Rattle.pddl_link.specs.LinkedTasks.{task_of_files}
-use Rattle.pddl_tree.specs.Plans.{plain}
-use Rattle.pddl_plan_link.specs.LinkedSteps.{linked_step}
+use Rattle.pddl_plan_link.specs.LinkedSteps.{linked_steps}
 use Rattle.pddl_plan_link.specs.StepVerdicts.{PlanVerdict}
 use Rattle.pddl_plan_link.proofs.HeldChanges.{none_held}
 use Rattle.pddl_plan_link.proofs.NamedActions.{actions_as_many}
@@ -22,8 +22,8 @@ link_each-made-requires g c =
 pub returns : goal.returns
 returns g c =
     let task = task_of_files c.args.tables.now.task.now in
-    let steps = map (λ s. linked_step task (g.S.PlanStep.moment_value s) (g.S.PlanStep.step_value s)) c.args.plan.now in
-    let plan = plain (map g.S.PlanStep.step_value c.args.plan.now) in
+    let plan = plan_view c.args.plan.now in
+    let steps = linked_steps task plan in
     record {
       steps = subst (λ r. IfOk r (λ y. y ≡ steps)) (sym c.and.ensures) (steps_made c.link_each-made.result c.link_each-made.new.steps steps c.link_each-made.ensures.steps);
       verdict = subst (λ r. PlanVerdict task plan r) (sym c.and.ensures) (verdict_made task plan c.link_each-made.result c.link_each-made.new.steps c.link_each-made.ensures.verdict);

@@ -1,19 +1,19 @@
-use Rattle.std.proofs.Common.{rules, ◌≡◌, ◌<◌, List, map, length, sym, ap, ◌∙◌, subst}
-use Rattle.std.specs.Prelude.{All}
-use Rattle.pddl_tree.specs.Plans.{StepValue, plain}
+use Rattle.std.proofs.Common.{rules, ◌≡◌, ◌<◌, length, sym, ap, ◌∙◌, subst}
+use Rattle.std.specs.Prelude.{All, IfOk}
+use Rattle.pddl_tree.specs.Plans.{PlanValue, plan_view}
 use Rattle.pddl_happenings.specs.NamedSteps.{by_name}
 use Rattle.pddl_judge.specs.HappeningValues.{groups_of}
 use Rattle.pddl_link.specs.LinkedTasks.{files_of, task_of_files}
-use Rattle.pddl_plan_link.specs.LinkedLaws.{named_step}
 use Rattle.pddl_plan_steps.specs.NumberedSteps.{number_of}
 use Rattle.pddl_serial.specs.Orders.{in_order}
 use Rattle.pddl_serial_plans.specs.NewPlans.{IsSerialPlan}
-use Rattle.pddl_serial_plans.specs.NewSteps.{picked}
+use Rattle.pddl_serial_plans.specs.NewSteps.{picked, plain_plan}
+use Rattle.pddl_serial_plans.proofs.AddedNames.{if_made}
 use Rattle.pddl_serial_plans.proofs.NewPlans.{within, turns, serial_accepted}
 use Rattle.pddl_serial_plans.proofs.serial_plan.serialise.Goals as goal
 
-pub named_steps-requires-clause-within : goal.named_steps-requires-clause-within
-named_steps-requires-clause-within g c =
+pub add_steps-made-requires-clause-within : goal.add_steps-made-requires-clause-within
+add_steps-made-requires-clause-within g c =
     let files = files_of c.args.task.now in
     let gs = groups_of c.args.accepted.now.happenings.items in
     let same : c.deref-2.result.now ≡ in_order c.args.order gs = search rules in
@@ -30,5 +30,8 @@ returns g c =
     let end = by_name (number_of task) (g.S.AtomStore.content c.args.accepted.now.store c.args.accepted.now.end) in
     let same : c.deref-2.result.now ≡ in_order c.args.order gs = search rules in
     let is = turns files.domain files.problem c.domain-linked.ensures.linked c.requires c.args.order in
-    subst (λ (l : List StepValue). IsSerialPlan task steps order end c.args.accepted.now.cost (plain l)) (sym (c.in_ok-own.ensures ∙ ap (λ l. map (named_step task) (picked steps l)) same))
-    (serial_accepted files.domain files.problem c.domain-linked.ensures.linked c.requires order is)
+    let made = c.add_steps-made.result in
+    let accepted = serial_accepted files.domain files.problem c.domain-linked.ensures.linked c.requires order is in
+    subst (λ r. IfOk r (λ plan. IsSerialPlan task steps order end c.args.accepted.now.cost (plan_view plan))) (sym c.and.ensures)
+    (if_made (λ plan. IsSerialPlan task steps order end c.args.accepted.now.cost (plan_view plan)) made c.finish.result _
+    (λ own. subst (λ (p : PlanValue). IsSerialPlan task steps order end c.args.accepted.now.cost p) (sym (c.finish.ensures ∙ own ∙ ap (λ l. plain_plan task (picked steps l)) same)) accepted) c.add_steps-made.ensures)
