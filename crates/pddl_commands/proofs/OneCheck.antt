@@ -1,64 +1,35 @@
 -- Texts are checked in one way.
-use Rattle.std.proofs.Common.{◌≡◌, ℕ, List, refl, sym, ap, subst, ◌∙◌, ◌⊎◌, inl, inr}
-use Rattle.std.specs.Prelude.{◌≢◌, codes, Option, Some, None, IfSome, option_map}
+use Rattle.std.proofs.Common.{◌≡◌, ℕ, List, [], refl, sym, subst, ◌∙◌, ◌⊎◌, inl, inr}
+use Rattle.std.specs.Prelude.{codes, None}
 use Rattle.pddl_domain.specs.Domains.{DomainValue, SpellsDomain}
 use Rattle.pddl_domain.proofs.DomainTextLaws.{one_domain, no_fault_in_domain}
 use Rattle.pddl_problem.specs.Problems.{ProblemValue, SpellsProblem}
 use Rattle.pddl_problem.proofs.ProblemTexts.{one_problem, no_fault as no_fault_in_problem}
-use Rattle.pddl_task.specs.Names.{Name}
-use Rattle.pddl_task.specs.Linked.{Fault, faults, domain_faults, NoneStands, IsLowest}
+use Rattle.pddl_task.specs.Linked.{Fault, faults, domain_faults, NoneStands}
 use Rattle.pddl_task.proofs.LowestFault.{one_lowest, none_stand}
-use Rattle.pddl_link.specs.declared.fault.LinkFault.{LinkFault}
-use Rattle.pddl_link.specs.declared.fault.LinkFault.TheVariants as links
-use Rattle.pddl_link.specs.Passes.{fault_of}
 use Rattle.pddl_kind.specs.declared.Kind.TheVariants.{Domain, Problem}
 use Rattle.pddl_commands.specs.declared.outcome.Outcome.{Outcome}
 use Rattle.pddl_commands.specs.declared.outcome.Outcome.TheVariants.{Good, Invalid, Refused}
+use Rattle.pddl_commands.specs.Lines.{link_fault_text, IsFaultLine}
 use Rattle.pddl_commands.specs.Formats.{IsRefused}
-use Rattle.pddl_commands.specs.Checks.{good_line, IsLinkRefused, IsDomainJudged, IsProblemJudged, ForProblem, IsDomainChecked, IsProblemChecked, AreAlike}
+use Rattle.pddl_commands.specs.Checks.{IsLinkRefused, IsDomainJudged, IsProblemJudged, ForProblem, IsDomainChecked, IsProblemChecked, AreAlike}
 use Rattle.pddl_commands.proofs.OneOutcome.{one_refused}
 
 -- ---- one fault of linking
 
-no_number : (fault : LinkFault) → fault_of fault ≡ None → fault ≡ links.Memory
-no_number links.Memory e = refl
-no_number (links.DomainName w) e = cc
-no_number (links.TypeTwice w) e = cc
-no_number (links.TypeCycle w) e = cc
-no_number (links.UnknownType w) e = cc
-no_number (links.NameTwice w) e = cc
-no_number (links.ObjectTypes w) e = cc
-no_number (links.UnknownName w) e = cc
-no_number (links.Arity w) e = cc
-no_number (links.ArgumentType w) e = cc
-no_number (links.InitContradiction w) e = cc
-no_number (links.FractionalCost w) e = cc
-no_number (links.CostValue w) e = cc
-no_number (links.ObjectFluent w) e = cc
-no_number links.Metric e = cc
-no_number links.GoalTooLarge e = cc
-
-same_number : (fs : List Fault) (o p : Option (ℕ × Name)) → o ≢ None → p ≢ None → IfSome o (λ f. IsLowest fs f.0 f.1) → IfSome p (λ f. IsLowest fs f.0 f.1)
-    → option_map (λ f. f.0) o ≡ option_map (λ f. f.0) p
-same_number fs None p some other low more = absurd (some refl)
-same_number fs (Some f) None some other low more = absurd (other refl)
-same_number fs (Some f) (Some g) some other low more = ap Some (one_lowest fs f.0 g.0 f.1 g.1 low more)
-
-none_lowest : (fs : List Fault) (o : Option (ℕ × Name)) → o ≢ None → NoneStands fs → IfSome o (λ f. IsLowest fs f.0 f.1) → ⊥
-none_lowest fs None some none low = some refl
-none_lowest fs (Some f) some none low = none_stand fs f.0 f.1 none low.stands
-
 pub one_fault : (fs : List Fault) (printed other : List ℕ) → IsLinkRefused fs printed → IsLinkRefused fs other → AreAlike printed other
-one_fault fs printed other p q = inr (record {
-  fault = p.fault;
-  found = q.fault;
-  same_number = same_number fs (fault_of p.fault) (fault_of q.fault) (λ e. p.no_memory (no_number p.fault e)) (λ e. q.no_memory (no_number q.fault e)) p.lowest q.lowest;
-  line = p.line;
-  other_line = q.line;
-})
+one_fault fs printed other p q =
+    let same = one_lowest fs p.number q.number p.word q.word p.lowest q.lowest in
+    inr (record {
+      number = p.number;
+      word = p.word;
+      other_word = q.word;
+      line = p.line;
+      other_line = subst (λ n. IsFaultLine (codes "link") [] (link_fault_text n q.word) None other) (sym same) q.line;
+    })
 
 pub good_or_refused : (fs : List Fault) (other : List ℕ) → NoneStands fs → IsLinkRefused fs other → ⊥
-good_or_refused fs other none q = none_lowest fs (fault_of q.fault) (λ e. q.no_memory (no_number q.fault e)) none q.lowest
+good_or_refused fs other none q = none_stand fs q.number q.word none q.lowest.stands
 
 -- ---- one answer for values
 

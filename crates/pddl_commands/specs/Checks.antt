@@ -1,31 +1,25 @@
 -- What `domain` and `problem` print for the texts of their files, and how they end. Own.
-use Rattle.std.specs.Prelude.{◌≡◌, ◌≢◌, ◌⊎◌, ℕ, List, [], ◌++◌, codes, Option, Some, None, IfSome, option_map}
+use Rattle.std.specs.Prelude.{◌≡◌, ◌⊎◌, ℕ, List, [], ◌++◌, codes, Option, Some, None}
 use Rattle.pddl_domain.specs.Domains.{DomainValue, SpellsDomain}
 use Rattle.pddl_problem.specs.Problems.{ProblemValue, SpellsProblem}
+use Rattle.pddl_task.specs.Names.{Name}
 use Rattle.pddl_task.specs.Linked.{Fault, faults, domain_faults, IsLowest, IsLinked, IsGood}
-use Rattle.pddl_link.specs.declared.fault.LinkFault.{LinkFault}
-use Rattle.pddl_link.specs.declared.fault.LinkFault.TheVariants as links
-use Rattle.pddl_link.specs.Passes.{fault_of}
 use Rattle.pddl_kind.specs.declared.Kind.TheVariants.{Domain, Problem}
 use Rattle.pddl_commands.specs.declared.outcome.Outcome.{Outcome}
 use Rattle.pddl_commands.specs.declared.outcome.Outcome.TheVariants.{Good, Invalid, Refused}
-use Rattle.pddl_commands.specs.Lines.{link_fault_name, IsFaultLine}
+use Rattle.pddl_commands.specs.Lines.{link_fault_text, IsFaultLine}
 use Rattle.pddl_commands.specs.Formats.{IsRefused}
 
 -- the line of a good domain or problem: what it is, and its name
 abbrev pub good_line : List ℕ → List ℕ → List ℕ
 good_line word name = codes "good: " ++ (word ++ (codes " " ++ (name ++ codes "\n")))
 
--- the number of a fault of linking
-abbrev pub link_number : LinkFault → Option ℕ
-link_number fault = option_map (λ f. f.0) (fault_of fault)
-
 -- of these faults the lowest that stands, with the word of a place where it does, and its line is printed
 pub record IsLinkRefused (fs : List Fault) (printed : List ℕ) : Type 0 where
-  pub fault : LinkFault
-  pub no_memory : fault ≢ links.Memory
-  pub lowest : IfSome (fault_of fault) (λ f. IsLowest fs f.0 f.1)
-  pub line : IsFaultLine (codes "link") [] (link_fault_name fault) None printed
+  pub number : ℕ
+  pub word : Name
+  pub lowest : IsLowest fs number word
+  pub line : IsFaultLine (codes "link") [] (link_fault_text number word) None printed
 
 -- what is printed for a domain, and how that ends
 abbrev pub IsDomainJudged : DomainValue → List ℕ → Outcome → Type 0
@@ -64,11 +58,11 @@ IsNoDomain remaining = (text : List ℕ) × (remaining ≡ Some text) × ((d : D
 
 -- two lines that name one fault of linking, each with a word of that fault
 pub record NameOneFault (printed other : List ℕ) : Type 0 where
-  pub fault : LinkFault
-  pub found : LinkFault
-  pub same_number : link_number fault ≡ link_number found
-  pub line : IsFaultLine (codes "link") [] (link_fault_name fault) None printed
-  pub other_line : IsFaultLine (codes "link") [] (link_fault_name found) None other
+  pub number : ℕ
+  pub word : Name
+  pub other_word : Name
+  pub line : IsFaultLine (codes "link") [] (link_fault_text number word) None printed
+  pub other_line : IsFaultLine (codes "link") [] (link_fault_text number other_word) None other
 
 -- the same text, or the same fault of linking
 abbrev pub AreAlike : List ℕ → List ℕ → Type 0

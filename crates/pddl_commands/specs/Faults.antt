@@ -1,11 +1,15 @@
 -- Faults as the program looks at them. No public contract names these.
-use Rattle.std.specs.Prelude.{ℕ, List, ◌++◌, Bool, true, false}
+use Rattle.std.specs.Prelude.{◌≡◌, ℕ, List, [], ◌++◌, codes, Bool, true, false, Some, None}
 use Rattle.pddl_text.specs.declared.fault.TextFault.TheVariants.{Memory}
 use Rattle.pddl_tree.specs.declared.fault.ReadFault.{ReadFault}
 use Rattle.pddl_tree.specs.declared.fault.ReadFault.TheVariants as plans
 use Rattle.pddl_file.specs.declared.fault.FileFault.{FileFault}
 use Rattle.pddl_file.specs.declared.fault.FileFault.TheVariants as files
+use Rattle.pddl_task.specs.Names.{Name}
+use Rattle.pddl_link.specs.declared.fault.LinkFault.{LinkFault}
+use Rattle.pddl_link.specs.Passes.{fault_of}
 use Rattle.pddl_commands.specs.declared.fault_names.FaultName.{FaultName}
+use Rattle.pddl_commands.specs.Lines.{link_fault_text, IsFaultLine}
 
 -- the whole name
 abbrev pub whole_name : FaultName → List ℕ
@@ -19,3 +23,7 @@ is_memory _ = false
 abbrev pub is_file_memory : FileFault → Bool
 is_file_memory (files.Text Memory) = true
 is_file_memory _ = false
+
+-- the fault is one of linking, and this is its line
+abbrev pub IsLinkFaultLine : LinkFault → List ℕ → Type 0
+IsLinkFaultLine fault line = (f : ℕ × Name) × (fault_of fault ≡ Some f) × IsFaultLine (codes "link") [] (link_fault_text f.0 f.1) None line

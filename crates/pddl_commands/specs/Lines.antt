@@ -1,5 +1,6 @@
 -- The line of a refused file. Own.
-use Rattle.std.specs.Prelude.{◌≡◌, ℕ, List, [], ◌++◌, codes, take, Option, Some, None}
+use Rattle.std.specs.Prelude.{◌≡◌, ◌==◌, ℕ, List, [], ◌∷◌, ◌++◌, codes, take, find, Option, Some, None}
+use Rattle.std.specs.Option.{option_map_or}
 use Rattle.std.specs.Fmt.{decimal}
 use Rattle.pddl_text.specs.declared.fault.TextFault.{TextFault}
 use Rattle.pddl_text.specs.declared.fault.TextFault.TheVariants as texts
@@ -11,8 +12,6 @@ use Rattle.pddl_file.specs.declared.fault.FileFault.{FileFault}
 use Rattle.pddl_file.specs.declared.fault.FileFault.TheVariants as files
 use Rattle.pddl_file.specs.Keywords.{key_text}
 use Rattle.pddl_file.specs.Marks.{mark_word}
-use Rattle.pddl_link.specs.declared.fault.LinkFault.{LinkFault}
-use Rattle.pddl_link.specs.declared.fault.LinkFault.TheVariants as links
 
 -- the number and the name of a fault of a text
 abbrev pub text_fault_name : TextFault → List ℕ
@@ -24,6 +23,7 @@ text_fault_name (texts.NumberRange at) = codes "4 NumberRange"
 text_fault_name (texts.Unopened at) = codes "5 Unopened"
 text_fault_name (texts.TooDeep at) = codes "6 TooDeep"
 text_fault_name (texts.Unclosed at) = codes "7 Unclosed"
+text_fault_name texts.AlreadyFailed = codes "9 AlreadyFailed"
 
 -- the number and the name of a fault of a plan
 abbrev pub fault_name : ReadFault → List ℕ
@@ -41,24 +41,28 @@ file_fault_name (files.Unsupported mark span) = codes "12 Unsupported " ++ mark_
 file_fault_name (files.Twice keyword span) = codes "13 Twice " ++ key_text keyword
 file_fault_name (files.Missing keyword) = codes "14 Missing " ++ key_text keyword
 
--- the number and the name of a fault of linking, and the word that it is about
-abbrev pub link_fault_name : LinkFault → List ℕ
-link_fault_name links.Memory = codes "0 Memory"
-link_fault_name (links.DomainName word) = codes "20 DomainName " ++ word.now
-link_fault_name (links.TypeTwice word) = codes "21 TypeTwice " ++ word.now
-link_fault_name (links.TypeCycle word) = codes "22 TypeCycle " ++ word.now
-link_fault_name (links.UnknownType word) = codes "23 UnknownType " ++ word.now
-link_fault_name (links.NameTwice word) = codes "24 NameTwice " ++ word.now
-link_fault_name (links.ObjectTypes word) = codes "25 ObjectTypes " ++ word.now
-link_fault_name (links.UnknownName word) = codes "26 UnknownName " ++ word.now
-link_fault_name (links.Arity word) = codes "27 Arity " ++ word.now
-link_fault_name (links.ArgumentType word) = codes "28 ArgumentType " ++ word.now
-link_fault_name (links.InitContradiction word) = codes "29 InitContradiction " ++ word.now
-link_fault_name (links.FractionalCost word) = codes "30 FractionalCost " ++ word.now
-link_fault_name (links.CostValue word) = codes "31 CostValue " ++ word.now
-link_fault_name (links.ObjectFluent word) = codes "32 ObjectFluent " ++ word.now
-link_fault_name links.Metric = codes "33 Metric"
-link_fault_name links.GoalTooLarge = codes "35 GoalTooLarge"
+-- the number and the name of each fault of linking, and a blank where a word follows
+abbrev pub link_fault_names : List (ℕ × List ℕ)
+link_fault_names =
+    (20, codes "20 DomainName ") ∷
+    (21, codes "21 TypeTwice ") ∷
+    (22, codes "22 TypeCycle ") ∷
+    (23, codes "23 UnknownType ") ∷
+    (24, codes "24 NameTwice ") ∷
+    (25, codes "25 ObjectTypes ") ∷
+    (26, codes "26 UnknownName ") ∷
+    (27, codes "27 Arity ") ∷
+    (28, codes "28 ArgumentType ") ∷
+    (29, codes "29 InitContradiction ") ∷
+    (30, codes "30 FractionalCost ") ∷
+    (31, codes "31 CostValue ") ∷
+    (32, codes "32 ObjectFluent ") ∷
+    (33, codes "33 Metric") ∷
+    (35, codes "35 GoalTooLarge") ∷ []
+
+-- a fault of linking by its number, and the word that it is about
+abbrev pub link_fault_text : ℕ → List ℕ → List ℕ
+link_fault_text n word = option_map_or (λ f. f.1 ++ word) (find (λ f. f.0 == n) link_fault_names) []
 
 -- where the fault stands, as it is shown: nothing, or ` at `, the line, a colon and the column of its place
 abbrev pub IsPlaceShown : List ℕ → Option ℕ → List ℕ → Type 0

@@ -1,13 +1,12 @@
 //! What `domain` and `problem` print for texts.
 
-ghost use Rattle.std.specs.Prelude.{◌≡◌, ◌≢◌, [], codes, None, IfOk};
+ghost use Rattle.std.specs.Prelude.{◌≡◌, IfOk};
 ghost use Rattle.pddl_domain.specs.Domains.{domain_view};
 ghost use Rattle.pddl_problem.specs.Problems.{problem_view};
 ghost use Rattle.pddl_task.specs.Linked.{faults};
-ghost use Rattle.pddl_link.specs.declared.fault.LinkFault.TheVariants as links;
 ghost use Rattle.pddl_link.specs.Passes.{Verdict};
 ghost use Rattle.pddl_commands.specs.Checks.{good_line, IsDomainJudged, IsProblemJudged, IsDomainChecked, ForProblem};
-ghost use Rattle.pddl_commands.specs.Lines.{link_fault_name, IsFaultLine};
+ghost use Rattle.pddl_commands.specs.Faults.{IsLinkFaultLine};
 
 use crate::fault_names::link_fault_name;
 use crate::formatted::{Formatted, refused_domain, refused_problem};
@@ -40,8 +39,7 @@ fn link_line<'a, B: Allocator>(
     alloc: &'a B,
     fault: &LinkFault,
 ) -> Result<Vec<u8, &'a B>, AllocError>
-    ensures no_memory { IfOk result (λ line. fault.now ≢ links.Memory) }
-    ensures line { IfOk result (λ line. IsFaultLine (codes "link") [] (link_fault_name fault.now) None line.items) }
+    ensures { IfOk result (λ line. IsLinkFaultLine fault.now line.items) }
 {
     match fault {
         LinkFault::Memory => Err(AllocError),
@@ -68,8 +66,7 @@ pub fn refused_link<'a, B: Allocator>(
     fault: &LinkFault,
 ) -> Result<Formatted<'a, B>, AllocError>
     ensures refused { IfOk result (λ answer. answer.1 ≡ Outcome.Refused) }
-    ensures no_memory { IfOk result (λ _. fault.now ≢ links.Memory) }
-    ensures line { IfOk result (λ answer. IsFaultLine (codes "link") [] (link_fault_name fault.now) None answer.0.items) }
+    ensures line { IfOk result (λ answer. IsLinkFaultLine fault.now answer.0.items) }
 {
     Ok((link_line(alloc, fault)?, Outcome::Refused))
 }

@@ -1,8 +1,9 @@
 //! Names of faults in the lines of refused files.
 
-ghost use Rattle.std.specs.Prelude.{◌≡◌, ◌++◌};
+ghost use Rattle.std.specs.Prelude.{◌≡◌, ◌++◌, IfSome};
+ghost use Rattle.pddl_link.specs.Passes.{fault_of};
 ghost use Rattle.pddl_commands.specs.Faults.{whole_name};
-ghost use Rattle.pddl_commands.specs.Lines.{text_fault_name, fault_name, file_fault_name, link_fault_name};
+ghost use Rattle.pddl_commands.specs.Lines.{text_fault_name, fault_name, file_fault_name, link_fault_text};
 
 use pddl_file::FileFault;
 use pddl_link::LinkFault;
@@ -47,6 +48,7 @@ pub fn text_fault_name(fault: &TextFault) -> FaultName<'static>
         TextFault::Unopened { .. } => "5 Unopened",
         TextFault::TooDeep { .. } => "6 TooDeep",
         TextFault::Unclosed { .. } => "7 Unclosed",
+        TextFault::AlreadyFailed => "9 AlreadyFailed",
     })
 }
 
@@ -78,7 +80,7 @@ pub fn file_fault_name(fault: &FileFault) -> FaultName<'static>
 
 /// The name of a fault of linking.
 pub fn link_fault_name<'t>(fault: &LinkFault<'t>) -> FaultName<'t>
-    ensures { whole_name result ≡ link_fault_name fault.now }
+    ensures { IfSome (fault_of fault.now) (λ f. whole_name result ≡ link_fault_text f.0 f.1) }
 {
     match fault {
         LinkFault::Memory => return FaultName::plain("0 Memory"),

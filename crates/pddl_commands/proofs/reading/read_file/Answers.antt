@@ -7,6 +7,6 @@ pub returns-in_ok-too_long-in-Err-TooLong-clause-content : goal.returns-in_ok-to
 returns-in_ok-too_long-in-Err-TooLong-clause-content g c =
     let read = c.in-Err-TooLong.ensures in
     let is = ap Err c.in-Err-TooLong.field-0-is in
-    let left = left_more (g.S.Source.remaining c.args.source.now) (g.S.Source.remaining c.read_all.new.reader) 16777216 read.stands.0 (read.too_long is) (read.stands.2 is) in
+    let left = left_more (g.S.Source.remaining c.args.source.now) (g.S.Source.remaining c.read_all.new.reader) 16777216 read.stands.0 (read.too_long is) (read.stands.2 is).0 in
     let line = c.in_ok-too_long-in-Err-TooLong.ensures in
     (line, (left.0, left.1, too_long_refused c.args.kind left.0 c.in_ok-too_long-in-Err-TooLong.field-0.items left.2 line))
