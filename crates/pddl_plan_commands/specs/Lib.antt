@@ -1,5 +1,6 @@
 pub mod PlanLines
 pub mod Printings
 pub mod PlanChecks
+pub mod Runs
 pub mod WantedPrintings
 pub mod ShownVerdicts

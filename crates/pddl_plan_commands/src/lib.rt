@@ -10,6 +10,7 @@ mod checking;
 mod judging;
 mod lines;
 mod reading;
+mod running;
 mod serial_forms;
 mod step_faults;
 mod wanted;
