@@ -71,6 +71,15 @@ for count in 125000 500000; do
     printf '%-24s %8d  %s   %s\n' "problem, $count items" "$(wc -c <"$folder/file")" \
         "$(seconds "$program" format problem "$folder/file")" "$(seconds "$program" problem "$folder/domain" "$folder/file")"
 done
+for count in 60000 240000; do
+    python3 "$here/files.py" parameters "$count" >"$folder/domain" || exit 1
+    printf '%-24s %8d  %s   %s\n' "domain, $count parameters" "$(wc -c <"$folder/domain")" \
+        "$(seconds "$program" format domain "$folder/domain")" "$(seconds "$program" domain "$folder/domain")"
+    python3 "$here/files.py" parameters 1 >"$folder/domain" || exit 1
+    python3 "$here/files.py" variables "$count" >"$folder/file" || exit 1
+    printf '%-24s %8d  %s   %s\n' "problem, $count variables" "$(wc -c <"$folder/file")" \
+        "$(seconds "$program" format problem "$folder/file")" "$(seconds "$program" problem "$folder/domain" "$folder/file")"
+done
 
 printf '\n%-24s %8s   %-17s   %-17s\n' '' '' 'plan' 'plain Rust'
 printf '%-24s %8s  %8s %8s   %8s %8s\n' files bytes seconds MiB seconds MiB

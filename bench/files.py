@@ -5,10 +5,11 @@ A plan has steps with three objects each: plain, timed, or with a comment before
 actions; a problem has many objects and a long `:init`.
 
 Usage: files.py plain|timed|comments|domain|problem MIB
-       files.py actions|items|short|long N
+       files.py actions|items|parameters|variables|short|long N
 
 The second form makes a domain with so many actions, or a problem of it with so many items in `:init` and two objects for each five of them: these link.
-Or a plan of so many steps, each with two objects of few letters, or with eight of many.
+So do a domain with an action of so many parameters, and a problem of it whose goal quantifies over so many variables of a type with one object, beside
+twice as many others; each variable is spoken of once. Or it makes a plan of so many steps, each with two objects of few letters, or with eight of many.
 """
 import itertools
 import random
@@ -110,6 +111,20 @@ def linked_problem(items):
     return f"(define (problem day)\n  (:domain depot)\n  (:objects\n{objects})\n  (:init\n{init})\n  (:goal (and (at truck0 depot0) (in crate0 truck0)))\n  (:metric minimize (total-cost)))\n"
 
 
+def numbered(text, count):
+    return " ".join(text.replace("#", str(number)) for number in range(count))
+
+
+def many_parameters(count):
+    return (f"(define (domain many)\n  (:types lone other)\n  (:predicates (seen ?x - lone))\n  (:action see\n    :parameters ({numbered('?v#', count)} - lone)\n"
+            f"    :precondition (and {numbered('(seen ?v#)', count)})\n    :effect (not (seen ?v0))))\n")
+
+
+def many_variables(count):
+    return (f"(define (problem many-1)\n  (:domain many)\n  (:objects one - lone {numbered('o#', 2 * count)} - other)\n  (:init (seen one))\n"
+            f"  (:goal (forall ({numbered('?v#', count)} - lone) (and {numbered('(seen ?v#)', count)}))))\n")
+
+
 def short_plan(steps):
     return "".join(f"(go a{number % 97} b{number % 89})\n" for number in range(steps))
 
@@ -119,7 +134,14 @@ def long_plan(steps):
     return "".join(f"(load-them-all {' '.join(names[(number * 7 + k) % 100] for k in range(8))})\n" for number in range(steps))
 
 
-COUNTED = {"actions": linked_domain, "items": linked_problem, "short": short_plan, "long": long_plan}
+COUNTED = {
+    "actions": linked_domain,
+    "items": linked_problem,
+    "parameters": many_parameters,
+    "variables": many_variables,
+    "short": short_plan,
+    "long": long_plan,
+}
 
 
 def parts(kind, mib):

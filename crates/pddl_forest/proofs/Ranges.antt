@@ -23,6 +23,7 @@ pub record IsNested (ps first last : List ℕ) : Type 0 where
   pub start : number_at first 0 ≡ 0
   pub one : (i j : ℕ) → i < length ps → j < length ps → number_at first i ≡ number_at first j → i ≡ j
   pub own : (i : ℕ) → i < length ps → number_at first i ≤ number_at last i
+  pub low : (i : ℕ) → i < length ps → number_at last i < length ps
   pub behind : (i : ℕ) → i < length ps → i ≢ 0 → number_at first (parent_of ps i) < number_at first i
   pub inside : (i : ℕ) → i < length ps → i ≢ 0 → number_at last i ≤ number_at last (parent_of ps i)
   pub apart : (i k : ℕ) → i < length ps → k < length ps → i ≢ 0 → k ≢ 0 → parent_of ps k ≡ parent_of ps i → number_at first k < number_at first i → number_at last k < number_at first i
@@ -126,6 +127,7 @@ module _ (ps first last : List ℕ) (h : IsNested ps first last) where
   pub preorder : IsPreorder ps first last
   preorder = record {
     forest = record { top = h.top; below = under_top };
+    low = h.low;
     within = λ i g low also (n, is). let b = nested n i g low is in let own = h.own i low in let b0 = b.0 in let b1 = b.1 in (b0, omega (arith, own, b1));
     under = λ i g low also in_it. let i0 = in_it.0 in let i1 = in_it.1 in under_by (number_at first i + 1) i g low also (omega (arith)) i0 i1;
   }
@@ -174,6 +176,7 @@ module _ (ps order first last : List ℕ) (placed : (i : ℕ) → i < length ps 
     start = start;
     one = λ i j low also same. place_of i (number_at first j) low same ∙ (placed j also).ordered;
     own = λ i low. (placed i low).own;
+    low = λ i low. (placed i low).low;
     behind = λ i low. (placed i low).behind;
     inside = λ i low. (placed i low).inside;
     apart = λ i k low also some other same less. apart i k low also some other same less (in_order i low some);

@@ -7,6 +7,7 @@ pub record IsPlaced (ps order first last : List ℕ) (i : ℕ) : Type 0 where
   pub in_range : parent_of ps i < length ps
   pub ordered : number_at order (number_at first i) ≡ i
   pub own : number_at first i ≤ number_at last i
+  pub low : number_at last i < length ps
   pub behind : i ≢ 0 → number_at first (parent_of ps i) < number_at first i
   pub inside : i ≢ 0 → number_at last i ≤ number_at last (parent_of ps i)
 

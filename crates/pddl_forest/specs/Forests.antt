@@ -28,8 +28,9 @@ pub record IsForest (ps : List ℕ) : Type 0 where
   pub top : parent_of ps 0 ≡ 0
   pub below : (i : ℕ) → i < length ps → IsUnder ps i 0
 
--- The places of a forest are numbered so that those under one have the numbers from its own to a last one.
+-- The places of a forest are numbered, from 0 to less than there are places, so that those under one have the numbers from its own to a last one.
 pub record IsPreorder (ps first last : List ℕ) : Type 0 where
   pub forest : IsForest ps
+  pub low : (i : ℕ) → i < length ps → number_at last i < length ps
   pub within : (i g : ℕ) → i < length ps → g < length ps → IsUnder ps i g → IsWithin first last i g
   pub under : (i g : ℕ) → i < length ps → g < length ps → IsWithin first last i g → IsUnder ps i g

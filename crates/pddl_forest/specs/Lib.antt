@@ -1,2 +1,3 @@
 pub mod Forests
 pub mod Checks
+pub mod Counts

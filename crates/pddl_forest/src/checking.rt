@@ -53,6 +53,7 @@ fn is_placed(
     parent_of(parents, place) < parents.len()
         && number_at(order, number) == place
         && number <= number_at(last, place)
+        && number_at(last, place) < parents.len()
         && is_behind(parents, first, last, place)
 }
 

@@ -2,6 +2,7 @@
 #![tactic(auto)]
 
 mod checking;
+mod counting;
 mod numbering;
 mod preorder;
 #[cfg(test)]

@@ -1,9 +1,11 @@
 //! Numbers of the places of a forest, by which whether one is under another is two comparisons.
 
-ghost use Rattle.std.specs.Prelude.{◌≡◌, ◌<◌, ◌↔◌, IsTrue, IfOk, IfSome, length};
+ghost use Rattle.std.specs.Prelude.{◌≡◌, ◌<◌, ◌↔◌, ℕ, Contains, IsTrue, IfOk, IfSome, length};
 ghost use Rattle.pddl_forest.specs.Forests.{IsUnder, IsForest};
+ghost use Rattle.pddl_forest.specs.Counts.{AreCounts};
 
 use crate::checking::{is_preorder, number_at};
+use crate::counting::counts;
 use crate::numbering::{Numbers, numbered};
 use std::alloc::{AllocError, Allocator};
 use std::marker::Model;
@@ -63,5 +65,19 @@ impl<'a, B: Allocator> Preorder<'a, B> {
     {
         let number = number_at(&self.first, place);
         number_at(&self.first, over) <= number && number <= number_at(&self.last, over)
+    }
+
+    /// How many of these places are under each place.
+    ///
+    /// Fails where memory for them is refused.
+    pub fn counts<'c, C: Allocator>(
+        &self,
+        alloc: &'c C,
+        places: &[usize],
+    ) -> Result<Vec<usize, &'c C>, AllocError>
+        requires { (i : ℕ) → Contains places.now i → i < length self.now }
+        ensures { IfOk result (λ counts. AreCounts self.now places.now counts.items) }
+    {
+        counts(alloc, &self.first, &self.last, places, self.parents.len())
     }
 }

@@ -2,12 +2,16 @@
 use Rattle.std.proofs.Common.{◌≡◌, ℕ, ◌+◌, ◌-◌, ◌<◌, ◌≤◌, Bool, true, false, ◌||◌, cond, List, [], ◌∷◌, ◌++◌, map, length, get_or, take, Option, Some, None, refl, ap, sym, ◌∙◌, bytes_eq, arith}
 use Rattle.std.specs.Prelude.{is_some, find, option_map}
 use Rattle.std.specs.Borrow.{Bor}
+use Rattle.std.specs.Map.{lookup}
 use Rattle.std.specs.Option.{option_or, option_copied}
 use Rattle.std.proofs.lemmas.List.{take_more, map-append}
 use Rattle.pddl_formula.specs.TypedLists.{TypedValue}
 use Rattle.pddl_task.specs.Names.{Name, is_in, is_named, item_of}
 use Rattle.pddl_task.specs.Places.{binding}
 use Rattle.pddl_task.specs.Faults.{primitives_of}
+use Rattle.indexmap.specs.IndexMap.{insert_entry}
+use Rattle.pddl_link.specs.LastTypes.{AreLastTypes}
+use Rattle.pddl_link.proofs.Lookups.{lookup_put}
 
 either : (b : Bool) (x : TypedValue) (o p : Option TypedValue) → option_or o (cond b (Some x) p) ≡ option_or (option_or o (cond b (Some x) None)) p
 either true x None p = refl
@@ -61,6 +65,24 @@ last_at view n xs i x b some h is told =
     ap (λ j. last_type view n (take j xs)) (sym back) ∙ last_more view n xs (i - 1) x (omega (arith, some, h))
     ∙ ap (λ y. cond (bytes_eq n (view y).item) (Some (view y).of) (last_type view n (take (i - 1) xs))) (sym is)
     ∙ ap (λ c. cond c (Some (view x).of) (last_type view n (take (i - 1) xs))) told
+
+-- ---- a table of types
+
+copied_cond : (b : Bool) (v : Bor (List Name)) (o : Option (Bor (List Name))) → option_copied (cond b (Some v) o) ≡ cond b (Some v.now) (option_copied o)
+copied_cond true v o = refl
+copied_cond false v o = refl
+
+pub types_none : {X : Type 0} (view : X → TypedValue) (xs : List X) → AreLastTypes (map view (take 0 xs)) []
+types_none view [] n = refl
+types_none view (x ∷ xs) n = refl
+
+pub types_more : {X : Type 0} (view : X → TypedValue) (xs : List X) (i : ℕ) (x : X) (k : Bor Name) (v : Bor (List Name)) (table : List (Bor Name × Bor (List Name))) → i < length xs → x ≡ get_or xs i x
+    → k.now ≡ (view x).item → v.now ≡ (view x).of → AreLastTypes (map view (take i xs)) table → AreLastTypes (map view (take (i + 1) xs)) (insert_entry (λ a b. bytes_eq a.now b.now) table k v)
+types_more view xs i x k v table low is named typed so_far n =
+    ap option_copied (lookup_put table k v n) ∙ copied_cond (bytes_eq n k.now) v (lookup (λ j. bytes_eq n j.now) table)
+    ∙ ap (λ o. cond (bytes_eq n k.now) (Some v.now) o) (so_far n) ∙ ap (λ m. cond (bytes_eq n m) (Some v.now) (last_type view n (take i xs))) named
+    ∙ ap (λ t. cond (bytes_eq n (view x).item) (Some t) (last_type view n (take i xs))) typed
+    ∙ ap (λ y. cond (bytes_eq n (view y).item) (Some (view y).of) (last_type view n (take i xs))) is ∙ sym (last_more view n xs i x low)
 
 -- it is the one where the walk has come to
 pub last_here : {X : Type 0} (view : X → TypedValue) (n : Name) (xs : List X) (i : ℕ) (x : X) → 0 < i → i ≤ length xs → x ≡ get_or xs (i - 1) x

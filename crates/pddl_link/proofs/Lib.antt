@@ -35,3 +35,4 @@ pub mod Entries
 pub mod FittingObjects
 pub mod LentNames
 pub mod FunctionNames
+pub mod TypeCounts

@@ -12,6 +12,8 @@ use Rattle.pddl_domain.specs.Declarations.{Signature}
 use Rattle.pddl_task.specs.Names.{Name, is_in, is_named, item_of}
 use Rattle.pddl_task.specs.Settings.{symbol_of}
 use Rattle.pddl_task.specs.Faults.{primitives_of, takes_others}
+use Rattle.pddl_task.proofs.Lists.{bytes_same, same_bytes}
+use Rattle.indexmap.specs.IndexMap.{insert_entry}
 use Rattle.pddl_link.specs.KnownNames.{signature_in, object_in}
 use Rattle.pddl_link.proofs.ListPasses.{views_drop}
 
@@ -26,6 +28,30 @@ is_symbol (e ∷ es) n = found_or (bytes_eq n e.0.now) e.1 (lookup (λ k. bytes_
 pub is_item : {A : Type 0} (es : List (Bor (List ℕ) × Bor (Typed A))) (n : Name) → is_some (lookup (λ k. bytes_eq n k.now) es) ≡ is_in (map item_of (map object_in es)) n
 is_item [] n = refl
 is_item (e ∷ es) n = found_or (bytes_eq n e.0.now) e.1 (lookup (λ k. bytes_eq n k.now) es) ∙ ap (λ b. bytes_eq n e.0.now || b) (is_item es n)
+
+-- ---- what is found where a value was put at a name
+
+pub lookup_put : {V : Type 0} (es : List (Bor (List ℕ) × V)) (k : Bor (List ℕ)) (v : V) (n : Name)
+    → lookup (λ j. bytes_eq n j.now) (insert_entry (λ a b. bytes_eq a.now b.now) es k v) ≡ cond (bytes_eq n k.now) (Some v) (lookup (λ j. bytes_eq n j.now) es)
+lookup_put [] k v n = refl
+lookup_put {V} (e ∷ es) k v n =
+    elim (bytes_eq k.now e.0.now) as (λ b. bytes_eq k.now e.0.now ≡ b → lookup (λ j. bytes_eq n j.now) (cond b ((e.0, v) ∷ es) (e ∷ insert_entry (λ a c. bytes_eq a.now c.now) es k v)) ≡ cond (bytes_eq n k.now) (Some v) (cond (bytes_eq n e.0.now) (Some e.1) rest)) [
+      | true ↦ λ is. again (bytes_eq n e.0.now) ∙ ap (λ m. cond (bytes_eq n m) (Some v) (cond (bytes_eq n e.0.now) (Some e.1) rest)) (sym (bytes_same k.now e.0.now is))
+      | false ↦ λ off. ap (λ o. cond (bytes_eq n e.0.now) (Some e.1) o) (lookup_put es k v n)
+          ∙ turned (bytes_eq n e.0.now) (bytes_eq n k.now) (λ p q. let same = same_bytes k.now e.0.now (sym (bytes_same n k.now q) ∙ bytes_same n e.0.now p) in cc)
+    ] refl
+  where
+    rest : Option V
+    rest = lookup (λ j. bytes_eq n j.now) es
+
+    again : (b : Bool) → cond b (Some v) rest ≡ cond b (Some v) (cond b (Some e.1) rest)
+    again true = refl
+    again false = refl
+
+    turned : (p q : Bool) → (p ≡ true → q ≡ true → ⊥) → cond p (Some e.1) (cond q (Some v) rest) ≡ cond q (Some v) (cond p (Some e.1) rest)
+    turned true true h = absurd (h refl refl)
+    turned true false h = refl
+    turned false q h = refl
 
 -- ---- what is found, by a value of it
 

@@ -6,7 +6,7 @@ use Rattle.std.specs.Option.{option_map_or}
 use Rattle.std.proofs.lemmas.List.{length-map}
 use Rattle.pddl_forest.specs.Forests as forests
 use Rattle.pddl_domain.specs.Declarations.{TypeValue}
-use Rattle.pddl_task.specs.Types.{pairs}
+use Rattle.pddl_task.specs.Types.{pairs, is_under}
 use Rattle.pddl_task.proofs.Lists.{or_cases, or_right}
 use Rattle.pddl_task.proofs.Subtypes.{under_found}
 use Rattle.pddl_link.specs.TypeTables.{Row, name_at, parent_place, climbs, IsTypeTable, AreNumbered}
@@ -48,15 +48,20 @@ both_ways true false to from = sym (to refl)
 both_ways false true to from = from refl
 both_ways false false to from = refl
 
+pub under_numbered : (declared : List TypeValue) (rows : List Row) (ps : List ℕ) (i g : ℕ) → IsTypeTable declared rows → i < length rows → g < length rows → ps ≡ parents_in rows
+    → IsTrue (is_under (pairs declared) (name_at rows i) (name_at rows g)) ↔ forests.IsUnder ps i g
+under_numbered declared rows ps i g h low also same = (
+  λ yes. subst (λ qs. forests.IsUnder qs i g) (sym same) (climbs_up rows (length rows) i g (climbs_decide declared rows i g h low also ∙ yes)),
+  λ way.
+      let up = subst (λ qs. forests.IsUnder qs i g) same way in
+      under_found (pairs declared) (name_at rows i) (name_at rows g) (climbs_sound declared rows up.0 i g h low (up_climbs rows up.0 i g up.1)),
+)
+
 pub numbered_under : (declared : List TypeValue) (rows : List Row) (ps : List ℕ) (i g : ℕ) (told : Bool) → IsTypeTable declared rows → i < length rows → g < length rows
     → ps ≡ parents_in rows → IsTrue told ↔ forests.IsUnder ps i g → told ≡ climbs rows (length rows) i g
 numbered_under declared rows ps i g told h low also same tells =
-    both_ways told (climbs rows (length rows) i g)
-    (λ yes.
-    let way = subst (λ qs. forests.IsUnder qs i g) same (tells.0 yes) in
-    climbs_decide declared rows i g h low also
-    ∙ under_found (pairs declared) (name_at rows i) (name_at rows g) (climbs_sound declared rows way.0 i g h low (up_climbs rows way.0 i g way.1)))
-    (λ yes. tells.1 (subst (λ qs. forests.IsUnder qs i g) (sym same) (climbs_up rows (length rows) i g yes)))
+    let under = under_numbered declared rows ps i g h low also same in
+    both_ways told (is_under (pairs declared) (name_at rows i) (name_at rows g)) (λ yes. under.1 (tells.0 yes)) (λ yes. tells.1 (under.0 yes)) ∙ sym (climbs_decide declared rows i g h low also)
 
 -- ---- where places are numbered, all are below `object`
 

@@ -47,17 +47,25 @@ module _ {A : Type 0} (w : Place → List Name) (b : List TypedValue) where
       ∙ ap (λ k. words_in w (formula_view k) b ++ words_in w (formula_view y.value) b) (sym left)
       ∙ ap (λ k. words_in w (formula_view g) b ++ words_in w (formula_view k) b) (sym right)
 
-  pub words_exists : (f : Formula A) (xs : Vec (Typed A) A) (x : Box (Formula A) A) (items : List (Typed A)) → f ≡ Exists xs x → items ≡ xs.items
-      → words_in w (formula_view f) b ≡ w (at b (binds (map typed_view items))) ++ words_in w (formula_view x.value) (binding (map typed_view items) b)
-  words_exists f xs x items is same =
-      ap (λ k. words_in w (formula_view k) b) is ∙ ap (λ k. words_in w k b) (view_exists xs x)
-      ∙ ap (λ es. w (at b (binds (map typed_view es))) ++ words_in w (formula_view x.value) (binding (map typed_view es) b)) (sym same)
+  -- what is bound, and the formula or effect in it, as they were read
+  read_bound : {X : Type 0} (words : X → List TypedValue → List Name) (given items : List (Typed A)) (value inner : X) (bound : List TypedValue) → items ≡ given → inner ≡ value → bound ≡ map typed_view items
+      → w (at b (binds (map typed_view given))) ++ words value (binding (map typed_view given) b) ≡ w (at b (binds (map typed_view items))) ++ words inner (binding bound b)
+  read_bound words given items value inner bound same is seen =
+      ap (λ es. w (at b (binds (map typed_view es))) ++ words value (binding (map typed_view es) b)) (sym same)
+      ∙ ap (λ k. w (at b (binds (map typed_view items))) ++ words k (binding (map typed_view items) b)) (sym is)
+      ∙ ap (λ vs. w (at b (binds (map typed_view items))) ++ words inner (binding vs b)) (sym seen)
 
-  pub words_forall : (f : Formula A) (xs : Vec (Typed A) A) (x : Box (Formula A) A) (items : List (Typed A)) → f ≡ Forall xs x → items ≡ xs.items
-      → words_in w (formula_view f) b ≡ w (at b (binds (map typed_view items))) ++ words_in w (formula_view x.value) (binding (map typed_view items) b)
-  words_forall f xs x items is same =
-      ap (λ k. words_in w (formula_view k) b) is ∙ ap (λ k. words_in w k b) (view_forall xs x)
-      ∙ ap (λ es. w (at b (binds (map typed_view es))) ++ words_in w (formula_view x.value) (binding (map typed_view es) b)) (sym same)
+  pub words_exists : (f : Formula A) (xs : Vec (Typed A) A) (x : Box (Formula A) A) (items : List (Typed A)) (inner : Formula A) (bound : List TypedValue)
+      → f ≡ Exists xs x → items ≡ xs.items → inner ≡ x.value → bound ≡ map typed_view items
+      → words_in w (formula_view f) b ≡ w (at b (binds (map typed_view items))) ++ words_in w (formula_view inner) (binding bound b)
+  words_exists f xs x items inner bound is same value seen =
+      ap (λ k. words_in w (formula_view k) b) is ∙ ap (λ k. words_in w k b) (view_exists xs x) ∙ read_bound (λ k vs. words_in w (formula_view k) vs) xs.items items x.value inner bound same value seen
+
+  pub words_forall : (f : Formula A) (xs : Vec (Typed A) A) (x : Box (Formula A) A) (items : List (Typed A)) (inner : Formula A) (bound : List TypedValue)
+      → f ≡ Forall xs x → items ≡ xs.items → inner ≡ x.value → bound ≡ map typed_view items
+      → words_in w (formula_view f) b ≡ w (at b (binds (map typed_view items))) ++ words_in w (formula_view inner) (binding bound b)
+  words_forall f xs x items inner bound is same value seen =
+      ap (λ k. words_in w (formula_view k) b) is ∙ ap (λ k. words_in w k b) (view_forall xs x) ∙ read_bound (λ k vs. words_in w (formula_view k) vs) xs.items items x.value inner bound same value seen
 
   -- what is left of a vector's items: its first formula, and the rest
   pub words_left : (all xs : List (Formula A)) (i : ℕ) (d : Formula A) → xs ≡ all → i < length xs → d ≡ get_or xs i d
@@ -70,11 +78,11 @@ module _ {A : Type 0} (w : Place → List Name) (b : List TypedValue) where
 
   -- ---- effects
 
-  pub words_each : (e : Effect A) (xs : Vec (Typed A) A) (x : Box (Effect A) A) (items : List (Typed A)) → e ≡ effects.Forall xs x → items ≡ xs.items
-      → effect_words w (effect_view e) b ≡ w (at b (binds (map typed_view items))) ++ effect_words w (effect_view x.value) (binding (map typed_view items) b)
-  words_each e xs x items is same =
-      ap (λ k. effect_words w (effect_view k) b) is ∙ ap (λ k. effect_words w k b) (turns.view_forall xs x)
-      ∙ ap (λ es. w (at b (binds (map typed_view es))) ++ effect_words w (effect_view x.value) (binding (map typed_view es) b)) (sym same)
+  pub words_each : (e : Effect A) (xs : Vec (Typed A) A) (x : Box (Effect A) A) (items : List (Typed A)) (inner : Effect A) (bound : List TypedValue)
+      → e ≡ effects.Forall xs x → items ≡ xs.items → inner ≡ x.value → bound ≡ map typed_view items
+      → effect_words w (effect_view e) b ≡ w (at b (binds (map typed_view items))) ++ effect_words w (effect_view inner) (binding bound b)
+  words_each e xs x items inner bound is same value seen =
+      ap (λ k. effect_words w (effect_view k) b) is ∙ ap (λ k. effect_words w k b) (turns.view_forall xs x) ∙ read_bound (λ k vs. effect_words w (effect_view k) vs) xs.items items x.value inner bound same value seen
 
   pub words_when : (e : Effect A) (f : Formula A) (x : Box (Effect A) A) (g : Effect A) → e ≡ effects.When f x → g ≡ x.value
       → effect_words w (effect_view e) b ≡ words_in w (formula_view f) b ++ effect_words w (effect_view g) b
@@ -94,13 +102,12 @@ module _ {A : Type 0} (w : Place → List Name) (b : List TypedValue) where
 
 -- ---- actions
 
--- the parameters, as they are read twice, the precondition and the effect
-pub words_action : {A : Type 0} (w : Place → List Name) (a : Action A) (xs ys : List (Typed A)) → xs ≡ a.parameters.items → ys ≡ a.parameters.items
+-- the parameters, as they are read and as they are bound, the precondition and the effect
+pub words_action : {A : Type 0} (w : Place → List Name) (a : Action A) (xs : List (Typed A)) (bound : List TypedValue) → xs ≡ a.parameters.items → bound ≡ map typed_view xs
     → flat_map w (action_places (action_view a))
-    ≡ w (at [] (binds (map typed_view xs)))
-    ++ (words_in w (formula_view a.precondition) (binding (map typed_view ys) []) ++ effect_words w (effect_view a.effect) (binding (map typed_view a.parameters.items) []))
-words_action w a xs ys first second =
+    ≡ w (at [] (binds (map typed_view xs))) ++ (words_in w (formula_view a.precondition) (binding bound []) ++ effect_words w (effect_view a.effect) (binding bound []))
+words_action w a xs bound read is =
     let b = binding (map typed_view a.parameters.items) [] in
     ap (λ ws. w (at [] (binds (map typed_view a.parameters.items))) ++ ws) (flat_map-append w (places_in (formula_view a.precondition) b) (effect_places (effect_view a.effect) b))
-    ∙ ap (λ ps. w (at [] (binds (map typed_view ps))) ++ (words_in w (formula_view a.precondition) b ++ effect_words w (effect_view a.effect) b)) (sym first)
-    ∙ ap (λ ps. w (at [] (binds (map typed_view xs))) ++ (words_in w (formula_view a.precondition) (binding (map typed_view ps) []) ++ effect_words w (effect_view a.effect) b)) (sym second)
+    ∙ ap (λ ps. w (at [] (binds (map typed_view ps))) ++ (words_in w (formula_view a.precondition) (binding (map typed_view ps) []) ++ effect_words w (effect_view a.effect) (binding (map typed_view ps) []))) (sym read)
+    ∙ ap (λ vs. w (at [] (binds (map typed_view xs))) ++ (words_in w (formula_view a.precondition) (binding vs []) ++ effect_words w (effect_view a.effect) (binding vs []))) (sym is)

@@ -1,7 +1,9 @@
 pub mod Passes
+pub mod LastTypes
 pub mod Scopes
 pub mod TypeTables
 pub mod KnownNames
+pub mod ObjectCounts
 pub mod Grounds
 pub mod Claims
 pub mod Parts

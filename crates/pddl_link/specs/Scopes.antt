@@ -1,7 +1,7 @@
 -- What is bound in a scope, and the words that a search finds part by part.
-use Rattle.std.specs.Prelude.{List, [], ◌∷◌, map}
+use Rattle.std.specs.Prelude.{List, [], ◌∷◌}
 use Rattle.std.specs.List.{flat_map}
-use Rattle.pddl_formula.specs.TypedLists.{TypedValue, typed_view}
+use Rattle.pddl_formula.specs.TypedLists.{TypedValue}
 use Rattle.pddl_formula.specs.Formulas.{FormulaValue, FormulaValues}
 use Rattle.pddl_effect.specs.Effects.{AmountValue, EffectValue, EffectValues}
 use Rattle.pddl_task.specs.Names.{Name}
@@ -9,9 +9,9 @@ use Rattle.pddl_task.specs.Places.{Place, at, calls, binding, bare, total_cost, 
 use Rattle.pddl_link.specs.declared.search.Scope.{Scope, Empty, Inside'}
 
 -- the variables that are bound in a scope, the innermost first
-abbrev pub bound_of : {A : _} → Scope A → List TypedValue
+abbrev pub bound_of : {A B : _} → Scope A B → List TypedValue
 bound_of Empty = []
-bound_of (Inside' xs p outer) = binding (map typed_view xs.now) (bound_of outer)
+bound_of (Inside' xs p outer) = binding xs.now (bound_of outer)
 
 -- the words of a formula's places, and of those of formulas in turn
 abbrev pub words_in : (Place → List Name) → FormulaValue → List TypedValue → List Name

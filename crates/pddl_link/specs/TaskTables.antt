@@ -6,10 +6,13 @@ use Rattle.pddl_domain.specs.Declarations.{TypeValue}
 use Rattle.pddl_domain.specs.Domains.{DomainValue}
 use Rattle.pddl_problem.specs.Inits.{GroundValue}
 use Rattle.pddl_problem.specs.Problems.{ProblemValue}
+use Rattle.pddl_task.specs.Types.{pairs}
 use Rattle.pddl_task.specs.Settings.{objects_of}
 use Rattle.pddl_task.specs.Linked.{IsLinked}
 use Rattle.pddl_task.specs.Tasks.{TaskValue, task_of}
 use Rattle.pddl_link.specs.KnownNames.{AreNamed, signature_in, object_in}
+use Rattle.pddl_link.specs.ObjectCounts.{AreCountsOf}
+use Rattle.pddl_link.specs.TypeTables.{Row}
 use Rattle.pddl_link.specs.Claims.{HoldsValues}
 
 -- a domain and a problem
@@ -26,10 +29,11 @@ task_in f = task_of f.domain f.problem
 
 -- two files are linked, and the tables hold what they declare
 pub record AreTablesOf {A : Type 0} (d : DomainValue) (p : ProblemValue) (types : List TypeValue) (predicates : List (Bor (List ℕ) × Bor (List (Typed A))))
-    (objects : List (Bor (List ℕ) × Bor (Typed A))) (values : List (GroundValue × ℕ)) : Type 0 where
+    (objects : List (Bor (List ℕ) × Bor (Typed A))) (counts : List Row) (values : List (GroundValue × ℕ)) : Type 0 where
   pub linked : IsLinked d p
   pub types_are : types ≡ d.types
   pub predicates_are : map signature_in predicates ≡ d.predicates
   pub objects_are : map object_in objects ≡ objects_of d p
   pub objects_named : AreNamed objects
+  pub counts_are : AreCountsOf (pairs types) (map object_in objects) counts
   pub values_are : HoldsValues p.init values

@@ -38,7 +38,8 @@ fn check<'m, 'a, 'd, A: Allocator, B: Allocator>(
     }
 }
 
-impl<'k, 't, 'm, 'a, A: Allocator, B: Allocator> Search<A> for OtherArities<'k, 't, 'm, 'a, A, B> {
+impl<'k, 't, 'm, 'a, A: Allocator, B: Allocator> Search<A, B>
+    for OtherArities<'k, 't, 'm, 'a, A, B> {
     ghost use Rattle.pddl_task.specs.Faults.{arity_at};
     ghost use Rattle.pddl_link.specs.KnownNames.{setting_of};
 
@@ -50,7 +51,7 @@ impl<'k, 't, 'm, 'a, A: Allocator, B: Allocator> Search<A> for OtherArities<'k, 
         &self,
         predicate: &'d [u8],
         terms: &'d [Term<A>],
-        _scope: &Scope<A>,
+        _scope: &Scope<A, B>,
     ) -> Result<(), LinkFault<'d>> {
         check(self.known.predicates, predicate, terms.len())
     }
@@ -59,7 +60,7 @@ impl<'k, 't, 'm, 'a, A: Allocator, B: Allocator> Search<A> for OtherArities<'k, 
         &self,
         function: &'d [u8],
         terms: &'d [Term<A>],
-        _scope: &Scope<A>,
+        _scope: &Scope<A, B>,
     ) -> Result<(), LinkFault<'d>> {
         check(self.known.functions, function, terms.len())
     }
@@ -68,7 +69,7 @@ impl<'k, 't, 'm, 'a, A: Allocator, B: Allocator> Search<A> for OtherArities<'k, 
         &self,
         _first: &'d Term<A>,
         _second: &'d Term<A>,
-        _scope: &Scope<A>,
+        _scope: &Scope<A, B>,
     ) -> Result<(), LinkFault<'d>> {
         Ok(())
     }
@@ -76,17 +77,12 @@ impl<'k, 't, 'm, 'a, A: Allocator, B: Allocator> Search<A> for OtherArities<'k, 
     fn binds<'d>(
         &self,
         _variables: &'d [Typed<A>],
-        _scope: &Scope<A>,
+        _scope: &Scope<A, B>,
     ) -> Result<(), LinkFault<'d>> {
         Ok(())
     }
 
-    fn counts<'d>(
-        &self,
-        _function: &'d [u8],
-        _amount: Fixed,
-        _scope: &Scope<A>,
-    ) -> Result<(), LinkFault<'d>> {
+    fn counts<'d>(&self, _function: &'d [u8], _amount: Fixed) -> Result<(), LinkFault<'d>> {
         Ok(())
     }
 

@@ -7,7 +7,7 @@ ghost use Rattle.pddl_problem.specs.Inits.{init_view};
 ghost use Rattle.pddl_problem.specs.Problems.{problem_view};
 ghost use Rattle.pddl_task.specs.Places.{init_places};
 ghost use Rattle.pddl_task.specs.Names.{firsts};
-ghost use Rattle.pddl_task.specs.Settings.{in_domain, in_problem};
+ghost use Rattle.pddl_task.specs.Settings.{in_domain, in_problem, objects_of};
 ghost use Rattle.pddl_task.specs.Faults.{domain_repeats, large_goals};
 ghost use Rattle.pddl_task.specs.Linked.{NoneStands, domain_faults};
 ghost use Rattle.pddl_link.specs.Passes.{Passes, Settles, Verdict};
@@ -47,7 +47,7 @@ fn domain_types<'m, 'a, A: Allocator, B: Allocator>(
     type_twice(alloc, domain)?;
     let types = Types::of(alloc, &domain.types)?;
     types.cycle()?;
-    domain_types_known(&types, domain).and(Ok(types))
+    domain_types_known(alloc, &types, domain).and(Ok(types))
 }
 
 /// The constants of a domain, where no fault of names stands.
@@ -65,22 +65,26 @@ fn domain_objects<'m, 'a, A: Allocator, B: Allocator>(
 
 /// Checks what is named in a domain's places.
 fn check_terms<'k, 'm, 'a, 'd, A: Allocator, B: Allocator>(
+    alloc: &'a B,
     known: &Known<'k, 'm, 'a, A, B>,
     domain: &'d Domain<A>,
 ) -> Result<(), LinkFault<'d>>
     requires { setting_of known.now ≡ in_domain (domain_view domain.now) }
     ensures { Settles (domain_term_faults (domain_view domain.now)) (domain_term_faults (domain_view domain.now) ++ domain_cost_faults (domain_view domain.now)) result }
 {
-    search_domain(&UnknownNames { known }, domain)?;
-    search_domain(&OtherArities { known }, domain)?;
-    search_domain(&Misfits { known }, domain)
+    search_domain(alloc, &UnknownNames { known }, domain)?;
+    search_domain(alloc, &OtherArities { known }, domain)?;
+    search_domain(alloc, &Misfits { known }, domain)
 }
 
 /// Checks a domain's costs.
-fn check_costs<A: Allocator>(domain: &Domain<A>) -> Result<(), LinkFault<'_>>
+fn check_costs<'a, 'd, A: Allocator, B: Allocator>(
+    alloc: &'a B,
+    domain: &'d Domain<A>,
+) -> Result<(), LinkFault<'d>>
     ensures { Verdict (domain_cost_faults (domain_view domain.now)) result }
 {
-    search_domain(&Fractions, domain)?;
+    search_domain(alloc, &Fractions, domain)?;
     object_fluents(domain)
 }
 
@@ -105,8 +109,8 @@ fn check_uses<'t, 'm, 'a, A: Allocator, B: Allocator>(
         functions: &functions,
         objects: constants,
     };
-    check_terms(&known, domain)?;
-    check_costs(domain)
+    check_terms(alloc, &known, domain)?;
+    check_costs(alloc, domain)
 }
 
 /// Checks a domain: the faults 21 to 32 that it shows by itself.
@@ -129,7 +133,8 @@ pub fn check_domain<'d, 'a, A: Allocator, B: Allocator>(
 }
 
 /// Searches a domain by one search, and then a problem by another, which passes over an `:init` that is sound.
-fn search_both<'d, A: Allocator, S: Search<A>>(
+fn search_both<'d, 'a, A: Allocator, B: Allocator, S: Search<A, B>>(
+    alloc: &'a B,
     inner: &S,
     outer: &S,
     domain: &'d Domain<A>,
@@ -139,28 +144,25 @@ fn search_both<'d, A: Allocator, S: Search<A>>(
     requires { is_init_sound ≡ true → flat_map (S.words outer.now) (flat_map init_places (map init_view problem.now.init.items)) ≡ [] }
     ensures { Passes S.number (words_of_both (S.words inner.now) (S.words outer.now) (domain_view domain.now) (problem_view problem.now)) result }
 {
-    search_domain(inner, domain)?;
+    search_domain(alloc, inner, domain)?;
     if is_init_sound {
-        search_goal_and_metric(outer, problem)
+        search_goal_and_metric(alloc, outer, problem)
     } else {
-        search_problem(outer, problem)
+        search_problem(alloc, outer, problem)
     }
 }
 
 /// The goal is not too large.
 fn goal_size<'k, 'm, 'a, 'd, A: Allocator, B: Allocator>(
-    known: &Known<'k, 'm, 'a, A, B>,
+    counts: &ObjectCounts<'k, 'm, 'a, A, B>,
     domain: &Domain<A>,
     problem: &'d Problem<A>,
 ) -> Result<(), LinkFault<'d>>
-    requires { setting_of known.now ≡ in_problem (domain_view domain.now) (problem_view problem.now) }
+    requires types { counts.now.types.now ≡ (domain_view domain.now).types }
+    requires objects { map object_in counts.now.objects.now.entries ≡ objects_of (domain_view domain.now) (problem_view problem.now) }
     ensures { Passes 35 (large_goals (domain_view domain.now) (problem_view problem.now)) result }
 {
-    let counts = ObjectCounts {
-        types: known.types,
-        objects: known.objects,
-    };
-    if ground_size(&counts, &problem.goal) > 1_000_000 {
+    if ground_size(counts, &problem.goal) > 1_000_000 {
         Err(LinkFault::GoalTooLarge)
     } else {
         Ok(())
@@ -169,33 +171,35 @@ fn goal_size<'k, 'm, 'a, 'd, A: Allocator, B: Allocator>(
 
 /// Checks the functions, the metric, and the goal's size.
 fn check_last<'k, 'm, 'a, 'd, A: Allocator, B: Allocator>(
-    known: &Known<'k, 'm, 'a, A, B>,
+    counts: &ObjectCounts<'k, 'm, 'a, A, B>,
     domain: &'d Domain<A>,
     problem: &'d Problem<A>,
 ) -> Result<(), LinkFault<'d>>
-    requires { setting_of known.now ≡ in_problem (domain_view domain.now) (problem_view problem.now) }
+    requires types { counts.now.types.now ≡ (domain_view domain.now).types }
+    requires objects { map object_in counts.now.objects.now.entries ≡ objects_of (domain_view domain.now) (problem_view problem.now) }
     ensures { Verdict (cost_faults (domain_view domain.now) (problem_view problem.now)) result }
 {
     object_fluents(domain)?;
     metric(&problem.metric)?;
-    goal_size(known, domain, problem)
+    goal_size(counts, domain, problem)
 }
 
 /// Checks `:init`, the metric, costs, and the goal's size, and answers the values of functions of objects.
 fn check_init<'k, 'm, 'a, 'd, A: Allocator, B: Allocator>(
     alloc: &'a B,
-    known: &Known<'k, 'm, 'a, A, B>,
+    counts: &ObjectCounts<'k, 'm, 'a, A, B>,
     domain: &'d Domain<A>,
     problem: &'d Problem<A>,
 ) -> Result<Values<'d, 'a, A, B>, LinkFault<'d>>
-    requires { setting_of known.now ≡ in_problem (domain_view domain.now) (problem_view problem.now) }
+    requires types { counts.now.types.now ≡ (domain_view domain.now).types }
+    requires objects { map object_in counts.now.objects.now.entries ≡ objects_of (domain_view domain.now) (problem_view problem.now) }
     ensures verdict { Verdict (last_faults (domain_view domain.now) (problem_view problem.now)) result }
     ensures values { IfOk result (λ values. HoldsValues (problem_view problem.now).init values.entries) }
 {
     contradictions(alloc, &problem.init)?;
-    search_both(&Fractions, &Fractions, domain, problem, false)?;
+    search_both(alloc, &Fractions, &Fractions, domain, problem, false)?;
     let values = cost_values(alloc, &problem.init)?;
-    check_last(known, domain, problem)?;
+    check_last(counts, domain, problem)?;
     Ok(values)
 }
 
@@ -204,16 +208,20 @@ pub(crate) fn check_places<'k, 'm, 'a, 'd, A: Allocator, B: Allocator>(
     alloc: &'a B,
     inner: &Known<'k, 'm, 'a, A, B>,
     outer: &Known<'k, 'm, 'a, A, B>,
+    counts: &ObjectCounts<'k, 'm, 'a, A, B>,
     domain: &'d Domain<A>,
     problem: &'d Problem<A>,
 ) -> Result<Values<'d, 'a, A, B>, LinkFault<'d>>
     requires inner { setting_of inner.now ≡ in_domain (domain_view domain.now) }
     requires outer { setting_of outer.now ≡ in_problem (domain_view domain.now) (problem_view problem.now) }
+    requires types { counts.now.types.now ≡ (domain_view domain.now).types }
+    requires objects { map object_in counts.now.objects.now.entries ≡ objects_of (domain_view domain.now) (problem_view problem.now) }
     ensures verdict { Verdict (place_faults (domain_view domain.now) (problem_view problem.now)) result }
     ensures values { IfOk result (λ values. HoldsValues (problem_view problem.now).init values.entries) }
 {
     let is_init_sound = is_sound_init(outer, &problem.init);
     search_both(
+        alloc,
         &UnknownNames { known: inner },
         &UnknownNames { known: outer },
         domain,
@@ -221,6 +229,7 @@ pub(crate) fn check_places<'k, 'm, 'a, 'd, A: Allocator, B: Allocator>(
         is_init_sound,
     )?;
     search_both(
+        alloc,
         &OtherArities { known: inner },
         &OtherArities { known: outer },
         domain,
@@ -228,11 +237,12 @@ pub(crate) fn check_places<'k, 'm, 'a, 'd, A: Allocator, B: Allocator>(
         is_init_sound,
     )?;
     search_both(
+        alloc,
         &Misfits { known: inner },
         &Misfits { known: outer },
         domain,
         problem,
         is_init_sound,
     )?;
-    check_init(alloc, outer, domain, problem)
+    check_init(alloc, counts, domain, problem)
 }

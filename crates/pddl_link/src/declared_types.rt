@@ -47,6 +47,7 @@ fn functions_known<'m, 'a, 'd, A: Allocator, B: Allocator>(
 
 /// The types that a domain uses are known.
 pub(crate) fn domain_types_known<'m, 'a, 'd, A: Allocator, B: Allocator>(
+    alloc: &'a B,
     types: &Types<'m, 'a, A, B>,
     domain: &'d Domain<A>,
 ) -> Result<(), LinkFault<'d>>
@@ -55,28 +56,30 @@ pub(crate) fn domain_types_known<'m, 'a, 'd, A: Allocator, B: Allocator>(
     types.known(&domain.constants)?;
     predicates_known(types, &domain.predicates)?;
     functions_known(types, &domain.functions)?;
-    search_domain(&UnknownTypes { types }, domain)
+    search_domain(alloc, &UnknownTypes { types }, domain)
 }
 
 /// The types that a problem uses are known.
 fn problem_types_known<'m, 'a, 'd, A: Allocator, B: Allocator>(
+    alloc: &'a B,
     types: &Types<'m, 'a, A, B>,
     problem: &'d Problem<A>,
 ) -> Result<(), LinkFault<'d>>
     ensures { Passes 23 (unknown_among types.now (problem_typed (problem_view problem.now))) result }
 {
     types.known(&problem.objects)?;
-    search_problem(&UnknownTypes { types }, problem)
+    search_problem(alloc, &UnknownTypes { types }, problem)
 }
 
 /// The types that a domain and a problem use are known.
 pub(crate) fn types_known<'m, 'a, 'd, A: Allocator, B: Allocator>(
+    alloc: &'a B,
     types: &Types<'m, 'a, A, B>,
     domain: &'d Domain<A>,
     problem: &'d Problem<A>,
 ) -> Result<(), LinkFault<'d>>
     ensures { Passes 23 (unknown_among types.now (domain_typed (domain_view domain.now)) ++ unknown_among types.now (problem_typed (problem_view problem.now))) result }
 {
-    domain_types_known(types, domain)?;
-    problem_types_known(types, problem)
+    domain_types_known(alloc, types, domain)?;
+    problem_types_known(alloc, types, problem)
 }

@@ -10,7 +10,7 @@ use std::alloc::Allocator;
 /// Looks for numbers that are not whole.
 pub(crate) struct Fractions;
 
-impl<A: Allocator> Search<A> for Fractions {
+impl<A: Allocator, B: Allocator> Search<A, B> for Fractions {
     ghost use Rattle.pddl_task.specs.Faults.{fraction_at};
 
     ghost number = { 30 };
@@ -21,7 +21,7 @@ impl<A: Allocator> Search<A> for Fractions {
         &self,
         _predicate: &'d [u8],
         _terms: &'d [Term<A>],
-        _scope: &Scope<A>,
+        _scope: &Scope<A, B>,
     ) -> Result<(), LinkFault<'d>> {
         Ok(())
     }
@@ -30,7 +30,7 @@ impl<A: Allocator> Search<A> for Fractions {
         &self,
         _function: &'d [u8],
         _terms: &'d [Term<A>],
-        _scope: &Scope<A>,
+        _scope: &Scope<A, B>,
     ) -> Result<(), LinkFault<'d>> {
         Ok(())
     }
@@ -39,7 +39,7 @@ impl<A: Allocator> Search<A> for Fractions {
         &self,
         _first: &'d Term<A>,
         _second: &'d Term<A>,
-        _scope: &Scope<A>,
+        _scope: &Scope<A, B>,
     ) -> Result<(), LinkFault<'d>> {
         Ok(())
     }
@@ -47,17 +47,12 @@ impl<A: Allocator> Search<A> for Fractions {
     fn binds<'d>(
         &self,
         _variables: &'d [Typed<A>],
-        _scope: &Scope<A>,
+        _scope: &Scope<A, B>,
     ) -> Result<(), LinkFault<'d>> {
         Ok(())
     }
 
-    fn counts<'d>(
-        &self,
-        function: &'d [u8],
-        amount: Fixed,
-        _scope: &Scope<A>,
-    ) -> Result<(), LinkFault<'d>> {
+    fn counts<'d>(&self, function: &'d [u8], amount: Fixed) -> Result<(), LinkFault<'d>> {
         if amount.billionths() % 1_000_000_000 == 0 {
             Ok(())
         } else {

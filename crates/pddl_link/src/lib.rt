@@ -31,9 +31,11 @@ mod search_files;
 mod size;
 mod sound_init;
 mod task;
+mod type_counts;
 mod types;
 mod unknown;
 mod unknown_types;
+mod variables;
 
 pub use check::check_domain;
 pub use effect_size::{action_ground_size, effect_ground_size};

@@ -8,6 +8,8 @@ ghost use Rattle.pddl_task.specs.Settings.{objects_of};
 ghost use Rattle.pddl_task.specs.Faults.{domain_repeats};
 ghost use Rattle.pddl_task.specs.Linked.{NoneStands, faults};
 ghost use Rattle.pddl_link.specs.Claims.{HoldsValues};
+ghost use Rattle.pddl_task.specs.Types.{pairs};
+ghost use Rattle.pddl_link.specs.ObjectCounts.{AreCountsOf};
 ghost use Rattle.pddl_link.specs.KnownNames.{AreNamed, signature_in, object_in};
 ghost use Rattle.pddl_link.specs.Parts.{type_faults, name_faults, place_faults};
 ghost use Rattle.pddl_link.specs.Passes.{Settles, Verdict};
@@ -20,9 +22,11 @@ use crate::fault::LinkFault;
 use crate::init::Values;
 use crate::known::{Known, Objects, Signatures, functions, predicates};
 use crate::names::{domain_names, problem_names};
+use crate::object_counts::ObjectCounts;
 use crate::passes::{domain_name, objects_have_one_type};
 use crate::repeats::type_twice;
 use crate::task::Task;
+use crate::type_counts::TypeCounts;
 use crate::types::Types;
 use pddl_domain::Domain;
 use pddl_problem::Problem;
@@ -41,7 +45,7 @@ fn linked_types<'m, 'a, A: Allocator, B: Allocator>(
     type_twice(alloc, domain)?;
     let types = Types::of(alloc, &domain.types)?;
     types.cycle()?;
-    types_known(&types, domain, problem)?;
+    types_known(alloc, &types, domain, problem)?;
     Ok(types)
 }
 
@@ -70,12 +74,14 @@ fn linked_values<'t, 'm, 'a, A: Allocator, B: Allocator>(
     types: &'t Types<'m, 'a, A, B>,
     constants: &'t Objects<'m, 'a, A, B>,
     objects: &'t Objects<'m, 'a, A, B>,
+    counts: &'t TypeCounts<'m, 'a, B>,
     domain: &'m Domain<A>,
     problem: &'m Problem<A>,
 ) -> Result<(Signatures<'m, 'a, A, B>, Values<'m, 'a, A, B>), LinkFault<'m>>
     requires types { types.now ≡ (domain_view domain.now).types }
     requires constants { map object_in constants.now.entries ≡ firsts (domain_view domain.now).constants }
     requires objects { map object_in objects.now.entries ≡ objects_of (domain_view domain.now) (problem_view problem.now) }
+    requires counts { AreCountsOf (pairs types.now) (map object_in objects.now.entries) counts.now.entries }
     requires once { domain_repeats (domain_view domain.now) ≡ [] }
     ensures predicates { IfOk result (λ both. map signature_in both.0.entries ≡ (domain_view domain.now).predicates) }
     ensures values { IfOk result (λ both. HoldsValues (problem_view problem.now).init both.1.entries) }
@@ -95,8 +101,45 @@ fn linked_values<'t, 'm, 'a, A: Allocator, B: Allocator>(
         functions: &functions,
         objects,
     };
-    let values = check_places(alloc, &inner, &outer, domain, problem)?;
+    let counts = ObjectCounts {
+        types,
+        objects,
+        counts,
+    };
+    let values = check_places(alloc, &inner, &outer, &counts, domain, problem)?;
     Ok((predicates, values))
+}
+
+/// What `linked_values` answers, and how many objects fit each type.
+fn counted_values<'t, 'm, 'a, A: Allocator, B: Allocator>(
+    alloc: &'a B,
+    types: &'t Types<'m, 'a, A, B>,
+    constants: &'t Objects<'m, 'a, A, B>,
+    objects: &'t Objects<'m, 'a, A, B>,
+    domain: &'m Domain<A>,
+    problem: &'m Problem<A>,
+) -> Result<
+    (
+        Signatures<'m, 'a, A, B>,
+        Values<'m, 'a, A, B>,
+        TypeCounts<'m, 'a, B>,
+    ),
+    LinkFault<'m>,
+>
+    requires types { types.now ≡ (domain_view domain.now).types }
+    requires constants { map object_in constants.now.entries ≡ firsts (domain_view domain.now).constants }
+    requires objects { map object_in objects.now.entries ≡ objects_of (domain_view domain.now) (problem_view problem.now) }
+    requires once { domain_repeats (domain_view domain.now) ≡ [] }
+    ensures predicates { IfOk result (λ all. map signature_in all.0.entries ≡ (domain_view domain.now).predicates) }
+    ensures values { IfOk result (λ all. HoldsValues (problem_view problem.now).init all.1.entries) }
+    ensures counts { IfOk result (λ all. AreCountsOf (pairs types.now) (map object_in objects.now.entries) all.2.entries) }
+    ensures verdict { Verdict (place_faults (domain_view domain.now) (problem_view problem.now)) result }
+{
+    let counts = types.counts(alloc, objects)?;
+    let (predicates, values) = linked_values(
+        alloc, types, constants, objects, &counts, domain, problem,
+    )?;
+    Ok((predicates, values, counts))
 }
 
 /// Links a domain and a problem: the task that they make.
@@ -116,13 +159,16 @@ pub fn link<'m, 'a, A: Allocator, B: Allocator>(
 {
     let types = linked_types(alloc, domain, problem)?;
     let (constants, objects) = linked_objects(alloc, domain, problem)?;
-    let (predicates, values) = linked_values(alloc, &types, &constants, &objects, domain, problem)?;
+    let (predicates, values, counts) = counted_values(
+        alloc, &types, &constants, &objects, domain, problem,
+    )?;
     Ok(Task {
         domain,
         problem,
         types,
         predicates,
         objects,
+        counts,
         values,
     })
 }

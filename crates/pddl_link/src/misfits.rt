@@ -45,7 +45,7 @@ fn is_object_misfit<'t, 'm, 'a, A: Allocator, B: Allocator>(
 fn is_misfit<'t, 'm, 'a, A: Allocator, B: Allocator>(
     known: &Known<'t, 'm, 'a, A, B>,
     term: &Term<A>,
-    scope: &Scope<A>,
+    scope: &Scope<A, B>,
     slot: &Typed<A>,
 ) -> bool
     ensures { result ≡ is_misfit (pairs known.now.types.now) (typed_term (setting_of known.now) (bound_of scope.now) (term_view term.now)) (typed_view slot.now) }
@@ -63,7 +63,7 @@ fn is_misfit<'t, 'm, 'a, A: Allocator, B: Allocator>(
 fn some_misfit<'t, 'm, 'a, A: Allocator, B: Allocator>(
     known: &Known<'t, 'm, 'a, A, B>,
     terms: &[Term<A>],
-    scope: &Scope<A>,
+    scope: &Scope<A, B>,
     slots: &[Typed<A>],
 ) -> bool
     ensures { result ≡ some_misfit (setting_of known.now) (bound_of scope.now) (map term_view terms.now) (map typed_view slots.now) }
@@ -102,7 +102,7 @@ fn has_misfit<'t, 'm, 'a, A: Allocator, B: Allocator>(
     declared: &IndexMap<&'m [u8], &'m [Typed<A>], Hashed, &'a B>,
     symbol: &[u8],
     terms: &[Term<A>],
-    scope: &Scope<A>,
+    scope: &Scope<A, B>,
 ) -> bool
     ensures { result ≡ has_misfit (setting_of known.now) (bound_of scope.now) (map term_view terms.now) (signature_of (record { name = symbol.now; terms = map term_view terms.now; declared = map signature_in declared.now.entries })) }
 {
@@ -138,7 +138,7 @@ fn check<'d>(is_misfit: bool, symbol: &'d [u8]) -> Result<(), LinkFault<'d>>
     }
 }
 
-impl<'k, 't, 'm, 'a, A: Allocator, B: Allocator> Search<A> for Misfits<'k, 't, 'm, 'a, A, B> {
+impl<'k, 't, 'm, 'a, A: Allocator, B: Allocator> Search<A, B> for Misfits<'k, 't, 'm, 'a, A, B> {
     ghost use Rattle.pddl_task.specs.Faults.{misfit_at};
     ghost use Rattle.pddl_link.specs.KnownNames.{setting_of};
 
@@ -150,7 +150,7 @@ impl<'k, 't, 'm, 'a, A: Allocator, B: Allocator> Search<A> for Misfits<'k, 't, '
         &self,
         predicate: &'d [u8],
         terms: &'d [Term<A>],
-        scope: &Scope<A>,
+        scope: &Scope<A, B>,
     ) -> Result<(), LinkFault<'d>> {
         let known = self.known;
         check(
@@ -163,7 +163,7 @@ impl<'k, 't, 'm, 'a, A: Allocator, B: Allocator> Search<A> for Misfits<'k, 't, '
         &self,
         function: &'d [u8],
         terms: &'d [Term<A>],
-        scope: &Scope<A>,
+        scope: &Scope<A, B>,
     ) -> Result<(), LinkFault<'d>> {
         let known = self.known;
         check(
@@ -176,7 +176,7 @@ impl<'k, 't, 'm, 'a, A: Allocator, B: Allocator> Search<A> for Misfits<'k, 't, '
         &self,
         _first: &'d Term<A>,
         _second: &'d Term<A>,
-        _scope: &Scope<A>,
+        _scope: &Scope<A, B>,
     ) -> Result<(), LinkFault<'d>> {
         Ok(())
     }
@@ -184,17 +184,12 @@ impl<'k, 't, 'm, 'a, A: Allocator, B: Allocator> Search<A> for Misfits<'k, 't, '
     fn binds<'d>(
         &self,
         _variables: &'d [Typed<A>],
-        _scope: &Scope<A>,
+        _scope: &Scope<A, B>,
     ) -> Result<(), LinkFault<'d>> {
         Ok(())
     }
 
-    fn counts<'d>(
-        &self,
-        _function: &'d [u8],
-        _amount: Fixed,
-        _scope: &Scope<A>,
-    ) -> Result<(), LinkFault<'d>> {
+    fn counts<'d>(&self, _function: &'d [u8], _amount: Fixed) -> Result<(), LinkFault<'d>> {
         Ok(())
     }
 

@@ -39,7 +39,7 @@ fn repeated_in_actions<'d, 'a, A: Allocator, B: Allocator>(
         if !is_new {
             return Err(LinkFault::NameTwice(name));
         }
-        search_action(&variables, action)?;
+        search_action(alloc, &variables, action)?;
     }
     Ok(())
 }
@@ -74,6 +74,6 @@ pub(crate) fn problem_names<'m, 'a, A: Allocator, B: Allocator>(
     let mut objects: Objects<'m, 'a, A, B> = IndexMap::new(alloc);
     list_objects(&mut objects, &domain.constants)?;
     list_objects(&mut objects, &problem.objects)?;
-    search_problem(&RepeatedVariables { alloc }, problem)?;
+    search_problem(alloc, &RepeatedVariables { alloc }, problem)?;
     Ok(objects)
 }

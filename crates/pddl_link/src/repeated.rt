@@ -14,7 +14,7 @@ pub(crate) struct RepeatedVariables<'a, B: Allocator> {
     pub alloc: &'a B,
 }
 
-impl<'a, A: Allocator, B: Allocator> Search<A> for RepeatedVariables<'a, B> {
+impl<'a, A: Allocator, B: Allocator> Search<A, B> for RepeatedVariables<'a, B> {
     ghost use Rattle.pddl_task.specs.Faults.{repeated_at};
 
     ghost number = { 24 };
@@ -25,7 +25,7 @@ impl<'a, A: Allocator, B: Allocator> Search<A> for RepeatedVariables<'a, B> {
         &self,
         _predicate: &'d [u8],
         _terms: &'d [Term<A>],
-        _scope: &Scope<A>,
+        _scope: &Scope<A, B>,
     ) -> Result<(), LinkFault<'d>> {
         Ok(())
     }
@@ -34,7 +34,7 @@ impl<'a, A: Allocator, B: Allocator> Search<A> for RepeatedVariables<'a, B> {
         &self,
         _function: &'d [u8],
         _terms: &'d [Term<A>],
-        _scope: &Scope<A>,
+        _scope: &Scope<A, B>,
     ) -> Result<(), LinkFault<'d>> {
         Ok(())
     }
@@ -43,21 +43,20 @@ impl<'a, A: Allocator, B: Allocator> Search<A> for RepeatedVariables<'a, B> {
         &self,
         _first: &'d Term<A>,
         _second: &'d Term<A>,
-        _scope: &Scope<A>,
+        _scope: &Scope<A, B>,
     ) -> Result<(), LinkFault<'d>> {
         Ok(())
     }
 
-    fn binds<'d>(&self, variables: &'d [Typed<A>], _scope: &Scope<A>) -> Result<(), LinkFault<'d>> {
+    fn binds<'d>(
+        &self,
+        variables: &'d [Typed<A>],
+        _scope: &Scope<A, B>,
+    ) -> Result<(), LinkFault<'d>> {
         name_twice(self.alloc, variables)
     }
 
-    fn counts<'d>(
-        &self,
-        _function: &'d [u8],
-        _amount: Fixed,
-        _scope: &Scope<A>,
-    ) -> Result<(), LinkFault<'d>> {
+    fn counts<'d>(&self, _function: &'d [u8], _amount: Fixed) -> Result<(), LinkFault<'d>> {
         Ok(())
     }
 

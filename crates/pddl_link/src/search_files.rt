@@ -16,20 +16,21 @@ use pddl_problem::{InitItem, Metric, Problem};
 use std::alloc::Allocator;
 
 /// Searches a domain: its actions in turn.
-pub(crate) fn search_domain<'d, A: Allocator, S: Search<A>>(
+pub(crate) fn search_domain<'d, 'a, A: Allocator, B: Allocator, S: Search<A, B>>(
+    alloc: &'a B,
     search: &S,
     domain: &'d Domain<A>,
 ) -> Result<(), LinkFault<'d>>
     ensures { Passes S.number (flat_map (S.words search.now) (domain_places (domain_view domain.now))) result }
 {
     for action in &domain.actions {
-        search_action(search, action)?;
+        search_action(alloc, search, action)?;
     }
     Ok(())
 }
 
 /// Searches an item of `:init`; a literal that fails is looked at like one that holds.
-fn search_item<'p, A: Allocator, S: Search<A>>(
+fn search_item<'p, A: Allocator, B: Allocator, S: Search<A, B>>(
     search: &S,
     item: &'p InitItem<A>,
 ) -> Result<(), LinkFault<'p>>
@@ -40,14 +41,13 @@ fn search_item<'p, A: Allocator, S: Search<A>>(
         InitItem::Fails(fact) => search.says_ground(fact.predicate.as_bytes(), &fact.objects),
         InitItem::Value(call, amount) => {
             search.calls_ground(call.function.as_bytes(), &call.objects)?;
-            let outside = Scope::Empty;
-            search.counts(call.function.as_bytes(), *amount, &outside)
+            search.counts(call.function.as_bytes(), *amount)
         }
     }
 }
 
 /// Searches items of `:init` in turn.
-fn search_init<'p, A: Allocator, S: Search<A>>(
+fn search_init<'p, A: Allocator, B: Allocator, S: Search<A, B>>(
     search: &S,
     init: &'p [InitItem<A>],
 ) -> Result<(), LinkFault<'p>>
@@ -60,7 +60,7 @@ fn search_init<'p, A: Allocator, S: Search<A>>(
 }
 
 /// Searches a metric; nothing is looked for in one that is not taken.
-fn search_metric<'p, A: Allocator, S: Search<A>>(
+fn search_metric<'p, A: Allocator, B: Allocator, S: Search<A, B>>(
     search: &S,
     metric: &'p Option<Metric<A>>,
 ) -> Result<(), LinkFault<'p>>
@@ -70,8 +70,7 @@ fn search_metric<'p, A: Allocator, S: Search<A>>(
         None => Ok(()),
         Some(metric) => {
             if is_taken(metric) {
-                let outside = Scope::Empty;
-                search.calls(b"total-cost".as_slice(), &[], &outside)
+                search.calls_ground(b"total-cost".as_slice(), &[])
             } else {
                 Ok(())
             }
@@ -80,7 +79,8 @@ fn search_metric<'p, A: Allocator, S: Search<A>>(
 }
 
 /// Searches a problem's goal and its metric, where `:init` has nothing to find.
-pub(crate) fn search_goal_and_metric<'p, A: Allocator, S: Search<A>>(
+pub(crate) fn search_goal_and_metric<'p, 'a, A: Allocator, B: Allocator, S: Search<A, B>>(
+    alloc: &'a B,
     search: &S,
     problem: &'p Problem<A>,
 ) -> Result<(), LinkFault<'p>>
@@ -88,17 +88,18 @@ pub(crate) fn search_goal_and_metric<'p, A: Allocator, S: Search<A>>(
     ensures { Passes S.number (flat_map (S.words search.now) (problem_places (problem_view problem.now))) result }
 {
     let outside = Scope::Empty;
-    search_formula(search, &problem.goal, &outside)?;
+    search_formula(alloc, search, &problem.goal, &outside)?;
     search_metric(search, &problem.metric)
 }
 
 /// Searches a problem: its initial state, its goal and its metric.
-pub(crate) fn search_problem<'p, A: Allocator, S: Search<A>>(
+pub(crate) fn search_problem<'p, 'a, A: Allocator, B: Allocator, S: Search<A, B>>(
+    alloc: &'a B,
     search: &S,
     problem: &'p Problem<A>,
 ) -> Result<(), LinkFault<'p>>
     ensures { Passes S.number (flat_map (S.words search.now) (problem_places (problem_view problem.now))) result }
 {
     search_init(search, &problem.init)?;
-    search_goal_and_metric(search, problem)
+    search_goal_and_metric(alloc, search, problem)
 }

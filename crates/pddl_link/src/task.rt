@@ -20,6 +20,7 @@ use crate::init::Values;
 use crate::known::{Objects, Signatures};
 use crate::object_counts::ObjectCounts;
 use crate::size::ground_size;
+use crate::type_counts::TypeCounts;
 use crate::types::Types;
 use pddl_domain::{Action, Domain};
 use pddl_formula::{Formula, TypeNames};
@@ -38,8 +39,9 @@ pub struct Task<'m, 'a, A: Allocator, B: Allocator> {
     pub(crate) types: Types<'m, 'a, A, B>,
     pub(crate) predicates: Signatures<'m, 'a, A, B>,
     pub(crate) objects: Objects<'m, 'a, A, B>,
+    pub(crate) counts: TypeCounts<'m, 'a, B>,
     pub(crate) values: Values<'m, 'a, A, B>,
-    ghost tables: { AreTablesOf (domain_view domain.now) (problem_view problem.now) types predicates.entries objects.entries values.entries },
+    ghost tables: { AreTablesOf (domain_view domain.now) (problem_view problem.now) types predicates.entries objects.entries counts.entries values.entries },
 }
 
 impl<'m, 'a, A: Allocator, B: Allocator> Task<'m, 'a, A, B> {
@@ -143,6 +145,7 @@ impl<'m, 'a, A: Allocator, B: Allocator> Task<'m, 'a, A, B> {
         let counts = ObjectCounts {
             types: &self.types,
             objects: &self.objects,
+            counts: &self.counts,
         };
         ground_size(&counts, formula)
     }
@@ -154,6 +157,7 @@ impl<'m, 'a, A: Allocator, B: Allocator> Task<'m, 'a, A, B> {
         let counts = ObjectCounts {
             types: &self.types,
             objects: &self.objects,
+            counts: &self.counts,
         };
         action_ground_size(&counts, action)
     }

@@ -8,10 +8,14 @@ ghost use Rattle.pddl_task.specs.Names.{is_in, repeated, item_of};
 ghost use Rattle.pddl_task.specs.Types.{root, says_nothing, types_of, pairs, is_under, is_subtype, is_cyclic, fits};
 ghost use Rattle.pddl_task.specs.Faults.{primitives_of, first_alone};
 ghost use Rattle.pddl_link.specs.Passes.{Passes};
+ghost use Rattle.pddl_link.specs.KnownNames.{object_in};
+ghost use Rattle.pddl_link.specs.ObjectCounts.{AreCountsOf};
 ghost use Rattle.pddl_link.specs.TypeTables.{IsTableOf, IsTypeTable, AreNumbered, with_name, name_at, parent_place, climbs};
 
 use crate::fault::LinkFault;
 use crate::hashed::Hashed;
+use crate::known::Objects;
+use crate::type_counts::{TypeCounts, type_counts};
 use indexmap::IndexMap;
 use pddl_domain::DeclaredType;
 use pddl_forest::Preorder;
@@ -238,6 +242,22 @@ impl<'m, 'a, A: Allocator, B: Allocator> Types<'m, 'a, A, B> {
             }
         }
         true
+    }
+
+    /// How many of some objects fit each type, by its name. A name that is missing is not counted.
+    ///
+    /// Fails where memory for the counts is refused.
+    pub fn counts(
+        &self,
+        alloc: &'a B,
+        objects: &Objects<'m, 'a, A, B>,
+    ) -> Result<TypeCounts<'m, 'a, B>, AllocError>
+        ensures { IfOk result (λ counts. AreCountsOf (pairs self.now) (map object_in objects.now.entries) counts.entries) }
+    {
+        match &self.order {
+            Some(order) => type_counts(alloc, &self.parents, order, objects),
+            None => Ok(IndexMap::new(alloc)),
+        }
     }
 
     /// Whether a declared type is above itself.

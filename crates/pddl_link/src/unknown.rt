@@ -52,7 +52,7 @@ fn check_object<'t, 'm, 'a, 'd, A: Allocator, B: Allocator>(
 fn check_term<'t, 'm, 'a, 'd, A: Allocator, B: Allocator>(
     known: &Known<'t, 'm, 'a, A, B>,
     term: &'d Term<A>,
-    scope: &Scope<A>,
+    scope: &Scope<A, B>,
 ) -> Result<(), LinkFault<'d>>
     ensures { Passes 26 (unknown_term (setting_of known.now) (bound_of scope.now) (term_view term.now)) result }
 {
@@ -68,7 +68,7 @@ fn check_term<'t, 'm, 'a, 'd, A: Allocator, B: Allocator>(
 fn check_terms<'t, 'm, 'a, 'd, A: Allocator, B: Allocator>(
     known: &Known<'t, 'm, 'a, A, B>,
     terms: &'d [Term<A>],
-    scope: &Scope<A>,
+    scope: &Scope<A, B>,
 ) -> Result<(), LinkFault<'d>>
     ensures { Passes 26 (flat_map (unknown_term (setting_of known.now) (bound_of scope.now)) (map term_view terms.now)) result }
 {
@@ -97,7 +97,7 @@ fn check_use<'t, 'm, 'a, 'd, A: Allocator, B: Allocator>(
     is_declared: bool,
     symbol: &'d [u8],
     terms: &'d [Term<A>],
-    scope: &Scope<A>,
+    scope: &Scope<A, B>,
 ) -> Result<(), LinkFault<'d>>
     ensures { Passes 26 (word_if (not is_declared) symbol.now ++ flat_map (unknown_term (setting_of known.now) (bound_of scope.now)) (map term_view terms.now)) result }
 {
@@ -118,7 +118,8 @@ fn check_ground_use<'t, 'm, 'a, 'd, A: Allocator, B: Allocator>(
     check_objects(known, objects)
 }
 
-impl<'k, 't, 'm, 'a, A: Allocator, B: Allocator> Search<A> for UnknownNames<'k, 't, 'm, 'a, A, B> {
+impl<'k, 't, 'm, 'a, A: Allocator, B: Allocator> Search<A, B>
+    for UnknownNames<'k, 't, 'm, 'a, A, B> {
     ghost use Rattle.pddl_task.specs.Faults.{unknown_at};
     ghost use Rattle.pddl_link.specs.KnownNames.{setting_of};
 
@@ -130,7 +131,7 @@ impl<'k, 't, 'm, 'a, A: Allocator, B: Allocator> Search<A> for UnknownNames<'k, 
         &self,
         predicate: &'d [u8],
         terms: &'d [Term<A>],
-        scope: &Scope<A>,
+        scope: &Scope<A, B>,
     ) -> Result<(), LinkFault<'d>> {
         let is_declared = is_declared(self.known.predicates, predicate);
         check_use(self.known, is_declared, predicate, terms, scope)
@@ -140,7 +141,7 @@ impl<'k, 't, 'm, 'a, A: Allocator, B: Allocator> Search<A> for UnknownNames<'k, 
         &self,
         function: &'d [u8],
         terms: &'d [Term<A>],
-        scope: &Scope<A>,
+        scope: &Scope<A, B>,
     ) -> Result<(), LinkFault<'d>> {
         let is_declared = is_declared(self.known.functions, function);
         check_use(self.known, is_declared, function, terms, scope)
@@ -150,7 +151,7 @@ impl<'k, 't, 'm, 'a, A: Allocator, B: Allocator> Search<A> for UnknownNames<'k, 
         &self,
         first: &'d Term<A>,
         second: &'d Term<A>,
-        scope: &Scope<A>,
+        scope: &Scope<A, B>,
     ) -> Result<(), LinkFault<'d>> {
         check_term(self.known, first, scope)?;
         check_term(self.known, second, scope)
@@ -159,17 +160,12 @@ impl<'k, 't, 'm, 'a, A: Allocator, B: Allocator> Search<A> for UnknownNames<'k, 
     fn binds<'d>(
         &self,
         _variables: &'d [Typed<A>],
-        _scope: &Scope<A>,
+        _scope: &Scope<A, B>,
     ) -> Result<(), LinkFault<'d>> {
         Ok(())
     }
 
-    fn counts<'d>(
-        &self,
-        _function: &'d [u8],
-        _amount: Fixed,
-        _scope: &Scope<A>,
-    ) -> Result<(), LinkFault<'d>> {
+    fn counts<'d>(&self, _function: &'d [u8], _amount: Fixed) -> Result<(), LinkFault<'d>> {
         Ok(())
     }
 

@@ -14,7 +14,7 @@ pub(crate) struct UnknownTypes<'t, 'm, 'a, A: Allocator, B: Allocator> {
     pub types: &'t Types<'m, 'a, A, B>,
 }
 
-impl<'t, 'm, 'a, A: Allocator, B: Allocator> Search<A> for UnknownTypes<'t, 'm, 'a, A, B> {
+impl<'t, 'm, 'a, A: Allocator, B: Allocator> Search<A, B> for UnknownTypes<'t, 'm, 'a, A, B> {
     ghost use Rattle.std.specs.Prelude.{filter, not};
     ghost use Rattle.std.specs.List.{flat_map};
     ghost use Rattle.pddl_task.specs.Names.{is_in};
@@ -29,7 +29,7 @@ impl<'t, 'm, 'a, A: Allocator, B: Allocator> Search<A> for UnknownTypes<'t, 'm, 
         &self,
         _predicate: &'d [u8],
         _terms: &'d [Term<A>],
-        _scope: &Scope<A>,
+        _scope: &Scope<A, B>,
     ) -> Result<(), LinkFault<'d>> {
         Ok(())
     }
@@ -38,7 +38,7 @@ impl<'t, 'm, 'a, A: Allocator, B: Allocator> Search<A> for UnknownTypes<'t, 'm, 
         &self,
         _function: &'d [u8],
         _terms: &'d [Term<A>],
-        _scope: &Scope<A>,
+        _scope: &Scope<A, B>,
     ) -> Result<(), LinkFault<'d>> {
         Ok(())
     }
@@ -47,21 +47,20 @@ impl<'t, 'm, 'a, A: Allocator, B: Allocator> Search<A> for UnknownTypes<'t, 'm, 
         &self,
         _first: &'d Term<A>,
         _second: &'d Term<A>,
-        _scope: &Scope<A>,
+        _scope: &Scope<A, B>,
     ) -> Result<(), LinkFault<'d>> {
         Ok(())
     }
 
-    fn binds<'d>(&self, variables: &'d [Typed<A>], _scope: &Scope<A>) -> Result<(), LinkFault<'d>> {
+    fn binds<'d>(
+        &self,
+        variables: &'d [Typed<A>],
+        _scope: &Scope<A, B>,
+    ) -> Result<(), LinkFault<'d>> {
         self.types.known(variables)
     }
 
-    fn counts<'d>(
-        &self,
-        _function: &'d [u8],
-        _amount: Fixed,
-        _scope: &Scope<A>,
-    ) -> Result<(), LinkFault<'d>> {
+    fn counts<'d>(&self, _function: &'d [u8], _amount: Fixed) -> Result<(), LinkFault<'d>> {
         Ok(())
     }
 

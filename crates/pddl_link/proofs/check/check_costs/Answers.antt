@@ -1,4 +1,4 @@
-use Rattle.std.proofs.Common.{◌≡◌, [], ◌∷◌, ◌++◌, Ok, Err, map, filter, subst, ap, ◌∙◌, arith, refl}
+use Rattle.std.proofs.Common.{[], ◌∷◌, arith}
 use Rattle.std.proofs.lemmas.Result.{err_from_is_err_and}
 use Rattle.pddl_task.specs.Linked.{fault}
 use Rattle.pddl_link.proofs.Verdicts.{found_at, decided_last}

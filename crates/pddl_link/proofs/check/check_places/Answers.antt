@@ -51,9 +51,6 @@ returns-in_err-search_both-3-clause-verdict g c =
     rw (p.1, p.2) (found_at (fault 26 _ ∷ fault 27 _ ∷ []) 28 _ _ e (none-26, (none-27, tt)) (omega arith, (omega arith, (omega arith, (omega arith, (omega arith, (omega arith, tt)))))) (subst (λ s. Passes {T = Unit {0}} 28 (words_of_both (misfit_at (in_domain (domain_view c.args.domain.now))) (misfit_at s) (domain_view c.args.domain.now) (problem_view c.args.problem.now)) (Err e)) c.requires.outer
     (subst (λ s. Passes {T = Unit {0}} 28 (words_of_both (misfit_at s) (misfit_at (setting_of c.args.outer.now)) (domain_view c.args.domain.now) (problem_view c.args.problem.now)) (Err e)) c.requires.inner c.in_err-search_both-3.ensures)))
 
-pub check_init-requires : goal.check_init-requires
-check_init-requires g c = c.requires.outer
-
 pub returns-clause-verdict : goal.returns-clause-verdict
 returns-clause-verdict g c =
     let none-26 = subst (λ s. words_of_both (unknown_at (in_domain (domain_view c.args.domain.now))) (unknown_at s) (domain_view c.args.domain.now) (problem_view c.args.problem.now) ≡ []) c.requires.outer

@@ -1,4 +1,4 @@
-use Rattle.std.proofs.Common.{◌≡◌, [], ◌∷◌, ◌++◌, Ok, Err, map, filter, subst, ap, ◌∙◌, arith, refl}
+use Rattle.std.proofs.Common.{◌≡◌, [], ◌∷◌, Err, map, filter, subst, ap, ◌∙◌, arith}
 use Rattle.std.proofs.lemmas.Result.{err_from_is_err_and}
 use Rattle.pddl_domain.specs.Declarations.{type_view}
 use Rattle.pddl_domain.specs.Domains.{domain_view}

@@ -26,6 +26,7 @@ invariant_of-result g c =
         predicates_are = c.in_ok-predicates.ensures.predicates;
         objects_are = c.in_ok-constants.ensures.objects;
         objects_named = c.in_ok-constants.ensures.named;
+        counts_are = c.in_ok-predicates.ensures.counts;
         values_are = c.in_ok-predicates.ensures.values;
       };
     }

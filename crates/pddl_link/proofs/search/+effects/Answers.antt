@@ -8,14 +8,24 @@ use Rattle.pddl_link.specs.Scopes.{bound_of, words_in, effect_words, effects_wor
 use Rattle.pddl_link.proofs.Walks.{pass_front, pass_back, words_each, words_when, effects_left}
 use Rattle.pddl_link.proofs.search.+effects.Goals as goal
 
-pub search_effect-returns-in_err-binds-in-Forall : goal.search_effect-returns-in_err-binds-in-Forall
-search_effect-returns-in_err-binds-in-Forall g t c =
+pub search_effect-returns-in_err-bound-in-Forall : goal.search_effect-returns-in_err-bound-in-Forall
+search_effect-returns-in_err-bound-in-Forall g t c =
     let w = g.S.Search.words c.args.search.now in
     let b = bound_of c.args.scope.now in
     let xs = map typed_view c.deref.result.now in
     let p = err_from_is_err_and c.from_residual.result c.from_residual.ensures.1 in
-    rw (p.1, p.2) (pass_front g.S.Search.number (w (at b (binds xs))) (effect_words w (effect_view c.in-Forall.inner.value) (binding xs b)) (effect_words w (effect_view c.args.effect.now) b) c.in_err-binds-in-Forall.field-0.0
-    (words_each w b c.args.effect.now c.in-Forall.variables c.in-Forall.inner c.deref.result.now c.in-Forall.is c.deref.ensures.value) c.in_err-binds-in-Forall.ensures)
+    rw (p.1, p.2) (pass_front g.S.Search.number (w (at b (binds xs))) (effect_words w (effect_view c.in-Forall.inner.value) (binding xs b)) (effect_words w (effect_view c.args.effect.now) b) c.in_err-bound-in-Forall.field-0.0
+    (words_each w b c.args.effect.now c.in-Forall.variables c.in-Forall.inner c.deref.result.now c.in-Forall.inner.value xs c.in-Forall.is c.deref.ensures.value refl refl) c.in_err-bound-in-Forall.ensures.passes)
+
+pub search_effect-returns-in_ok-bound-in-Forall : goal.search_effect-returns-in_ok-bound-in-Forall
+search_effect-returns-in_ok-bound-in-Forall g t c =
+    let w = g.S.Search.words c.args.search.now in
+    let b = bound_of c.args.scope.now in
+    let xs = c.deref.result.now in
+    let bound = c.in_ok-bound-in-Forall.bound in
+    pass_back g.S.Search.number (w (at b (binds (map typed_view xs)))) (effect_words w (effect_view c.deref-in-Forall.result.now) (binding bound b)) (effect_words w (effect_view c.args.effect.now) b) c.search_effect.result
+    (words_each w b c.args.effect.now c.in-Forall.variables c.in-Forall.inner xs c.deref-in-Forall.result.now bound c.in-Forall.is c.deref.ensures.value c.deref-in-Forall.ensures c.in_ok-bound-in-Forall.ensures.bound)
+    c.in_ok-bound-in-Forall.ensures.passes c.search_effect.ensures
 
 pub search_effect-returns-in_err-search_formula-in-When : goal.search_effect-returns-in_err-search_formula-in-When
 search_effect-returns-in_err-search_formula-in-When g t c =
