@@ -4,9 +4,8 @@ use Rattle.std.specs.Prelude.{Result, Ok, Err, OnOk, IfOk}
 use Rattle.std.specs.Result.{result_and}
 use Rattle.std.proofs.lemmas.List.{append-nil, length-append, length-map}
 use Rattle.pddl_tree.specs.Building.{Building, with_names}
-use Rattle.pddl_tree.specs.Plans.{StepValue, TimedValue, plain, timed, step_of_names, at_moments, plan_of, built_plan}
+use Rattle.pddl_tree.specs.Plans.{StepValue, TimedValue, plain, timed, step_of_names, at_moments, plan_of, built_plan, timed_built}
 use Rattle.pddl_tree.specs.StepNames.{names_of_step}
-use Rattle.pddl_tree.proofs.BuiltSteps.{built_timed}
 use Rattle.pddl_task.specs.Tasks.{TaskValue}
 use Rattle.pddl_plan_link.specs.LinkedSteps.{LinkedStepValue}
 use Rattle.pddl_serial_plans.specs.NewSteps.{timed_step, timed_plan}
@@ -44,11 +43,11 @@ plan_is (m ∷ moments) steps t ts is = ap timed is
 
 -- the plan of steps that were added, each at its moment
 pub timed_is : (task : TaskValue) (b : Building) (steps : List LinkedStepValue) → length b.moments ≡ length b.steps
-    → map (λ (s : TimedValue). s) (built_timed b) ≡ map (timed_step task) steps → built_plan b ≡ timed_plan task steps
+    → map (λ (s : TimedValue). s) (timed_built b) ≡ map (timed_step task) steps → built_plan b ≡ timed_plan task steps
 timed_is task b [] same is =
-    some_moments b.moments (map step_of_names b.steps) (same ∙ sym (length-map b.steps step_of_names)) (sym (map_same (built_timed b)) ∙ is)
+    some_moments b.moments (map step_of_names b.steps) (same ∙ sym (length-map b.steps step_of_names)) (sym (map_same (timed_built b)) ∙ is)
 timed_is task b (s ∷ steps) same is =
-    plan_is b.moments (map step_of_names b.steps) (timed_step task s) (map (timed_step task) steps) (sym (map_same (built_timed b)) ∙ is)
+    plan_is b.moments (map step_of_names b.steps) (timed_step task s) (map (timed_step task) steps) (sym (map_same (timed_built b)) ∙ is)
 
 -- a plan that was made, if it was
 pub if_made : {S T E : Type 0} (P : T → Type 0) (made : Result S E) (plan : T) (Q : Type 0) → (Q → P plan) → OnOk made Q → IfOk (result_and made (Ok plan)) P

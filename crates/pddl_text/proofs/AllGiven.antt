@@ -1,5 +1,6 @@
 -- Where a text ends with LF, the words given are all its words.
-use Rattle.std.proofs.Common.{◌≡◌, ℕ, ◌+◌, ◌≤◌, ◌<◌, Bool, true, false, List, [], ◌∷◌, ◌++◌, length, take, drop, refl, sym, ap, subst, ◌∙◌, arith, inl, inr}
+use Rattle.std.proofs.Common.{◌≡◌, ℕ, ◌≤◌, ◌<◌, Bool, true, false, List, [], ◌∷◌, ◌++◌, length, take, drop, refl, sym, ap, subst, ◌∙◌, arith, inl, inr}
+use Rattle.std.specs.Prelude.{Result, Ok, Err, OnOk, IfErr, MatchResult, ◌↔◌}
 use Rattle.std.specs.List.{AllPass, prefix_len}
 use Rattle.std.proofs.lemmas.Bool.{cases_lt}
 use Rattle.std.proofs.lemmas.List.{append-nil, length-append, drop-append-le, take-append-drop, drop_all}
@@ -12,8 +13,9 @@ use Rattle.pddl_text.specs.declared.fault.TextFault.{TextFault}
 use Rattle.pddl_text.specs.declared.fault.TextFault.TheVariants as faults
 use Rattle.pddl_text.specs.Faults.{IsStray, IsGlued, IsOutOfRange, IsFaulty, IsLeftmost, AreValued, Stands}
 use Rattle.pddl_text.specs.Scanning.{LexedTo}
-use Rattle.pddl_text.specs.InPieces.{HasRead}
-use Rattle.pddl_text.specs.InPieces.{EndsLine, SpellsPartly}
+use Rattle.pddl_text.specs.declared.plan_lexer.PlanLexer.{PlanLexer}
+use Rattle.pddl_text.specs.InPieces.{HasRead, EndsLine, SpellsPartly}
+use Rattle.pddl_text.specs.StandsFor.{StandsFor}
 use Rattle.pddl_text.proofs.Runs.{run_le}
 use Rattle.pddl_text.proofs.Lexed.{lexed_to_end, one_spelling, no_other}
 use Rattle.pddl_text.proofs.Ended.{stops_in}
@@ -46,15 +48,11 @@ no_fault_in_words (faults.TooDeep at) text all within stands spelled valued = ab
 no_fault_in_words (faults.Unclosed at) text all within stands spelled valued = absurd stands
 no_fault_in_words faults.AlreadyFailed text all within stands spelled valued = absurd stands
 
--- words given, and none since, are the words given
-pub with_none : (reached : Progress) (held text : List ℕ) (words none : List PlacedWord) → none ≡ [] → HasRead reached held text words → HasRead reached held text (words ++ none)
-with_none reached held text words none none_is had = subst (HasRead reached held text) (sym (append-nil words) ∙ ap (λ (ws : List PlacedWord). words ++ ws) (sym none_is)) had
-
 fault_refuses : (Fault : List ℕ → Type 0) (text : List ℕ) (place : ℕ) (all : List PlacedWord) → ((rest : List ℕ) → Fault rest → IsFaulty rest) → ((more : List ℕ) → IsLeftmost Fault (text ++ more) place) → Spells all text → AreValued all → ⊥
 fault_refuses Fault text place all faulty stands spelled valued =
     leftmost_refuses Fault text place all faulty (subst (λ t. IsLeftmost Fault t place) (append-nil text) (stands [])) spelled valued
 
-pub all_given : (reached : Progress) (held text : List ℕ) (words all : List PlacedWord) → HasRead reached held text words → EndsLine text → Spells all text → AreValued all → words ≡ all
+all_given : (reached : Progress) (held text : List ℕ) (words all : List PlacedWord) → HasRead reached held text words → EndsLine text → Spells all text → AreValued all → words ≡ all
 all_given progress.Words held text words all had line spelled valued = elim (cases_lt had.place (length text)) [
   | inl lt ↦ absurd (no_lf_behind is_inner_byte text line.0 held had.place refl line.1 lt had.behind.0 had.behind.1)
   | inr ge ↦ one_spelling words all text (lexed_to_end text words had.place (lexed_here text words had.place had.lexed) ge) spelled
@@ -69,10 +67,38 @@ all_given (progress.Stray place) held text words all had line spelled valued = a
 all_given (progress.Glued place) held text words all had line spelled valued = absurd (fault_refuses IsGlued text place all (λ rest f. inr (inl f)) had.behind.1 spelled valued)
 all_given (progress.NumberRange place) held text words all had line spelled valued = absurd (fault_refuses IsOutOfRange text place all (λ rest f. inr (inr f)) had.behind.1 spelled valued)
 
-pub partly : (reached : Progress) (held text : List ℕ) (words : List PlacedWord) → HasRead reached held text words → SpellsPartly words text
-partly reached held text words had = record {
-  front = take had.place text;
-  rest = drop had.place text;
-  text_is = sym (take-append-drop had.place text);
-  spelled = (lexed_here text words had.place had.lexed).spelled;
-}
+-- ---- a lexer
+
+module _ {A : Type 0} (lexer : PlanLexer A) (text : List ℕ) (words : List PlacedWord) where
+  -- words given, and none since, are the words given
+  pub none_since : (none : List PlacedWord) → none ≡ [] → StandsFor lexer text words → StandsFor lexer text (words ++ none)
+  none_since none none_is stands = subst (StandsFor lexer text) (sym (append-nil words) ∙ ap (λ (ws : List PlacedWord). words ++ ws) (sym none_is)) stands
+
+  pub partly : StandsFor lexer text words → SpellsPartly words text
+  partly stands = record {
+    front = take stands.read.place text;
+    rest = drop stands.read.place text;
+    text_is = sym (take-append-drop stands.read.place text);
+    spelled = (lexed_here text words stands.read.place stands.read.lexed).spelled;
+  }
+
+  pub lines : (all : List PlacedWord) → StandsFor lexer text words → EndsLine text → Spells all text → AreValued all → words ≡ all
+  lines all stands line spelled valued = all_given lexer.progress lexer.held.items text words all stands.read line spelled valued
+
+-- ---- answers
+
+-- an error is the same whatever would be answered else
+pub same_err : {A B : Type 0} (fault other : TextFault) (P : Type 0) → (◌≡◌ {A = Result A TextFault} (Err fault) (Err other)) ↔ P → (◌≡◌ {A = Result B TextFault} (Err fault) (Err other)) ↔ P
+same_err fault other P both = (λ e. both.0 (ap (λ (f : TextFault). Err f) (inside e)), λ p. ap (λ (f : TextFault). Err f) (inside (both.1 p)))
+  where
+    inside : {C : Type 0} → ◌≡◌ {A = Result C TextFault} (Err fault) (Err other) → fault ≡ other
+    inside e = cc (e)
+
+module _ {A E : Type 0} (P : Type 0) (Q : E → Type 0) where
+  pub where_ok : (r : Result A E) → MatchResult r (λ _. P) Q → OnOk r P
+  where_ok (Ok a) is = is
+  where_ok (Err e) is = tt
+
+  pub where_err : (r : Result A E) → MatchResult r (λ _. P) Q → IfErr r Q
+  where_err (Ok a) is = tt
+  where_err (Err e) is = is

@@ -6,7 +6,7 @@ use Rattle.std.specs.Char.{is_ascii_digit, is_ascii_whitespace}
 use Rattle.std.proofs.lemmas.Bool.{cases_lt}
 use Rattle.std.proofs.lemmas.List.{append_assoc, append-nil, take-append-drop, drop-drop, drop_all, length-append, length-take-le, length-drop, flat_map_more}
 use Rattle.std.proofs.Math.Seq.{take-add}
-use Rattle.std.proofs.lemmas.List.Elements.{All-head, All-tail, All-nil, All-cons, All-push}
+use Rattle.std.proofs.lemmas.List.Elements.{All-head, All-tail, All-cons, All-push}
 use Rattle.pddl_text.specs.declared.token.TokenKind.{TokenKind}
 use Rattle.pddl_text.specs.Bytes.{is_line_byte, begins}
 use Rattle.pddl_text.specs.Spelling.{PlacedWord, placed, Part, gap, word, spelling, IsOpenComment, IsPart, InTurn, words_from, SpelledUpTo, Spells}
@@ -143,14 +143,6 @@ no_other words others text front after text_is p faulty q valued =
     ]
 
 -- ---- the loop
-
--- before the first part
-pub nothing_lexed : (text : List ℕ) → LexedTo text [] 0
-nothing_lexed text = record {
-  in_range = omega arith;
-  spelled = record { parts = []; in_turn = tt; front_is = refl; words_are = refl };
-  valued = All-nil (λ (v : PlacedWord). IsValued v.kind v.text);
-}
 
 -- the place behind the next part
 split_on : (text : List ℕ) (at len : ℕ) → take (at + len) text ≡ take at text ++ take len (drop at text)

@@ -8,10 +8,13 @@ pub mod Lexed
 pub mod WordSpans
 pub mod Tests
 pub mod Values
+pub mod WordsHeld
 pub mod Nests
+pub mod FaultsBehind
 pub mod Stacks
 pub mod Written
 pub mod Listed
+pub mod Levels
 pub mod TextItems
 pub mod ListFaults
 pub mod TextFaults

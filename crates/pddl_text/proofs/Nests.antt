@@ -31,7 +31,7 @@ then_then None f g = refl
 then_then (Some nest) f g = refl
 
 -- reading joined words is reading one after the other
-run_append : (words more : List PlacedWord) (nest : Nest) → run (words ++ more) nest ≡ then (run words nest) (λ after. run more after)
+pub run_append : (words more : List PlacedWord) (nest : Nest) → run (words ++ more) nest ≡ then (run words nest) (λ after. run more after)
 run_append [] more nest = refl
 run_append (w ∷ words) more nest = by_next (next_nest w nest) (λ after. run_append words more after)
   where
@@ -42,13 +42,13 @@ run_append (w ∷ words) more nest = by_next (next_nest w nest) (λ after. run_a
 -- ---- one word
 
 -- an opening opens a list where there is room
-opens : (w : PlacedWord) (nest : Nest) → w.kind ≡ Open → length nest.opened < 128 → next_nest w nest ≡ Some (record { opened = record { items = nest.items; start = w.span.start } ∷ nest.opened; items = [] })
+pub opens : (w : PlacedWord) (nest : Nest) → w.kind ≡ Open → length nest.opened < 128 → next_nest w nest ≡ Some (record { opened = record { items = nest.items; start = w.span.start } ∷ nest.opened; items = [] })
 opens w nest is_open room =
     let test : ltb (length nest.opened) 128 ≡ true = grind (arith, nat_tests, room) in
     rw (is_open, test) refl
 
 -- an opening stops where there is none
-stops_deep : (w : PlacedWord) (nest : Nest) → w.kind ≡ Open → 128 ≤ length nest.opened → next_nest w nest ≡ None
+pub stops_deep : (w : PlacedWord) (nest : Nest) → w.kind ≡ Open → 128 ≤ length nest.opened → next_nest w nest ≡ None
 stops_deep w nest is_open full =
     let test : ltb (length nest.opened) 128 ≡ false = grind (arith, nat_tests, full) in
     rw (is_open, test) refl
@@ -310,11 +310,11 @@ first_misplaced Fault before w after words nest at stands words_are starts fault
 }
 
 -- a closing with no open list is unopened
-unopened_here : (before : List PlacedWord) (w : PlacedWord) (nest : Nest) → StandsAt before nest → w.kind ≡ Close → nest.opened ≡ [] → IsUnopened before w
+pub unopened_here : (before : List PlacedWord) (w : PlacedWord) (nest : Nest) → StandsAt before nest → w.kind ≡ Close → nest.opened ≡ [] → IsUnopened before w
 unopened_here before w nest stands is_close is_empty = (is_close, (nest.items, subst (λ (o : List Opened). Leaves o nest.items before) is_empty stands.is_nest.leaves))
 
 -- an opening with no room left is too deep
-too_deep_here : (before : List PlacedWord) (w : PlacedWord) (nest : Nest) → StandsAt before nest → w.kind ≡ Open → 128 ≤ length nest.opened → IsTooDeep before w
+pub too_deep_here : (before : List PlacedWord) (w : PlacedWord) (nest : Nest) → StandsAt before nest → w.kind ≡ Open → 128 ≤ length nest.opened → IsTooDeep before w
 too_deep_here before w nest stands is_open full = (is_open, subst (λ (n : ℕ). LeaveOpen n before) (omega (arith, full, stands.is_nest.in_range)) (leave_open nest.opened nest.items before stands.is_nest.leaves))
 
 -- what a refused word answers stands in the words

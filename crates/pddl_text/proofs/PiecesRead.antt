@@ -199,14 +199,6 @@ held_then start size len before piece held whole given old mid stop at Then star
     subst Then (append_assoc before end (drop len piece) ∙ ap (λ (t : List ℕ). before ++ t) (take-append-drop len piece))
     (next (before ++ end) (omega (arith, start_is, length-append before end, length-take-le len piece le)) read)
 
--- where something is held back, it is a word's beginning
-pub held_words : (stop : Progress) (held before : List ℕ) (words : List PlacedWord) → HasRead stop held before words → (stop ≡ progress.Words → ⊥) → held ≡ []
-held_words progress.Words held before words had other = absurd (other refl)
-held_words progress.Comment held before words had other = had.behind.0
-held_words (progress.Stray place) held before words had other = had.behind.0
-held_words (progress.Glued place) held before words had other = had.behind.0
-held_words (progress.NumberRange place) held before words had other = had.behind.0
-
 -- ---- the text's end
 
 stop_answers : (stop : Progress) (text : List ℕ) (words : List PlacedWord) (at : ℕ) → StoppedAt stop text text words at → AnswersAt stop text words
@@ -243,10 +235,3 @@ other_read progress.Comment held text words other had =
 other_read (progress.Stray place) held text words other had = at_end IsStray text place had.behind.1
 other_read (progress.Glued place) held text words other had = at_end IsGlued text place had.behind.1
 other_read (progress.NumberRange place) held text words other had = at_end IsOutOfRange text place had.behind.1
-
--- a lexer that has read the text, and no words since, answers for it
-pub answers_at : (reached last : Progress) (held lent text : List ℕ) (words none new : List PlacedWord) → lent ≡ held → none ≡ [] → HasRead reached held text words
-    → (HasRead reached lent text (words ++ none) → AnswersAt last text new) → AnswersAt last text new
-answers_at reached last held lent text words none new lent_is none_is had answers =
-    let words_are : words ≡ words ++ none = sym (append-nil words) ∙ ap (λ (ws : List PlacedWord). words ++ ws) (sym none_is) in
-    answers (subst (λ t. HasRead reached t text (words ++ none)) (sym lent_is) (subst (HasRead reached held text) words_are had))

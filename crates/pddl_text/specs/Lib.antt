@@ -9,6 +9,7 @@ pub mod Places
 pub mod Reading
 pub mod Scanning
 pub mod Parts
+pub mod WordLists
 pub mod InPieces
 pub mod StandsFor
 pub mod Trees

@@ -10,6 +10,10 @@ pub record StandsFor {A : _} (lexer : PlanLexer A) (text : List ℕ) (words : Li
   pub counted : lexer.len ≡ length text
   pub read : HasRead lexer.progress lexer.held.items text words
 
+-- no piece was refused
+abbrev pub IsGoing : {A : _} → PlanLexer A → Type 0
+IsGoing lexer = lexer.failed ≡ false
+
 -- a piece was refused
 abbrev pub HasRefused : {A : _} → PlanLexer A → Type 0
 HasRefused lexer = lexer.failed ≡ true

@@ -1,6 +1,7 @@
 //! The lists of a text.
 
 ghost use Rattle.std.specs.Prelude.{◌≡◌, List, [], ◌∷◌, ◌++◌, Some, map, IfOk, IfErr, OnOk, MatchResult};
+ghost use Rattle.pddl_text.specs.declared.fault.TextFault.{TextFault};
 ghost use Rattle.pddl_text.specs.declared.fault.TextFault.TheVariants.{Memory};
 ghost use Rattle.pddl_text.specs.Spelling.{PlacedWord, view};
 ghost use Rattle.pddl_text.specs.Trees.{Placed, placed_leaf};
@@ -127,4 +128,10 @@ pub fn lists<'t, 'a, B: Allocator>(
 /// Words form at most one list of items.
 pub fn one_nesting()
     ensures { (words : List PlacedWord) (items others : List Placed) → AreItems deepest words items → AreItems deepest words others → items ≡ others }
+{}
+
+/// The fault of the words behind whole items is the fault of all.
+pub fn list_fault_behind()
+    ensures { (done words : List PlacedWord) (items : List Placed) (fault : TextFault) → AreItems deepest done items → ListStands fault words
+        → ListStands fault (done ++ words) }
 {}

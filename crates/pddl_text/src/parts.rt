@@ -1,16 +1,16 @@
 //! Parts of a text, read one after the other.
 
-ghost use Rattle.std.specs.Prelude.{◌≡◌, ◌≤◌, ◌+◌, ◌++◌, ◌∷◌, [], ℕ, List, length, map, IfOk, IfErr};
+ghost use Rattle.std.specs.Prelude.{◌≡◌, ◌≤◌, ◌+◌, ◌++◌, ◌∷◌, [], ℕ, List, length, IfOk, IfErr};
 ghost use Rattle.pddl_text.specs.declared.fault.TextFault.TheVariants.{Memory};
 ghost use Rattle.pddl_text.specs.Spelling.{PlacedWord};
 ghost use Rattle.pddl_text.specs.Scanning.{LexedTo};
 ghost use Rattle.pddl_text.specs.Parts.{Settles, StoppedAt};
-ghost use Rattle.pddl_text.specs.InPieces.{word_view};
 
 use crate::fault::TextFault;
 use crate::lexer::LONGEST;
 use crate::next::{Next, next_part};
-use crate::token::{Span, TokenKind, Word};
+use crate::token::{Span, Token, TokenKind};
+use crate::word_list::WordList;
 use std::alloc::Allocator;
 
 /// What stands behind the parts that were read.
@@ -33,40 +33,37 @@ pub struct Stop {
     pub at: usize,
 }
 
-fn add_word<'a, B: Allocator>(
-    alloc: &'a B,
-    words: &mut Vec<Word<&'a B>, &'a B>,
+fn add_word<A: Allocator>(
+    words: &mut WordList<A>,
     kind: TokenKind,
-    bytes: &[u8],
+    text: &[u8],
     start: usize,
 ) -> Result<(), TextFault>
-    requires { start + length bytes.now ≤ LONGEST }
+    requires { start + length text.now ≤ LONGEST }
     ensures memory { IfErr result (λ fault. fault ≡ Memory) }
-    ensures pushed { IfOk result (λ _. map word_view words.new.items ≡ map word_view words.old.items
-        ++ record { kind = kind; text = bytes.now; span = record { start = start; end = start + length bytes.now } } ∷ []) }
+    ensures pushed { IfOk result (λ _. words.new ≡ words.old
+        ++ record { kind = kind; text = text.now; span = record { start = start; end = start + length text.now } } ∷ []) }
 {
     let span = Span {
         start: start as u32,
-        end: (start + bytes.len()) as u32,
+        end: (start + text.len()) as u32,
     };
-    let text = bytes.to_vec(alloc)?;
-    words.push(Word { kind, text, span })?;
+    words.push(&Token { kind, text, span })?;
     Ok(())
 }
 
 /// Reads the parts of a text of which the bytes before it were read, and adds their words.
-pub fn read_parts<'a, B: Allocator>(
-    alloc: &'a B,
+pub fn read_parts<A: Allocator>(
     start: usize,
     text: &[u8],
-    words: &mut Vec<Word<&'a B>, &'a B>,
+    words: &mut WordList<A>,
 ) -> Result<Stop, TextFault>
     requires { start + length text.now ≤ LONGEST }
     ensures memory { IfErr result (λ fault. fault ≡ Memory) }
     ensures read { (before more : List ℕ) (given : List PlacedWord) → length before ≡ start → Settles text.now more
-        → LexedTo (before ++ (text.now ++ more)) (given ++ map word_view words.old.items) start
+        → LexedTo (before ++ (text.now ++ more)) (given ++ words.old) start
         → IfOk result (λ stop. StoppedAt stop.progress (before ++ (text.now ++ more)) (before ++ text.now)
-        (given ++ map word_view words.new.items) stop.at) }
+        (given ++ words.new) stop.at) }
 {
     let mut at = 0;
     while at < text.len() {
@@ -75,7 +72,7 @@ pub fn read_parts<'a, B: Allocator>(
         match next_part(rest) {
             Next::Gap { len } => at += len,
             Next::Word { kind, len } => {
-                add_word(alloc, words, kind, rest.split_at(len).0, place)?;
+                add_word(words, kind, rest.split_at(len).0, place)?;
                 at += len;
             }
             Next::OpenComment => {

@@ -1,10 +1,10 @@
 //! Texts that are written read back.
 
 ghost use Rattle.std.specs.Prelude.{◌≡◌, ◌≤◌, List, [], ◌∷◌, length};
-ghost use Rattle.pddl_text.specs.Trees.{Tree, Trees, list_of};
+ghost use Rattle.pddl_text.specs.Trees.{Tree, Trees, Placed, list_of};
 ghost use Rattle.pddl_text.specs.Lists.{deepest};
 ghost use Rattle.pddl_text.specs.Pieces.{Piece, pieces_text, tokens_of, AreWritten, trees_words, IsWritable, AreWritable, IsWithin, AreWithin, tree_text};
-ghost use Rattle.pddl_text.specs.Texts.{ReadsAs};
+ghost use Rattle.pddl_text.specs.Texts.{HasItems, ReadsAs};
 
 use crate::lexer::LONGEST;
 
@@ -19,4 +19,11 @@ pub fn pieces_read_back()
 /// levels.
 pub fn tree_reads_back()
     ensures { (t : Tree) → IsWritable t → IsWithin deepest t → length (tree_text t) ≤ LONGEST → ReadsAs (tree_text t) (t ∷ []) }
+{}
+
+/// Trees whose words, in pieces that stand apart, make a text with items are within the limit of levels: they are as deep as
+/// their text.
+pub fn levels_as_read()
+    ensures { (pieces : List Piece) (trees : Trees) (items : List Placed) → AreWritten pieces [] → tokens_of pieces ≡ trees_words trees → AreWritable trees
+        → HasItems (pieces_text pieces) items → AreWithin deepest trees }
 {}

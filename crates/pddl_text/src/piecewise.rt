@@ -1,6 +1,6 @@
 //! Reads a text piece by piece. What may be a word's beginning at a piece's end is held back.
 
-ghost use Rattle.std.specs.Prelude.{◌≡◌, ◌≢◌, ◌≤◌, ◌<◌, ◌+◌, ◌++◌, [], ◌⊎◌, ℕ, List, length, map, take, drop, IfOk, IfErr, MatchOption, MatchResult};
+ghost use Rattle.std.specs.Prelude.{◌≡◌, ◌≢◌, ◌≤◌, ◌<◌, ◌+◌, ◌++◌, [], ◌⊎◌, ℕ, List, length, take, drop, IfOk, IfErr, MatchOption, MatchResult};
 ghost use Rattle.std.specs.List.{AllPass, prefix_len};
 ghost use Rattle.pddl_text.specs.Bytes.{is_inner_byte};
 ghost use Rattle.pddl_text.specs.declared.parts.Progress.TheVariants as progress;
@@ -8,14 +8,14 @@ ghost use Rattle.pddl_text.specs.declared.fault.TextFault.TheVariants.{Memory, T
 ghost use Rattle.pddl_text.specs.Spelling.{PlacedWord, Spells};
 ghost use Rattle.pddl_text.specs.Faults.{AreValued, Stands};
 ghost use Rattle.pddl_text.specs.Parts.{IsEnded, AnswersAt};
-ghost use Rattle.pddl_text.specs.InPieces.{HasRead, word_view};
+ghost use Rattle.pddl_text.specs.InPieces.{HasRead};
 
 use crate::bytes::is_inner_byte;
 use crate::fault::TextFault;
 use crate::lexer::LONGEST;
 use crate::next::line_len;
 use crate::parts::{Progress, read_parts};
-use crate::token::Word;
+use crate::word_list::WordList;
 use std::alloc::Allocator;
 
 fn inner_len(text: &[u8]) -> usize
@@ -51,24 +51,23 @@ fn last_end(text: &[u8]) -> usize
 }
 
 /// Reads what follows a place where no word is cut.
-fn read_words<'a, B: Allocator>(
-    alloc: &'a B,
+fn read_words<A: Allocator>(
     start: usize,
-    held: &mut Vec<u8, &'a B>,
+    held: &mut Vec<u8, A>,
     piece: &[u8],
-    words: &mut Vec<Word<&'a B>, &'a B>,
+    words: &mut WordList<A>,
 ) -> Result<Progress, TextFault>
     requires short { start + length piece.now ≤ LONGEST }
     requires empty { held.old.items ≡ [] }
     ensures read { (before : List ℕ) (given : List PlacedWord) → length before ≡ start
-        → HasRead progress.Words [] before (given ++ map word_view words.old.items)
-        → IfOk result (λ progress. HasRead progress held.new.items (before ++ piece.now) (given ++ map word_view words.new.items)) }
+        → HasRead progress.Words [] before (given ++ words.old)
+        → IfOk result (λ progress. HasRead progress held.new.items (before ++ piece.now) (given ++ words.new)) }
     ensures memory { IfErr result (λ fault. fault ≡ Memory) }
     ensures held_short { length held.new.items ≤ length piece.now }
 {
     let len = last_end(piece);
     let (ended, rest) = piece.split_at(len);
-    let stop = read_parts(alloc, start, ended, words)?;
+    let stop = read_parts(start, ended, words)?;
     if let Progress::Words = stop.progress {
         held.extend_from_slice(rest)?;
     }
@@ -76,29 +75,28 @@ fn read_words<'a, B: Allocator>(
 }
 
 /// Reads what follows a place where no word is cut, or a comment, or a fault.
-fn read_on<'a, B: Allocator>(
-    alloc: &'a B,
+fn read_on<A: Allocator>(
     start: usize,
     progress: Progress,
-    held: &mut Vec<u8, &'a B>,
+    held: &mut Vec<u8, A>,
     piece: &[u8],
-    words: &mut Vec<Word<&'a B>, &'a B>,
+    words: &mut WordList<A>,
 ) -> Result<Progress, TextFault>
     requires short { start + length piece.now ≤ LONGEST }
     requires empty { held.old.items ≡ [] }
     ensures read { (before : List ℕ) (given : List PlacedWord) → length before ≡ start
-        → HasRead progress [] before (given ++ map word_view words.old.items)
-        → IfOk result (λ next. HasRead next held.new.items (before ++ piece.now) (given ++ map word_view words.new.items)) }
+        → HasRead progress [] before (given ++ words.old)
+        → IfOk result (λ next. HasRead next held.new.items (before ++ piece.now) (given ++ words.new)) }
     ensures memory { IfErr result (λ fault. fault ≡ Memory) }
     ensures held_short { length held.new.items ≤ length piece.now }
 {
     match progress {
-        Progress::Words => read_words(alloc, start, held, piece, words),
+        Progress::Words => read_words(start, held, piece, words),
         Progress::Comment => {
             let len = line_len(piece);
             if len < piece.len() {
                 let rest = piece.split_at(len + 1).1;
-                read_words(alloc, start + len + 1, held, rest, words)
+                read_words(start + len + 1, held, rest, words)
             } else {
                 Ok(progress)
             }
@@ -108,18 +106,17 @@ fn read_on<'a, B: Allocator>(
 }
 
 /// Reads what follows a word's beginning.
-fn read_held<'a, B: Allocator>(
-    alloc: &'a B,
+fn read_held<A: Allocator>(
     start: usize,
-    held: &mut Vec<u8, &'a B>,
+    held: &mut Vec<u8, A>,
     piece: &[u8],
-    words: &mut Vec<Word<&'a B>, &'a B>,
+    words: &mut WordList<A>,
 ) -> Result<Progress, TextFault>
     requires short { start + length piece.now ≤ LONGEST }
     requires held_short { length held.old.items ≤ start }
     ensures read { (before : List ℕ) (given : List PlacedWord) → length before ≡ start
-        → HasRead progress.Words held.old.items before (given ++ map word_view words.old.items)
-        → IfOk result (λ next. HasRead next held.new.items (before ++ piece.now) (given ++ map word_view words.new.items)) }
+        → HasRead progress.Words held.old.items before (given ++ words.old)
+        → IfOk result (λ next. HasRead next held.new.items (before ++ piece.now) (given ++ words.new)) }
     ensures memory { IfErr result (λ fault. fault ≡ Memory) }
     ensures held_short { length held.new.items ≤ start + length piece.now }
 {
@@ -130,55 +127,53 @@ fn read_held<'a, B: Allocator>(
     };
     let (end, rest) = piece.split_at(len);
     held.extend_from_slice(end)?;
-    let stop = read_parts(alloc, begun, held.as_slice(), words)?;
+    let stop = read_parts(begun, held.as_slice(), words)?;
     held.clear();
-    read_on(alloc, start + len, stop.progress, held, rest, words)
+    read_on(start + len, stop.progress, held, rest, words)
 }
 
 /// Reads one more piece.
-pub fn read_piece<'a, B: Allocator>(
-    alloc: &'a B,
+pub fn read_piece<A: Allocator>(
     start: usize,
     progress: Progress,
-    held: &mut Vec<u8, &'a B>,
+    held: &mut Vec<u8, A>,
     piece: &[u8],
-    words: &mut Vec<Word<&'a B>, &'a B>,
+    words: &mut WordList<A>,
 ) -> Result<Progress, TextFault>
     requires short { start + length piece.now ≤ LONGEST }
     requires held_short { length held.old.items ≤ start }
     ensures read { (before : List ℕ) (given : List PlacedWord) → length before ≡ start
-        → HasRead progress held.old.items before (given ++ map word_view words.old.items)
-        → IfOk result (λ next. HasRead next held.new.items (before ++ piece.now) (given ++ map word_view words.new.items)) }
+        → HasRead progress held.old.items before (given ++ words.old)
+        → IfOk result (λ next. HasRead next held.new.items (before ++ piece.now) (given ++ words.new)) }
     ensures memory { IfErr result (λ fault. fault ≡ Memory) }
     ensures held_short { length held.new.items ≤ start + length piece.now }
 {
     if held.is_empty() {
-        return read_on(alloc, start, progress, held, piece, words);
+        return read_on(start, progress, held, piece, words);
     }
     match progress {
-        Progress::Words => read_held(alloc, start, held, piece, words),
+        Progress::Words => read_held(start, held, piece, words),
         _ => Ok(progress),
     }
 }
 
 /// Reads what is left at the text's end.
-pub fn read_last<'a, B: Allocator>(
-    alloc: &'a B,
+pub fn read_last<A: Allocator>(
     start: usize,
     progress: Progress,
     held: &[u8],
-    words: &mut Vec<Word<&'a B>, &'a B>,
+    words: &mut WordList<A>,
 ) -> Result<Progress, TextFault>
     requires short { start ≤ LONGEST }
     requires held_short { length held.now ≤ start }
     ensures read { (text : List ℕ) (given : List PlacedWord) → length text ≡ start
-        → HasRead progress held.now text (given ++ map word_view words.old.items)
-        → IfOk result (λ last. AnswersAt last text (given ++ map word_view words.new.items)) }
+        → HasRead progress held.now text (given ++ words.old)
+        → IfOk result (λ last. AnswersAt last text (given ++ words.new)) }
     ensures memory { IfErr result (λ fault. fault ≡ Memory) }
 {
     match progress {
         Progress::Words => {
-            let stop = read_parts(alloc, start - held.len(), held, words)?;
+            let stop = read_parts(start - held.len(), held, words)?;
             Ok(stop.progress)
         }
         _ => Ok(progress),

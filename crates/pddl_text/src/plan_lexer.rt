@@ -1,6 +1,6 @@
 //! The words of a text that comes in pieces.
 
-ghost use Rattle.std.specs.Prelude.{◌≡◌, ◌≢◌, ◌≤◌, ◌<◌, ◌++◌, [], ◌⊎◌, ℕ, List, length, map, IfOk, IfErr, OnErr, MatchResult, ◌↔◌, Err};
+ghost use Rattle.std.specs.Prelude.{◌≡◌, ◌≢◌, ◌≤◌, ◌<◌, ◌++◌, [], ◌⊎◌, ℕ, List, length, map, IfOk, IfErr, OnOk, OnErr, MatchResult, ◌↔◌, Err};
 ghost use Rattle.pddl_text.specs.declared.fault.TextFault.TheVariants.{Memory, TooLong, AlreadyFailed};
 ghost use Rattle.pddl_text.specs.Spelling.{PlacedWord, Spells};
 ghost use Rattle.pddl_text.specs.Faults.{AreValued, Stands};
@@ -11,6 +11,7 @@ use crate::lexer::LONGEST;
 use crate::parts::Progress;
 use crate::piecewise::{answer, read_last, read_piece};
 use crate::token::Word;
+use crate::word_list::WordList;
 use std::alloc::Allocator;
 
 /// The words of a text that comes in pieces: those that [`lex`](crate::lex) answers for the whole, however it is cut.
@@ -75,31 +76,15 @@ impl<'a, B: Allocator> PlanLexer<&'a B> {
         ensures failed { (result ≡ Err AlreadyFailed) ↔ HasRefused self.old }
         ensures refused { OnErr result (HasRefused self.new) }
     {
-        if self.failed {
-            return Err(TextFault::AlreadyFailed);
+        let mut words = WordList::new(self.alloc);
+        if let Err(fault) = self.feed_into(piece, &mut words) {
+            return Err(fault);
         }
-        if piece.len() > LONGEST - self.len {
-            self.failed = true;
-            return Err(TextFault::TooLong);
-        }
-        let mut words = Vec::new(self.alloc);
-        let read = read_piece(
-            self.alloc,
-            self.len,
-            self.progress,
-            &mut self.held,
-            piece,
-            &mut words,
-        );
-        self.len += piece.len();
-        match read {
-            Ok(progress) => {
-                self.progress = progress;
-                Ok(words)
-            }
-            Err(fault) => {
+        match words.to_words(self.alloc) {
+            Ok(words) => Ok(words),
+            Err(_) => {
                 self.failed = true;
-                Err(fault)
+                Err(TextFault::Memory)
             }
         }
     }
@@ -125,21 +110,67 @@ impl<'a, B: Allocator> PlanLexer<&'a B> {
         // A refused piece, and nothing else, is answered so.
         ensures failed { (result ≡ Err AlreadyFailed) ↔ HasRefused self.entry }
     {
+        let alloc = self.alloc;
+        let mut words = WordList::new(alloc);
+        if let Err(fault) = self.finish_into(&mut words) {
+            return Err(fault);
+        }
+        match words.to_words(alloc) {
+            Ok(words) => Ok(words),
+            Err(_) => Err(TextFault::Memory),
+        }
+    }
+}
+
+impl<A: Allocator> PlanLexer<A> {
+    ghost use Rattle.pddl_text.specs.StandsFor.{StandsFor, IsGoing, HasRefused};
+
+    /// [`feed`](PlanLexer::feed), which adds the words to a list.
+    pub fn feed_into(&mut self, piece: &[u8], words: &mut WordList<A>) -> Result<(), TextFault>
+        ensures stands { (text : List ℕ) (given : List PlacedWord) → StandsFor self.old text (given ++ words.old)
+            → OnOk result (StandsFor self.new (text ++ piece.now) (given ++ words.new)) }
+        ensures too_long { (text : List ℕ) (given : List PlacedWord) → StandsFor self.old text given
+            → (result ≡ Err TooLong) ↔ (LONGEST < length (text ++ piece.now)) }
+        ensures refusals { IfErr result (λ fault. (fault ≡ AlreadyFailed) ⊎ ((fault ≡ TooLong) ⊎ (fault ≡ Memory))) }
+        ensures failed { (result ≡ Err AlreadyFailed) ↔ HasRefused self.old }
+        ensures taken { OnOk result (IsGoing self.new) }
+        ensures refused { OnErr result (HasRefused self.new) }
+    {
         if self.failed {
             return Err(TextFault::AlreadyFailed);
         }
-        let mut words = Vec::new(self.alloc);
-        let held = self.held;
-        let last = read_last(
-            self.alloc,
-            self.len,
-            self.progress,
-            held.as_slice(),
-            &mut words,
-        )?;
-        match answer(last) {
-            Ok(()) => Ok(words),
-            Err(fault) => Err(fault),
+        if piece.len() > LONGEST - self.len {
+            self.failed = true;
+            return Err(TextFault::TooLong);
         }
+        let read = read_piece(self.len, self.progress, &mut self.held, piece, words);
+        self.len += piece.len();
+        match read {
+            Ok(progress) => {
+                self.progress = progress;
+                Ok(())
+            }
+            Err(fault) => {
+                self.failed = true;
+                Err(fault)
+            }
+        }
+    }
+
+    /// [`finish`](PlanLexer::finish), which adds the words to a list.
+    pub fn finish_into(self, words: &mut WordList<A>) -> Result<(), TextFault>
+        ensures words { (text : List ℕ) (given : List PlacedWord) → StandsFor self text (given ++ words.old)
+            → OnOk result (Spells (given ++ words.new) text × AreValued (given ++ words.new)) }
+        ensures fault { (text : List ℕ) (given : List PlacedWord) → StandsFor self text (given ++ words.old)
+            → IfErr result (λ fault. Stands fault text) }
+        ensures never_too_long { result ≢ Err TooLong }
+        ensures failed { (result ≡ Err AlreadyFailed) ↔ HasRefused self }
+    {
+        if self.failed {
+            return Err(TextFault::AlreadyFailed);
+        }
+        let held = self.held;
+        let last = read_last(self.len, self.progress, held.as_slice(), words)?;
+        answer(last)
     }
 }

@@ -1,9 +1,9 @@
 -- Plans in making, as parts of one list of names.
-use Rattle.std.proofs.Common.{◌≡◌, ◌<◌, ◌≤◌, ℕ, ◌+◌, Bool, true, false, IsTrue, zero, suc, List, [], ◌∷◌, ◌++◌, length, drop, take, map, refl, sym, ap, subst, ◌∙◌, inl, inr, arith}
-use Rattle.std.specs.Prelude.{◌⊎◌, Option, Some, None, Result, Ok, Err, IfOk, OnErr, ◌&&◌, nat_lt, slice_get, slice_range, option_map}
+use Rattle.std.proofs.Common.{◌≡◌, ◌<◌, ◌≤◌, ℕ, ◌+◌, ◌-◌, Bool, true, false, IsTrue, zero, suc, List, [], ◌∷◌, ◌++◌, length, drop, take, map, refl, sym, ap, subst, ◌∙◌, inl, inr, arith}
+use Rattle.std.specs.Prelude.{◌⊎◌, Option, Some, None, Result, Ok, Err, IfOk, OnErr, ◌&&◌, nat_eq, nat_lt, slice_get, slice_range, option_map}
 use Rattle.std.specs.List.{list_all}
 use Rattle.std.proofs.lemmas.Bool.Decides.{nat_tests}
-use Rattle.std.proofs.lemmas.List.{append-nil, length-append, length-drop, length-map, take-append-drop, drop-append-le, drop_all}
+use Rattle.std.proofs.lemmas.List.{append-nil, length-append, length-drop, length-map, length-take-le, take-append-drop, drop-append-le, drop_all}
 use Rattle.std.proofs.lemmas.List.Folds.{drop_split, list_all-append}
 use Rattle.pddl_text.proofs.Tests.{both_true}
 use Rattle.pddl_tree.specs.Names.{is_name, name_of, folded}
@@ -13,7 +13,7 @@ use Rattle.pddl_tree.specs.Building.{Building, is_moment, AreStepsIn, AddsWord, 
 use Rattle.pddl_tree.specs.Built.{IsBuilt}
 use Rattle.pddl_tree.specs.Plans.{StepValue, TimedValue, is_step, is_timed, is_plan, step_of_names, at_moments, plan_of, built_plan, steps_of, moment_at}
 use Rattle.pddl_tree.proofs.Options.{if_some}
-use Rattle.pddl_tree.proofs.CutLists.{last_end_pushed, rises_pushed, as_many, length-cut, length-range, cut_kept, cut_pushed, range_to_end}
+use Rattle.pddl_tree.proofs.CutLists.{last_end_pushed, rises_pushed, as_many, length-cut, length-range, cut_kept, cut_pushed, cut_taken, range_to_end}
 
 and_true : (a b : Bool) → IsTrue a → IsTrue b → IsTrue (a && b)
 and_true a b p q = rw (p, q) refl
@@ -24,6 +24,9 @@ module _ {A : Type 0} (p : A → Bool) where
 
   pub all_more : (xs ys : List A) → IsTrue (list_all p xs) → IsTrue (list_all p ys) → IsTrue (list_all p (xs ++ ys))
   all_more xs ys one other = list_all-append p xs ys ∙ and_true (list_all p xs) (list_all p ys) one other
+
+  pub all_first : (n : ℕ) (xs : List A) → IsTrue (list_all p xs) → IsTrue (list_all p (take n xs))
+  all_first n xs all = (all_both (take n xs) (drop n xs) (ap (list_all p) (take-append-drop n xs) ∙ all)).0
 
   all_range : (xs : List A) (a b : ℕ) → a ≤ b → IsTrue (list_all p xs) → IsTrue (list_all p (slice_range xs a b))
   all_range xs a b le all =
@@ -223,8 +226,35 @@ module _ (b : Building) (built : IsBuilt b) where
       of_kinds (inl none) = inl none
       of_kinds (inr same) = inr (same ∙ sym (length-map b.steps step_of_names))
 
-  pub built_steps : steps_of (built_plan b) ≡ map step_of_names b.steps
-  built_steps = by_kinds b.moments (map step_of_names b.steps) kinds
+  pub steps_built : steps_of (built_plan b) ≡ map step_of_names b.steps
+  steps_built = by_kinds b.moments (map step_of_names b.steps) kinds
 
   pub built_moment : (n : ℕ) → moment_at (built_plan b) n ≡ slice_get b.moments n
   built_moment n = at_kinds b.moments (map step_of_names b.steps) n kinds
+
+-- ---- names of no step
+
+pub names_left : (start len count : ℕ) → count ≡ len - start → nat_lt start len ≡ nat_lt 0 count
+names_left start len count is = grind (arith, nat_tests, is)
+
+pub same_test : (a b c d : ℕ) → a ≡ c → b ≡ d → nat_eq a b ≡ nat_eq c d
+same_test a b c d first second = rw (first, second) refl
+
+module _ (names : List (List ℕ)) (ends moments : List ℕ) (held : AreStepsIn names ends moments) (end : ℕ) (end_is : end ≡ last_end 0 ends) (new : List (List ℕ)) (new_is : new ≡ take end names) where
+  last : length (take (last_end 0 ends) names) ≡ last_end 0 ends
+  last = length-take-le (last_end 0 ends) names held.within
+
+  pub left_held : AreStepsIn new ends moments
+  left_held = rw (new_is, end_is) (record {
+    rises = held.rises;
+    within = omega (arith, last);
+    kinds = held.kinds;
+    in_range = held.in_range;
+    named = all_first is_name (last_end 0 ends) names held.named;
+  })
+
+  pub left_behind : ◌≡◌ {A = Building} (record { moments = moments; steps = cut new 0 ends; names = drop (last_end 0 ends) new }) (record { moments = moments; steps = cut names 0 ends; names = [] })
+  left_behind =
+      let steps : cut (take (last_end 0 ends) names) 0 ends ≡ cut names 0 ends = cut_taken names (last_end 0 ends) 0 ends held.rises (omega (arith, last)) in
+      let none : drop (last_end 0 ends) (take (last_end 0 ends) names) ≡ [] = drop_all (last_end 0 ends) (take (last_end 0 ends) names) (omega (arith, last)) in
+      rw (new_is, end_is, steps, none) refl

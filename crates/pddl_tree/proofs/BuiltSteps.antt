@@ -5,14 +5,7 @@ use Rattle.std.proofs.lemmas.Bool.Decides.{nat_tests}
 use Rattle.std.proofs.lemmas.List.{map_push, length-append, length-map}
 use Rattle.pddl_tree.specs.Building.{Building, ended, ended_at}
 use Rattle.pddl_tree.specs.PlanReading.{is_behind}
-use Rattle.pddl_tree.specs.Plans.{StepValue, TimedValue, timed, step_of_names, at_moments, plan_of}
-
--- the steps of a plan in making
-abbrev pub built_steps : Building → List StepValue
-built_steps b = map step_of_names b.steps
-
-abbrev pub built_timed : Building → List TimedValue
-built_timed b = at_moments b.moments (built_steps b)
+use Rattle.pddl_tree.specs.Plans.{StepValue, TimedValue, timed, step_of_names, at_moments, plan_of, steps_built, timed_built}
 
 -- steps and their moments, when one is added
 pub timed_pushed : (moments : List ℕ) (steps : List StepValue) (m : ℕ) (step : StepValue) → length moments ≡ length steps
@@ -33,17 +26,17 @@ plan_is_timed [] steps same some = absurd (omega (arith, same, some))
 plan_is_timed (m ∷ moments) steps same some = refl
 
 -- a step is ended
-pub plain_pushed : (old read new : Building) → read.steps ≡ old.steps → new ≡ ended read → built_steps new ≡ built_steps old ++ step_of_names read.names ∷ []
+pub plain_pushed : (old read new : Building) → read.steps ≡ old.steps → new ≡ ended read → steps_built new ≡ steps_built old ++ step_of_names read.names ∷ []
 plain_pushed old read new same is =
-    ap built_steps is ∙ map_push step_of_names read.steps read.names ∙ ap (λ (ss : List (List (List ℕ))). map step_of_names ss ++ step_of_names read.names ∷ []) same
+    ap steps_built is ∙ map_push step_of_names read.steps read.names ∙ ap (λ (ss : List (List (List ℕ))). map step_of_names ss ++ step_of_names read.names ∷ []) same
 
 module _ (old read new : Building) (m : ℕ) (as_many : length old.moments ≡ length old.steps) (same_moments : read.moments ≡ old.moments) (same : read.steps ≡ old.steps) (is : new ≡ ended_at m read) where
-  pub moment_pushed : built_timed new ≡ built_timed old ++ record { moment = m; step = step_of_names read.names } ∷ []
+  pub moment_pushed : timed_built new ≡ timed_built old ++ record { moment = m; step = step_of_names read.names } ∷ []
   moment_pushed =
-      let steps : built_steps new ≡ built_steps old ++ step_of_names read.names ∷ [] =
-      ap built_steps is ∙ map_push step_of_names read.steps read.names ∙ ap (λ (ss : List (List (List ℕ))). map step_of_names ss ++ step_of_names read.names ∷ []) same in
+      let steps : steps_built new ≡ steps_built old ++ step_of_names read.names ∷ [] =
+      ap steps_built is ∙ map_push step_of_names read.steps read.names ∙ ap (λ (ss : List (List (List ℕ))). map step_of_names ss ++ step_of_names read.names ∷ []) same in
       let moments : new.moments ≡ old.moments ++ m ∷ [] = ap (λ (b : Building). b.moments) is ∙ ap (λ (ms : List ℕ). ms ++ m ∷ []) same_moments in
-      rw (steps, moments) (timed_pushed old.moments (built_steps old) m (step_of_names read.names) (as_many ∙ sym (length-map old.steps step_of_names)))
+      rw (steps, moments) (timed_pushed old.moments (steps_built old) m (step_of_names read.names) (as_many ∙ sym (length-map old.steps step_of_names)))
 
   pub moments_pushed : length new.moments ≡ length new.steps
   moments_pushed =
@@ -73,7 +66,7 @@ length-timed [] (s ∷ steps) same = absurd (omega (arith, same))
 length-timed (m ∷ moments) [] same = absurd (omega (arith, same))
 length-timed (m ∷ moments) (s ∷ steps) same = ap suc (length-timed moments steps (omega (arith, same)))
 
-pub timed_behind : (b : Building) (count : ℕ) (test : Bool) → length b.moments ≡ length b.steps → count ≡ length b.steps → test ≡ nat_lt 0 count → test ≡ is_behind (built_timed b)
+pub timed_behind : (b : Building) (count : ℕ) (test : Bool) → length b.moments ≡ length b.steps → count ≡ length b.steps → test ≡ nat_lt 0 count → test ≡ is_behind (timed_built b)
 timed_behind b count test same len is =
-    let as_many : length b.moments ≡ length (built_steps b) = same ∙ sym (length-map b.steps step_of_names) in
-    some_behind (built_timed b) test (is ∙ ap (nat_lt 0) (len ∙ sym (length-map b.steps step_of_names) ∙ sym (length-timed b.moments (built_steps b) as_many)))
+    let as_many : length b.moments ≡ length (steps_built b) = same ∙ sym (length-map b.steps step_of_names) in
+    some_behind (timed_built b) test (is ∙ ap (nat_lt 0) (len ∙ sym (length-map b.steps step_of_names) ∙ sym (length-timed b.moments (steps_built b) as_many)))

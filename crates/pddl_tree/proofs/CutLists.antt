@@ -37,12 +37,30 @@ part_ends start [] n low rises = absurd (omega (arith, low))
 part_ends start (e ∷ ends) zero low rises = omega (arith, as_many e ends rises.1)
 part_ends start (e ∷ ends) (suc n) low rises = part_ends e ends n (omega (arith, low)) rises.1
 
+-- the first ends
+
+pub rises_first : (n start : ℕ) (ends : List ℕ) → Rises start ends → Rises start (take n ends)
+rises_first zero start ends rises = tt
+rises_first (suc n) start [] rises = tt
+rises_first (suc n) start (e ∷ ends) rises = (rises.0, rises_first n e ends rises.1)
+
+pub end_first : (n start : ℕ) (ends : List ℕ) → Rises start ends → last_end start (take n ends) ≤ last_end start ends
+end_first zero start ends rises = omega (arith, as_many start ends rises)
+end_first (suc n) start [] rises = omega (arith)
+end_first (suc n) start (e ∷ ends) rises = end_first n e ends rises.1
+
 -- ---- parts
 
 module _ {A : Type 0} where
   pub length-cut : (xs : List A) (start : ℕ) (ends : List ℕ) → length (cut xs start ends) ≡ length ends
   length-cut xs start [] = refl
   length-cut xs start (e ∷ ends) = ap suc (length-cut xs e ends)
+
+  -- the first parts
+  pub cut_first : (xs : List A) (n start : ℕ) (ends : List ℕ) → cut xs start (take n ends) ≡ take n (cut xs start ends)
+  cut_first xs zero start ends = refl
+  cut_first xs (suc n) start [] = refl
+  cut_first xs (suc n) start (e ∷ ends) = ap (λ (ps : List (List A)). slice_range xs start e ∷ ps) (cut_first xs n e ends)
 
   -- the part of a number
   pub cut_get : (xs : List A) (start : ℕ) (ends : List ℕ) (n : ℕ) → n < length ends

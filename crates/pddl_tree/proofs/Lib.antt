@@ -2,7 +2,6 @@ mod CutLists
 mod NamesHeld
 mod BuiltPlans
 mod LentSteps
-mod MadePlans
 mod GotNames
 pub mod BuiltSteps
 pub mod FoldedNames
@@ -13,4 +12,5 @@ pub mod PlanSteps
 pub mod PlanLaws
 pub mod PlanTextLaws
 pub mod FaultPlaces
-pub mod PlanScans
+pub mod StepsRead
+pub mod RestRead

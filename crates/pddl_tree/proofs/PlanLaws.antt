@@ -1,6 +1,6 @@
 -- Reading from the left answers the plan that items spell, or the fault that stands in them, and no other.
-use Rattle.std.proofs.Common.{◌≡◌, ℕ, Bool, true, false, List, [], ◌∷◌, ◌++◌, map, IsTrue, refl, sym, ap, subst, ◌∙◌, cond, arith}
-use Rattle.std.specs.Prelude.{◌≢◌, Option, Some, None, Result, Ok, Err, is_some, ◌&&◌}
+use Rattle.std.proofs.Common.{◌≡◌, ℕ, Bool, true, false, List, [], ◌∷◌, ◌++◌, ◌<◌, length, map, IsTrue, refl, sym, ap, subst, ◌∙◌, cond, arith, inl, inr}
+use Rattle.std.specs.Prelude.{◌≢◌, ◌⊎◌, Option, Some, None, Result, Ok, Err, is_some, ◌&&◌}
 use Rattle.std.proofs.lemmas.Bool.{cond_both}
 use Rattle.std.proofs.lemmas.List.{append_assoc, append-nil}
 use Rattle.pddl_text.specs.declared.token.TokenKind.{TokenKind}
@@ -13,9 +13,9 @@ use Rattle.pddl_text.proofs.Tests.{both_true}
 use Rattle.pddl_tree.specs.declared.fault.ReadFault.{ReadFault}
 use Rattle.pddl_tree.specs.declared.fault.ReadFault.TheVariants as faults
 use Rattle.pddl_tree.specs.Names.{folded, is_name}
-use Rattle.pddl_tree.specs.Plans.{StepValue, TimedValue, PlanValue, plain, timed, AreNamed, IsStep, IsColon, ArePlain, IsTimed, AreTimed, AreSteps}
+use Rattle.pddl_tree.specs.Plans.{StepValue, TimedValue, PlanValue, plain, timed, AreNamed, IsStep, IsColon, ArePlain, IsTimed, AreTimed, AreSteps, at_moments as with_moments}
 use Rattle.pddl_tree.specs.PlanFaults.{StepKind, alone, at_moments, other_kind, span_of, Follows, NoneFollows, IsNext, IsNextBracket, IsReached, IsMixed, IsDuration, IsNoStep}
-use Rattle.pddl_tree.specs.PlanReading.{name_by, name_at, both, names_at, step_of, placed_items, step_at, moment_by, moment_at, colon_by, is_colon, timed_of, timed_by, timed_at, bracket_by, is_bracket, no_step, timed_span, plain_fault, timed_fault, is_behind, where_some, plain_from, timed_from, plan_at}
+use Rattle.pddl_tree.specs.PlanReading.{name_by, name_at, both, names_at, step_of, placed_items, step_at, moment_by, moment_at, colon_by, is_colon, timed_of, timed_by, timed_at, bracket_by, is_bracket, no_step, timed_span, plain_fault, timed_fault, is_behind, where_some, plain_from, timed_from, plan_at, plan_behind}
 use Rattle.pddl_tree.specs.Words.{SpellsName, SpellsNumber}
 use Rattle.pddl_tree.proofs.PlanSteps.{plain_some, plain_none, timed_some, timed_none}
 
@@ -504,3 +504,21 @@ no_step_complete span items fault = by_parts fault.before fault.after fault.reac
         (λ is. absurd (no_duration some (subst (λ s. IsNextBracket s (item ∷ after)) (sym next) (bracket_sound item after is)))) (λ other. other) in
         behind_steps fault.kind (first ∷ before) item after items reached some (no_plain_first item after none) (no_timed_first (item ∷ after) none)
         ∙ ap (λ b. Err (cond b (faults.Duration (span_of item)) (faults.Step (span_of item) (span_of item).start))) no_bracket ∙ ap (λ (s : Span). Err (faults.Step s s.start)) (sym next)
+
+-- ---- behind steps
+
+no_items : (items : List Placed) → ArePlain [] (map erased items) → items ≡ []
+no_items [] are = refl
+no_items (item ∷ items) bad = absurd bad
+
+-- the plan of steps and of the items behind them
+pub plan_through : (moments : List ℕ) (steps : List StepValue) (before after : List Placed)
+    → ((moments ≡ []) × ArePlain steps (map erased before)) ⊎ ((length moments ≡ length steps) × (0 < length steps) × AreTimed (with_moments moments steps) (map erased before))
+    → plan_at (before ++ after) ≡ plan_behind moments steps after
+plan_through [] [] before after (inl are) = ap (λ (t : List Placed). plan_at (t ++ after)) (no_items before are.1)
+plan_through [] (step ∷ steps) before after (inl are) = plain_at (step ∷ steps) before after are.1 (plain_none_before (step ∷ steps) before are.1 refl)
+plan_through (m ∷ moments) steps before after (inl are) = absurd (cc (are.0))
+plan_through [] steps before after (inr are) = absurd (omega (arith, are.0, are.1))
+plan_through (m ∷ moments) [] before after (inr are) = absurd (omega (arith, are.1))
+plan_through (m ∷ moments) (step ∷ steps) before after (inr are) =
+    timed_at_some (with_moments (m ∷ moments) (step ∷ steps)) before after are.2 (timed_none_before (with_moments (m ∷ moments) (step ∷ steps)) before are.2 refl)

@@ -18,7 +18,7 @@ use Rattle.pddl_tree.specs.NameLists.{AddsName}
 use Rattle.pddl_tree.specs.Building.{Building, AddsWord, AddsNames}
 use Rattle.pddl_tree.specs.StepNames.{names_of_step, AddsTimed}
 use Rattle.pddl_tree.specs.PlanFaults.{span_of}
-use Rattle.pddl_tree.specs.PlanReading.{plan_at, moment_at, is_colon, timed_span, both, name_at, names_at, placed_items, step_of, step_at, is_bracket, no_step, timed_at, plain_fault, timed_fault, is_behind, where_some, plain_from, timed_from, Refuses}
+use Rattle.pddl_tree.specs.PlanReading.{moment_at, is_colon, timed_span, both, name_at, names_at, placed_items, step_of, step_at, is_bracket, no_step, timed_at, plain_fault, timed_fault, is_behind, where_some, plain_from, timed_from, Refuses}
 use Rattle.pddl_tree.proofs.Options.{with_front, front_more, front_none}
 use Rattle.pddl_tree.proofs.GotNames.{GotName}
 
@@ -289,13 +289,3 @@ timed_stop xs i found behind fault whole lt so_far e is_behind fault_is =
 pub timed_end : (found : List TimedValue) (items : List Placed) → items ≡ [] → timed_from found items ≡ Ok (timed found)
 unfolding timed_from
 timed_end found items e = ap (timed_from found) e
-
--- ---- whole plans
-
-pub plain_first : {A : Type 0} (xs : List (Item A)) (d : Item A) (inner : Vec (Item A) A) (span : Span) → 0 < length xs → get_or xs 0 d ≡ Group inner span → plan_at (items_view xs) ≡ plain_from [] (items_view xs)
-plain_first [] d inner span some e = absurd (omega (arith, some))
-plain_first (x ∷ xs) d inner span some e = let first : item_view x ≡ placed_node span (placed_of (items_view inner.items)) = ap item_view e ∙ item_view_list inner span in rw first refl
-
-pub timed_first : {A : Type 0} (xs : List (Item A)) (d : Item A) (token : Token) → 0 < length xs → get_or xs 0 d ≡ Word token → plan_at (items_view xs) ≡ timed_from [] (items_view xs)
-timed_first [] d token some e = absurd (omega (arith, some))
-timed_first {A = A} (x ∷ xs) d token some e = let first : item_view x ≡ placed_leaf (view token) = ap item_view e ∙ item_view_word A token in rw first refl

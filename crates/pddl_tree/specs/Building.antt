@@ -1,5 +1,5 @@
 -- A plan in making.
-use Rattle.std.specs.Prelude.{◌≡◌, ◌<◌, ◌≤◌, ◌⊎◌, ℕ, Bool, true, false, nat_le, List, [], ◌∷◌, ◌++◌, Option, Some, None, length, IsTrue}
+use Rattle.std.specs.Prelude.{◌≡◌, ◌≤◌, ◌⊎◌, ℕ, Bool, true, false, nat_le, List, [], ◌∷◌, ◌++◌, Option, Some, None, length, IsTrue}
 use Rattle.std.specs.List.{list_all}
 use Rattle.pddl_tree.specs.Names.{is_name}
 use Rattle.pddl_tree.specs.Cuts.{last_end, Rises}
@@ -32,21 +32,13 @@ pub record AddsNames (is : Bool) (found : Option (List (List ℕ))) (old new : B
   pub steps : new.steps ≡ old.steps
   pub names : AddsAll is found old.names new.names
 
--- nothing but names was added
-pub record HasNamesMore (old new : Building) : Type 0 where
-  pub moments : new.moments ≡ old.moments
-  pub steps : new.steps ≡ old.steps
-  pub names : length old.names ≤ length new.names
-
--- nothing but names was added, and the step that is not ended has some
-pub record HasNames (old new : Building) : Type 0 where
-  pub moments : new.moments ≡ old.moments
-  pub steps : new.steps ≡ old.steps
-  pub names : 0 < length new.names
-
 -- names were added to the step that is not ended
 abbrev pub with_names : Building → List (List ℕ) → Building
 with_names b names = record { moments = b.moments; steps = b.steps; names = b.names ++ names }
+
+-- the step that is not ended has no names
+abbrev pub without_names : Building → Building
+without_names b = record { moments = b.moments; steps = b.steps; names = [] }
 
 -- the step is ended
 abbrev pub ended : Building → Building

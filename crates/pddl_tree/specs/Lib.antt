@@ -12,5 +12,6 @@ pub mod Places
 pub mod PlanFaults
 pub mod PlanTexts
 pub mod PlanReading
-pub mod PlanScanning
+pub mod StepWords
+pub mod StandsForPlan
 pub mod TreeReading

@@ -9,7 +9,8 @@ use Rattle.pddl_text.specs.declared.fault.TextFault.TheVariants.{Memory}
 use Rattle.pddl_tree.specs.declared.fault.ReadFault.{ReadFault}
 use Rattle.pddl_tree.specs.declared.fault.ReadFault.TheVariants as faults
 use Rattle.pddl_tree.specs.Names.{name_of}
-use Rattle.pddl_tree.specs.Plans.{StepValue, TimedValue, PlanValue, plain, timed}
+use Rattle.pddl_tree.specs.Building.{Building}
+use Rattle.pddl_tree.specs.Plans.{StepValue, TimedValue, PlanValue, plain, timed, at_moments, steps_built}
 use Rattle.pddl_tree.specs.PlanFaults.{span_of}
 
 -- the name that a word of a kind is
@@ -141,6 +142,15 @@ abbrev pub plan_at : List Placed → Result PlanValue ReadFault
 plan_at [] = Ok (plain [])
 plan_at (placed_leaf w ∷ items) = timed_from [] (placed_leaf w ∷ items)
 plan_at (placed_node span children ∷ items) = plain_from [] (placed_node span children ∷ items)
+
+-- the same behind the steps of a plan in making
+abbrev pub plan_behind : List ℕ → List StepValue → List Placed → Result PlanValue ReadFault
+plan_behind [] [] items = plan_at items
+plan_behind [] (step ∷ steps) items = plain_from (step ∷ steps) items
+plan_behind (moment ∷ moments) steps items = timed_from (at_moments (moment ∷ moments) steps) items
+
+abbrev pub plan_from : Building → List Placed → Result PlanValue ReadFault
+plan_from b items = plan_behind b.moments (steps_built b) items
 
 -- the fault is that of the answer, or memory was refused
 abbrev pub Refuses : ReadFault → Result PlanValue ReadFault → Type 0

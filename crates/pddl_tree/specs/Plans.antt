@@ -56,9 +56,17 @@ abbrev pub plan_of : List ℕ → List StepValue → PlanValue
 plan_of [] steps = plain steps
 plan_of (m ∷ moments) steps = timed (at_moments (m ∷ moments) steps)
 
+-- the steps of a plan in making that are ended
+abbrev pub steps_built : Building → List StepValue
+steps_built b = map step_of_names b.steps
+
+-- the same at their moments
+abbrev pub timed_built : Building → List TimedValue
+timed_built b = at_moments b.moments (steps_built b)
+
 -- a plan in making, but for the step that is not ended
 abbrev pub built_plan : Building → PlanValue
-built_plan b = plan_of b.moments (map step_of_names b.steps)
+built_plan b = plan_of b.moments (steps_built b)
 
 -- a plan of the program
 abbrev pub plan_view : {A : _} → Plan A → PlanValue

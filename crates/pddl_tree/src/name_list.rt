@@ -1,6 +1,6 @@
 //! Names side by side in one buffer.
 
-ghost use Rattle.std.specs.Prelude.{◌≡◌, ◌<◌, ◌≤◌, ◌++◌, [], Some, IfOk, OnOk, OnErr, IsTrue, length, slice_get, slice_index, is_ok, if◌then◌else◌};
+ghost use Rattle.std.specs.Prelude.{◌≡◌, ◌<◌, ◌≤◌, ◌++◌, [], Some, take, IfOk, OnOk, OnErr, IsTrue, length, slice_get, slice_index, is_ok, if◌then◌else◌};
 ghost use Rattle.std.specs.List.{list_all};
 ghost use Rattle.pddl_tree.specs.Names.{folded, name_of, is_name};
 ghost use Rattle.pddl_tree.specs.Cuts.{last_end, Rises, start_of};
@@ -101,6 +101,13 @@ impl<A: Allocator> NameList<A> {
     {
         let part = part_of(&self.ends, number);
         &self.text[part.start..part.end]
+    }
+
+    /// Leaves the first so many names.
+    pub fn truncate(&mut self, count: usize)
+        ensures { self.new ≡ take count self.old }
+    {
+        self.ends.truncate(count);
     }
 
     /// Adds the name that a word spells, in any case of its letters, and answers whether it spells one. What is no name is

@@ -1,13 +1,13 @@
 //! Plans in making.
 
-ghost use Rattle.std.specs.Prelude.{◌≡◌, ◌<◌, [], ◌∷◌, Some, length, map, slice_get, IfOk, OnOk, OnErr};
+ghost use Rattle.std.specs.Prelude.{◌≡◌, ◌<◌, [], ◌∷◌, Some, length, map, slice_get, nat_eq, nat_lt, IfOk, OnOk, OnErr};
 ghost use Rattle.pddl_tree.specs.Names.{name_of};
-ghost use Rattle.pddl_tree.specs.Building.{nothing_built, AddsWord, with_names, ended, ended_at};
+ghost use Rattle.pddl_tree.specs.Building.{nothing_built, AddsWord, with_names, without_names, ended, ended_at};
 ghost use Rattle.pddl_tree.specs.Built.{IsBuilt};
 ghost use Rattle.pddl_tree.specs.Plans.{step_of_names, built_plan, plan_view};
 
 use crate::name::Name;
-use crate::name_list::{NameList, part_of};
+use crate::name_list::{NameList, part_of, start_of};
 use crate::plan::Plan;
 use crate::step::Step;
 use pddl_text::Fixed;
@@ -97,6 +97,36 @@ impl<A: Allocator> PlanBuilder<A> {
     {
         self.push_word(name.as_bytes())?;
         Ok(())
+    }
+
+    /// Whether none of the steps that are ended has a moment.
+    pub(crate) fn is_plain(&self) -> bool
+        ensures { result ≡ nat_eq (length self.now.moments) 0 }
+    {
+        self.moments.len() == 0
+    }
+
+    /// Whether each of the steps that are ended has a moment.
+    pub(crate) fn is_timed(&self) -> bool
+        ensures { result ≡ nat_eq (length self.now.moments) (length self.now.steps) }
+    {
+        let _named = self.names.len();
+        self.moments.len() == self.ends.len()
+    }
+
+    /// Whether names were added since the last step was ended.
+    pub(crate) fn has_names(&self) -> bool
+        ensures { result ≡ nat_lt 0 (length self.now.names) }
+    {
+        self.names.len() > start_of(&self.ends, self.ends.len())
+    }
+
+    /// Leaves out the names that were added since the last step was ended.
+    pub(crate) fn give_up_step(&mut self)
+        ensures { self.new ≡ without_names self.old }
+    {
+        let end = start_of(&self.ends, self.ends.len());
+        self.names.truncate(end);
     }
 
     /// Ends the step of the names that were added since the one before. None has a moment.

@@ -1,281 +1,161 @@
-//! Plans read from items.
+//! Plans read from texts.
 
-ghost use Rattle.std.specs.Prelude.{◌≡◌, ◌≢◌, ◌<◌, ◌≤◌, Some, ℕ, List, [], length, IfOk, OnOk, IfErr, MatchResult, Ok, option_map};
-ghost use Rattle.pddl_text.specs.Items.{item_view, items_view};
-ghost use Rattle.pddl_text.specs.declared.fault.TextFault.TheVariants.{Memory};
+ghost use Rattle.std.specs.Prelude.{◌≡◌, ◌≢◌, ◌≤◌, ◌<◌, ◌++◌, [], ◌⊎◌, ◌↔◌, Some, ℕ, false, List, length, IfOk, IfErr, OnOk, OnErr, MatchResult, Err};
+ghost use Rattle.pddl_text.specs.declared.fault.TextFault.TheVariants.{Memory, TooLong, AlreadyFailed};
+ghost use Rattle.pddl_text.specs.Spelling.{PlacedWord, Spells};
+ghost use Rattle.pddl_text.specs.Faults.{AreValued};
+ghost use Rattle.pddl_text.specs.StandsFor.{IsGoing};
 ghost use Rattle.pddl_tree.specs.declared.fault.ReadFault.{ReadFault};
 ghost use Rattle.pddl_tree.specs.declared.fault.ReadFault.TheVariants.{Text};
-ghost use Rattle.pddl_tree.specs.Building.{nothing_built, AddsWord, AddsNames};
-ghost use Rattle.pddl_tree.specs.Plans.{PlanValue, built_plan, plan_view};
-ghost use Rattle.pddl_tree.specs.StepNames.{names_of_step, AddsTimed};
-ghost use Rattle.pddl_tree.specs.Places.{fault_place};
-ghost use Rattle.pddl_tree.specs.PlanFaults.{span_of};
+ghost use Rattle.pddl_tree.specs.Plans.{PlanValue, plan_view};
 ghost use Rattle.pddl_tree.specs.PlanTexts.{SpellsPlan, PlanStands, without_near};
-ghost use Rattle.pddl_tree.specs.PlanReading.{name_at, names_at, step_of, step_at, moment_at, is_colon, is_bracket, timed_at, no_step, timed_span, plain_fault, timed_fault, plain_from, timed_from, plan_at, Refuses};
+ghost use Rattle.pddl_tree.specs.Places.{fault_place};
+ghost use Rattle.pddl_tree.specs.StepWords.{AreStepWords};
 
 use crate::fault::ReadFault;
 use crate::plan::Plan;
 use crate::plan_builder::PlanBuilder;
-use crate::plan_scanner::scan_plan;
-use pddl_text::{Fixed, Item, LONGEST, Span, TextFault, TokenKind, items_of, value_of};
-use std::alloc::{AllocError, Allocator};
+use crate::plan_items::add_steps;
+use crate::plan_words::{Place, read_on};
+use pddl_text::{LONGEST, PlanLexer, TextFault, WordList, lists};
+use std::alloc::Allocator;
 
-/// Adds the name that an item is, and answers whether it is one.
-fn add_name<'a, B: Allocator>(
-    plan: &mut PlanBuilder<&'a B>,
-    item: &Item<'_, &'a B>,
-) -> Result<bool, AllocError>
-    ensures { IfOk result (λ is. AddsWord is (name_at (item_view item.now)) plan.old plan.new) }
-{
-    match item {
-        Item::Word(token) => match token.kind {
-            TokenKind::Name => plan.push_word(token.text),
-            _ => Ok(false),
-        },
-        Item::List(_, _) => Ok(false),
-    }
+/// The plan that a text spells which comes in pieces: what [`read_plan`] answers for the whole, however it is cut.
+///
+/// It keeps the plan's steps, and of the text the words behind the last whole step: those of the step that has begun, and
+/// where a word fits no step all from the beginning of that step on, of which [`finish`](PlanReader::finish) says what is
+/// wrong. Of blanks and comments it keeps nothing. Own.
+#[derive(Drop)]
+pub struct PlanReader<A: Allocator> {
+    alloc: A,
+    lexer: PlanLexer<A>,
+    /// The words of the piece.
+    words: WordList<A>,
+    plan: PlanBuilder<A>,
+    place: Place,
+    /// The words behind the last whole step.
+    kept: WordList<A>,
+    /// Whether a piece was refused.
+    failed: bool,
+    ghost lexes: { failed ≡ false → IsGoing lexer },
 }
 
-/// Adds the names that some items are, and answers whether each of them is one.
-fn add_names<'a, B: Allocator>(
-    plan: &mut PlanBuilder<&'a B>,
-    items: &[Item<'_, &'a B>],
-) -> Result<bool, AllocError>
-    ensures { IfOk result (λ is. AddsNames is (names_at (items_view items.now)) plan.old plan.new) }
-{
-    for item in items {
-        if !add_name(plan, item)? {
-            return Ok(false);
-        }
-    }
-    Ok(true)
-}
-
-/// Adds the names of the step that some items are, and answers whether they are one.
-fn add_step_of<'a, B: Allocator>(
-    plan: &mut PlanBuilder<&'a B>,
-    items: &[Item<'_, &'a B>],
-) -> Result<bool, AllocError>
-    ensures { IfOk result (λ is. AddsNames is (option_map names_of_step (step_of (names_at (items_view items.now)))) plan.old plan.new) }
-{
-    let [_action, ..] = items else {
-        return Ok(false);
-    };
-    add_names(plan, items)
-}
-
-/// Adds the names of the step that an item is, and answers whether it is one.
-fn add_step<'a, B: Allocator>(
-    plan: &mut PlanBuilder<&'a B>,
-    item: &Item<'_, &'a B>,
-) -> Result<bool, AllocError>
-    ensures { IfOk result (λ is. AddsNames is (option_map names_of_step (step_at (item_view item.now))) plan.old plan.new) }
-{
-    match item {
-        Item::List(items, _) => add_step_of(plan, items),
-        Item::Word(_) => Ok(false),
-    }
-}
-
-/// The moment that an item is.
-fn moment_at<A: Allocator>(item: &Item<'_, A>) -> Option<Fixed>
-    ensures { result ≡ moment_at (item_view item.now) }
-{
-    match item {
-        Item::Word(token) => match token.kind {
-            TokenKind::Number => value_of(token.text),
-            _ => None,
-        },
-        Item::List(_, _) => None,
-    }
-}
-
-fn is_colon<A: Allocator>(item: &Item<'_, A>) -> bool
-    ensures { result ≡ is_colon (item_view item.now) }
-{
-    match item {
-        Item::Word(token) => matches!(token.kind, TokenKind::Colon),
-        Item::List(_, _) => false,
-    }
-}
-
-fn is_bracket<A: Allocator>(item: &Item<'_, A>) -> bool
-    ensures { result ≡ is_bracket (item_view item.now) }
-{
-    match item {
-        Item::Word(token) => matches!(token.kind, TokenKind::Bracket),
-        Item::List(_, _) => false,
-    }
-}
-
-fn span_of<A: Allocator>(item: &Item<'_, A>) -> Span
-    ensures { result ≡ span_of (item_view item.now) }
-{
-    match item {
-        Item::Word(token) => token.span,
-        Item::List(_, span) => *span,
-    }
-}
-
-/// Adds the names of the timed step that stands first among some items, and answers its moment.
-#[tactic(auto, using(crate::proofs::PlanSteps::none_timed))]
-fn add_timed<'a, B: Allocator>(
-    plan: &mut PlanBuilder<&'a B>,
-    items: &[Item<'_, &'a B>],
-) -> Result<Option<Fixed>, AllocError>
-    ensures { IfOk result (λ moment. AddsTimed moment (timed_at (items_view items.now)) plan.old plan.new) }
-{
-    let [number, colon, item, ..] = items else {
-        return Ok(None);
-    };
-    let Some(moment) = moment_at(number) else {
-        return Ok(None);
-    };
-    if !is_colon(colon) {
-        return Ok(None);
-    }
-    if !add_step(plan, item)? {
-        return Ok(None);
-    }
-    Ok(Some(moment))
-}
-
-/// What is wrong where no step stands first: whether steps stand before, and the item.
-fn no_step<A: Allocator>(behind: bool, item: &Item<'_, A>) -> ReadFault
-    ensures { result ≡ no_step behind (item_view item.now) }
-{
-    let span = span_of(item);
-    if behind && is_bracket(item) {
-        ReadFault::Duration { span }
-    } else {
-        ReadFault::Step {
-            span,
-            near: span.start,
-        }
-    }
-}
-
-fn timed_span<A: Allocator>(items: &[Item<'_, A>]) -> Span
-    ensures { result ≡ timed_span (items_view items.now) }
-{
-    match items {
-        [number, _, item, ..] => Span {
-            start: span_of(number).start,
-            end: span_of(item).end,
-        },
-        _ => Span { start: 0, end: 0 },
-    }
-}
-
-/// What is wrong at some items where no plain step stands first. The plan is given up.
-#[tactic(auto, using(crate::proofs::PlanSteps::timed_test))]
-fn plain_fault<'a, B: Allocator>(
-    plan: &mut PlanBuilder<&'a B>,
-    behind: bool,
-    items: &[Item<'_, &'a B>],
-) -> Result<ReadFault, AllocError>
-    ensures { IfOk result (λ fault. fault ≡ plain_fault behind (items_view items.now)) }
-{
-    let [item, ..] = items else {
-        return Ok(ReadFault::Text(TextFault::Memory));
-    };
-    if add_timed(plan, items)?.is_some() {
-        let span = timed_span(items);
-        return Ok(ReadFault::Mixed { span });
-    }
-    Ok(no_step(behind, item))
-}
-
-/// What is wrong at some items where no timed step stands first. The plan is given up.
-#[tactic(auto, using(crate::proofs::PlanSteps::step_test))]
-fn timed_fault<'a, B: Allocator>(
-    plan: &mut PlanBuilder<&'a B>,
-    behind: bool,
-    items: &[Item<'_, &'a B>],
-) -> Result<ReadFault, AllocError>
-    ensures { IfOk result (λ fault. fault ≡ timed_fault behind (items_view items.now)) }
-{
-    let [item, ..] = items else {
-        return Ok(ReadFault::Text(TextFault::Memory));
-    };
-    if add_step(plan, item)? {
-        let span = span_of(item);
-        return Ok(ReadFault::Mixed { span });
-    }
-    Ok(no_step(behind, item))
-}
-
-/// Adds the plain steps that some items are.
-fn add_plain_steps<'a, B: Allocator>(
-    plan: &mut PlanBuilder<&'a B>,
-    items: &[Item<'_, &'a B>],
-) -> Result<(), ReadFault>
-    requires { plan.old ≡ nothing_built }
-    ensures steps { OnOk result (plain_from [] (items_view items.now) ≡ Ok (built_plan plan.new)) }
-    ensures refused { IfErr result (λ fault. Refuses fault (plain_from [] (items_view items.now))) }
-{
-    for (index, item) in items.iter().enumerate() {
-        if !add_step(plan, item)? {
-            let behind = plan.len() > 0;
-            return Err(plain_fault(plan, behind, items.split_at(index).1)?);
-        }
-        plan.end_step()?;
-    }
-    Ok(())
-}
-
-/// Adds the timed steps that some items are.
-fn add_timed_steps<'a, B: Allocator>(
-    plan: &mut PlanBuilder<&'a B>,
-    items: &[Item<'_, &'a B>],
-) -> Result<(), ReadFault>
-    requires none { plan.old ≡ nothing_built }
-    requires some { 0 < length items.now }
-    ensures steps { OnOk result (timed_from [] (items_view items.now) ≡ Ok (built_plan plan.new)) }
-    ensures refused { IfErr result (λ fault. Refuses fault (timed_from [] (items_view items.now))) }
-{
-    let mut at = 0;
-    while at < items.len() {
-        let rest = items.split_at(at).1;
-        let Some(moment) = add_timed(plan, rest)? else {
-            let behind = plan.len() > 0;
-            return Err(timed_fault(plan, behind, rest)?);
-        };
-        plan.end_step_at(moment)?;
-        at += 3;
-    }
-    Ok(())
-}
-
-/// Adds the steps that some items are.
-fn add_steps<'a, B: Allocator>(
-    plan: &mut PlanBuilder<&'a B>,
-    items: &[Item<'_, &'a B>],
-) -> Result<(), ReadFault>
-    requires { plan.old ≡ nothing_built }
-    ensures steps { OnOk result (plan_at (items_view items.now) ≡ Ok (built_plan plan.new)) }
-    ensures refused { IfErr result (λ fault. Refuses fault (plan_at (items_view items.now))) }
-{
-    let [first, ..] = items else {
-        return Ok(());
-    };
-    match first {
-        Item::List(_, _) => add_plain_steps(plan, items),
-        Item::Word(_) => add_timed_steps(plan, items),
-    }
-}
-
-/// The plan that some items are.
-fn plan_at<'a, B: Allocator>(
+/// The plan of a text of which the words of the plan's steps were read, and the others are kept.
+fn read_rest<'a, B: Allocator>(
     alloc: &'a B,
-    items: &[Item<'_, &'a B>],
+    plan: PlanBuilder<&'a B>,
+    kept: &WordList<&'a B>,
 ) -> Result<Plan<&'a B>, ReadFault>
-    ensures plan { IfOk result (λ plan. plan_at (items_view items.now) ≡ Ok (plan_view plan)) }
-    ensures refused { IfErr result (λ fault. Refuses fault (plan_at (items_view items.now))) }
+    ensures plan { (text : List ℕ) (done : List PlacedWord) → length text ≤ LONGEST → Spells (done ++ kept.now) text → AreValued (done ++ kept.now) → AreStepWords plan.entry done
+        → IfOk result (λ plan. SpellsPlan (plan_view plan) text) }
+    ensures fault { (text : List ℕ) (done : List PlacedWord) → length text ≤ LONGEST → Spells (done ++ kept.now) text → AreValued (done ++ kept.now) → AreStepWords plan.entry done
+        → IfErr result (λ fault. PlanStands fault text) }
+    ensures faults { IfErr result (λ fault. fault ≢ Text AlreadyFailed) }
 {
-    let mut plan = PlanBuilder::new(alloc);
-    let made = add_steps(&mut plan, items);
-    made.and(Ok(plan.finish()))
+    let mut plan = plan;
+    if kept.len() == 0 {
+        return Ok(plan.finish());
+    }
+    plan.give_up_step();
+    let tokens = kept.tokens(alloc)?;
+    let items = match lists(alloc, &tokens) {
+        Ok(items) => items,
+        Err(fault) => return Err(ReadFault::Text(fault)),
+    };
+    if let Err(fault) = add_steps(&mut plan, &items) {
+        return Err(fault);
+    }
+    Ok(plan.finish())
+}
+
+impl<'a, B: Allocator> PlanReader<&'a B> {
+    ghost use Rattle.pddl_tree.specs.StandsForPlan.{StandsForPlan, HasRefused};
+
+    /// A reader to which no piece has come. It takes no memory.
+    pub fn new(alloc: &'a B) -> PlanReader<&'a B>
+        ensures { StandsForPlan result [] }
+    {
+        PlanReader {
+            alloc,
+            lexer: PlanLexer::new(alloc),
+            words: WordList::new(alloc),
+            plan: PlanBuilder::new(alloc),
+            place: Place::Between,
+            kept: WordList::new(alloc),
+            failed: false,
+        }
+    }
+
+    /// Takes the next piece.
+    ///
+    /// What is wrong with the text, [`finish`](PlanReader::finish) answers.
+    ///
+    /// # Errors
+    ///
+    /// [`TextFault::TooLong`] where the text so far has more than [`LONGEST`] bytes with the piece, and
+    /// [`TextFault::Memory`] where a growth was refused. After either each call answers [`TextFault::AlreadyFailed`].
+    pub fn feed(&mut self, piece: &[u8]) -> Result<(), TextFault>
+        // What it stood for, it stands for with the piece added.
+        ensures stands { (text : List ℕ) → StandsForPlan self.old text → OnOk result (StandsForPlan self.new (text ++ piece.now)) }
+        // The length alone decides whether the text is too long, whatever memory does.
+        ensures too_long { (text : List ℕ) → StandsForPlan self.old text → (result ≡ Err TooLong) ↔ (LONGEST < length (text ++ piece.now)) }
+        ensures refusals { IfErr result (λ fault. (fault ≡ AlreadyFailed) ⊎ ((fault ≡ TooLong) ⊎ (fault ≡ Memory))) }
+        // A piece that is refused is the last.
+        ensures failed { (result ≡ Err AlreadyFailed) ↔ HasRefused self.old }
+        ensures refused { OnErr result (HasRefused self.new) }
+    {
+        if self.failed {
+            return Err(TextFault::AlreadyFailed);
+        }
+        self.words.clear();
+        if let Err(fault) = self.lexer.feed_into(piece, &mut self.words) {
+            self.failed = true;
+            return Err(fault);
+        }
+        match read_on(&mut self.plan, self.place, &self.words, &mut self.kept) {
+            Ok(place) => {
+                self.place = place;
+                Ok(())
+            }
+            Err(_) => {
+                self.failed = true;
+                Err(TextFault::Memory)
+            }
+        }
+    }
+
+    /// The plan that the whole text spells.
+    ///
+    /// # Errors
+    ///
+    /// Those of [`read_plan`], but that a text that is too long was refused by [`feed`](PlanReader::feed).
+    /// [`TextFault::AlreadyFailed`] after a piece that was refused.
+    pub fn finish(self) -> Result<Plan<&'a B>, ReadFault>
+        // What is answered is the plan that the text spells.
+        ensures plan { (text : List ℕ) → StandsForPlan self.entry text → IfOk result (λ plan. SpellsPlan (plan_view plan) text) }
+        // A plan that spells the text is answered.
+        ensures only { (text : List ℕ) (plan : PlanValue) → StandsForPlan self.entry text → SpellsPlan plan text
+            → MatchResult result (λ found. plan_view found ≡ plan) (λ fault. fault ≡ Text Memory) }
+        // What is wrong stands in the text.
+        ensures fault { (text : List ℕ) → StandsForPlan self.entry text → IfErr result (λ fault. PlanStands fault text) }
+        // A refused piece, and nothing else, is answered so.
+        ensures failed { (result ≡ Err (Text AlreadyFailed)) ↔ HasRefused self.entry }
+    {
+        if self.failed {
+            return Err(ReadFault::Text(TextFault::AlreadyFailed));
+        }
+        let mut plan = self.plan;
+        let mut words = self.words;
+        let mut kept = self.kept;
+        words.clear();
+        if let Err(fault) = self.lexer.finish_into(&mut words) {
+            return Err(ReadFault::Text(fault));
+        }
+        if let Err(error) = read_on(&mut plan, self.place, &words, &mut kept) {
+            return Err(ReadFault::from(error));
+        }
+        read_rest(self.alloc, plan, &kept)
+    }
 }
 
 /// The plan that a text spells, in the form of VAL's plan files: steps, each a list of names, either all alone or each
@@ -295,13 +175,11 @@ pub fn read_plan<'a, B: Allocator>(alloc: &'a B, text: &[u8]) -> Result<Plan<&'a
     // What is wrong stands in the text.
     ensures fault { IfErr result (λ fault. PlanStands fault text.now) }
 {
-    if text.len() <= LONGEST {
-        if let Some(plan) = scan_plan(alloc, text)? {
-            return Ok(plan);
-        }
+    let mut reader = PlanReader::new(alloc);
+    if let Err(fault) = reader.feed(text) {
+        return Err(ReadFault::Text(fault));
     }
-    let items = items_of(alloc, text)?;
-    plan_at(alloc, &items)
+    reader.finish()
 }
 
 /// At most one plan spells a text.

@@ -1,5 +1,5 @@
 use Rattle.std.specs.Prelude.{Result, Ok, Err, OnOk, option_map}
-use Rattle.std.proofs.Common.{[], ◌∷◌, ◌≡◌, ap, refl, sym, ◌∙◌}
+use Rattle.std.proofs.Common.{[], ◌∷◌, ap, refl, sym, ◌∙◌}
 use Rattle.std.proofs.lemmas.Option.{get_or_from_slice_get, slice_get-map}
 use Rattle.pddl_link.specs.LinkedTasks.{task_of_files}
 use Rattle.pddl_plan_link.specs.LinkedLaws.{named_step}

@@ -2,8 +2,8 @@ use Rattle.std.proofs.Common.{length, map, sym, ap, ap₂, ◌∙◌, arith}
 use Rattle.std.proofs.lemmas.List.{take_all}
 use Rattle.pddl_tree.specs.Building.{Building}
 use Rattle.pddl_tree.specs.Plans as plans
-use Rattle.pddl_tree.specs.Plans.{TimedValue, step_of_names}
-use Rattle.pddl_tree.proofs.BuiltSteps.{built_timed, moment_pushed, moments_pushed}
+use Rattle.pddl_tree.specs.Plans.{TimedValue, step_of_names, timed_built}
+use Rattle.pddl_tree.proofs.BuiltSteps.{moment_pushed, moments_pushed}
 use Rattle.pddl_link.specs.LinkedTasks.{files_of, task_of_files}
 use Rattle.pddl_plan_link.specs.LinkedLaws.{named_step}
 use Rattle.pddl_plan_link.specs.StepParts.{lent_step}
@@ -15,7 +15,7 @@ use Rattle.pddl_serial_plans.proofs.named.add_timed_steps.Goals as goal
 
 pub loop-i-init : goal.loop-i-init
 loop-i-init g c = record {
-  steps = ap (λ (b : Building). map (λ (s : TimedValue). s) (built_timed b)) c.requires.none;
+  steps = ap (λ (b : Building). map (λ (s : TimedValue). s) (timed_built b)) c.requires.none;
   timed = ap (λ (b : Building). length b.moments) c.requires.none ∙ sym (ap (λ (b : Building). length b.steps) c.requires.none);
   none = ap (λ (b : Building). b.names) c.requires.none;
 }
@@ -43,7 +43,7 @@ loop-i-preserved g c =
     let x : TimedValue = record { moment = c.whole.result; step = step_of_names read.names } in
     let own = step_added l.plan read (named_step task (lent_step c.step.result)) l.invariant.none c.in_ok-add_names.ensures in
     record {
-      steps = timed_more task c.args.steps.now c.args.order.now l.i c.loop-i-test.true (built_timed l.plan) (built_timed new) x
+      steps = timed_more task c.args.steps.now c.args.order.now l.i c.loop-i-test.true (timed_built l.plan) (timed_built new) x
           (moment_pushed l.plan read new c.whole.result l.invariant.timed moments steps c.in_ok-end_step_at.ensures.ended)
           (lent_step c.step.result) (sym c.step.ensures) (λ (s : TimedValue). s) c.args.moments.now c.requires.as_many
           (ap₂ (λ m s. record { moment = m; step = s }) c.whole.ensures own) l.invariant.steps;
