@@ -17,7 +17,7 @@ use Rattle.pddl_effect.specs.Effects.{EffectValue, effect_view, effect_step, eff
 use Rattle.pddl_task.specs.Names.{Name}
 use Rattle.pddl_compiled.specs.Compiled as value
 use Rattle.pddl_compiled.specs.Tables.{Tables}
-use Rattle.pddl_compiled.specs.Compiler.{ScopeValue, BinderValue, binder_of, onto, wrapped, bound, nested, condition_of, conditions_of_all, change_of, changes_of_all}
+use Rattle.pddl_compiled.specs.Compiler.{ScopeValue, binder_of, wrapped, nested, condition_of, conditions_of_all, change_of, changes_of_all}
 use Rattle.pddl_compiled.specs.Compiler as compiler
 use Rattle.pddl_compiled.specs.Views.{condition_view, change_view}
 use Rattle.pddl_compiled.specs.Scopes.{slot_view, range_items}

@@ -1,5 +1,5 @@
 -- Function terms of lists, by their parts.
-use Rattle.std.proofs.Common.{◌≡◌, ◌-◌, ◌<◌, ℕ, List, [], ◌∷◌, map, length, get_or, take, drop, refl, sym, ap, ap₂, ◌∙◌, arith}
+use Rattle.std.proofs.Common.{◌≡◌, ◌-◌, ◌<◌, ℕ, List, [], ◌∷◌, map, length, get_or, take, drop, refl, sym, ap₂, ◌∙◌, arith}
 use Rattle.std.specs.Prelude.{Option, Some, None, option_map, option_and_then}
 use Rattle.std.specs.Option.{option_zip}
 use Rattle.std.proofs.lemmas.List.{take_all}

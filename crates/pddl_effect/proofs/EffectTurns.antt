@@ -13,9 +13,9 @@ use Rattle.pddl_formula.specs.declared.head.Head.TheVariants as heads
 use Rattle.pddl_formula.specs.declared.type_names.Typed.{Typed}
 use Rattle.pddl_formula.specs.declared.term.Atom.{Atom}
 use Rattle.pddl_formula.specs.declared.formula.Formula.{Formula}
-use Rattle.pddl_formula.specs.Terms.{AtomValue, atom_view}
-use Rattle.pddl_formula.specs.TypedLists.{TypedValue, typed_view}
-use Rattle.pddl_formula.specs.Formulas.{FormulaValue, formula_view}
+use Rattle.pddl_formula.specs.Terms.{atom_view}
+use Rattle.pddl_formula.specs.TypedLists.{typed_view}
+use Rattle.pddl_formula.specs.Formulas.{formula_view}
 use Rattle.pddl_formula.specs.Reading.{atom_of_list, atom_at, head_at, variables_at, formula_at, behind, only, quantified}
 use Rattle.pddl_effect.specs.declared.amount.Amount.{Amount}
 use Rattle.pddl_effect.specs.declared.effect.Effect.{Effect}

@@ -2,11 +2,12 @@
 use Rattle.std.proofs.Common.{◌≡◌, ℕ, ◌≤◌, true, ◌&&◌, List, [], ◌∷◌, ◌++◌, length, map, refl, sym, ap, ap₂, ◌∙◌, subst, codes, append_assoc, append-nil}
 use Rattle.std.specs.List.{flat_map, list_all}
 use Rattle.pddl_text.specs.Spelling.{Word}
-use Rattle.pddl_text.specs.Trees.{Tree, no_trees, tree, trees_of}
+use Rattle.pddl_text.specs.Trees.{Tree, Placed, no_trees, tree, trees_of}
 use Rattle.pddl_text.specs.Pieces.{Piece, token, blanks, pieces_text, tokens_of, AreWritten, opening_word, closing_word, tree_words, trees_words, IsWritable, IsWithin, tree_pieces, tree_text}
 use Rattle.pddl_text.specs.Texts.{HasItems, ReadsAs}
 use Rattle.pddl_text.proofs.Written.{pieces_append, written_append, tokens_append, tree_written, tree_tokens}
 use Rattle.pddl_text.proofs.Listed.{reads_back}
+use Rattle.pddl_text.proofs.Levels.{levels_as_read}
 use Rattle.pddl_tree.specs.Names.{is_name}
 use Rattle.pddl_formula.specs.Reserved.{is_predicate, is_type_name, is_type}
 use Rattle.pddl_domain.specs.Declarations.{TypeValue, Signature, FunctionValue}
@@ -271,6 +272,12 @@ domain_reads_back d h within short =
       has = subst (λ t. HasItems t reads.items) text_is reads.has;
       domain_is = domain_spelled d reads.items h reads.trees_are;
     }
+
+-- a tree whose text has items is within the limit of levels
+pub domain_levels : (d : DomainValue) (items : List Placed) → is_domain d ≡ true → HasItems (domain_text d) items → IsWithin 128 (domain_tree d)
+domain_levels d items h has =
+    let good = good_parts d h in
+    (levels_as_read (domain_pieces d) (tree (domain_tree d) no_trees) items (domain_written d good) (domain_words d) (domain_tree_writable d good, tt) (subst (λ t. HasItems t items) (sym (domain_bytes d)) has)).0
 
 pub one_canonical_domain : (d e : DomainValue) (text more : List ℕ) → SpellsDomain d text → SpellsDomain e more → IsWithin 128 (domain_tree d) → IsWithin 128 (domain_tree e)
     → length (domain_text d) ≤ 16777216 → length (domain_text e) ≤ 16777216 → domain_text d ≡ domain_text e → d ≡ e

@@ -3,10 +3,11 @@ use Rattle.std.proofs.Common.{◌≡◌, ℕ, ◌≤◌, true, List, [], ◌∷�
 use Rattle.std.specs.Prelude.{nat_le, Option, Some, None}
 use Rattle.std.specs.List.{list_all}
 use Rattle.pddl_text.specs.Spelling.{Word}
-use Rattle.pddl_text.specs.Trees.{Tree, no_trees, tree, trees_of}
+use Rattle.pddl_text.specs.Trees.{Tree, Placed, no_trees, tree, trees_of}
 use Rattle.pddl_text.specs.Pieces.{pieces_text, tokens_of, AreWritten, opening_word, closing_word, tree_words, trees_words, IsWritable, IsWithin}
 use Rattle.pddl_text.specs.Texts.{HasItems, ReadsAs}
 use Rattle.pddl_text.proofs.Listed.{reads_back}
+use Rattle.pddl_text.proofs.Levels.{levels_as_read}
 use Rattle.pddl_tree.specs.Names.{is_name}
 use Rattle.pddl_formula.specs.Reserved.{is_predicate}
 use Rattle.pddl_problem.specs.declared.problem.Direction.{Direction}
@@ -139,6 +140,12 @@ problem_reads_back p h within short =
       has = subst (λ t. HasItems t reads.items) text_is reads.has;
       problem_is = problem_spelled p reads.items good reads.trees_are;
     }
+
+-- a tree whose text has items is within the limit of levels
+pub problem_levels : (p : ProblemValue) (items : List Placed) → is_problem p ≡ true → HasItems (problem_text p) items → IsWithin 128 (problem_tree p)
+problem_levels p items h has =
+    let good = good_parts p h in
+    (levels_as_read (problem_pieces p) (tree (problem_tree p) no_trees) items (problem_written p good) (problem_words p) (problem_tree_writable p good, tt) (subst (λ t. HasItems t items) (sym (problem_bytes p)) has)).0
 
 pub one_canonical_problem : (p q : ProblemValue) (text more : List ℕ) → SpellsProblem p text → SpellsProblem q more → IsWithin 128 (problem_tree p) → IsWithin 128 (problem_tree q)
     → length (problem_text p) ≤ 16777216 → length (problem_text q) ≤ 16777216 → problem_text p ≡ problem_text q → p ≡ q

@@ -3,6 +3,8 @@
 ghost use Rattle.std.specs.Prelude.{◌≡◌, ◌≤◌, ◌↔◌, ℕ, List, IsTrue, length};
 ghost use Rattle.pddl_text.specs.Lists.{deepest};
 ghost use Rattle.pddl_text.specs.Pieces.{IsWithin};
+ghost use Rattle.pddl_text.specs.Texts.{HasItems};
+ghost use Rattle.pddl_text.specs.Trees.{Placed};
 ghost use Rattle.pddl_formula.specs.Formulas.{FormulaValue, IsFormula};
 ghost use Rattle.pddl_effect.specs.Effects.{EffectValue, IsEffect};
 ghost use Rattle.pddl_domain.specs.Domains.{DomainValue, SpellsDomain};
@@ -31,6 +33,12 @@ pub fn domain_reads_back()
         → SpellsDomain domain (domain_text domain) }
 {}
 
+/// A domain whose canonical text has items is within the limit of levels: its tree is as deep as its text. The domain is any that
+/// the program can hold.
+pub fn domain_levels_as_read()
+    ensures { (domain : DomainValue) (items : List Placed) → IsTrue (is_domain domain) → HasItems (domain_text domain) items → IsWithin deepest (domain_tree domain) }
+{}
+
 /// Two texts that spell domains whose canonical texts keep the limits spell one domain exactly if these are one text.
 pub fn one_canonical_domain()
     ensures { (domain other : DomainValue) (text more : List ℕ) → SpellsDomain domain text → SpellsDomain other more
@@ -44,6 +52,12 @@ pub fn one_canonical_domain()
 pub fn problem_reads_back()
     ensures { (problem : ProblemValue) → IsTrue (is_problem problem) → IsWithin deepest (problem_tree problem) → length (problem_text problem) ≤ LONGEST
         → SpellsProblem problem (problem_text problem) }
+{}
+
+/// A problem whose canonical text has items is within the limit of levels: its tree is as deep as its text. The problem is any that
+/// the program can hold.
+pub fn problem_levels_as_read()
+    ensures { (problem : ProblemValue) (items : List Placed) → IsTrue (is_problem problem) → HasItems (problem_text problem) items → IsWithin deepest (problem_tree problem) }
 {}
 
 /// Two texts that spell problems whose canonical texts keep the limits spell one problem exactly if these are one text.

@@ -14,7 +14,7 @@ mod section;
 
 pub use domain::{domain_text, write_domain};
 pub use laws::{
-    domain_reads_back, effect_tree_spells, formula_tree_spells, one_canonical_domain,
-    one_canonical_problem, problem_reads_back,
+    domain_levels_as_read, domain_reads_back, effect_tree_spells, formula_tree_spells,
+    one_canonical_domain, one_canonical_problem, problem_levels_as_read, problem_reads_back,
 };
 pub use problem::{problem_text, write_problem};

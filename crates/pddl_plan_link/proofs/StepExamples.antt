@@ -5,7 +5,7 @@ use Rattle.pddl_formula.specs.Terms.{variable}
 use Rattle.pddl_formula.specs.TypedLists.{TypedValue}
 use Rattle.pddl_formula.specs.Formulas.{conjunction, no_formulas, universal}
 use Rattle.pddl_effect.specs.Effects as effects
-use Rattle.pddl_effect.specs.Effects.{EffectValue, increase, number, function, effects_of}
+use Rattle.pddl_effect.specs.Effects.{increase, number, function, effects_of}
 use Rattle.pddl_domain.specs.Declarations.{TypeValue}
 use Rattle.pddl_domain.specs.Actions.{ActionValue}
 use Rattle.pddl_tree.specs.Plans.{StepValue, plain, timed}

@@ -1,4 +1,4 @@
-use Rattle.std.proofs.Common.{refl, sym, ◌∙◌, arith}
+use Rattle.std.proofs.Common.{refl, arith}
 use Rattle.pddl_build.proofs.Parts.{found_reads}
 use Rattle.pddl_tree.specs.ItemTrees.{item_tree}
 use Rattle.pddl_effect.specs.declared.effect.Effect.TheVariants as cases
