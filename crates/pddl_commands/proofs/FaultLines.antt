@@ -8,13 +8,25 @@ use Rattle.std.proofs.lemmas.List.Elements.{All-head, All-tail}
 use Rattle.pddl_text.specs.Bytes.{is_line_byte}
 use Rattle.pddl_text.specs.declared.place.Pos.{Pos}
 use Rattle.pddl_text.specs.Positions.{AreLines, IsBehind}
-use Rattle.pddl_commands.specs.Lines.{IsPlaceShown, IsFaultLine}
+use Rattle.pddl_commands.specs.Faults.{shown_position}
+use Rattle.pddl_commands.specs.Lines.{IsPlaceShown, IsPosition, IsFaultLine}
 
 -- the same line, its pieces under other names
 pub line_of : (word told text name other : List ℕ) (place at : Option ℕ) (line : List ℕ) → word ≡ told → name ≡ other → place ≡ at
     → IsFaultLine word text name place line → IsFaultLine told text other at line
 line_of word told text name other place at line words names places is =
     subst (λ w. IsFaultLine w text other at line) words (subst (λ n. IsFaultLine word text n at line) names (subst (λ p. IsFaultLine word text name p line) places is))
+
+-- what is shown of the position of a place is the place shown
+shown_at : (text : List ℕ) (place : Option ℕ) (pos : Option Pos) → IsPosition text place pos → IsPlaceShown text place (shown_position pos)
+shown_at text None None at = refl
+shown_at text (Some place) (Some pos) behind = (pos, behind, refl)
+shown_at text None (Some pos) bad = absurd bad
+shown_at text (Some place) None bad = absurd bad
+
+pub line_at : (word text name : List ℕ) (place : Option ℕ) (pos : Option Pos) (line : List ℕ) → IsPosition text place pos
+    → line ≡ word ++ (codes ": fault " ++ (name ++ (shown_position pos ++ codes "\n"))) → IsFaultLine word text name place line
+line_at word text name place pos line at is = record { shown = shown_position pos; place_is = shown_at text place pos at; line_is = is }
 
 -- ---- one position
 

@@ -1,6 +1,8 @@
 -- What a reader has left to give, where it is known, and a text past the limit.
-use Rattle.std.proofs.Common.{◌≡◌, ℕ, ◌<◌, List, [], length, refl, subst}
+use Rattle.std.proofs.Common.{◌≡◌, ℕ, ◌<◌, List, [], length, refl, ap, subst, arith}
 use Rattle.std.specs.Prelude.{Option, Some, None, IfSome}
+use Rattle.std.specs.Io.KnownBytes.{Consumes}
+use Rattle.std.proofs.lemmas.List.{length-append}
 use Rattle.pddl_text.specs.declared.fault.TextFault.TheVariants as texts
 use Rattle.pddl_tree.specs.declared.fault.ReadFault.TheVariants as plans
 use Rattle.pddl_file.specs.declared.fault.FileFault.TheVariants as files
@@ -16,6 +18,12 @@ use Rattle.pddl_commands.specs.Checks.{IsNoDomain}
 pub left_more : (remaining new : Option (List ℕ)) (limit : ℕ) (given : List ℕ) → IfSome remaining (λ known. limit < length known) → limit < length given → (text : List ℕ) × IsLeft remaining text × (limit < length text)
 left_more None new limit given known more = (given, tt, more)
 left_more (Some text) new limit given known more = (text, refl, known)
+
+-- what was read stands at the front of what was left, which is past a limit where that is
+pub left_longer : (remaining new : Option (List ℕ)) (limit : ℕ) (given : List ℕ) → Consumes remaining new given → limit < length given → (text : List ℕ) × IsLeft remaining text × (limit < length text)
+left_longer None new limit given consumes longer = (given, tt, longer)
+left_longer (Some text) None limit given consumes longer = absurd consumes
+left_longer (Some text) (Some rest) limit given consumes longer = (text, refl, omega (arith, longer, ap (λ (t : List ℕ). length t) consumes, length-append given rest))
 
 -- whatever is known, some text is left
 pub some_left : (remaining : Option (List ℕ)) → (text : List ℕ) × IsLeft remaining text

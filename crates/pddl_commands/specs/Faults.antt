@@ -1,5 +1,7 @@
 -- Faults as the program looks at them. No public contract names these.
-use Rattle.std.specs.Prelude.{◌≡◌, ℕ, List, [], ◌++◌, codes, Bool, true, false, Some, None}
+use Rattle.std.specs.Prelude.{◌≡◌, ℕ, List, [], ◌++◌, codes, Bool, true, false, Option, Some, None}
+use Rattle.std.specs.Fmt.{decimal}
+use Rattle.pddl_text.specs.declared.place.Pos.{Pos}
 use Rattle.pddl_text.specs.declared.fault.TextFault.TheVariants.{Memory}
 use Rattle.pddl_tree.specs.declared.fault.ReadFault.{ReadFault}
 use Rattle.pddl_tree.specs.declared.fault.ReadFault.TheVariants as plans
@@ -14,6 +16,11 @@ use Rattle.pddl_commands.specs.Lines.{link_fault_text, IsFaultLine}
 -- the whole name
 abbrev pub whole_name : FaultName → List ℕ
 whole_name name = name.numbered.now ++ name.about.now
+
+-- what is shown of a position
+abbrev pub shown_position : Option Pos → List ℕ
+shown_position None = []
+shown_position (Some pos) = codes " at " ++ (decimal pos.line ++ (codes ":" ++ decimal pos.col))
 
 -- the fault is want of memory
 abbrev pub is_memory : ReadFault → Bool

@@ -69,6 +69,13 @@ abbrev pub IsPlaceShown : List ℕ → Option ℕ → List ℕ → Type 0
 IsPlaceShown text None shown = shown ≡ []
 IsPlaceShown text (Some at) shown = (pos : Pos) × IsBehind (take at text) pos × (shown ≡ codes " at " ++ (decimal pos.line ++ (codes ":" ++ decimal pos.col)))
 
+-- the position is that of the place in the text, or there is neither
+abbrev pub IsPosition : List ℕ → Option ℕ → Option Pos → Type 0
+IsPosition text None None = Unit {0}
+IsPosition text (Some at) (Some pos) = IsBehind (take at text) pos
+IsPosition text None (Some pos) = ⊥
+IsPosition text (Some at) None = ⊥
+
 -- the line of a file that is refused: what the file is, the name of the fault, and its place in the text
 pub record IsFaultLine (word text name : List ℕ) (place : Option ℕ) (line : List ℕ) : Type 0 where
   pub shown : List ℕ

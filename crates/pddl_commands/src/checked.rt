@@ -43,7 +43,7 @@ fn link_line<'a, B: Allocator>(
 {
     match fault {
         LinkFault::Memory => Err(AllocError),
-        _ => fault_line(alloc, b"link", b"", link_fault_name(fault), None),
+        _ => fault_line(alloc, b"link", link_fault_name(fault)),
     }
 }
 

@@ -8,12 +8,73 @@ ghost use Rattle.pddl_commands.specs.declared.outcome.Outcome.{Outcome};
 ghost use Rattle.pddl_commands.specs.Contents.{IsRead};
 ghost use Rattle.pddl_commands.specs.Formats.{IsFormatted, IsLeft};
 
-use crate::formatted::{Formatted, formatted};
+use crate::formatted::{Formatted, formatted_domain, formatted_plan, formatted_problem};
 use crate::outcome::{Outcome, RunFault};
+use crate::plan_file::{PlanContent, read_plan_file};
 use crate::reading::{Content, read_file};
 use pddl_kind::Kind;
 use pddl_text::{Sink, Source, write_text};
 use std::alloc::Allocator;
+
+/// What is printed for a reader's text as a domain's, and the outcome. No writer plays a part.
+fn read_formatted_domain<'a, B: Allocator, S: Source>(
+    alloc: &'a B,
+    source: &mut S,
+) -> Result<Formatted<'a, B>, RunFault>
+    ensures answer { IfOk result (λ answer. (text : List ℕ) × IsLeft (S.remaining source.old) text × IsFormatted Kind.Domain text answer.0.items answer.1) }
+    ensures read { IfOk result (λ answer. IsRead Kind.Domain (S.at_end source.new) answer.0.items) }
+    ensures good_at_end { IfOk result (λ answer. answer.1 ≡ Outcome.Good → S.at_end source.new ≡ true) }
+    ensures none_failed { OnOk result (S.failures source.new ≡ S.failures source.old) }
+    ensures memory { IsErrOf result RunFault.Memory → S.failures source.new ≡ S.failures source.old }
+    ensures read_failed { IsErrOf result RunFault.ReadFailed → HasFailed (S.failures source.old) (S.failures source.new) }
+    ensures no_write { ¬ IsErrOf result RunFault.WriteFailed }
+    ensures stands { (given : List ℕ) × Consumes (S.remaining source.old) (S.remaining source.new) given }
+{
+    match read_file(alloc, Kind::Domain, source)? {
+        Content::Text(text) => Ok(formatted_domain(alloc, &text)?),
+        Content::TooLong(line) => Ok((line, Outcome::Refused)),
+    }
+}
+
+/// What is printed for a reader's text as a problem's, and the outcome. No writer plays a part.
+fn read_formatted_problem<'a, B: Allocator, S: Source>(
+    alloc: &'a B,
+    source: &mut S,
+) -> Result<Formatted<'a, B>, RunFault>
+    ensures answer { IfOk result (λ answer. (text : List ℕ) × IsLeft (S.remaining source.old) text × IsFormatted Kind.Problem text answer.0.items answer.1) }
+    ensures read { IfOk result (λ answer. IsRead Kind.Problem (S.at_end source.new) answer.0.items) }
+    ensures good_at_end { IfOk result (λ answer. answer.1 ≡ Outcome.Good → S.at_end source.new ≡ true) }
+    ensures none_failed { OnOk result (S.failures source.new ≡ S.failures source.old) }
+    ensures memory { IsErrOf result RunFault.Memory → S.failures source.new ≡ S.failures source.old }
+    ensures read_failed { IsErrOf result RunFault.ReadFailed → HasFailed (S.failures source.old) (S.failures source.new) }
+    ensures no_write { ¬ IsErrOf result RunFault.WriteFailed }
+    ensures stands { (given : List ℕ) × Consumes (S.remaining source.old) (S.remaining source.new) given }
+{
+    match read_file(alloc, Kind::Problem, source)? {
+        Content::Text(text) => Ok(formatted_problem(alloc, &text)?),
+        Content::TooLong(line) => Ok((line, Outcome::Refused)),
+    }
+}
+
+/// What is printed for a reader's text as a plan's, and the outcome. No writer plays a part.
+fn read_formatted_plan<'a, B: Allocator, S: Source>(
+    alloc: &'a B,
+    source: &mut S,
+) -> Result<Formatted<'a, B>, RunFault>
+    ensures answer { IfOk result (λ answer. (text : List ℕ) × IsLeft (S.remaining source.old) text × IsFormatted Kind.Plan text answer.0.items answer.1) }
+    ensures read { IfOk result (λ answer. IsRead Kind.Plan (S.at_end source.new) answer.0.items) }
+    ensures good_at_end { IfOk result (λ answer. answer.1 ≡ Outcome.Good → S.at_end source.new ≡ true) }
+    ensures none_failed { OnOk result (S.failures source.new ≡ S.failures source.old) }
+    ensures memory { IsErrOf result RunFault.Memory → S.failures source.new ≡ S.failures source.old }
+    ensures read_failed { IsErrOf result RunFault.ReadFailed → HasFailed (S.failures source.old) (S.failures source.new) }
+    ensures no_write { ¬ IsErrOf result RunFault.WriteFailed }
+    ensures stands { (given : List ℕ) × Consumes (S.remaining source.old) (S.remaining source.new) given }
+{
+    match read_plan_file(alloc, source)? {
+        PlanContent::Plan(plan) => Ok(formatted_plan(alloc, &plan)?),
+        PlanContent::Refused(line) => Ok((line, Outcome::Refused)),
+    }
+}
 
 /// What is printed for a reader's text, and the outcome. No writer plays a part.
 fn read_formatted<'a, B: Allocator, S: Source>(
@@ -30,16 +91,17 @@ fn read_formatted<'a, B: Allocator, S: Source>(
     ensures no_write { ¬ IsErrOf result RunFault.WriteFailed }
     ensures stands { (given : List ℕ) × Consumes (S.remaining source.old) (S.remaining source.new) given }
 {
-    match read_file(alloc, kind, source)? {
-        Content::Text(text) => Ok(formatted(alloc, kind, &text)?),
-        Content::TooLong(line) => Ok((line, Outcome::Refused)),
+    match kind {
+        Kind::Domain => read_formatted_domain(alloc, source),
+        Kind::Problem => read_formatted_problem(alloc, source),
+        Kind::Plan => read_formatted_plan(alloc, source),
     }
 }
 
 /// Writes a file in its canonical layout, or the line of its fault.
 ///
-/// The file is read whole, its text is made, and then it is written. A file that some value spells gives the canonical
-/// text of that value and `Good`; any other gives one line with its fault and `Refused`.
+/// The file is read whole, of a plan without keeping its text; what is printed is made, and then it is written. A file that some
+/// value spells gives the canonical text of that value and `Good`; any other gives one line with its fault and `Refused`.
 ///
 /// # Errors
 ///

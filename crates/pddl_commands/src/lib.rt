@@ -1,9 +1,9 @@
 //! The commands of the program, over readers and a writer.
 //!
-//! A command reads its files whole, makes the text of its outcome, and then writes that text: so nothing is written
-//! where memory was refused or a read failed.
+//! A command reads its files to their ends, makes the text of its outcome, and then writes that text: so nothing is written
+//! where memory was refused or a read failed. Of a plan's file the text is not kept.
 //!
-//! What the commands are made of is public too, for commands over further crates: how a file is read whole, and the lines of
+//! What the commands are made of is public too, for commands over further crates: how a file is read, and the lines of
 //! refused files.
 #![tactic(auto)]
 
@@ -14,6 +14,7 @@ mod formatted;
 mod formatting;
 mod line;
 mod outcome;
+mod plan_file;
 mod reading;
 
 pub use checked::refused_link;
@@ -21,9 +22,10 @@ pub use checking::{
     check_domain_file, check_problem_file, one_domain_outcome, one_problem_outcome,
 };
 pub use fault_names::FaultName;
-pub use formatted::{Formatted, refused_domain, refused_plan, refused_problem};
+pub use formatted::{Formatted, refused_domain, refused_problem};
 pub use formatting::{format, one_outcome};
 pub use line::{fault_line, push_number};
 pub use outcome::{Outcome, RunFault, status};
 pub use pddl_kind::Kind;
+pub use plan_file::{PlanContent, read_plan_file};
 pub use reading::{Content, read_file};

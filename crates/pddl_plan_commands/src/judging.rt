@@ -10,7 +10,7 @@ ghost use Rattle.pddl_plan_link.specs.NumberedAtoms.{IsInRange};
 ghost use Rattle.pddl_plan_steps.specs.NumberedSteps.{number_of};
 ghost use Rattle.pddl_problem.specs.Problems.{problem_view};
 ghost use Rattle.pddl_tree.specs.Plans.{plan_view};
-ghost use Rattle.pddl_plan_commands.specs.PlanChecks.{failure_line, AreStepsJudged, IsJudgedIn, IsPlanJudged, ForPlan};
+ghost use Rattle.pddl_plan_commands.specs.PlanChecks.{failure_line, AreStepsJudged, IsJudgedIn, IsPlanJudged};
 ghost use Rattle.pddl_plan_commands.specs.ShownVerdicts.{failure_of, IsShown, IsVerdictOf};
 ghost use Rattle.pddl_plan_commands.specs.WantedPrintings.{printing_of};
 
@@ -18,14 +18,14 @@ use crate::accepted::accepted_text;
 use crate::lines::{clash_line, goal_line, unready_line};
 use crate::step_faults::refused_steps;
 use crate::wanted::Wanted;
-use pddl_commands::{Formatted, Outcome, refused_link, refused_plan};
+use pddl_commands::{Formatted, Outcome, refused_link};
 use pddl_domain::Domain;
 use pddl_judge::Refusal;
 use pddl_link::{Task, link};
 use pddl_plan_link::{Steps, link_plan};
 use pddl_problem::Problem;
 use pddl_state::{AtomStore, BitStore};
-use pddl_tree::{Plan, read_plan};
+use pddl_tree::Plan;
 use pddl_valid::{Verdict, validate};
 use std::alloc::{AllocError, Allocator};
 
@@ -118,7 +118,9 @@ fn judged_in<'r, 'm, 'a, A: Allocator, B: Allocator, C: Allocator, D: Allocator>
 }
 
 /// What is printed for a plan with a domain and a problem, and the outcome.
-fn judged_plan<'r, A: Allocator, B: Allocator, C: Allocator>(
+///
+/// Fails where memory is refused.
+pub(crate) fn judged_plan<'r, A: Allocator, B: Allocator, C: Allocator>(
     alloc: &'r C,
     domain: &Domain<A>,
     problem: &Problem<A>,
@@ -130,23 +132,5 @@ fn judged_plan<'r, A: Allocator, B: Allocator, C: Allocator>(
     match link(alloc, domain, problem) {
         Ok(task) => judged_in(alloc, &task, plan, wanted),
         Err(fault) => refused_link(alloc, &fault),
-    }
-}
-
-/// What is printed for the text of a plan with a domain and a problem, and the outcome.
-///
-/// Fails where memory is refused.
-pub fn checked_plan<'r, A: Allocator, B: Allocator>(
-    alloc: &'r B,
-    domain: &Domain<A>,
-    problem: &Problem<A>,
-    text: &[u8],
-    wanted: Wanted,
-) -> Result<Formatted<'r, B>, AllocError>
-    ensures { IfOk result (λ answer. ForPlan (IsPlanJudged (printing_of wanted) (domain_view domain.now) (problem_view problem.now)) text.now answer.0.items answer.1) }
-{
-    match read_plan(alloc, text) {
-        Ok(plan) => judged_plan(alloc, domain, problem, &plan, wanted),
-        Err(fault) => refused_plan(alloc, text, &fault),
     }
 }

@@ -12,10 +12,11 @@ ghost use Rattle.pddl_commands.specs.Checks.{ForProblem, IsNoDomain};
 ghost use Rattle.pddl_plan_commands.specs.PlanChecks.{IsPlanJudged, ForPlan, IsPlanChecked, IsNoProblem};
 ghost use Rattle.pddl_plan_commands.specs.WantedPrintings.{printing_of};
 
-use crate::judging::checked_plan;
+use crate::judging::judged_plan;
 use crate::wanted::Wanted;
 use pddl_commands::{
-    Content, Formatted, Kind, Outcome, RunFault, read_file, refused_domain, refused_problem,
+    Content, Formatted, Kind, Outcome, PlanContent, RunFault, read_file, read_plan_file,
+    refused_domain, refused_problem,
 };
 use pddl_domain::{Domain, read_domain};
 use pddl_problem::{Problem, read_problem};
@@ -40,9 +41,9 @@ fn read_plan_checked<'a, B: Allocator, S: Source>(
     ensures no_write { ¬ IsErrOf result RunFault.WriteFailed }
     ensures stands { (given : List ℕ) × Consumes (S.remaining plan.old) (S.remaining plan.new) given }
 {
-    match read_file(alloc, Kind::Plan, plan)? {
-        Content::Text(text) => Ok(checked_plan(alloc, domain, problem, &text, wanted)?),
-        Content::TooLong(line) => Ok((line, Outcome::Refused)),
+    match read_plan_file(alloc, plan)? {
+        PlanContent::Plan(read) => Ok(judged_plan(alloc, domain, problem, &read, wanted)?),
+        PlanContent::Refused(line) => Ok((line, Outcome::Refused)),
     }
 }
 

@@ -21,13 +21,7 @@ fn line_at_step<A: Allocator>(
 {
     let mut buffer = Buffer::new();
     let shown = buffer.format(step as u128 + 1);
-    fault_line(
-        alloc,
-        b"plan",
-        b"",
-        FaultName::of(words, shown.as_bytes()),
-        None,
-    )
+    fault_line(alloc, b"plan", FaultName::of(words, shown.as_bytes()))
 }
 
 /// The line of a plan that does not link for a fault.
@@ -44,15 +38,7 @@ fn step_fault_line<A: Allocator>(alloc: A, fault: StepFault) -> Result<Vec<u8, A
         StepFault::UnknownObject { step } => line_at_step(alloc, "42 UnknownObject at step ", step),
         StepFault::StepType { step } => line_at_step(alloc, "43 StepType at step ", step),
         StepFault::CostUndefined { step } => line_at_step(alloc, "44 CostUndefined at step ", step),
-        StepFault::PlanTooLong => {
-            fault_line(
-                alloc,
-                b"plan",
-                b"",
-                FaultName::plain("45 PlanTooLong"),
-                None,
-            )
-        }
+        StepFault::PlanTooLong => fault_line(alloc, b"plan", FaultName::plain("45 PlanTooLong")),
         StepFault::StepTooLarge { step } => line_at_step(alloc, "46 StepTooLarge at step ", step),
     }
 }

@@ -15,7 +15,7 @@ if_ok P Q (Err e) on h = h
 pub returns : goal.returns
 returns g c =
     let kind = c.args.kind in
-    let name = c.text_fault_name-name in
+    let name = c.text_fault_name in
     if_ok (λ line. IsFaultLine c.word.result.now [] (whole_name name.result) None line.items) (λ line. IsTooLongLine kind line.items) c.fault_line.result
     (λ line is. line_of c.word.result.now (kind_word kind) [] (whole_name name.result) (text_fault_name TooLong) None None line.items c.word.ensures name.ensures refl is)
     c.fault_line.ensures
