@@ -8,11 +8,14 @@ use pddl_text::{DeviceFault, Source};
 #[derive(Debug, Drop)]
 pub struct FakeSource<'a> {
     text: &'a [u8],
+    /// How many bytes the next read gives at most, and how many each read after it.
+    next_size: usize,
     size: usize,
     /// How many reads there are up to the one that fails, that one included; 0 where none fails.
     until_failure: u64,
     failures: u64,
     at_end: bool,
+    ghost has_next_size: { 0 < next_size },
     ghost has_size: { 0 < size },
 }
 
@@ -27,6 +30,7 @@ impl<'a> FakeSource<'a> {
     {
         FakeSource {
             text,
+            next_size: size,
             size,
             until_failure: fails_at,
             failures: 0,
@@ -41,6 +45,23 @@ impl<'a> FakeSource<'a> {
         ensures at_end { ⟦<FakeSource<'a> as Source>⟧.at_end result ≡ false }
     {
         FakeSource::new(text, usize::MAX, 0)
+    }
+
+    /// A reader of the text that gives at most `cut` bytes at first and then what there is room for, and never fails.
+    pub fn in_two(text: &'a [u8], cut: usize) -> Self
+        requires { 0 < cut }
+        ensures remaining { ⟦<FakeSource<'a> as Source>⟧.remaining result ≡ Some text.entry.now }
+        ensures failures { ⟦<FakeSource<'a> as Source>⟧.failures result ≡ 0 }
+        ensures at_end { ⟦<FakeSource<'a> as Source>⟧.at_end result ≡ false }
+    {
+        FakeSource {
+            text,
+            next_size: cut,
+            size: usize::MAX,
+            until_failure: 0,
+            failures: 0,
+            at_end: false,
+        }
     }
 
     /// How many reads failed.
@@ -73,7 +94,8 @@ impl Source for FakeSource<'_> {
             self.at_end = false;
             return Err(DeviceFault);
         }
-        let count = self.text.len().min(buf.len()).min(self.size);
+        let count = self.text.len().min(buf.len()).min(self.next_size);
+        self.next_size = self.size;
         let (front, rest) = self.text.split_at(count);
         buf[..count].copy_from_slice(front);
         self.text = rest;

@@ -147,6 +147,10 @@ impl pddl_row_driver::Command for Command {
         }
     }
 
+    fn plan_file(self) -> u64 {
+        self.readers()
+    }
+
     fn twin(self) -> Option<&'static str> {
         match self {
             Command::Plan => Some("list verdicts"),

@@ -14,6 +14,9 @@ const MANY: u64 = 1_000_000;
 /// How many bytes a read gives at most, in the runs in which nothing fails.
 static SIZES: [usize; 3] = [usize::MAX, 1, 5];
 
+/// At how many places files are cut in two at most.
+const CUTS: u64 = 256;
+
 /// How many calls fail at least: some read of each file that is read, some write of a text, and the row's growths.
 fn least(row: Row<'_>, trouble: Trouble) -> u64 {
     match trouble {
@@ -47,6 +50,26 @@ fn holds_whole<R: Print + AllocGlobal, C: Command>(rt: &R, row: Row<'_>) -> bool
     run::<R, C>(rt, row, Trouble::Pieces(usize::MAX), 0) == Seen::Calm
 }
 
+/// The plan among the files that are read, or nothing.
+fn plan_of(row: Row<'_>) -> &[u8] {
+    let files = row.files;
+    match row.ending.plan_file {
+        1 if row.ending.files_read >= 1 => files.first,
+        3 if row.ending.files_read >= 3 => files.third,
+        _ => b"",
+    }
+}
+
+/// Whether the row holds with its files cut in two, at each place of the plan, but not past the first places.
+fn holds_cut<R: Print + AllocGlobal, C: Command>(rt: &R, row: Row<'_>) -> bool {
+    for cut in 1..CUTS.min(plan_of(row).len() as u64) {
+        if run::<R, C>(rt, row, Trouble::Cut, cut) != Seen::Calm {
+            return false;
+        }
+    }
+    true
+}
+
 /// Whether the row holds, read whole and in pieces, and with each call failing in turn, or only whole where it says `once`.
 fn holds_alone<R: Print + AllocGlobal, C: Command>(rt: &R, row: Row<'_>) -> bool {
     if row.ending.is_once {
@@ -56,6 +79,9 @@ fn holds_alone<R: Print + AllocGlobal, C: Command>(rt: &R, row: Row<'_>) -> bool
         if run::<R, C>(rt, row, Trouble::Pieces(*size), 0) != Seen::Calm {
             return false;
         }
+    }
+    if !holds_cut::<R, C>(rt, row) {
+        return false;
     }
     for trouble in TROUBLES.iter() {
         if !holds_in::<R, C>(rt, row, *trouble) {

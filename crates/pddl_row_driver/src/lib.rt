@@ -29,8 +29,9 @@
 //!     | link: fault 21 TypeTwice a
 //!     refused domain
 //!
-//! A row is run with its files read whole and in pieces of 1 and of 5 bytes, and then with each read of each file, each growth
-//! and each write failing in turn, up to a run in which none does (`trouble.rt`). A run is judged by what failed in it
+//! A row is run with its files read whole, in pieces of 1 and of 5 bytes, and cut in two at each place of a plan, of which the
+//! first 255 are tried, and then with each read of each file, each growth and each write failing in turn, up to a run in which none
+//! does (`trouble.rt`). A run is judged by what failed in it
 //! (`running.rt`). An answer needs the row's status and text, and no failed read or write; want of memory a refused growth,
 //! and nothing written; a failed read just one, nothing written, and no file behind it read; a failed write just one, and
 //! a proper beginning written. Of each file that a command reads some read fails in turn; a row that says `only N` reads

@@ -16,6 +16,9 @@ pub trait Command: Copy {
     /// How many files the command reads by readers, from the first on.
     fn readers(self) -> u64;
 
+    /// Which of these files is a plan, counted from 1; 0 where none is.
+    fn plan_file(self) -> u64;
+
     /// The words of another command that has to print and answer the same for files that are not refused.
     fn twin(self) -> Option<&'static str>;
 
@@ -51,8 +54,9 @@ pub struct Ending<'r> {
     pub status: u8,
     /// Whether the row is run only once, where nothing fails.
     pub is_once: bool,
-    /// How many files are read by readers.
+    /// How many files are read by readers, and which of them is a plan.
     pub files_read: u64,
+    pub plan_file: u64,
 }
 
 /// The number of a line `only N ..` and what stands behind it, or a number past all files and the line.
@@ -80,12 +84,13 @@ impl<'r> Ending<'r> {
         let (is_once, words) = flagged(line, "once ");
         let (first_files, words) = limited(words)?;
         let (word, words) = words.split_once(' ')?;
-        let readers = C::named(words)?.readers();
+        let command = C::named(words)?;
         Some(Ending {
             words,
             status: status_named(word)?,
             is_once,
-            files_read: readers.min(first_files),
+            files_read: command.readers().min(first_files),
+            plan_file: command.plan_file(),
         })
     }
 
@@ -100,6 +105,7 @@ impl<'r> Ending<'r> {
             status: self.status,
             is_once: true,
             files_read: 0,
+            plan_file: 0,
         })
     }
 }

@@ -29,6 +29,13 @@ pub struct Sources<'r> {
 /// Readers of these files that behave so.
 fn sources_of(files: Files<'_>, setting: Setting) -> Sources<'_> {
     let size = setting.read_size.max(1);
+    if setting.is_cut {
+        return Sources {
+            first: FakeSource::in_two(files.first, size),
+            second: FakeSource::in_two(files.second, size),
+            third: FakeSource::in_two(files.third, size),
+        };
+    }
     Sources {
         first: FakeSource::new(files.first, size, setting.failing_first),
         second: FakeSource::new(files.second, size, setting.failing_second),

@@ -7,6 +7,8 @@ use pddl_fakes::Failure;
 pub enum Trouble {
     /// Nothing fails, and a read gives at most so many bytes.
     Pieces(usize),
+    /// Nothing fails, and the first read of each file gives at most so many bytes.
+    Cut,
     /// A read of the first, of the second and of the third file, of at most three bytes each.
     FirstReads,
     SecondReads,
@@ -36,6 +38,8 @@ pub static TROUBLES: [Trouble; 10] = [
 pub struct Setting {
     /// How many bytes a reader gives at most at a time.
     pub read_size: usize,
+    /// Whether it gives as many as there is room for behind its first read.
+    pub is_cut: bool,
     /// Which read of each file fails.
     pub failing_first: u64,
     pub failing_second: u64,
@@ -53,6 +57,7 @@ pub struct Setting {
 fn calm(read_size: usize) -> Setting {
     Setting {
         read_size,
+        is_cut: false,
         failing_first: 0,
         failing_second: 0,
         failing_third: 0,
@@ -64,11 +69,15 @@ fn calm(read_size: usize) -> Setting {
 }
 
 impl Trouble {
-    /// The setting in which the call of this number fails.
+    /// The setting in which the call of this number fails, or in which files are cut at this place.
     pub fn at(self, number: u64) -> Setting {
         let mut setting = calm(3);
         match self {
             Trouble::Pieces(size) => setting.read_size = size,
+            Trouble::Cut => {
+                setting.read_size = number as usize;
+                setting.is_cut = true;
+            }
             Trouble::FirstReads => setting.failing_first = number,
             Trouble::SecondReads => setting.failing_second = number,
             Trouble::ThirdReads => setting.failing_third = number,

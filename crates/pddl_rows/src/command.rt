@@ -143,6 +143,13 @@ impl pddl_row_driver::Command for Command {
         }
     }
 
+    fn plan_file(self) -> u64 {
+        match self {
+            Command::Format(Kind::Plan) => 1,
+            _ => 0,
+        }
+    }
+
     fn twin(self) -> Option<&'static str> {
         None
     }

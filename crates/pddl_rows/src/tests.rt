@@ -1,6 +1,7 @@
 //! Each text of rows holds, and has as many rows as here.
 
 mod devices;
+mod pieces;
 
 use crate::command::Command;
 use crate::rows;
@@ -24,7 +25,7 @@ fn costs(rt: HostRuntime) -> Result<(), Fail> {
 
 #[test]
 fn domains(rt: HostRuntime) -> Result<(), Fail> {
-    all_hold(&rt, rows::DOMAINS, 14)
+    all_hold(&rt, rows::DOMAINS, 20)
 }
 
 #[test]
@@ -59,7 +60,7 @@ fn layouts(rt: HostRuntime) -> Result<(), Fail> {
 
 #[test]
 fn problems(rt: HostRuntime) -> Result<(), Fail> {
-    all_hold(&rt, rows::PROBLEMS, 51)
+    all_hold(&rt, rows::PROBLEMS, 52)
 }
 
 #[test]
@@ -69,7 +70,7 @@ fn read_domains(rt: HostRuntime) -> Result<(), Fail> {
 
 #[test]
 fn read_plans(rt: HostRuntime) -> Result<(), Fail> {
-    all_hold(&rt, rows::READ_PLANS, 7)
+    all_hold(&rt, rows::READ_PLANS, 26)
 }
 
 #[test]

@@ -151,32 +151,44 @@ fn groups_told(alloc: Global, groups: Option<NonZeroU32>) -> Result<String, Allo
     }
 }
 
+/// What a serial form is asked of, as the rows say it.
+fn serial_told(
+    alloc: Global,
+    paths: (&str, &str, &str),
+    reverse: bool,
+    groups: Option<NonZeroU32>,
+) -> Result<String, AllocError> {
+    let (domain, problem, plan) = paths;
+    let reversed = if reverse { " reversed" } else { "" };
+    let in_groups = groups_told(alloc, groups)?;
+    format!(in alloc; "serial {domain}, {problem}, {plan}{reversed}{in_groups}")
+}
+
+/// A job, as the rows say it.
+fn job_told(alloc: Global, job: &Job<'_>) -> Result<String, AllocError> {
+    match *job {
+        Job::Domain { path } => format!(in alloc; "domain {path}"),
+        Job::Problem { domain, problem } => format!(in alloc; "problem {domain}, {problem}"),
+        Job::Plan {
+            domain,
+            problem,
+            plan,
+        } => format!(in alloc; "plan {domain}, {problem}, {plan}"),
+        Job::Serial {
+            domain,
+            problem,
+            plan,
+            reverse,
+            groups,
+        } => serial_told(alloc, (domain, problem, plan), reverse, groups),
+        Job::Format { kind, path } => format!(in alloc; "format {kind:?} {path}"),
+    }
+}
+
 /// What words ask for, as the rows say it.
 fn told(alloc: Global, words: &[&str]) -> Result<String, AllocError> {
     match parse_words(alloc, words) {
-        Ok(Job::Domain { path }) => format!(in alloc; "domain {path}"),
-        Ok(Job::Problem { domain, problem }) => { format!(in alloc; "problem {domain}, {problem}") }
-        Ok(
-            Job::Plan {
-                domain,
-                problem,
-                plan,
-            },
-        ) => format!(in alloc; "plan {domain}, {problem}, {plan}"),
-        Ok(
-            Job::Serial {
-                domain,
-                problem,
-                plan,
-                reverse,
-                groups,
-            },
-        ) => {
-            let reversed = if reverse { " reversed" } else { "" };
-            let in_groups = groups_told(alloc, groups)?;
-            format!(in alloc; "serial {domain}, {problem}, {plan}{reversed}{in_groups}")
-        }
-        Ok(Job::Format { kind, path }) => format!(in alloc; "format {kind:?} {path}"),
+        Ok(job) => job_told(alloc, &job),
         Err(error) => format!(in alloc; "status {}", words_status(&error)),
     }
 }

@@ -2,7 +2,7 @@
 
 use pddl_commands::Outcome;
 use pddl_row_driver::{Lines, add_read_fault};
-use pddl_tree::{Name, Plan, Step, read_plan};
+use pddl_tree::{Name, Plan, PlanReader, ReadFault, Step, read_plan};
 use std::alloc::Allocator;
 
 /// Adds names.
@@ -36,10 +36,54 @@ fn add_steps<A: Allocator, B: Allocator>(plan: &Plan<A>, lines: &mut Lines<'_, B
     Outcome::Good
 }
 
-/// Adds the steps of the plan that a text spells.
-pub fn add_plan<B: Allocator>(alloc: &B, text: &[u8], lines: &mut Lines<'_, B>) -> Outcome {
-    match read_plan(alloc, text) {
+/// Adds the steps of a plan that was read, or why none was.
+fn add_read<A: Allocator, B: Allocator>(
+    read: Result<Plan<A>, ReadFault>,
+    lines: &mut Lines<'_, B>,
+) -> Outcome {
+    match read {
         Ok(plan) => add_steps(&plan, lines),
         Err(fault) => add_read_fault(&fault, lines),
     }
+}
+
+/// The plan of a text that comes in pieces of so many bytes behind a first one.
+fn read_pieces<'a, B: Allocator>(
+    alloc: &'a B,
+    first: &[u8],
+    rest: &[u8],
+    size: usize,
+) -> Result<Plan<&'a B>, ReadFault> {
+    let mut reader = PlanReader::new(alloc);
+    if let Err(fault) = reader.feed(first) {
+        return Err(ReadFault::Text(fault));
+    }
+    for piece in rest.chunks(size.max(1)) {
+        if let Err(fault) = reader.feed(piece) {
+            return Err(ReadFault::Text(fault));
+        }
+    }
+    reader.finish()
+}
+
+/// Adds what a plan reads as, cut in two at each place and byte by byte, where that is not what the text reads as that
+/// was added from a place on.
+fn add_cut<B: Allocator>(alloc: &B, text: &[u8], start: usize, lines: &mut Lines<'_, B>) {
+    let end = lines.size();
+    add_read(read_pieces(alloc, b"", text, 1), lines);
+    lines.merge(start, end);
+    for cut in 0..text.len() {
+        if let Some((front, rest)) = text.split_at_checked(cut) {
+            add_read(read_pieces(alloc, front, rest, usize::MAX), lines);
+            lines.merge(start, end);
+        }
+    }
+}
+
+/// Adds the steps of the plan that a text spells, as one piece and in pieces.
+pub fn add_plan<B: Allocator>(alloc: &B, text: &[u8], lines: &mut Lines<'_, B>) -> Outcome {
+    let start = lines.size();
+    let outcome = add_read(read_plan(alloc, text), lines);
+    add_cut(alloc, text, start, lines);
+    outcome
 }

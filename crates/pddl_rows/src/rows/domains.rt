@@ -67,6 +67,57 @@ file  t9999 - t0) (:constants c - t0) (:predicates (p ?x - t9999)) (:action n :e
 | link: fault 22 TypeCycle t0
 once refused domain
 
+# Variables, each spoken of once: no work is the square of their number.
+row an action of many parameters
+part (define (domain d) (:types a) (:predicates (p ?x - a)) (:action n :parameters (
+series 200000  ?v#0
+part  - a) :precondition (and
+series 200000  (p ?v#0)
+file ) :effect (not (p ?v0))))
+| good: domain d
+once good domain
+
+row an effect of many variables
+part (define (domain d) (:types a) (:predicates (p ?x - a)) (:action n :effect (forall (
+series 200000  ?v#0
+part  - a) (and
+series 200000  (p ?v#0)
+file ))))
+| good: domain d
+once good domain
+
+# A long list of variables has a table. What is bound further in hides it.
+part (define (domain d) (:types a b) (:predicates (p ?x - a) (q ?x - b)) (:action n :parameters (
+series 16  ?v#0
+part  - a ?w - b) :precondition
+keep long
+
+row a long list of parameters, one of which is hidden
+growths 30
+copy long
+file  (and (p ?v0) (p ?v15) (q ?w) (forall (?v15 - b) (q ?v15)))))
+| good: domain d
+good domain
+
+row a variable that is no longer hidden
+copy long
+file  (and (forall (?v15 - b) (q ?v15)) (q ?v15))))
+| link: fault 28 ArgumentType q
+refused domain
+
+row a variable that a long list does not have
+copy long
+file  (p ?v16)))
+| link: fault 26 UnknownName v16
+refused domain
+
+row a long list that hides a variable
+part (define (domain d) (:types a b) (:predicates (p ?x - a) (q ?x - b)) (:action n :parameters (?v7 - b ?w - b) :precondition (and (q ?v7) (exists (
+series 16  ?v#0
+file  - a) (and (p ?v7) (q ?w))))))
+| good: domain d
+good domain
+
 row lamps whose growths are refused
 growths 10
 copy lamps

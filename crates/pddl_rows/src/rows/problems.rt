@@ -320,6 +320,19 @@ file
 | link: fault 20 DomainName lamps
 refused problem
 
+# No work is the product of the number of variables and that of objects, or the square of either. The goal's size is 400,001.
+row a goal of many variables of a type with one object
+file (define (domain d) (:types a b) (:predicates (p ?x - a)))
+part (define (problem p) (:domain d) (:objects one - a
+series 400000  o#0
+part  - b) (:init (p one)) (:goal (forall (
+series 200000  ?v#0
+part  - a) (and
+series 200000  (p ?v#0)
+file ))))
+| good: problem p
+once good problem
+
 row two lamps whose growths are refused
 growths 20
 copy lamps
