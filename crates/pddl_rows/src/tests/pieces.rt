@@ -2,7 +2,7 @@
 
 use pddl_fakes::Refusing;
 use pddl_text::{LONGEST, PlanLexer, TextFault};
-use pddl_tree::{PlanReader, ReadFault};
+use pddl_tree::{Plan, PlanReader, ReadFault, read_plan};
 use std::alloc::{Allocator, Global};
 use std::test::Fail;
 
@@ -102,5 +102,56 @@ fn fails_for_good_where_memory_is_refused(rt: HostRuntime) -> Result<(), Fail> {
     );
     assert_eq!(rt; answers_without_memory(rt.alloc()), failed);
     assert_eq!(rt; lexes_without_memory(rt.alloc()), failed);
+    Ok(())
+}
+
+/// A plan of two steps, the second at a moment of three decimals.
+static TRUNCATED: &[u8] = b"0: (light a)\n0.000: (light b)\n";
+
+/// What the front of so many bytes reads as: 0 and how many steps it has, or the number of the fault and where it starts.
+fn wanted(size: usize) -> (u64, u64) {
+    match size {
+        0 => (0, 0),
+        1..=3 => (15, 0),
+        4..=11 => (7, 3),
+        12 | 13 => (0, 1),
+        15 => (2, 14),
+        14 | 16..=20 => (15, 13),
+        21..=28 => (7, 20),
+        _ => (0, 2),
+    }
+}
+
+/// What was read, told so.
+fn told<A: Allocator>(read: Result<Plan<A>, ReadFault>) -> (u64, u64) {
+    match read {
+        Ok(plan) => (0, plan.len() as u64),
+        Err(ReadFault::Text(TextFault::Stray { at })) => (2, u64::from(at)),
+        Err(ReadFault::Text(TextFault::Unclosed { at })) => (7, u64::from(at)),
+        Err(ReadFault::Step { span, .. }) => (15, u64::from(span.start)),
+        Err(_) => (u64::MAX, 0),
+    }
+}
+
+/// What two pieces read as.
+fn told_in_two(alloc: &Global, front: &[u8], rest: &[u8]) -> (u64, u64) {
+    let mut reader = PlanReader::new(alloc);
+    if reader.feed(front).is_err() || reader.feed(rest).is_err() {
+        return (u64::MAX, 1);
+    }
+    told(reader.finish())
+}
+
+#[test]
+fn reads_truncated_plans(rt: HostRuntime) -> Result<(), Fail> {
+    let alloc = rt.alloc();
+    for size in 0..=TRUNCATED.len() {
+        let text = TRUNCATED.split_at(size).0;
+        assert_eq!(rt; told(read_plan(&alloc, text)), wanted(size));
+        for cut in 0..=size {
+            let (front, rest) = text.split_at(cut);
+            assert_eq!(rt; told_in_two(&alloc, front, rest), wanted(size));
+        }
+    }
     Ok(())
 }
