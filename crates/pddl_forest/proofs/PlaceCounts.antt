@@ -112,7 +112,7 @@ same_or_not n k =
       | inr past ↦ elim (cases_lt k n) as (λ _. (n ≡ k) ⊎ (n ≢ k)) [ inl more ↦ inr (λ e. omega (arith, e, more)) | inr not_more ↦ inl (omega (arith, past, not_more)) ]
     ]
 
-any_default : (xs : List ℕ) (n d e : ℕ) → n < length xs → slice_index_or xs n d ≡ slice_index_or xs n e
+pub any_default : (xs : List ℕ) (n d e : ℕ) → n < length xs → slice_index_or xs n d ≡ slice_index_or xs n e
 any_default [] n d e low = absurd (omega (arith, low))
 any_default (x ∷ xs) zero d e low = refl
 any_default (x ∷ xs) (suc n) d e low = any_default xs n d e (omega (arith, low))

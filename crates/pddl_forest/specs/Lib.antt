@@ -1,3 +1,4 @@
 pub mod Forests
 pub mod Checks
 pub mod Counts
+pub mod Roots

@@ -5,6 +5,7 @@ mod checking;
 mod counting;
 mod numbering;
 mod preorder;
+mod roots;
 #[cfg(test)]
 mod tests;
 

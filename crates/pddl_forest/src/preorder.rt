@@ -2,11 +2,12 @@
 
 ghost use Rattle.std.specs.Prelude.{◌≡◌, ◌<◌, ◌↔◌, ℕ, Contains, IsTrue, IfOk, IfSome, length};
 ghost use Rattle.pddl_forest.specs.Forests.{IsUnder, IsForest};
-ghost use Rattle.pddl_forest.specs.Counts.{AreCounts};
+ghost use Rattle.pddl_forest.specs.Counts.{AreCounts, AreTopsOf};
 
 use crate::checking::{is_preorder, number_at};
 use crate::counting::counts;
 use crate::numbering::{Numbers, numbered};
+use crate::roots::roots;
 use std::alloc::{AllocError, Allocator};
 use std::marker::Model;
 
@@ -57,6 +58,11 @@ impl<'a, B: Allocator> Preorder<'a, B> {
         }
     }
 
+    /// The number of a place, in the order in which the tops of places come.
+    pub fn number(&self, place: usize) -> usize {
+        number_at(&self.first, place)
+    }
+
     /// Whether a place is under another: that place, or below it.
     pub fn is_under(&self, place: usize, over: usize) -> bool
         requires place { place < length self.now }
@@ -79,5 +85,22 @@ impl<'a, B: Allocator> Preorder<'a, B> {
         ensures { IfOk result (λ counts. AreCounts self.now places.now counts.items) }
     {
         counts(alloc, &self.first, &self.last, places, self.parents.len())
+    }
+
+    /// The allocator that the numbers lie in.
+    pub fn allocator(&self) -> &'a B {
+        *self.parents.allocator()
+    }
+
+    /// The steps of some of these places, so that what is under any of the places is under one of them, and under one alone; `None` where they were
+    /// not found.
+    ///
+    /// Fails where memory for them is refused.
+    pub fn roots(&self, places: &[usize]) -> Result<Option<Vec<usize, &'a B>>, AllocError>
+        requires { (i : ℕ) → Contains places.now i → i < length self.now }
+        ensures { IfOk result (λ found. IfSome found (λ steps. AreTopsOf self.now places.now steps.items)) }
+    {
+        let size = self.parents.len();
+        roots(self.allocator(), &self.first, &self.last, places, size)
     }
 }

@@ -36,3 +36,4 @@ pub mod FittingObjects
 pub mod LentNames
 pub mod FunctionNames
 pub mod TypeCounts
+pub mod TypeTops

@@ -1,6 +1,6 @@
 -- Objects that are counted by the places of their types.
 use Rattle.std.proofs.Common.{◌≡◌, ℕ, zero, suc, ◌+◌, ◌<◌, Bool, true, false, ◌||◌, ◌&&◌, cond, List, [], ◌∷◌, ◌++◌, map, filter, length, take, Some, None, refl, sym, ap, ◌∙◌, subst, bytes_eq, arith, inl, inr}
-use Rattle.std.specs.Prelude.{Option, IfSome, option_map, slice_get, position}
+use Rattle.std.specs.Prelude.{Option, IfSome, option_map, slice_get, position, Contains}
 use Rattle.std.specs.Borrow.{Bor}
 use Rattle.std.specs.Map.{lookup, keys_of}
 use Rattle.std.proofs.lemmas.List.{length-map, map-append}
@@ -14,13 +14,14 @@ use Rattle.pddl_task.specs.Names.{Name}
 use Rattle.pddl_task.specs.Types.{pairs, fits, is_under}
 use Rattle.pddl_task.specs.Faults.{primitives_of}
 use Rattle.pddl_task.specs.GroundSize.{fitting_count}
-use Rattle.pddl_link.specs.TypeTables.{Row, name_at, IsTypeTable}
-use Rattle.pddl_link.specs.ObjectCounts.{AreCountsOf, IsPlaceOf, ArePlacesOf, AreNamedCounts}
+use Rattle.pddl_link.specs.TypeTables.{Row, names_in, name_at, IsTypeTable}
+use Rattle.pddl_link.specs.ObjectCounts.{is_single, AreSingle, AreCountsOf, IsPlaceOf, ArePlacesOf, AreNamedCounts}
 use Rattle.pddl_task.proofs.Lists.{bytes_same}
 use Rattle.pddl_link.specs.KnownNames.{object_in}
 use Rattle.pddl_link.proofs.ObjectCounts.{Object}
 use Rattle.pddl_link.proofs.TypeLookups.{found_place}
 use Rattle.pddl_link.proofs.Lookups.{lookup_put}
+use Rattle.pddl_link.proofs.TypeClimbs.{name_has, has_in}
 use Rattle.pddl_link.proofs.TypeForests.{parents_in, under_numbered}
 
 -- ---- the place of an object's type
@@ -83,7 +84,7 @@ more_named rows counts named k place low is so_far n c found =
 
 -- ---- counts of objects
 
-count_map : {X Z : Type 0} (f : X → Z) (q : Z → Bool) (xs : List X) → count q (map f xs) ≡ count (λ x. q (f x)) xs
+pub count_map : {X Z : Type 0} (f : X → Z) (q : Z → Bool) (xs : List X) → count q (map f xs) ≡ count (λ x. q (f x)) xs
 count_map f q [] = refl
 count_map f q (x ∷ xs) =
     let rest = count_map f q xs in
@@ -92,22 +93,36 @@ count_map f q (x ∷ xs) =
       | false ↦ rest
     ]
 
-one_alone : (b : Bool) → (b || false) && true ≡ b
+pub one_alone : (b : Bool) → (b || false) && true ≡ b
 one_alone true = refl
 one_alone false = refl
 
+single_places : (declared : List TypeValue) (rows : List Row) (objects : List TypedValue) (places : List ℕ) → IsTypeTable declared rows → map (λ p. name_at rows p ∷ []) places ≡ map primitives_of objects
+    → ((p : ℕ) → Contains places p → p < length rows) → AreSingle declared objects
+single_places declared rows [] places table names low o (k, less, is) = absurd (omega (arith, less))
+single_places declared rows (x ∷ objects) [] table names low o there = absurd (cc (names))
+single_places declared rows (x ∷ objects) (p ∷ places) table names low o (zero, less, is) =
+    let here : name_at rows p ∷ [] ≡ x.of = cc names in
+    subst (λ (y : TypedValue). is_single declared y.of ≡ true) is
+    (subst (λ ts. is_single declared ts ≡ true) here (sym (table.table.names (name_at rows p)) ∙ has_in (names_in rows) (name_at rows p) (name_has rows p (low p (0, omega arith, refl)))))
+single_places declared rows (x ∷ objects) (p ∷ places) table names low o (suc k, less, is) =
+    let rest : map (λ p. name_at rows p ∷ []) places ≡ map primitives_of objects = cc names in
+    single_places declared rows objects places table rest (λ q there. low q (suc there.0, omega (arith, there.1), there.2)) o (k, omega (arith, less), is)
+
 pub counts_are : (declared : List TypeValue) (rows : List Row) (ps : List ℕ) (objects : List TypedValue) (places counts : List ℕ) (named : List Row) → IsTypeTable declared rows
-    → ps ≡ parents_in rows → ArePlacesOf rows objects places → AreCounts ps places counts → AreNamedCounts rows counts named → AreCountsOf (pairs declared) objects named
+    → ps ≡ parents_in rows → ArePlacesOf rows objects places → AreCounts ps places counts → AreNamedCounts rows counts named → AreCountsOf declared objects named
 counts_are declared rows ps objects places counts named table same placed counted names n c found =
     let at = names n c found in
     let g = at.0 in
     let long : length ps ≡ length rows = ap length same ∙ length-map rows (λ r. r.1) in
-    let fit = λ (ts : List Name). fits (pairs declared) ts (name_at rows g ∷ []) in
-    sym at.3
-    ∙ counted g (subst (λ m. g < m) (sym long) at.1) (λ p. fit (name_at rows p ∷ []))
-    (λ i low.
-    let under = under_numbered declared rows ps i g table (subst (λ m. i < m) long low) at.1 same in
-    let one = one_alone (is_under (pairs declared) (name_at rows i) (name_at rows g)) in
-    (λ yes. under.0 (sym one ∙ yes), λ way. one ∙ under.1 way))
-    ∙ sym (count_map (λ p. name_at rows p ∷ []) fit places) ∙ ap (count fit) placed.names ∙ count_map primitives_of fit objects
-    ∙ ap (λ m. fitting_count (pairs declared) objects (m ∷ [])) at.2
+    let fit = λ (ts : List Name). fits (pairs declared) ts (name_at rows g ∷ []) in (
+      sym at.3
+          ∙ counted g (subst (λ m. g < m) (sym long) at.1) (λ p. fit (name_at rows p ∷ []))
+          (λ i low.
+          let under = under_numbered declared rows ps i g table (subst (λ m. i < m) long low) at.1 same in
+          let one = one_alone (is_under (pairs declared) (name_at rows i) (name_at rows g)) in
+          (λ yes. under.0 (sym one ∙ yes), λ way. one ∙ under.1 way))
+          ∙ sym (count_map (λ p. name_at rows p ∷ []) fit places) ∙ ap (count fit) placed.names ∙ count_map primitives_of fit objects
+          ∙ ap (λ m. fitting_count (pairs declared) objects (m ∷ [])) at.2,
+      single_places declared rows objects places table placed.names placed.in_range,
+    )

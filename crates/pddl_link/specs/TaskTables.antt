@@ -6,7 +6,6 @@ use Rattle.pddl_domain.specs.Declarations.{TypeValue}
 use Rattle.pddl_domain.specs.Domains.{DomainValue}
 use Rattle.pddl_problem.specs.Inits.{GroundValue}
 use Rattle.pddl_problem.specs.Problems.{ProblemValue}
-use Rattle.pddl_task.specs.Types.{pairs}
 use Rattle.pddl_task.specs.Settings.{objects_of}
 use Rattle.pddl_task.specs.Linked.{IsLinked}
 use Rattle.pddl_task.specs.Tasks.{TaskValue, task_of}
@@ -35,5 +34,5 @@ pub record AreTablesOf {A : Type 0} (d : DomainValue) (p : ProblemValue) (types 
   pub predicates_are : map signature_in predicates ≡ d.predicates
   pub objects_are : map object_in objects ≡ objects_of d p
   pub objects_named : AreNamed objects
-  pub counts_are : AreCountsOf (pairs types) (map object_in objects) counts
+  pub counts_are : AreCountsOf types (map object_in objects) counts
   pub values_are : HoldsValues p.init values

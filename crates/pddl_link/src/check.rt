@@ -29,6 +29,7 @@ use crate::repeats::type_twice;
 use crate::search::Search;
 use crate::search_files::{search_domain, search_goal_and_metric, search_problem};
 use crate::size::ground_size;
+use crate::slot_tops::Tops;
 use crate::sound_init::is_sound_init;
 use crate::types::Types;
 use crate::unknown::UnknownNames;
@@ -103,10 +104,12 @@ fn check_uses<'t, 'm, 'a, A: Allocator, B: Allocator>(
     ensures { Verdict (domain_term_faults (domain_view domain.now) ++ domain_cost_faults (domain_view domain.now)) result }
 {
     let functions = functions(alloc, &domain.functions)?;
+    let tops = Tops::of(alloc, types, predicates, &functions)?;
     let known = Known {
         types,
         predicates,
         functions: &functions,
+        tops: &tops,
         objects: constants,
     };
     check_terms(alloc, &known, domain)?;

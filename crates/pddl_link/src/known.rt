@@ -9,6 +9,7 @@ ghost use Rattle.pddl_task.specs.Faults.{takes_others, signature_of};
 ghost use Rattle.pddl_link.specs.KnownNames.{signature_in, object_in};
 
 use crate::hashed::Hashed;
+use crate::slot_tops::Tops;
 use crate::types::Types;
 use indexmap::IndexMap;
 use pddl_domain::{DeclaredFunction, DeclaredPredicate};
@@ -21,12 +22,13 @@ pub(crate) type Signatures<'m, 'a, A, B> = IndexMap<&'m [u8], &'m [Typed<A>], Ha
 /// Objects by name, each as it is listed with its type.
 pub(crate) type Objects<'m, 'a, A, B> = IndexMap<&'m [u8], &'m Typed<A>, Hashed, &'a B>;
 
-/// What may be named: types, predicates and functions with their parameters, and objects with their types.
+/// What may be named: types, predicates and functions with their parameters and the tops of these, and objects with their types.
 #[derive(Drop)]
 pub(crate) struct Known<'t, 'm, 'a, A: Allocator, B: Allocator> {
     pub types: &'t Types<'m, 'a, A, B>,
     pub predicates: &'t Signatures<'m, 'a, A, B>,
     pub functions: &'t Signatures<'m, 'a, A, B>,
+    pub tops: &'t Tops<'m, 'a, B>,
     pub objects: &'t Objects<'m, 'a, A, B>,
 }
 

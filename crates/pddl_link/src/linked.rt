@@ -25,6 +25,7 @@ use crate::names::{domain_names, problem_names};
 use crate::object_counts::ObjectCounts;
 use crate::passes::{domain_name, objects_have_one_type};
 use crate::repeats::type_twice;
+use crate::slot_tops::Tops;
 use crate::task::Task;
 use crate::type_counts::TypeCounts;
 use crate::types::Types;
@@ -81,7 +82,7 @@ fn linked_values<'t, 'm, 'a, A: Allocator, B: Allocator>(
     requires types { types.now ≡ (domain_view domain.now).types }
     requires constants { map object_in constants.now.entries ≡ firsts (domain_view domain.now).constants }
     requires objects { map object_in objects.now.entries ≡ objects_of (domain_view domain.now) (problem_view problem.now) }
-    requires counts { AreCountsOf (pairs types.now) (map object_in objects.now.entries) counts.now.entries }
+    requires counts { AreCountsOf types.now (map object_in objects.now.entries) counts.now.entries }
     requires once { domain_repeats (domain_view domain.now) ≡ [] }
     ensures predicates { IfOk result (λ both. map signature_in both.0.entries ≡ (domain_view domain.now).predicates) }
     ensures values { IfOk result (λ both. HoldsValues (problem_view problem.now).init both.1.entries) }
@@ -89,16 +90,19 @@ fn linked_values<'t, 'm, 'a, A: Allocator, B: Allocator>(
 {
     let predicates = predicates(alloc, &domain.predicates)?;
     let functions = functions(alloc, &domain.functions)?;
+    let tops = Tops::of(alloc, types, &predicates, &functions)?;
     let inner = Known {
         types,
         predicates: &predicates,
         functions: &functions,
+        tops: &tops,
         objects: constants,
     };
     let outer = Known {
         types,
         predicates: &predicates,
         functions: &functions,
+        tops: &tops,
         objects,
     };
     let counts = ObjectCounts {
@@ -132,7 +136,7 @@ fn counted_values<'t, 'm, 'a, A: Allocator, B: Allocator>(
     requires once { domain_repeats (domain_view domain.now) ≡ [] }
     ensures predicates { IfOk result (λ all. map signature_in all.0.entries ≡ (domain_view domain.now).predicates) }
     ensures values { IfOk result (λ all. HoldsValues (problem_view problem.now).init all.1.entries) }
-    ensures counts { IfOk result (λ all. AreCountsOf (pairs types.now) (map object_in objects.now.entries) all.2.entries) }
+    ensures counts { IfOk result (λ all. AreCountsOf types.now (map object_in objects.now.entries) all.2.entries) }
     ensures verdict { Verdict (place_faults (domain_view domain.now) (problem_view problem.now)) result }
 {
     let counts = types.counts(alloc, objects)?;

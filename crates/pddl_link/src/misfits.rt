@@ -12,10 +12,9 @@ ghost use Rattle.pddl_link.specs.KnownNames.{signature_in, setting_of};
 
 use crate::bound::bound_type;
 use crate::fault::LinkFault;
-use crate::hashed::Hashed;
-use crate::known::Known;
+use crate::known::{Known, Signatures};
 use crate::search::{Scope, Search};
-use indexmap::IndexMap;
+use crate::slot_tops::SlotTops;
 use pddl_formula::{Term, Typed};
 use pddl_text::Fixed;
 use pddl_tree::Name;
@@ -32,11 +31,12 @@ fn is_object_misfit<'t, 'm, 'a, A: Allocator, B: Allocator>(
     known: &Known<'t, 'm, 'a, A, B>,
     object: &Name<A>,
     slot: &Typed<A>,
+    tops: &[usize],
 ) -> bool
     ensures { result ≡ is_misfit (pairs known.now.types.now) (typed_term (setting_of known.now) [] (name object.now)) (typed_view slot.now) }
 {
     match known.objects.get(object.as_bytes()) {
-        Some(listed) => !known.types.fits(&listed.types, &slot.types),
+        Some(listed) => !known.types.fits_by(&listed.types, &slot.types, tops),
         None => false,
     }
 }
@@ -47,13 +47,14 @@ fn is_misfit<'t, 'm, 'a, A: Allocator, B: Allocator>(
     term: &Term<A>,
     scope: &Scope<A, B>,
     slot: &Typed<A>,
+    tops: &[usize],
 ) -> bool
     ensures { result ≡ is_misfit (pairs known.now.types.now) (typed_term (setting_of known.now) (bound_of scope.now) (term_view term.now)) (typed_view slot.now) }
 {
     match term {
-        Term::Name(object) => is_object_misfit(known, object, slot),
+        Term::Name(object) => is_object_misfit(known, object, slot, tops),
         Term::Variable(variable) => match bound_type(scope, variable.as_bytes()) {
-            Some(types) => !known.types.fits(types, &slot.types),
+            Some(types) => !known.types.fits_by(types, &slot.types, tops),
             None => false,
         },
     }
@@ -65,13 +66,15 @@ fn some_misfit<'t, 'm, 'a, A: Allocator, B: Allocator>(
     terms: &[Term<A>],
     scope: &Scope<A, B>,
     slots: &[Typed<A>],
+    symbol: &[u8],
+    tops: &SlotTops<'m, 'a, B>,
 ) -> bool
     ensures { result ≡ some_misfit (setting_of known.now) (bound_of scope.now) (map term_view terms.now) (map typed_view slots.now) }
 {
     for i in 0..terms.len().min(slots.len()) {
         let term = &terms[i];
         let slot = &slots[i];
-        if is_misfit(known, term, scope, slot) {
+        if is_misfit(known, term, scope, slot, tops.at(symbol, i)) {
             return true;
         }
     }
@@ -83,13 +86,15 @@ fn some_object_misfit<'t, 'm, 'a, A: Allocator, B: Allocator>(
     known: &Known<'t, 'm, 'a, A, B>,
     objects: &[Name<A>],
     slots: &[Typed<A>],
+    symbol: &[u8],
+    tops: &SlotTops<'m, 'a, B>,
 ) -> bool
     ensures { result ≡ some_misfit (setting_of known.now) [] (map name objects.now) (map typed_view slots.now) }
 {
     for i in 0..objects.len().min(slots.len()) {
         let object = &objects[i];
         let slot = &slots[i];
-        if is_object_misfit(known, object, slot) {
+        if is_object_misfit(known, object, slot, tops.at(symbol, i)) {
             return true;
         }
     }
@@ -99,7 +104,8 @@ fn some_object_misfit<'t, 'm, 'a, A: Allocator, B: Allocator>(
 /// Whether a predicate or a function is declared, and a term does not fit its slot.
 fn has_misfit<'t, 'm, 'a, A: Allocator, B: Allocator>(
     known: &Known<'t, 'm, 'a, A, B>,
-    declared: &IndexMap<&'m [u8], &'m [Typed<A>], Hashed, &'a B>,
+    declared: &Signatures<'m, 'a, A, B>,
+    tops: &SlotTops<'m, 'a, B>,
     symbol: &[u8],
     terms: &[Term<A>],
     scope: &Scope<A, B>,
@@ -107,7 +113,7 @@ fn has_misfit<'t, 'm, 'a, A: Allocator, B: Allocator>(
     ensures { result ≡ has_misfit (setting_of known.now) (bound_of scope.now) (map term_view terms.now) (signature_of (record { name = symbol.now; terms = map term_view terms.now; declared = map signature_in declared.now.entries })) }
 {
     match declared.get(symbol) {
-        Some(slots) => some_misfit(known, terms, scope, *slots),
+        Some(slots) => some_misfit(known, terms, scope, *slots, symbol, tops),
         None => false,
     }
 }
@@ -115,14 +121,15 @@ fn has_misfit<'t, 'm, 'a, A: Allocator, B: Allocator>(
 /// Whether a predicate or a function is declared, and an object does not fit its slot.
 fn has_object_misfit<'t, 'm, 'a, A: Allocator, B: Allocator>(
     known: &Known<'t, 'm, 'a, A, B>,
-    declared: &IndexMap<&'m [u8], &'m [Typed<A>], Hashed, &'a B>,
+    declared: &Signatures<'m, 'a, A, B>,
+    tops: &SlotTops<'m, 'a, B>,
     symbol: &[u8],
     objects: &[Name<A>],
 ) -> bool
     ensures { result ≡ has_misfit (setting_of known.now) [] (map name objects.now) (signature_of (record { name = symbol.now; terms = map name objects.now; declared = map signature_in declared.now.entries })) }
 {
     match declared.get(symbol) {
-        Some(slots) => some_object_misfit(known, objects, *slots),
+        Some(slots) => some_object_misfit(known, objects, *slots, symbol, tops),
         None => false,
     }
 }
@@ -154,7 +161,14 @@ impl<'k, 't, 'm, 'a, A: Allocator, B: Allocator> Search<A, B> for Misfits<'k, 't
     ) -> Result<(), LinkFault<'d>> {
         let known = self.known;
         check(
-            has_misfit(known, known.predicates, predicate, terms, scope),
+            has_misfit(
+                known,
+                known.predicates,
+                &known.tops.predicates,
+                predicate,
+                terms,
+                scope,
+            ),
             predicate,
         )
     }
@@ -167,7 +181,14 @@ impl<'k, 't, 'm, 'a, A: Allocator, B: Allocator> Search<A, B> for Misfits<'k, 't
     ) -> Result<(), LinkFault<'d>> {
         let known = self.known;
         check(
-            has_misfit(known, known.functions, function, terms, scope),
+            has_misfit(
+                known,
+                known.functions,
+                &known.tops.functions,
+                function,
+                terms,
+                scope,
+            ),
             function,
         )
     }
@@ -200,7 +221,13 @@ impl<'k, 't, 'm, 'a, A: Allocator, B: Allocator> Search<A, B> for Misfits<'k, 't
     ) -> Result<(), LinkFault<'d>> {
         let known = self.known;
         check(
-            has_object_misfit(known, known.predicates, predicate, objects),
+            has_object_misfit(
+                known,
+                known.predicates,
+                &known.tops.predicates,
+                predicate,
+                objects,
+            ),
             predicate,
         )
     }
@@ -212,7 +239,13 @@ impl<'k, 't, 'm, 'a, A: Allocator, B: Allocator> Search<A, B> for Misfits<'k, 't
     ) -> Result<(), LinkFault<'d>> {
         let known = self.known;
         check(
-            has_object_misfit(known, known.functions, function, objects),
+            has_object_misfit(
+                known,
+                known.functions,
+                &known.tops.functions,
+                function,
+                objects,
+            ),
             function,
         )
     }

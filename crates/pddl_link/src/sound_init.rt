@@ -10,6 +10,7 @@ ghost use Rattle.pddl_link.specs.KnownNames.{signature_in, setting_of};
 ghost use Rattle.pddl_link.specs.SoundInits.{IsSoundObject, AreSoundObjects, IsSoundUse, AreSoundPlaces};
 
 use crate::known::{Known, Signatures};
+use crate::slot_tops::SlotTops;
 use pddl_formula::Typed;
 use pddl_problem::InitItem;
 use pddl_tree::Name;
@@ -20,11 +21,12 @@ fn is_sound_object<'t, 'm, 'a, A: Allocator, B: Allocator>(
     known: &Known<'t, 'm, 'a, A, B>,
     object: &Name<A>,
     slot: &Typed<A>,
+    tops: &[usize],
 ) -> bool
     ensures { result ≡ true → IsSoundObject (setting_of known.now) object.now (typed_view slot.now) }
 {
     match known.objects.get(object.as_bytes()) {
-        Some(listed) => known.types.fits(&listed.types, &slot.types),
+        Some(listed) => known.types.fits_by(&listed.types, &slot.types, tops),
         None => false,
     }
 }
@@ -34,6 +36,8 @@ fn are_sound_objects<'t, 'm, 'a, A: Allocator, B: Allocator>(
     known: &Known<'t, 'm, 'a, A, B>,
     objects: &[Name<A>],
     slots: &[Typed<A>],
+    symbol: &[u8],
+    tops: &SlotTops<'m, 'a, B>,
 ) -> bool
     requires { length objects.now ≡ length slots.now }
     ensures { result ≡ true → AreSoundObjects (setting_of known.now) objects.now (map typed_view slots.now) }
@@ -41,7 +45,7 @@ fn are_sound_objects<'t, 'm, 'a, A: Allocator, B: Allocator>(
     for i in 0..objects.len() {
         let object = &objects[i];
         let slot = &slots[i];
-        if !is_sound_object(known, object, slot) {
+        if !is_sound_object(known, object, slot, tops.at(symbol, i)) {
             return false;
         }
     }
@@ -52,13 +56,15 @@ fn are_sound_objects<'t, 'm, 'a, A: Allocator, B: Allocator>(
 fn is_sound_use<'t, 'm, 'a, A: Allocator, B: Allocator>(
     known: &Known<'t, 'm, 'a, A, B>,
     declared: &Signatures<'m, 'a, A, B>,
+    tops: &SlotTops<'m, 'a, B>,
     symbol: &[u8],
     objects: &[Name<A>],
 ) -> bool
     ensures { result ≡ true → IsSoundUse (setting_of known.now) (record { name = symbol.now; terms = map name objects.now; declared = map signature_in declared.now.entries }) }
 {
     match declared.get(symbol) {
-        Some(slots) => objects.len() == slots.len() && are_sound_objects(known, objects, *slots),
+        Some(slots) => objects.len() == slots.len()
+            && are_sound_objects(known, objects, *slots, symbol, tops),
         None => false,
     }
 }
@@ -76,18 +82,21 @@ fn is_sound_item<'t, 'm, 'a, A: Allocator, B: Allocator>(
         InitItem::Holds(fact) => is_sound_use(
             known,
             known.predicates,
+            &known.tops.predicates,
             fact.predicate.as_bytes(),
             &fact.objects,
         ),
         InitItem::Fails(fact) => is_sound_use(
             known,
             known.predicates,
+            &known.tops.predicates,
             fact.predicate.as_bytes(),
             &fact.objects,
         ),
         InitItem::Value(call, _) => is_sound_use(
             known,
             known.functions,
+            &known.tops.functions,
             call.function.as_bytes(),
             &call.objects,
         ),

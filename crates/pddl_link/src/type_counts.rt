@@ -100,7 +100,7 @@ pub(crate) fn type_counts<'m, 'a, A: Allocator, B: Allocator>(
 ) -> Result<TypeCounts<'m, 'a, B>, AllocError>
     requires { order.now ≡ map (λ r. r.1) parents.now.entries }
     ensures { IfOk result (λ counts. (declared : List TypeValue) → IsTypeTable declared parents.now.entries
-        → AreCountsOf (pairs declared) (map object_in objects.now.entries) counts.entries) }
+        → AreCountsOf declared (map object_in objects.now.entries) counts.entries) }
 {
     let places = places_of(alloc, parents, objects)?;
     if places.len() != objects.len() {

@@ -1,6 +1,6 @@
 //! The types of a domain with their parents, looked up by name.
 
-ghost use Rattle.std.specs.Prelude.{◌≡◌, ◌<◌, [], ◌∷◌, map, not, filter, length, IfOk, OnOk, Contains};
+ghost use Rattle.std.specs.Prelude.{◌≡◌, ◌<◌, [], ◌∷◌, true, map, not, filter, length, IfOk, OnOk, IfSome, Contains};
 ghost use Rattle.std.specs.List.{flat_map, list_any};
 ghost use Rattle.pddl_formula.specs.TypedLists.{typed_view};
 ghost use Rattle.pddl_domain.specs.Declarations.{type_view};
@@ -9,13 +9,14 @@ ghost use Rattle.pddl_task.specs.Types.{root, says_nothing, types_of, pairs, is_
 ghost use Rattle.pddl_task.specs.Faults.{primitives_of, first_alone};
 ghost use Rattle.pddl_link.specs.Passes.{Passes};
 ghost use Rattle.pddl_link.specs.KnownNames.{object_in};
-ghost use Rattle.pddl_link.specs.ObjectCounts.{AreCountsOf};
+ghost use Rattle.pddl_link.specs.ObjectCounts.{AreCountsOf, AddUp};
 ghost use Rattle.pddl_link.specs.TypeTables.{IsTableOf, IsTypeTable, AreNumbered, with_name, name_at, parent_place, climbs};
 
 use crate::fault::LinkFault;
 use crate::hashed::Hashed;
 use crate::known::Objects;
-use crate::type_counts::{TypeCounts, type_counts};
+use crate::tops::tops;
+use crate::type_counts::{TypeCounts, single, type_counts};
 use indexmap::IndexMap;
 use pddl_domain::DeclaredType;
 use pddl_forest::Preorder;
@@ -244,6 +245,49 @@ impl<'m, 'a, A: Allocator, B: Allocator> Types<'m, 'a, A, B> {
         true
     }
 
+    /// The number of a type in the order in which tops come, or 0 where it has none. Nothing is promised of it.
+    fn number(&self, name: &[u8]) -> usize {
+        match &self.order {
+            Some(order) => match self.parents.get_index_of(name) {
+                Some(place) => order.number(place),
+                None => 0,
+            },
+            None => 0,
+        }
+    }
+
+    /// Whether a name was found to be under a primitive of a slot, by its tops.
+    fn is_under_top<S: Allocator>(&self, name: &[u8], slot: &TypeNames<S>, tops: &[usize]) -> bool
+        ensures { result ≡ true → list_any (is_under (pairs self.now) name.now) slot.now ≡ true }
+    {
+        let primitives = slot.as_slice();
+        let number = self.number(name);
+        let behind = tops.partition_point(|step| match primitives.get(*step) {
+            Some(primitive) => self.number(primitive.as_bytes()) <= number,
+            None => false,
+        });
+        if behind == 0 || tops.len() < behind {
+            return false;
+        }
+        let step = tops[behind - 1];
+        step < primitives.len() && self.is_under(name, primitives[step].as_bytes())
+    }
+
+    /// Whether a term of the first type fits a slot of the second, which is found fast by the slot's tops where it does and has one primitive.
+    pub fn fits_by<T: Allocator, S: Allocator>(
+        &self,
+        types: &TypeNames<T>,
+        slot: &TypeNames<S>,
+        tops: &[usize],
+    ) -> bool
+        ensures { result ≡ fits (pairs self.now) types.now slot.now }
+    {
+        match single(types) {
+            Some(name) => self.is_under_top(name, slot, tops) || self.fits(types, slot),
+            None => self.fits(types, slot),
+        }
+    }
+
     /// How many of some objects fit each type, by its name. A name that is missing is not counted.
     ///
     /// Fails where memory for the counts is refused.
@@ -252,11 +296,25 @@ impl<'m, 'a, A: Allocator, B: Allocator> Types<'m, 'a, A, B> {
         alloc: &'a B,
         objects: &Objects<'m, 'a, A, B>,
     ) -> Result<TypeCounts<'m, 'a, B>, AllocError>
-        ensures { IfOk result (λ counts. AreCountsOf (pairs self.now) (map object_in objects.now.entries) counts.entries) }
+        ensures { IfOk result (λ counts. AreCountsOf self.now (map object_in objects.now.entries) counts.entries) }
     {
         match &self.order {
             Some(order) => type_counts(alloc, &self.parents, order, objects),
             None => Ok(IndexMap::new(alloc)),
+        }
+    }
+
+    /// The steps of some of a type's primitives, so that each object of one type which fits the type fits one of them, and one alone; `None` where they
+    /// were not found, or memory for them was refused.
+    pub fn tops<N: Allocator>(&self, types: &TypeNames<N>) -> Option<Vec<usize, &'a B>>
+        ensures { IfSome result (λ steps. AddUp self.now types.now steps.items) }
+    {
+        match &self.order {
+            Some(order) => match tops(&self.parents, order, types) {
+                Ok(found) => found,
+                Err(_) => None,
+            },
+            None => None,
         }
     }
 

@@ -60,7 +60,7 @@ fn layouts(rt: HostRuntime) -> Result<(), Fail> {
 
 #[test]
 fn problems(rt: HostRuntime) -> Result<(), Fail> {
-    all_hold(&rt, rows::PROBLEMS, 52)
+    all_hold(&rt, rows::PROBLEMS, 56)
 }
 
 #[test]
@@ -85,7 +85,7 @@ fn reading(rt: HostRuntime) -> Result<(), Fail> {
 
 #[test]
 fn tasks(rt: HostRuntime) -> Result<(), Fail> {
-    all_hold(&rt, rows::TASKS, 8)
+    all_hold(&rt, rows::TASKS, 15)
 }
 
 #[test]

@@ -333,6 +333,56 @@ file ))))
 | good: problem p
 once good problem
 
+# No work is the product of the number of an either's types and that of objects.
+row a goal of variables of an either of many types, which fits one object of very many
+part (define (domain d) (:types u
+series 2000  t#0
+file ) (:predicates (p ?x)))
+part (define (problem p) (:domain d) (:objects one - t1999
+series 20000  o#0
+part  - u) (:init) (:goal (forall (
+series 200  ?v#0
+part  - (either
+series 2000  t#0
+file )) (p one))))
+| good: problem p
+once good problem
+
+row very many facts of a slot of an either of many types
+part (define (domain d) (:types
+series 2000  t#0
+part ) (:predicates (p ?x - (either
+series 2000  t#0
+file ))))
+part (define (problem p) (:domain d) (:objects
+series 50000  o#0
+part  - t1999) (:init
+series 50000  (p o#0)
+file ) (:goal (and)))
+| good: problem p
+once good problem
+
+row an object that does not fit a slot of an either of many types
+growths 20
+part (define (domain d) (:types
+series 20  t#0
+part  u) (:predicates (p ?x - (either
+series 20  t#0
+file ))))
+file (define (problem p) (:domain d) (:objects a - t7 b - u) (:init (p a) (p b)) (:goal (and)))
+| link: fault 28 ArgumentType p
+refused problem
+
+row an object of a type below one of an either of many types
+part (define (domain d) (:types u - t7
+series 20  t#0
+part ) (:predicates (p ?x - (either
+series 20  t#0
+file ))))
+file (define (problem p) (:domain d) (:objects a - t7 b - u) (:init (p a) (p b)) (:goal (p b)))
+| good: problem p
+good problem
+
 row two lamps whose growths are refused
 growths 20
 copy lamps

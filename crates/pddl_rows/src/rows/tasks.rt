@@ -112,4 +112,66 @@ file
 file (define (problem p) (:domain lamps) (:objects a - lamp) (:init) (:goal (forall () (on a))))
 | 2
 good list size
+
+# Objects that fit an either are counted once, whichever of its types they fit: trucks 2, vans 1, wheeled 4, ships 3, vehicles 8, lamps 1.
+part (define (domain d) (:types truck van - wheeled wheeled ship - vehicle vehicle lamp) (:predicates (p ?x)))
+keep wheels
+part (define (problem p) (:domain d) (:objects t u - truck v - van w - wheeled a b c - ship x - vehicle l - lamp) (:init) (:goal (forall (?x -
+keep fleet
+
+row size of an either 1
+copy wheels
+file
+copy fleet
+file  (either truck ship)) (p ?x))))
+| 11
+good list size
+
+row size of an either 2
+copy wheels
+file
+copy fleet
+file  (either truck wheeled)) (p ?x))))
+| 9
+good list size
+
+row size of an either 3
+copy wheels
+file
+copy fleet
+file  (either wheeled truck)) (p ?x))))
+| 9
+good list size
+
+row size of an either 4
+copy wheels
+file
+copy fleet
+file  (either van van)) (p ?x))))
+| 3
+good list size
+
+row size of an either 5
+copy wheels
+file
+copy fleet
+file  (either ship vehicle lamp wheeled)) (p ?x))))
+| 19
+good list size
+
+row size of an either 6
+copy wheels
+file
+copy fleet
+file  (either lamp object)) (p ?x))))
+| 19
+good list size
+
+row size of an either 7
+copy wheels
+file
+copy fleet
+file  (either van ship truck)) (p ?x))))
+| 13
+good list size
 ";

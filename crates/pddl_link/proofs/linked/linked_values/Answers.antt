@@ -45,3 +45,8 @@ pub returns-in_err-functions-clause-verdict : goal.returns-in_err-functions-clau
 returns-in_err-functions-clause-verdict g c =
     let p = err_from_is_err_and c.from_residual-in_err-functions.result c.from_residual-in_err-functions.ensures.1 in
     rw (p.1, p.2) tt
+
+pub returns-in_err-tops-clause-verdict : goal.returns-in_err-tops-clause-verdict
+returns-in_err-tops-clause-verdict g c =
+    let p = err_from_is_err_and c.from_residual-in_err-tops.result c.from_residual-in_err-tops.ensures.1 in
+    rw (p.1, p.2) tt

@@ -16,7 +16,7 @@ returns-in-Some g c =
     let es = c.args.known.now.objects.now.entries in
     let slot = typed_view c.args.slot.now in
     let n = c.as_bytes.result.now in
-    ap not c.fits.ensures
+    ap not c.fits_by.ensures
     ∙ misfit_is ps (find (is_named n) (map object_in es)) (Some c.in-Some.listed.now.now.types) slot
     (ap (option_map (λ t. t.now.types)) (sym (ap option_copied c.in-Some.is) ∙ c.get.ensures.value) ∙ sym (object_found es n))
     ∙ ap (λ m. is_misfit ps (find (is_named m) (map object_in es)) slot) c.as_bytes.ensures.value

@@ -8,4 +8,4 @@ use Rattle.pddl_link.proofs.sound_init.is_sound_object.Goals as goal
 pub returns-in-Some : goal.returns-in-Some
 returns-in-Some g c = λ fit.
     object_sound (setting_of c.args.known.now) c.args.known.now.objects.now.entries c.as_bytes.result.now c.args.object.now c.in-Some.listed.now (typed_view c.args.slot.now) refl c.as_bytes.ensures.value
-    (sym (ap option_copied c.in-Some.is) ∙ c.get.ensures.value) (sym c.fits.ensures ∙ fit)
+    (sym (ap option_copied c.in-Some.is) ∙ c.get.ensures.value) (sym c.fits_by.ensures ∙ fit)
