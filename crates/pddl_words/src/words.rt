@@ -61,13 +61,35 @@ fn kind_named(word: &str) -> Option<Kind> {
     }
 }
 
+/// Two values, where both could be made.
+fn pair<T: Drop, U: Drop>(
+    first: Result<T, AllocError>,
+    second: Result<U, AllocError>,
+) -> Result<(T, U), AllocError> {
+    let first = first?;
+    Ok((first, second?))
+}
+
+/// A word that a command wants, by its name and its line of help.
+fn wanted<'a>(alloc: Global, name: &'a str, about: &'a str) -> Arg<'a> {
+    Arg::new(alloc, name).required(true).help(about)
+}
+
+/// A command, where it could be made, with one more argument.
+fn with_argument<'a>(
+    command: Result<Command<'a>, AllocError>,
+    argument: Arg<'a>,
+) -> Result<Command<'a>, AllocError> {
+    let (command, argument) = pair(command, Ok(argument))?;
+    command.arg(argument)
+}
+
 /// The command `domain FILE`.
 fn domain_command<'a>(alloc: Global) -> Result<Command<'a>, AllocError> {
-    let file = Arg::new(alloc, "FILE").required(true).help(help::FILE);
-    Command::new(alloc, "domain")
+    let command = Command::new(alloc, "domain")
         .about(help::ABOUT_DOMAIN)
-        .after_help(help::AFTER_DOMAIN)
-        .arg(file)
+        .after_help(help::AFTER_DOMAIN);
+    with_argument(Ok(command), wanted(alloc, "FILE", help::FILE))
 }
 
 /// The job of the words after `domain`, where they are its own.
@@ -76,17 +98,21 @@ fn domain_job<'a>(matches: &ArgMatches<'a>) -> Option<Job<'a>> {
     Some(Job::Domain { path })
 }
 
+/// A command with the words `DOMAIN PROBLEM`.
+fn with_two_files<'a>(
+    alloc: Global,
+    command: Result<Command<'a>, AllocError>,
+) -> Result<Command<'a>, AllocError> {
+    let command = with_argument(command, wanted(alloc, "DOMAIN", help::DOMAIN));
+    with_argument(command, wanted(alloc, "PROBLEM", help::PROBLEM))
+}
+
 /// The command `problem DOMAIN PROBLEM`.
 fn problem_command<'a>(alloc: Global) -> Result<Command<'a>, AllocError> {
-    let domain = Arg::new(alloc, "DOMAIN").required(true).help(help::DOMAIN);
-    let problem = Arg::new(alloc, "PROBLEM")
-        .required(true)
-        .help(help::PROBLEM);
-    Command::new(alloc, "problem")
+    let command = Command::new(alloc, "problem")
         .about(help::ABOUT_PROBLEM)
-        .after_help(help::AFTER_PROBLEM)
-        .arg(domain)?
-        .arg(problem)
+        .after_help(help::AFTER_PROBLEM);
+    with_two_files(alloc, Ok(command))
 }
 
 /// The job of the words after `problem`, where they are its own.
@@ -97,13 +123,12 @@ fn problem_job<'a>(matches: &ArgMatches<'a>) -> Option<Job<'a>> {
 }
 
 /// A command with the words `DOMAIN PROBLEM PLAN`.
-fn with_three_files<'a>(alloc: Global, command: Command<'a>) -> Result<Command<'a>, AllocError> {
-    let domain = Arg::new(alloc, "DOMAIN").required(true).help(help::DOMAIN);
-    let problem = Arg::new(alloc, "PROBLEM")
-        .required(true)
-        .help(help::PROBLEM);
-    let plan = Arg::new(alloc, "PLAN").required(true).help(help::PLAN);
-    command.arg(domain)?.arg(problem)?.arg(plan)
+fn with_three_files<'a>(
+    alloc: Global,
+    command: Result<Command<'a>, AllocError>,
+) -> Result<Command<'a>, AllocError> {
+    let command = with_two_files(alloc, command);
+    with_argument(command, wanted(alloc, "PLAN", help::PLAN))
 }
 
 /// The words `DOMAIN PROBLEM PLAN` of a command.
@@ -119,7 +144,7 @@ fn plan_command<'a>(alloc: Global) -> Result<Command<'a>, AllocError> {
     let command = Command::new(alloc, "plan")
         .about(help::ABOUT_PLAN)
         .after_help(help::AFTER_PLAN);
-    with_three_files(alloc, command)
+    with_three_files(alloc, Ok(command))
 }
 
 /// The job of the words after `plan`, where they are its own.
@@ -145,9 +170,9 @@ fn serial_command<'a>(alloc: Global) -> Result<Command<'a>, AllocError> {
         .help(help::GROUPS);
     let command = Command::new(alloc, "serial")
         .about(help::ABOUT_SERIAL)
-        .after_help(help::AFTER_SERIAL)
-        .arg(reverse)?
-        .arg(groups)?;
+        .after_help(help::AFTER_SERIAL);
+    let command = with_argument(Ok(command), reverse);
+    let command = with_argument(command, groups);
     with_three_files(alloc, command)
 }
 
@@ -169,12 +194,11 @@ fn format_command<'a>(alloc: Global) -> Result<Command<'a>, AllocError> {
         .required(true)
         .value_parser(KINDS.as_slice())
         .help(help::KIND);
-    let file = Arg::new(alloc, "FILE").required(true).help(help::FILE);
-    Command::new(alloc, "format")
+    let command = Command::new(alloc, "format")
         .about(help::ABOUT_FORMAT)
-        .after_help(help::AFTER_FORMAT)
-        .arg(kind)?
-        .arg(file)
+        .after_help(help::AFTER_FORMAT);
+    let command = with_argument(Ok(command), kind);
+    with_argument(command, wanted(alloc, "FILE", help::FILE))
 }
 
 /// The job of the words after `format`, where they are its own.
@@ -186,28 +210,28 @@ fn format_job<'a>(matches: &ArgMatches<'a>) -> Option<Job<'a>> {
 
 /// The program, without its commands.
 fn program<'a>(alloc: Global) -> Result<Command<'a>, AllocError> {
-    let program = Command::new(alloc, "pddlcheck")
-        .bin_name("pddlcheck")?
+    Command::new(alloc, "pddlcheck")
         .about(help::ABOUT)
         .after_help(help::AFTER)
-        .subcommand_required(true);
-    Ok(program)
+        .subcommand_required(true)
+        .bin_name("pddlcheck")
 }
 
-/// The program with one more command.
+/// The program with one more command, where both could be made.
 fn with_command<'a>(
-    program: Command<'a>,
+    program: Result<Command<'a>, AllocError>,
     command: Result<Command<'a>, AllocError>,
 ) -> Result<Command<'a>, AllocError> {
-    program.subcommand(command?)
+    let (program, command) = pair(program, command)?;
+    program.subcommand(command)
 }
 
 /// The program with its commands.
 fn commands<'a>(alloc: Global) -> Result<Command<'a>, AllocError> {
-    let program = with_command(program(alloc)?, domain_command(alloc))?;
-    let program = with_command(program, problem_command(alloc))?;
-    let program = with_command(program, plan_command(alloc))?;
-    let program = with_command(program, serial_command(alloc))?;
+    let program = with_command(program(alloc), domain_command(alloc));
+    let program = with_command(program, problem_command(alloc));
+    let program = with_command(program, plan_command(alloc));
+    let program = with_command(program, serial_command(alloc));
     with_command(program, format_command(alloc))
 }
 
