@@ -34,6 +34,10 @@ touch_in content t = record { reads = content t.reads; adds = content t.adds; de
 abbrev pub Owned : {T : Type 0} → (T → Type 0) → Touched T → Type 0
 Owned owns t = owns t.reads × owns t.adds × owns t.dels
 
+-- The atoms that the first adds or deletes and the second reads, and those that the first adds and the second deletes.
+abbrev pub crossing : {A : Type 0} → Touch A → Touch A → A → Bool
+crossing x y a = ((x.adds a && y.reads a) || (x.dels a && y.reads a)) || (x.adds a && y.dels a)
+
 -- The atoms that one of two adds or deletes and the other reads, and those that one adds and the other deletes. Of what two
 -- steps touch in a state, this is their clash.
 abbrev pub overlap : {A : Type 0} → Touch A → Touch A → A → Bool

@@ -2,8 +2,8 @@
 
 ghost use Rattle.std.specs.Prelude.{◌≡◌, ◌<◌, ◌↔◌, Bool, false, IfOk, IsTrue, ◌&&◌, MatchOption};
 ghost use Rattle.pddl_state.specs.Atoms.{AtomValue};
-ghost use Rattle.pddl_state.specs.AtomSets.{no_atoms, intersection};
-ghost use Rattle.pddl_judge.specs.Touches.{touch_in, touch_of, join_of, Owned, overlap, Apart};
+ghost use Rattle.pddl_state.specs.AtomSets.{no_atoms, union, intersection};
+ghost use Rattle.pddl_judge.specs.Touches.{touch_in, touch_of, join_of, Owned, crossing, overlap, Apart};
 ghost use Rattle.pddl_judge.specs.Verdicts.{IsLeast};
 
 use crate::course::Course;
@@ -102,6 +102,40 @@ fn both<A: Allocator, S: AtomStore<A>>(
     Ok(common)
 }
 
+/// Adds the atoms that two sets have in common to a set.
+fn add_both<A: Allocator, S: AtomStore<A>>(
+    store: &S,
+    all: &mut S::Set,
+    a: &S::Set,
+    b: &S::Set,
+) -> Result<(), AllocError>
+    requires all_own { S.owns store.now all.old }
+    requires a_own { S.owns store.now a.now }
+    requires b_own { S.owns store.now b.now }
+    ensures own { IfOk result (λ _. S.owns store.now all.new) }
+    ensures content { IfOk result (λ _. S.content store.now all.new ≡ union (S.content store.now all.old) (intersection (S.content store.now a.now) (S.content store.now b.now))) }
+{
+    let common = both(store, a, b)?;
+    store.unite(all, &common)
+}
+
+/// The atoms that one adds or deletes and the other reads, and those that one adds and the other deletes.
+fn crossing_of<A: Allocator, S: AtomStore<A>>(
+    store: &S,
+    one: &Touched<S::Set>,
+    other: &Touched<S::Set>,
+) -> Result<S::Set, AllocError>
+    requires one_own { Owned (S.owns store.now) one.now }
+    requires other_own { Owned (S.owns store.now) other.now }
+    ensures own { IfOk result (λ c. S.owns store.now c) }
+    ensures content { IfOk result (λ c. S.content store.now c ≡ crossing (touch_in (S.content store.now) one.now) (touch_in (S.content store.now) other.now)) }
+{
+    let mut crossing = both(store, &one.adds, &other.reads)?;
+    add_both(store, &mut crossing, &one.dels, &other.reads)?;
+    add_both(store, &mut crossing, &one.adds, &other.dels)?;
+    Ok(crossing)
+}
+
 /// The atoms that keep two steps from being apart.
 fn clash_of<A: Allocator, S: AtomStore<A>>(
     store: &S,
@@ -113,12 +147,9 @@ fn clash_of<A: Allocator, S: AtomStore<A>>(
     ensures own { IfOk result (λ c. S.owns store.now c) }
     ensures content { IfOk result (λ c. (x : AtomValue) → S.content store.now c x ≡ overlap (touch_in (S.content store.now) one.now) (touch_in (S.content store.now) other.now) x) }
 {
-    let mut clash = both(store, &one.adds, &other.reads)?;
-    store.unite(&mut clash, &both(store, &one.dels, &other.reads)?)?;
-    store.unite(&mut clash, &both(store, &other.adds, &one.reads)?)?;
-    store.unite(&mut clash, &both(store, &other.dels, &one.reads)?)?;
-    store.unite(&mut clash, &both(store, &one.adds, &other.dels)?)?;
-    store.unite(&mut clash, &both(store, &other.adds, &one.dels)?)?;
+    let mut clash = crossing_of(store, one, other)?;
+    let rest = crossing_of(store, other, one)?;
+    store.unite(&mut clash, &rest)?;
     Ok(clash)
 }
 

@@ -9,3 +9,4 @@ pub mod Counted
 pub mod Left
 pub mod Ends
 pub mod Examples
+pub mod Further

@@ -1,9 +1,29 @@
-use Rattle.std.proofs.Common.{◌≡◌, ◌+◌, ℕ, get_or, drop, sym, ap, refl}
+use Rattle.std.proofs.Common.{◌≡◌, ◌+◌, ◌<◌, ℕ, get_or, drop, subst, sym, ap, refl}
+use Rattle.std.specs.Prelude.{All}
+use Rattle.std.proofs.lemmas.List.Elements.{All-drop}
 use Rattle.std.specs.List.{AllByRecursion}
 use Rattle.pddl_happenings.specs.Accepted.{NoClash}
 use Rattle.pddl_judge.specs.Touches.{touch_in}
 use Rattle.pddl_judge.proofs.Overlaps.{none_in_row, found_in_row, row_fails, clash_from_row, default}
 use Rattle.pddl_judge.proofs.clash.clash_in_row.Goals as goal
+
+pub touch-requires : goal.touch-requires
+touch-requires g c = record {
+  step = c.requires.steps c.args.place 0 c.requires.within;
+  own = c.requires.own;
+}
+
+pub first_in_row-requires : goal.first_in_row-requires
+first_in_row-requires g c =
+    let count = g.P.Course.count_of c.args.course.now in
+    record {
+      steps = subst (All (λ k. k < count)) (sym c.following-rest.ensures) (All-drop (λ k. k < count) (c.args.place + 1) c.args.group.now c.requires.steps);
+      own = c.touch.ensures.others_own c.args.state.now c.requires.own;
+      one_own = c.in_ok-one.ensures.own;
+    }
+
+pub bounds-rest-j : goal.bounds-rest-j
+bounds-rest-j g c = rw c.in-Some.is at c.in_ok-first_in_row.ensures.within
 
 pub returns-in-None : goal.returns-in-None
 returns-in-None g c =

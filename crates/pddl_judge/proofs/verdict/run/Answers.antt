@@ -1,7 +1,9 @@
-use Rattle.std.proofs.Common.{◌≡◌, ◌<◌, ◌≤◌, ◌*◌, ◌+◌, ℕ, rules, arith, refl, length, get_or, subst, sym, ap, ◌∙◌}
+use Rattle.std.proofs.Common.{◌≡◌, ◌<◌, ◌≤◌, ◌*◌, ◌+◌, ℕ, [], rules, arith, refl, length, get_or, drop, subst, sym, ap, ◌∙◌}
+use borrow.Author.Count.{falls}
 use Rattle.std.specs.Prelude.{All}
+use Rattle.std.proofs.lemmas.List.{drop_all}
 use Rattle.std.specs.List.{concat}
-use Rattle.pddl_happenings.specs.Accepted.{IsFine, after, cost_of}
+use Rattle.pddl_happenings.specs.Accepted.{AllFine, IsFine, after, after_all, cost_of, cost_of_all}
 use Rattle.pddl_happenings.specs.Failures.{AtHappening, IsFirstUnready, IsFirstClash}
 use Rattle.pddl_happenings.proofs.ListedOnce.{as_many}
 use Rattle.pddl_judge.specs.HappeningValues.{groups_of}
@@ -25,6 +27,18 @@ loop-h-init g c =
       unready = λ step n w. subst (AtHappening (g.P.Course.steps_of c.args.course.now) (λ s q. IsFirstUnready (g.P.Course.steps_of c.args.course.now) s q step) (g.S.AtomStore.content c.args.store.now c.args.state.now) (groups_of c.args.happenings.now)) (zero n) w;
       clashes = λ first second a n w. subst (AtHappening (g.P.Course.steps_of c.args.course.now) (λ s q. IsFirstClash (g.P.Course.steps_of c.args.course.now) (IsLeast a) s q first second) (g.S.AtomStore.content c.args.store.now c.args.state.now) (groups_of c.args.happenings.now)) (zero n) w;
     }
+
+pub pass-requires-clause-few : goal.pass-requires-clause-few
+pass-requires-clause-few g c =
+    let content = g.S.AtomStore.content in
+    let p = g.P.Course.steps_of c.args.course.now in
+    let start = content c.args.store.now c.args.state.now in
+    let here = content c.loop-h.store c.loop-h.state in
+    let items = c.args.happenings.now in
+    let h = c.loop-h.h in
+    let d = c.index-happenings-h.result in
+    let steps : c.deref.result.now ≡ d.steps = search rules in
+    subst (λ l. length l ≤ 1000000) (sym steps) (few_more p start here here items h d c.index-happenings-h.is c.loop-h-test.true (groups_of items) 1000000 c.loop-h.invariant.few).0
 
 pub pass-requires-clause-steps : goal.pass-requires-clause-steps
 pass-requires-clause-steps g c =
@@ -73,6 +87,41 @@ loop-h-preserved g c =
       few = (few_more p start here there items h d at lt whole 1000000 c.loop-h.invariant.few).1;
       unready = λ step. at_more p start here there items h d at lt whole is (λ s q. IsFirstUnready p s q step) (c.loop-h.invariant.unready step) one;
       clashes = λ first second a. at_more p start here there items h d at lt whole is (λ s q. IsFirstClash p (IsLeast a) s q first second) (c.loop-h.invariant.clashes first second a) one;
+    }
+
+pub loop-h-smaller : goal.loop-h-smaller
+loop-h-smaller g c = falls (length c.args.happenings.now) c.loop-h.h c.loop-h-test.true
+
+pub overflow_add-cost : goal.overflow_add-cost
+overflow_add-cost g c =
+    let content = g.S.AtomStore.content in
+    let p = g.P.Course.steps_of c.args.course.now in
+    let start = content c.args.store.now c.args.state.now in
+    let here = content c.loop-h.store c.loop-h.state in
+    let items = c.args.happenings.now in
+    let h = c.loop-h.h in
+    let d = c.index-happenings-h.result in
+    let steps : c.deref.result.now ≡ d.steps = search rules in
+    let spent = c.in-Passed.spent in
+    let bound : spent ≤ length c.deref.result.now * 18446744073709551616000000 = rw c.in-Passed.is at c.in_ok-spent.ensures.bound in
+    let room = room_more p start here here items h d c.index-happenings-h.is c.loop-h-test.true (groups_of items) c.loop-h.cost spent 18446744073709551616000000000000 c.loop-h.invariant.room (subst (λ l. spent ≤ length l * 18446744073709551616000000) steps bound) in
+    omega (arith, room)
+
+pub returns : goal.returns
+returns g c =
+    let p = g.P.Course.steps_of c.args.course.now in
+    let here = g.S.AtomStore.content c.loop-h.store c.loop-h.state in
+    let items = c.args.happenings.now in
+    let none : groups_of (drop c.loop-h.h items) ≡ [] = ap groups_of (drop_all c.loop-h.h items c.loop-h-test.false) in
+    record {
+      own = c.loop-h.invariant.own;
+      fine = c.loop-h.invariant.fine (subst (AllFine p here) (sym none) tt);
+      end = sym (ap (after_all p here) none) ∙ c.loop-h.invariant.end;
+      cost = omega (arith, c.loop-h.invariant.cost_is, ap (cost_of_all p here) none);
+      precondition = tt;
+      interference = tt;
+      not_goal = tt;
+      refused = tt;
     }
 
 pub returns-in-Unready-clause-precondition : goal.returns-in-Unready-clause-precondition
