@@ -12,11 +12,12 @@ use Rattle.pddl_effect.specs.Effects as effects
 use Rattle.pddl_effect.specs.Effects.{AmountValue, EffectValue, EffectValues}
 use Rattle.pddl_task.specs.Names.{Name, is_in, number_in}
 use Rattle.pddl_task.specs.Valuations.{Valuation, object_of, object_at, grounded, some_valuation, grounded_call, every_valuation, sum_valuations}
-use Rattle.pddl_task.specs.Known.{some_read, some_read_in, some_of, some_of_all}
+use Rattle.pddl_task.specs.Known.{formula_atoms, tested, effect_atoms}
+use Rattle.pddl_meaning.proofs.SpokenTests.{some_read, some_read_in, some_of, some_of_all, some_fired, some_fired_in, reads_are, spoken_are, fired_are}
 use Rattle.pddl_state.specs.Atoms.{AtomValue}
-use Rattle.pddl_meaning.specs.Worlds.{World}
+use Rattle.pddl_meaning.specs.Worlds.{no_atoms, World}
 use Rattle.pddl_meaning.specs.Truth.{truth, all_true, some_true}
-use Rattle.pddl_meaning.specs.Effects.{some_fired, some_fired_in, amount_of, effect_cost, effects_cost}
+use Rattle.pddl_meaning.specs.Effects.{fired, amount_of, effect_cost, effects_cost}
 use Rattle.pddl_compiled.specs.Compiled.{fixed, held, known, existential, universal, both, each, no_changes}
 use Rattle.pddl_compiled.specs.CompiledMeaning.{FrameValue, object_in, atom_in, is_true, are_true, is_some_true, some_tested, some_tested_in, some_spoken, some_spoken_in, some_changed, some_changed_in, spent, spent_in}
 use Rattle.pddl_compiled.specs.Tables.{Tables, number_atom, named, IsOver}
@@ -225,27 +226,30 @@ module _ (w : World) (t : Tables) (price : AtomValue → ℕ) (over : IsOver t w
     equal_not_tested (placed p) q env = refl
 
     mutual
-      pub tested_right : (f : FormulaValue) (v : Valuation) (scope : ScopeValue) (env : FrameValue) → Fits t v scope env → some_tested (condition_of t f scope) test env ≡ some_read w.fit f (named t test) v
-      tested_right (formulas.atom a) v scope env h = ap test (atom_right v scope env a h)
-      tested_right (formulas.equal x y) v scope env h = equal_not_tested (resolved scope x) (resolved scope y) env
-      tested_right (formulas.negation f) v scope env h = tested_right f v scope env h
-      tested_right (formulas.implication f g) v scope env h =
-          let left : some_tested (condition_of t f scope) test env ≡ some_read w.fit f (named t test) v = tested_right f v scope env h in
-          let right : some_tested (condition_of t g scope) test env ≡ some_read w.fit g (named t test) v = tested_right g v scope env h in
+      tested_same : (f : FormulaValue) (v : Valuation) (scope : ScopeValue) (env : FrameValue) → Fits t v scope env → some_tested (condition_of t f scope) test env ≡ some_read w.fit f (named t test) v
+      tested_same (formulas.atom a) v scope env h = ap test (atom_right v scope env a h)
+      tested_same (formulas.equal x y) v scope env h = equal_not_tested (resolved scope x) (resolved scope y) env
+      tested_same (formulas.negation f) v scope env h = tested_same f v scope env h
+      tested_same (formulas.implication f g) v scope env h =
+          let left : some_tested (condition_of t f scope) test env ≡ some_read w.fit f (named t test) v = tested_same f v scope env h in
+          let right : some_tested (condition_of t g scope) test env ≡ some_read w.fit g (named t test) v = tested_same g v scope env h in
           cc
-      tested_right (formulas.conjunction fs) v scope env h = tested_in_right fs v scope env h
-      tested_right (formulas.disjunction fs) v scope env h = tested_in_right fs v scope env h
-      tested_right (formulas.existential xs f) v scope env h =
-          any_nested existential (known true) (λ c en. some_tested c test en) (condition_of t f) (some_read w.fit f (named t test)) (λ u sc en k. tested_right f u sc en k) (λ range c en. refl) xs v scope env h
-      tested_right (formulas.universal xs f) v scope env h =
-          any_nested universal (known true) (λ c en. some_tested c test en) (condition_of t f) (some_read w.fit f (named t test)) (λ u sc en k. tested_right f u sc en k) (λ range c en. refl) xs v scope env h
+      tested_same (formulas.conjunction fs) v scope env h = tested_in_right fs v scope env h
+      tested_same (formulas.disjunction fs) v scope env h = tested_in_right fs v scope env h
+      tested_same (formulas.existential xs f) v scope env h =
+          any_nested existential (known true) (λ c en. some_tested c test en) (condition_of t f) (some_read w.fit f (named t test)) (λ u sc en k. tested_same f u sc en k) (λ range c en. refl) xs v scope env h
+      tested_same (formulas.universal xs f) v scope env h =
+          any_nested universal (known true) (λ c en. some_tested c test en) (condition_of t f) (some_read w.fit f (named t test)) (λ u sc en k. tested_same f u sc en k) (λ range c en. refl) xs v scope env h
 
       tested_in_right : (fs : FormulaValues) (v : Valuation) (scope : ScopeValue) (env : FrameValue) → Fits t v scope env → some_tested_in (conditions_of_all t fs scope) test env ≡ some_read_in w.fit fs (named t test) v
       tested_in_right formulas.no_formulas v scope env h = refl
       tested_in_right (formulas.formula f fs) v scope env h =
-          let head : some_tested (condition_of t f scope) test env ≡ some_read w.fit f (named t test) v = tested_right f v scope env h in
+          let head : some_tested (condition_of t f scope) test env ≡ some_read w.fit f (named t test) v = tested_same f v scope env h in
           let tail : some_tested_in (conditions_of_all t fs scope) test env ≡ some_read_in w.fit fs (named t test) v = tested_in_right fs v scope env h in
           cc
+
+    pub tested_right : (f : FormulaValue) (v : Valuation) (scope : ScopeValue) (env : FrameValue) → Fits t v scope env → some_tested (condition_of t f scope) test env ≡ list_any (named t test) (formula_atoms w.fit f v)
+    tested_right f v scope env h = tested_same f v scope env h ∙ reads_are w.fit (named t test) f v
 
   module _ (read added deleted : AtomValue → Bool) where
     increase_not_spoken : (a : AmountValue) (scope : ScopeValue) (env : FrameValue) → some_spoken (increase_of t a scope) read added deleted env ≡ false
@@ -253,24 +257,28 @@ module _ (w : World) (t : Tables) (price : AtomValue → ℕ) (over : IsOver t w
     increase_not_spoken (effects.function f) scope env = refl
 
     mutual
-      pub spoken_right : (e : EffectValue) (v : Valuation) (scope : ScopeValue) (env : FrameValue) → Fits t v scope env → some_spoken (change_of t e scope) read added deleted env ≡ some_of w.fit e (named t read) (named t added) (named t deleted) v
-      spoken_right (effects.conjunction es) v scope env h = spoken_in_right es v scope env h
-      spoken_right (effects.universal xs e) v scope env h =
-          any_nested each (both no_changes) (λ c en. some_spoken c read added deleted en) (change_of t e) (some_of w.fit e (named t read) (named t added) (named t deleted)) (λ u sc en k. spoken_right e u sc en k) (λ range c en. refl) xs v scope env h
-      spoken_right (effects.conditional f e) v scope env h =
-          let left : some_tested (condition_of t f scope) read env ≡ some_read w.fit f (named t read) v = tested_right read f v scope env h in
-          let right : some_spoken (change_of t e scope) read added deleted env ≡ some_of w.fit e (named t read) (named t added) (named t deleted) v = spoken_right e v scope env h in
+      spoken_same : (e : EffectValue) (v : Valuation) (scope : ScopeValue) (env : FrameValue) → Fits t v scope env → some_spoken (change_of t e scope) read added deleted env ≡ some_of w.fit e (named t read) (named t added) (named t deleted) v
+      spoken_same (effects.conjunction es) v scope env h = spoken_in_right es v scope env h
+      spoken_same (effects.universal xs e) v scope env h =
+          any_nested each (both no_changes) (λ c en. some_spoken c read added deleted en) (change_of t e) (some_of w.fit e (named t read) (named t added) (named t deleted)) (λ u sc en k. spoken_same e u sc en k) (λ range c en. refl) xs v scope env h
+      spoken_same (effects.conditional f e) v scope env h =
+          let left : some_tested (condition_of t f scope) read env ≡ some_read w.fit f (named t read) v = tested_same read f v scope env h in
+          let right : some_spoken (change_of t e scope) read added deleted env ≡ some_of w.fit e (named t read) (named t added) (named t deleted) v = spoken_same e v scope env h in
           cc
-      spoken_right (effects.addition a) v scope env h = ap added (atom_right v scope env a h)
-      spoken_right (effects.deletion a) v scope env h = ap deleted (atom_right v scope env a h)
-      spoken_right (effects.increase a) v scope env h = increase_not_spoken a scope env
+      spoken_same (effects.addition a) v scope env h = ap added (atom_right v scope env a h)
+      spoken_same (effects.deletion a) v scope env h = ap deleted (atom_right v scope env a h)
+      spoken_same (effects.increase a) v scope env h = increase_not_spoken a scope env
 
       spoken_in_right : (es : EffectValues) (v : Valuation) (scope : ScopeValue) (env : FrameValue) → Fits t v scope env → some_spoken_in (changes_of_all t es scope) read added deleted env ≡ some_of_all w.fit es (named t read) (named t added) (named t deleted) v
       spoken_in_right effects.no_effects v scope env h = refl
       spoken_in_right (effects.effect e es) v scope env h =
-          let head : some_spoken (change_of t e scope) read added deleted env ≡ some_of w.fit e (named t read) (named t added) (named t deleted) v = spoken_right e v scope env h in
+          let head : some_spoken (change_of t e scope) read added deleted env ≡ some_of w.fit e (named t read) (named t added) (named t deleted) v = spoken_same e v scope env h in
           let tail : some_spoken_in (changes_of_all t es scope) read added deleted env ≡ some_of_all w.fit es (named t read) (named t added) (named t deleted) v = spoken_in_right es v scope env h in
           cc
+
+    pub spoken_right : (e : EffectValue) (v : Valuation) (scope : ScopeValue) (env : FrameValue) → Fits t v scope env
+        → some_spoken (change_of t e scope) read added deleted env ≡ list_any (tested (named t read) (named t added) (named t deleted)) (effect_atoms w.fit e v)
+    spoken_right e v scope env h = spoken_same e v scope env h ∙ spoken_are w.fit (named t read) (named t added) (named t deleted) e v
 
   -- ---- what fires
 
@@ -280,24 +288,28 @@ module _ (w : World) (t : Tables) (price : AtomValue → ℕ) (over : IsOver t w
     increase_changes_nothing (effects.function f) scope env = refl
 
     mutual
-      pub changed_right : (e : EffectValue) (v : Valuation) (scope : ScopeValue) (env : FrameValue) → Fits t v scope env → some_changed s (change_of t e scope) added deleted env ≡ some_fired w.fit (named t s) e (named t added) (named t deleted) v
-      changed_right (effects.conjunction es) v scope env h = changed_in_right es v scope env h
-      changed_right (effects.universal xs e) v scope env h =
-          any_nested each (both no_changes) (λ c en. some_changed s c added deleted en) (change_of t e) (some_fired w.fit (named t s) e (named t added) (named t deleted)) (λ u sc en k. changed_right e u sc en k) (λ range c en. refl) xs v scope env h
-      changed_right (effects.conditional f e) v scope env h =
+      changed_same : (e : EffectValue) (v : Valuation) (scope : ScopeValue) (env : FrameValue) → Fits t v scope env → some_changed s (change_of t e scope) added deleted env ≡ some_fired w.fit (named t s) e (named t added) (named t deleted) v
+      changed_same (effects.conjunction es) v scope env h = changed_in_right es v scope env h
+      changed_same (effects.universal xs e) v scope env h =
+          any_nested each (both no_changes) (λ c en. some_changed s c added deleted en) (change_of t e) (some_fired w.fit (named t s) e (named t added) (named t deleted)) (λ u sc en k. changed_same e u sc en k) (λ range c en. refl) xs v scope env h
+      changed_same (effects.conditional f e) v scope env h =
           let left : is_true s (condition_of t f scope) env ≡ truth w.fit (named t s) f v = truth_right s f v scope env h in
-          let right : some_changed s (change_of t e scope) added deleted env ≡ some_fired w.fit (named t s) e (named t added) (named t deleted) v = changed_right e v scope env h in
+          let right : some_changed s (change_of t e scope) added deleted env ≡ some_fired w.fit (named t s) e (named t added) (named t deleted) v = changed_same e v scope env h in
           cc
-      changed_right (effects.addition a) v scope env h = ap added (atom_right v scope env a h)
-      changed_right (effects.deletion a) v scope env h = ap deleted (atom_right v scope env a h)
-      changed_right (effects.increase a) v scope env h = increase_changes_nothing a scope env
+      changed_same (effects.addition a) v scope env h = ap added (atom_right v scope env a h)
+      changed_same (effects.deletion a) v scope env h = ap deleted (atom_right v scope env a h)
+      changed_same (effects.increase a) v scope env h = increase_changes_nothing a scope env
 
       changed_in_right : (es : EffectValues) (v : Valuation) (scope : ScopeValue) (env : FrameValue) → Fits t v scope env → some_changed_in s (changes_of_all t es scope) added deleted env ≡ some_fired_in w.fit (named t s) es (named t added) (named t deleted) v
       changed_in_right effects.no_effects v scope env h = refl
       changed_in_right (effects.effect e es) v scope env h =
-          let head : some_changed s (change_of t e scope) added deleted env ≡ some_fired w.fit (named t s) e (named t added) (named t deleted) v = changed_right e v scope env h in
+          let head : some_changed s (change_of t e scope) added deleted env ≡ some_fired w.fit (named t s) e (named t added) (named t deleted) v = changed_same e v scope env h in
           let tail : some_changed_in s (changes_of_all t es scope) added deleted env ≡ some_fired_in w.fit (named t s) es (named t added) (named t deleted) v = changed_in_right es v scope env h in
           cc
+
+    pub changed_right : (e : EffectValue) (v : Valuation) (scope : ScopeValue) (env : FrameValue) → Fits t v scope env
+        → some_changed s (change_of t e scope) added deleted env ≡ list_any (tested no_atoms (named t added) (named t deleted)) (fired w.fit (named t s) e v)
+    changed_right e v scope env h = changed_same e v scope env h ∙ fired_are w.fit (named t s) (named t added) (named t deleted) e v
 
   -- ---- what is spent
 

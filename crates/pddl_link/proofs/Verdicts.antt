@@ -1,9 +1,11 @@
 -- Passes in the order of their faults' numbers find the lowest fault.
-use Rattle.std.proofs.Common.{◌≡◌, ◌≤◌, ℕ, zero, suc, List, [], ◌∷◌, ◌++◌, Result, Ok, Err, refl, sym, arith, subst, IfSome}
-use Rattle.std.specs.Prelude.{Contains, Option, Some, None}
-use Rattle.std.specs.List.{AllByRecursion}
+use Rattle.std.proofs.Common.{◌≡◌, ◌≤◌, ℕ, zero, suc, true, List, [], ◌∷◌, ◌++◌, Result, Ok, Err, refl, sym, arith, subst, IfSome}
+use Rattle.std.specs.Prelude.{nat_le, Contains, Option, Some, None}
+use Rattle.std.specs.List.{list_all}
+use Rattle.std.proofs.lemmas.Bool.Decides.{nat_tests}
 use Rattle.pddl_task.specs.Names.{Name}
 use Rattle.pddl_task.specs.Linked.{Fault, fault, NoneStands, IsLowest}
+use Rattle.pddl_task.proofs.Lists.{and_left, and_right}
 use Rattle.pddl_task.proofs.LowestFault.{lowest_later, none_stand, first_is_lowest}
 use Rattle.pddl_link.specs.declared.fault.LinkFault.{LinkFault}
 use Rattle.std.specs.Result.{result_and}
@@ -11,12 +13,15 @@ use Rattle.pddl_link.specs.Passes.{fault_of, Passes, Verdict, Settles}
 
 -- the faults of a list have numbers from this one on
 abbrev pub From : ℕ → List Fault → Type 0
-From n fs = AllByRecursion (λ f. n ≤ f.number) fs
+From n fs = list_all (λ f. nat_le n f.number) fs ≡ true
+
+at_most : (m n : ℕ) → nat_le m n ≡ true → m ≤ n
+at_most m n h = grind (arith, nat_tests)
 
 numbers_of : (n : ℕ) (fs : List Fault) (f : Fault) → From n fs → Contains fs f → n ≤ f.number
 numbers_of n [] f from c = absurd (omega (arith, c.1))
-numbers_of n (g ∷ fs) f from (zero, low, is) = subst (λ h. n ≤ h.number) is from.0
-numbers_of n (g ∷ fs) f from (suc i, low, is) = numbers_of n fs f from.1 (i, omega arith, is)
+numbers_of n (g ∷ fs) f from (zero, low, is) = subst (λ h. n ≤ h.number) is (at_most n g.number (and_left (nat_le n g.number) (list_all (λ h. nat_le n h.number) fs) from))
+numbers_of n (g ∷ fs) f from (suc i, low, is) = numbers_of n fs f (and_right (nat_le n g.number) (list_all (λ h. nat_le n h.number) fs) from) (i, omega arith, is)
 
 -- where none of the first faults stands, and none of those after them, none does
 pub none_behind : (before fs : List Fault) → NoneStands before → NoneStands fs → NoneStands (before ++ fs)
@@ -39,11 +44,11 @@ pub found_at : (before : List Fault) (n : ℕ) (words : List Name) (after : List
     → Passes {T = Unit {0}} n words (Err e) → Verdict {T = Unit {0}} (before ++ fault n words ∷ after) (Err e)
 found_at before n words after e none from h = some_at before n words after (fault_of e) none from h
 
--- the pass for the last fault decides
-pub decided_last : (before : List Fault) (n : ℕ) (words : List Name) (r : Result (Unit {0}) LinkFault) → NoneStands before → Passes n words r
-    → Verdict (before ++ fault n words ∷ []) r
-decided_last before n words (Ok u) none h = none_behind before (fault n words ∷ []) none (h, tt)
-decided_last before n words (Err e) none h = some_at before n words [] (fault_of e) none tt h
+-- the pass for the last fault that can stand decides
+pub decided_last : (before : List Fault) (n : ℕ) (words : List Name) (after : List Fault) (r : Result (Unit {0}) LinkFault) → NoneStands before → NoneStands after → From n after
+    → Passes n words r → Verdict (before ++ fault n words ∷ after) r
+decided_last before n words after (Ok u) none more from h = none_behind before (fault n words ∷ after) none (h, more)
+decided_last before n words after (Err e) none more from h = some_at before n words after (fault_of e) none from h
 
 lowest_behind : (f : Fault) (fs : List Fault) (m : ℕ) (w : Name) → f.words ≡ [] → IsLowest fs m w → IsLowest (f ∷ fs) m w
 lowest_behind f fs m w none low = lowest_later f fs m w low (λ v c. absurd (none_stand (f ∷ []) f.number v (none, tt) (f, (0, omega arith, refl), refl, c)))

@@ -1,6 +1,6 @@
 //! Checks a domain, and a domain with a problem: the lowest fault that stands.
 
-ghost use Rattle.std.specs.Prelude.{◌≡◌, ◌++◌, true, [], map, IfOk};
+ghost use Rattle.std.specs.Prelude.{◌≡◌, true, [], map, IfOk};
 ghost use Rattle.std.specs.List.{flat_map};
 ghost use Rattle.pddl_domain.specs.Domains.{domain_view};
 ghost use Rattle.pddl_problem.specs.Inits.{init_view};
@@ -9,11 +9,11 @@ ghost use Rattle.pddl_task.specs.Places.{init_places};
 ghost use Rattle.pddl_task.specs.Names.{firsts};
 ghost use Rattle.pddl_task.specs.Settings.{in_domain, in_problem, objects_of};
 ghost use Rattle.pddl_task.specs.Faults.{domain_repeats, large_goals};
-ghost use Rattle.pddl_task.specs.Linked.{NoneStands, domain_faults};
+ghost use Rattle.pddl_task.specs.Linked.{NoneStands, domain_fault, fault_in, domain_faults};
 ghost use Rattle.pddl_link.specs.Passes.{Passes, Settles, Verdict};
 ghost use Rattle.pddl_link.specs.Claims.{HoldsValues};
 ghost use Rattle.pddl_link.specs.KnownNames.{setting_of, signature_in, object_in};
-ghost use Rattle.pddl_link.specs.Parts.{words_of_both, domain_type_faults, domain_name_faults, domain_term_faults, domain_cost_faults, cost_faults, last_faults, place_faults};
+ghost use Rattle.pddl_link.specs.Parts.{words_of_both, type_rules, name_rules, place_rules, term_rules, last_rules, cost_rules};
 
 use crate::arity::OtherArities;
 use crate::declared_types::domain_types_known;
@@ -43,7 +43,7 @@ fn domain_types<'m, 'a, A: Allocator, B: Allocator>(
     domain: &'m Domain<A>,
 ) -> Result<Types<'m, 'a, A, B>, LinkFault<'m>>
     ensures types { IfOk result (λ types. types ≡ (domain_view domain.now).types) }
-    ensures verdict { Settles (domain_type_faults (domain_view domain.now)) (domain_faults (domain_view domain.now)) result }
+    ensures verdict { Settles (map (domain_fault (domain_view domain.now)) type_rules) (domain_faults (domain_view domain.now)) result }
 {
     type_twice(alloc, domain)?;
     let types = Types::of(alloc, &domain.types)?;
@@ -56,9 +56,9 @@ fn domain_objects<'m, 'a, A: Allocator, B: Allocator>(
     alloc: &'a B,
     domain: &'m Domain<A>,
 ) -> Result<Objects<'m, 'a, A, B>, LinkFault<'m>>
-    requires { NoneStands (domain_type_faults (domain_view domain.now)) }
+    requires { NoneStands (map (domain_fault (domain_view domain.now)) type_rules) }
     ensures constants { IfOk result (λ constants. map object_in constants.entries ≡ firsts (domain_view domain.now).constants) }
-    ensures verdict { Settles (domain_name_faults (domain_view domain.now)) (domain_faults (domain_view domain.now)) result }
+    ensures verdict { Settles (map (domain_fault (domain_view domain.now)) name_rules) (domain_faults (domain_view domain.now)) result }
 {
     let constants = domain_names(alloc, domain)?;
     object_types(&domain.constants).and(Ok(constants))
@@ -71,7 +71,7 @@ fn check_terms<'k, 'm, 'a, 'd, A: Allocator, B: Allocator>(
     domain: &'d Domain<A>,
 ) -> Result<(), LinkFault<'d>>
     requires { setting_of known.now ≡ in_domain (domain_view domain.now) }
-    ensures { Settles (domain_term_faults (domain_view domain.now)) (domain_term_faults (domain_view domain.now) ++ domain_cost_faults (domain_view domain.now)) result }
+    ensures { Settles (map (domain_fault (domain_view domain.now)) term_rules) (map (domain_fault (domain_view domain.now)) place_rules) result }
 {
     search_domain(alloc, &UnknownNames { known }, domain)?;
     search_domain(alloc, &OtherArities { known }, domain)?;
@@ -83,7 +83,7 @@ fn check_costs<'a, 'd, A: Allocator, B: Allocator>(
     alloc: &'a B,
     domain: &'d Domain<A>,
 ) -> Result<(), LinkFault<'d>>
-    ensures { Verdict (domain_cost_faults (domain_view domain.now)) result }
+    ensures { Verdict (map (domain_fault (domain_view domain.now)) last_rules) result }
 {
     search_domain(alloc, &Fractions, domain)?;
     object_fluents(domain)
@@ -101,7 +101,7 @@ fn check_uses<'t, 'm, 'a, A: Allocator, B: Allocator>(
     requires constants { map object_in constants.now.entries ≡ firsts (domain_view domain.now).constants }
     requires predicates { map signature_in predicates.now.entries ≡ (domain_view domain.now).predicates }
     requires once { domain_repeats (domain_view domain.now) ≡ [] }
-    ensures { Verdict (domain_term_faults (domain_view domain.now) ++ domain_cost_faults (domain_view domain.now)) result }
+    ensures { Verdict (map (domain_fault (domain_view domain.now)) place_rules) result }
 {
     let functions = functions(alloc, &domain.functions)?;
     let tops = Tops::of(alloc, types, predicates, &functions)?;
@@ -180,7 +180,7 @@ fn check_last<'k, 'm, 'a, 'd, A: Allocator, B: Allocator>(
 ) -> Result<(), LinkFault<'d>>
     requires types { counts.now.types.now ≡ (domain_view domain.now).types }
     requires objects { map object_in counts.now.objects.now.entries ≡ objects_of (domain_view domain.now) (problem_view problem.now) }
-    ensures { Verdict (cost_faults (domain_view domain.now) (problem_view problem.now)) result }
+    ensures { Verdict (map (fault_in (domain_view domain.now) (problem_view problem.now)) cost_rules) result }
 {
     object_fluents(domain)?;
     metric(&problem.metric)?;
@@ -196,7 +196,7 @@ fn check_init<'k, 'm, 'a, 'd, A: Allocator, B: Allocator>(
 ) -> Result<Values<'d, 'a, A, B>, LinkFault<'d>>
     requires types { counts.now.types.now ≡ (domain_view domain.now).types }
     requires objects { map object_in counts.now.objects.now.entries ≡ objects_of (domain_view domain.now) (problem_view problem.now) }
-    ensures verdict { Verdict (last_faults (domain_view domain.now) (problem_view problem.now)) result }
+    ensures verdict { Verdict (map (fault_in (domain_view domain.now) (problem_view problem.now)) last_rules) result }
     ensures values { IfOk result (λ values. HoldsValues (problem_view problem.now).init values.entries) }
 {
     contradictions(alloc, &problem.init)?;
@@ -219,7 +219,7 @@ pub(crate) fn check_places<'k, 'm, 'a, 'd, A: Allocator, B: Allocator>(
     requires outer { setting_of outer.now ≡ in_problem (domain_view domain.now) (problem_view problem.now) }
     requires types { counts.now.types.now ≡ (domain_view domain.now).types }
     requires objects { map object_in counts.now.objects.now.entries ≡ objects_of (domain_view domain.now) (problem_view problem.now) }
-    ensures verdict { Verdict (place_faults (domain_view domain.now) (problem_view problem.now)) result }
+    ensures verdict { Verdict (map (fault_in (domain_view domain.now) (problem_view problem.now)) place_rules) result }
     ensures values { IfOk result (λ values. HoldsValues (problem_view problem.now).init values.entries) }
 {
     let is_init_sound = is_sound_init(outer, &problem.init);

@@ -6,12 +6,12 @@ ghost use Rattle.pddl_problem.specs.Problems.{problem_view};
 ghost use Rattle.pddl_task.specs.Names.{firsts};
 ghost use Rattle.pddl_task.specs.Settings.{objects_of};
 ghost use Rattle.pddl_task.specs.Faults.{domain_repeats};
-ghost use Rattle.pddl_task.specs.Linked.{NoneStands, faults};
+ghost use Rattle.pddl_task.specs.Linked.{NoneStands, fault_in, faults};
 ghost use Rattle.pddl_link.specs.Claims.{HoldsValues};
 ghost use Rattle.pddl_task.specs.Types.{pairs};
 ghost use Rattle.pddl_link.specs.ObjectCounts.{AreCountsOf};
 ghost use Rattle.pddl_link.specs.KnownNames.{AreNamed, signature_in, object_in};
-ghost use Rattle.pddl_link.specs.Parts.{type_faults, name_faults, place_faults};
+ghost use Rattle.pddl_link.specs.Parts.{type_rules, name_rules, place_rules};
 ghost use Rattle.pddl_link.specs.Passes.{Settles, Verdict};
 ghost use Rattle.pddl_link.specs.TaskTables.{files};
 ghost use Rattle.pddl_link.specs.LinkedTasks.{files_of};
@@ -40,7 +40,7 @@ fn linked_types<'m, 'a, A: Allocator, B: Allocator>(
     problem: &'m Problem<A>,
 ) -> Result<Types<'m, 'a, A, B>, LinkFault<'m>>
     ensures types { IfOk result (λ types. types ≡ (domain_view domain.now).types) }
-    ensures verdict { Settles (type_faults (domain_view domain.now) (problem_view problem.now)) (faults (domain_view domain.now) (problem_view problem.now)) result }
+    ensures verdict { Settles (map (fault_in (domain_view domain.now) (problem_view problem.now)) type_rules) (faults (domain_view domain.now) (problem_view problem.now)) result }
 {
     domain_name(domain, problem)?;
     type_twice(alloc, domain)?;
@@ -56,12 +56,12 @@ fn linked_objects<'m, 'a, A: Allocator, B: Allocator>(
     domain: &'m Domain<A>,
     problem: &'m Problem<A>,
 ) -> Result<(Objects<'m, 'a, A, B>, Objects<'m, 'a, A, B>), LinkFault<'m>>
-    requires { NoneStands (type_faults (domain_view domain.now) (problem_view problem.now)) }
+    requires { NoneStands (map (fault_in (domain_view domain.now) (problem_view problem.now)) type_rules) }
     ensures constants { IfOk result (λ both. map object_in both.0.entries ≡ firsts (domain_view domain.now).constants) }
     ensures objects { IfOk result (λ both. map object_in both.1.entries ≡ objects_of (domain_view domain.now) (problem_view problem.now)) }
     ensures named { IfOk result (λ both. AreNamed both.1.entries) }
     ensures once { IfOk result (λ _. domain_repeats (domain_view domain.now) ≡ []) }
-    ensures verdict { Settles (name_faults (domain_view domain.now) (problem_view problem.now)) (faults (domain_view domain.now) (problem_view problem.now)) result }
+    ensures verdict { Settles (map (fault_in (domain_view domain.now) (problem_view problem.now)) name_rules) (faults (domain_view domain.now) (problem_view problem.now)) result }
 {
     let constants = domain_names(alloc, domain)?;
     let objects = problem_names(alloc, domain, problem)?;
@@ -86,7 +86,7 @@ fn linked_values<'t, 'm, 'a, A: Allocator, B: Allocator>(
     requires once { domain_repeats (domain_view domain.now) ≡ [] }
     ensures predicates { IfOk result (λ both. map signature_in both.0.entries ≡ (domain_view domain.now).predicates) }
     ensures values { IfOk result (λ both. HoldsValues (problem_view problem.now).init both.1.entries) }
-    ensures verdict { Verdict (place_faults (domain_view domain.now) (problem_view problem.now)) result }
+    ensures verdict { Verdict (map (fault_in (domain_view domain.now) (problem_view problem.now)) place_rules) result }
 {
     let predicates = predicates(alloc, &domain.predicates)?;
     let functions = functions(alloc, &domain.functions)?;
@@ -137,7 +137,7 @@ fn counted_values<'t, 'm, 'a, A: Allocator, B: Allocator>(
     ensures predicates { IfOk result (λ all. map signature_in all.0.entries ≡ (domain_view domain.now).predicates) }
     ensures values { IfOk result (λ all. HoldsValues (problem_view problem.now).init all.1.entries) }
     ensures counts { IfOk result (λ all. AreCountsOf types.now (map object_in objects.now.entries) all.2.entries) }
-    ensures verdict { Verdict (place_faults (domain_view domain.now) (problem_view problem.now)) result }
+    ensures verdict { Verdict (map (fault_in (domain_view domain.now) (problem_view problem.now)) place_rules) result }
 {
     let counts = types.counts(alloc, objects)?;
     let (predicates, values) = linked_values(

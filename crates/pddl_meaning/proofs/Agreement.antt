@@ -6,8 +6,9 @@ use Rattle.std.proofs.lemmas.List.Sums.{sum_by-cons}
 use Rattle.std.proofs.lemmas.Cmp.{lists_equiv, nat_list_eq_equiv}
 use Rattle.pddl_problem.specs.Inits.{GroundValue}
 use Rattle.pddl_task.specs.Faults.{same_ground}
-use Rattle.pddl_task.specs.Names.{same_names}
-use Rattle.pddl_task.proofs.Lists.{has_first, has_later}
+use Rattle.pddl_task.specs.Names.{Name, same_names}
+use Rattle.pddl_task.proofs.Lists.{has_first, has_later, and_left, and_right, bytes_same}
+use Rattle.std.proofs.lemmas.Bool.{true≢false}
 
 pub any_agree : {X : Type 0} (q r : X → Bool) (xs : List X) → ((h : X) → Contains xs h → q h ≡ r h) → list_any q xs ≡ list_any r xs
 any_agree q r [] same = refl
@@ -35,3 +36,17 @@ same_itself g =
     let p : bytes_eq g.name g.name ≡ true = nat_list_eq_equiv.refl g.name in
     let q : same_names g.objects g.objects ≡ true = (lists_equiv nat_list_eq_equiv).refl g.objects in
     cc
+
+names_are : (ms ns : List Name) → same_names ms ns ≡ true → ms ≡ ns
+names_are [] [] same = refl
+names_are [] (n ∷ ns) same = absurd (true≢false (sym same))
+names_are (m ∷ ms) [] same = absurd (true≢false (sym same))
+names_are (m ∷ ms) (n ∷ ns) same =
+    ap (λ x. x ∷ ms) (bytes_same m n (and_left (bytes_eq m n) (same_names ms ns) same)) ∙ ap (λ xs. n ∷ xs) (names_are ms ns (and_right (bytes_eq m n) (same_names ms ns) same))
+
+-- the same names are one atom
+pub one_ground : (g h : GroundValue) → same_ground g h ≡ true → g ≡ h
+one_ground g h same =
+    let name : g.name ≡ h.name = bytes_same g.name h.name (and_left (bytes_eq g.name h.name) (same_names g.objects h.objects) same) in
+    let objects : g.objects ≡ h.objects = names_are g.objects h.objects (and_right (bytes_eq g.name h.name) (same_names g.objects h.objects) same) in
+    λ i. record { name = name i; objects = objects i }

@@ -1,7 +1,8 @@
 -- The law of frame: what a formula, an effect or a step does depends only on what it reads.
-use Rattle.std.proofs.Common.{◌≡◌, ℕ, Bool, true, false, not, ◌||◌, List, [], ◌∷◌, refl, ap}
+use Rattle.std.proofs.Common.{◌≡◌, ℕ, Bool, true, false, not, ◌||◌, cond, List, [], ◌∷◌, ◌++◌, map, refl, sym, ap, ◌∙◌, arith, inl, inr}
 use Rattle.std.specs.Prelude.{Contains}
-use Rattle.std.specs.List.{list_any}
+use Rattle.std.specs.List.{list_any, flat_map}
+use Rattle.std.proofs.lemmas.List.Elements.{Contains-append_left, Contains-append_right, Contains-append_cases}
 use Rattle.pddl_formula.specs.TypedLists.{TypedValue}
 use Rattle.pddl_formula.specs.Formulas.{FormulaValue, FormulaValues, atom, equal, negation, implication, conjunction, disjunction, existential, universal, no_formulas, formula}
 use Rattle.pddl_effect.specs.Effects as effects
@@ -10,22 +11,36 @@ use Rattle.pddl_domain.specs.Actions.{ActionValue}
 use Rattle.pddl_task.specs.Names.{Name}
 use Rattle.pddl_task.specs.Faults.{same_ground}
 use Rattle.pddl_task.specs.Tasks.{TaskValue}
-use Rattle.pddl_task.specs.Known.{some_read, some_read_in, some_of, some_of_all}
-use Rattle.pddl_task.specs.Valuations.{Valuation, grounded, giving, some_valuation, every_valuation, sum_valuations}
+use Rattle.pddl_task.specs.Known.{formula_atoms, Spoken, is_read, tested, effect_atoms, effects_atoms}
+use Rattle.pddl_task.specs.Valuations.{Valuation, grounded, giving, some_valuation, every_valuation, sum_valuations, over_valuations}
 use Rattle.pddl_meaning.specs.Worlds.{Atoms, no_atoms, World, world_of}
 use Rattle.pddl_meaning.specs.Truth.{truth, all_true, some_true, formula_reads}
-use Rattle.pddl_meaning.specs.Effects.{effect_reads, some_fired, some_fired_in, effect_cost, effects_cost}
+use Rattle.pddl_meaning.specs.Effects.{effect_reads, fired, all_fired, effect_cost, effects_cost}
 use Rattle.pddl_happenings.specs.Steps.{Agree, IsFramed}
 use Rattle.pddl_meaning.specs.Steps.{applied, step_of}
-use Rattle.pddl_task.proofs.Lists.{and_right, or_left, or_right, found_any}
+use Rattle.pddl_task.proofs.Lists.{or_left, or_right, found_any, has_first, has_later}
+use Rattle.pddl_meaning.proofs.SpokenTests.{some_read, some_read_in, some_of, some_of_all, reads_are, spoken_are}
 use Rattle.pddl_meaning.proofs.Agreement.{any_agree, all_agree, sum_agree, same_itself}
 
--- what formulas in turn, and effects in turn, read
+-- what a formula, formulas in turn, an effect and effects in turn read, part by part
+abbrev reads_in : (List Name → List Name) → FormulaValue → Valuation → Atoms
+reads_in fit f v g = some_read fit f (same_ground g) v
+
 abbrev all_read : (List Name → List Name) → FormulaValues → Valuation → Atoms
 all_read fit fs v g = some_read_in fit fs (same_ground g) v
 
+abbrev effect_read : (List Name → List Name) → EffectValue → Valuation → Atoms
+effect_read fit e v g = some_of fit e (same_ground g) no_atoms no_atoms v
+
 abbrev effects_read : (List Name → List Name) → EffectValues → Valuation → Atoms
 effects_read fit es v g = some_of_all fit es (same_ground g) no_atoms no_atoms v
+
+flat_agree : {X Y : Type 0} (p q : X → List Y) (xs : List X) → ((h : X) → Contains xs h → p h ≡ q h) → flat_map p xs ≡ flat_map q xs
+flat_agree p q [] same = refl
+flat_agree p q (x ∷ xs) same =
+    let head : p x ≡ q x = same x (has_first x xs) in
+    let tail : flat_map p xs ≡ flat_map q xs = flat_agree p q xs (λ h c. same h (has_later x xs h c)) in
+    ap (λ ys. ys ++ flat_map p xs) head ∙ ap (λ zs. q x ++ zs) tail
 
 module _ (fit : List Name → List Name) (s t : Atoms) where
   -- under a quantifier: r is what is read at a valuation, p and q are what is said in s and in t
@@ -49,77 +64,93 @@ module _ (fit : List Name → List Name) (s t : Atoms) where
       sum_agree _ _ (fit x.of) (λ o c. sum_frame r p q same xs ((x.item, o) ∷ v) (agree_at r p q same x xs v o c agree))
 
   mutual
-    pub truth_frame : (f : FormulaValue) (v : Valuation) → Agree (formula_reads fit f v) s t → truth fit s f v ≡ truth fit t f v
-    truth_frame (atom a) v agree = agree (grounded v a) (same_itself (grounded v a))
-    truth_frame (equal x y) v agree = refl
-    truth_frame (negation f) v agree = ap not (truth_frame f v agree)
-    truth_frame (implication f g) v agree =
-        let left : truth fit s f v ≡ truth fit t f v = truth_frame f v (λ a h. agree a (or_left (formula_reads fit f v a) (formula_reads fit g v a) h)) in
-        let right : truth fit s g v ≡ truth fit t g v = truth_frame g v (λ a h. agree a (or_right (formula_reads fit f v a) (formula_reads fit g v a) h)) in
+    truth_same : (f : FormulaValue) (v : Valuation) → Agree (reads_in fit f v) s t → truth fit s f v ≡ truth fit t f v
+    truth_same (atom a) v agree = agree (grounded v a) (same_itself (grounded v a))
+    truth_same (equal x y) v agree = refl
+    truth_same (negation f) v agree = ap not (truth_same f v agree)
+    truth_same (implication f g) v agree =
+        let left : truth fit s f v ≡ truth fit t f v = truth_same f v (λ a h. agree a (or_left (reads_in fit f v a) (reads_in fit g v a) h)) in
+        let right : truth fit s g v ≡ truth fit t g v = truth_same g v (λ a h. agree a (or_right (reads_in fit f v a) (reads_in fit g v a) h)) in
         cc
-    truth_frame (conjunction fs) v agree = all_true_frame fs v agree
-    truth_frame (disjunction fs) v agree = some_true_frame fs v agree
-    truth_frame (existential xs f) v agree = some_frame (formula_reads fit f) (truth fit s f) (truth fit t f) (λ u. truth_frame f u) xs v agree
-    truth_frame (universal xs f) v agree = every_frame (formula_reads fit f) (truth fit s f) (truth fit t f) (λ u. truth_frame f u) xs v agree
+    truth_same (conjunction fs) v agree = all_true_frame fs v agree
+    truth_same (disjunction fs) v agree = some_true_frame fs v agree
+    truth_same (existential xs f) v agree = some_frame (reads_in fit f) (truth fit s f) (truth fit t f) (λ u. truth_same f u) xs v agree
+    truth_same (universal xs f) v agree = every_frame (reads_in fit f) (truth fit s f) (truth fit t f) (λ u. truth_same f u) xs v agree
 
     all_true_frame : (fs : FormulaValues) (v : Valuation) → Agree (all_read fit fs v) s t → all_true fit s fs v ≡ all_true fit t fs v
     all_true_frame no_formulas v agree = refl
     all_true_frame (formula f fs) v agree =
-        let head : truth fit s f v ≡ truth fit t f v = truth_frame f v (λ a h. agree a (or_left (formula_reads fit f v a) (all_read fit fs v a) h)) in
-        let tail : all_true fit s fs v ≡ all_true fit t fs v = all_true_frame fs v (λ a h. agree a (or_right (formula_reads fit f v a) (all_read fit fs v a) h)) in
+        let head : truth fit s f v ≡ truth fit t f v = truth_same f v (λ a h. agree a (or_left (reads_in fit f v a) (all_read fit fs v a) h)) in
+        let tail : all_true fit s fs v ≡ all_true fit t fs v = all_true_frame fs v (λ a h. agree a (or_right (reads_in fit f v a) (all_read fit fs v a) h)) in
         cc
 
     some_true_frame : (fs : FormulaValues) (v : Valuation) → Agree (all_read fit fs v) s t → some_true fit s fs v ≡ some_true fit t fs v
     some_true_frame no_formulas v agree = refl
     some_true_frame (formula f fs) v agree =
-        let head : truth fit s f v ≡ truth fit t f v = truth_frame f v (λ a h. agree a (or_left (formula_reads fit f v a) (all_read fit fs v a) h)) in
-        let tail : some_true fit s fs v ≡ some_true fit t fs v = some_true_frame fs v (λ a h. agree a (or_right (formula_reads fit f v a) (all_read fit fs v a) h)) in
+        let head : truth fit s f v ≡ truth fit t f v = truth_same f v (λ a h. agree a (or_left (reads_in fit f v a) (all_read fit fs v a) h)) in
+        let tail : some_true fit s fs v ≡ some_true fit t fs v = some_true_frame fs v (λ a h. agree a (or_right (reads_in fit f v a) (all_read fit fs v a) h)) in
         cc
+
+  listed_frame : {X : Type 0} (r : Valuation → Atoms) (p q : Valuation → List X) → ((v : Valuation) → Agree (r v) s t → p v ≡ q v) → (xs : List TypedValue) (v : Valuation)
+      → Agree (λ g. some_valuation fit xs (λ u. r u g) v) s t → over_valuations fit xs p v ≡ over_valuations fit xs q v
+  listed_frame r p q same [] v agree = same v agree
+  listed_frame r p q same (x ∷ xs) v agree =
+      flat_agree _ _ (fit x.of) (λ o c. listed_frame r p q same xs ((x.item, o) ∷ v) (agree_at r p q same x xs v o c agree))
 
   mutual
-    pub fired_frame : (e : EffectValue) (added deleted : Atoms) (v : Valuation) → Agree (effect_reads fit e v) s t → some_fired fit s e added deleted v ≡ some_fired fit t e added deleted v
-    fired_frame (effects.conjunction es) added deleted v agree = fired_in_frame es added deleted v agree
-    fired_frame (effects.universal xs e) added deleted v agree = some_frame (effect_reads fit e) (some_fired fit s e added deleted) (some_fired fit t e added deleted) (λ u. fired_frame e added deleted u) xs v agree
-    fired_frame (conditional f e) added deleted v agree =
-        let test : truth fit s f v ≡ truth fit t f v = truth_frame f v (λ b h. agree b (or_left (formula_reads fit f v b) (effect_reads fit e v b) h)) in
-        let body : some_fired fit s e added deleted v ≡ some_fired fit t e added deleted v = fired_frame e added deleted v (λ b h. agree b (or_right (formula_reads fit f v b) (effect_reads fit e v b) h)) in
-        cc
-    fired_frame (addition a) added deleted v agree = refl
-    fired_frame (deletion a) added deleted v agree = refl
-    fired_frame (increase a) added deleted v agree = refl
+    fired_same : (e : EffectValue) (v : Valuation) → Agree (effect_read fit e v) s t → fired fit s e v ≡ fired fit t e v
+    fired_same (effects.conjunction es) v agree = all_fired_same es v agree
+    fired_same (effects.universal xs e) v agree = listed_frame (effect_read fit e) (fired fit s e) (fired fit t e) (λ u. fired_same e u) xs v agree
+    fired_same (conditional f e) v agree =
+        let test : truth fit s f v ≡ truth fit t f v = truth_same f v (λ b h. agree b (or_left (reads_in fit f v b) (effect_read fit e v b) h)) in
+        let body : fired fit s e v ≡ fired fit t e v = fired_same e v (λ b h. agree b (or_right (reads_in fit f v b) (effect_read fit e v b) h)) in
+        ap (λ b. cond b (fired fit s e v) []) test ∙ ap (λ xs. cond (truth fit t f v) xs []) body
+    fired_same (addition a) v agree = refl
+    fired_same (deletion a) v agree = refl
+    fired_same (increase a) v agree = refl
 
-    fired_in_frame : (es : EffectValues) (added deleted : Atoms) (v : Valuation) → Agree (effects_read fit es v) s t → some_fired_in fit s es added deleted v ≡ some_fired_in fit t es added deleted v
-    fired_in_frame no_effects added deleted v agree = refl
-    fired_in_frame (effect e es) added deleted v agree =
-        let head : some_fired fit s e added deleted v ≡ some_fired fit t e added deleted v = fired_frame e added deleted v (λ b h. agree b (or_left (effect_reads fit e v b) (effects_read fit es v b) h)) in
-        let tail : some_fired_in fit s es added deleted v ≡ some_fired_in fit t es added deleted v = fired_in_frame es added deleted v (λ b h. agree b (or_right (effect_reads fit e v b) (effects_read fit es v b) h)) in
-        cc
+    all_fired_same : (es : EffectValues) (v : Valuation) → Agree (effects_read fit es v) s t → all_fired fit s es v ≡ all_fired fit t es v
+    all_fired_same no_effects v agree = refl
+    all_fired_same (effect e es) v agree =
+        let head : fired fit s e v ≡ fired fit t e v = fired_same e v (λ b h. agree b (or_left (effect_read fit e v b) (effects_read fit es v b) h)) in
+        let tail : all_fired fit s es v ≡ all_fired fit t es v = all_fired_same es v (λ b h. agree b (or_right (effect_read fit e v b) (effects_read fit es v b) h)) in
+        ap (λ xs. xs ++ all_fired fit s es v) head ∙ ap (λ ys. fired fit t e v ++ ys) tail
+
+  -- the same by the atoms that are listed
+  pub truth_frame : (f : FormulaValue) (v : Valuation) → Agree (formula_reads fit f v) s t → truth fit s f v ≡ truth fit t f v
+  truth_frame f v agree = truth_same f v (λ g h. agree g (sym (reads_are fit (same_ground g) f v) ∙ h))
+
+  pub fired_frame : (e : EffectValue) (v : Valuation) → Agree (effect_reads fit e v) s t → fired fit s e v ≡ fired fit t e v
+  fired_frame e v agree = fired_same e v (λ g h. agree g (sym (spoken_are fit (same_ground g) no_atoms no_atoms e v) ∙ h))
 
 module _ (w : World) (s t : Atoms) where
   mutual
-    pub cost_frame : (e : EffectValue) (v : Valuation) → Agree (effect_reads w.fit e v) s t → effect_cost w s e v ≡ effect_cost w t e v
-    cost_frame (effects.conjunction es) v agree = costs_frame es v agree
-    cost_frame (effects.universal xs e) v agree = sum_frame w.fit s t (effect_reads w.fit e) (effect_cost w s e) (effect_cost w t e) (λ u. cost_frame e u) xs v agree
-    cost_frame (conditional f e) v agree =
-        let test : truth w.fit s f v ≡ truth w.fit t f v = truth_frame w.fit s t f v (λ b h. agree b (or_left (formula_reads w.fit f v b) (effect_reads w.fit e v b) h)) in
-        let body : effect_cost w s e v ≡ effect_cost w t e v = cost_frame e v (λ b h. agree b (or_right (formula_reads w.fit f v b) (effect_reads w.fit e v b) h)) in
+    cost_same : (e : EffectValue) (v : Valuation) → Agree (effect_read w.fit e v) s t → effect_cost w s e v ≡ effect_cost w t e v
+    cost_same (effects.conjunction es) v agree = costs_frame es v agree
+    cost_same (effects.universal xs e) v agree = sum_frame w.fit s t (effect_read w.fit e) (effect_cost w s e) (effect_cost w t e) (λ u. cost_same e u) xs v agree
+    cost_same (conditional f e) v agree =
+        let test : truth w.fit s f v ≡ truth w.fit t f v = truth_same w.fit s t f v (λ b h. agree b (or_left (reads_in w.fit f v b) (effect_read w.fit e v b) h)) in
+        let body : effect_cost w s e v ≡ effect_cost w t e v = cost_same e v (λ b h. agree b (or_right (reads_in w.fit f v b) (effect_read w.fit e v b) h)) in
         cc
-    cost_frame (addition a) v agree = refl
-    cost_frame (deletion a) v agree = refl
-    cost_frame (increase a) v agree = refl
+    cost_same (addition a) v agree = refl
+    cost_same (deletion a) v agree = refl
+    cost_same (increase a) v agree = refl
 
     costs_frame : (es : EffectValues) (v : Valuation) → Agree (effects_read w.fit es v) s t → effects_cost w s es v ≡ effects_cost w t es v
     costs_frame no_effects v agree = refl
     costs_frame (effect e es) v agree =
-        let head : effect_cost w s e v ≡ effect_cost w t e v = cost_frame e v (λ b h. agree b (or_left (effect_reads w.fit e v b) (effects_read w.fit es v b) h)) in
-        let tail : effects_cost w s es v ≡ effects_cost w t es v = costs_frame es v (λ b h. agree b (or_right (effect_reads w.fit e v b) (effects_read w.fit es v b) h)) in
+        let head : effect_cost w s e v ≡ effect_cost w t e v = cost_same e v (λ b h. agree b (or_left (effect_read w.fit e v b) (effects_read w.fit es v b) h)) in
+        let tail : effects_cost w s es v ≡ effects_cost w t es v = costs_frame es v (λ b h. agree b (or_right (effect_read w.fit e v b) (effects_read w.fit es v b) h)) in
         cc
+
+  pub cost_frame : (e : EffectValue) (v : Valuation) → Agree (effect_reads w.fit e v) s t → effect_cost w s e v ≡ effect_cost w t e v
+  cost_frame e v agree = cost_same e v (λ g h. agree g (sym (spoken_are w.fit (same_ground g) no_atoms no_atoms e v) ∙ h))
 
 pub applied_frame : (w : World) (a : ActionValue) (v : Valuation) → IsFramed (applied w a v)
 applied_frame w a v = record {
   ready = λ s t agree. truth_frame w.fit s t a.precondition v (λ g h. agree g (or_left _ (effect_reads w.fit a.effect v g) h));
-  adds = λ s t agree g. fired_frame w.fit s t a.effect (same_ground g) no_atoms v (λ b h. agree b (or_right (formula_reads w.fit a.precondition v b) _ h));
-  dels = λ s t agree g. fired_frame w.fit s t a.effect no_atoms (same_ground g) v (λ b h. agree b (or_right (formula_reads w.fit a.precondition v b) _ h));
+  adds = λ s t agree g. ap (list_any (tested no_atoms (same_ground g) no_atoms)) (fired_frame w.fit s t a.effect v (λ b h. agree b (or_right (formula_reads w.fit a.precondition v b) _ h)));
+  dels = λ s t agree g. ap (list_any (tested no_atoms no_atoms (same_ground g))) (fired_frame w.fit s t a.effect v (λ b h. agree b (or_right (formula_reads w.fit a.precondition v b) _ h)));
   cost = λ s t agree. cost_frame w s t a.effect v (λ b h. agree b (or_right (formula_reads w.fit a.precondition v b) _ h));
 }
 
@@ -128,34 +159,39 @@ steps_framed task a os = applied_frame (world_of task) a (giving a.parameters os
 
 -- ---- what fires is spoken of
 
-any_more : {X : Type 0} (q r : X → Bool) (xs : List X) → ((x : X) → q x ≡ true → r x ≡ true) → list_any q xs ≡ true → list_any r xs ≡ true
-any_more q r [] more h = h
-any_more q r (x ∷ xs) more h =
-    elim (q x) as (λ b. q x ≡ b → (b || list_any q xs) ≡ true → (r x || list_any r xs) ≡ true) [
-      | true ↦ λ e _. or_left (r x) (list_any r xs) (more x e)
-      | false ↦ λ _ k. or_right (r x) (list_any r xs) (any_more q r xs more k)
-    ] refl h
+-- what is listed of each of a list holds what is listed otherwise, where each does
+more_listed : {X Y : Type 0} (p q : X → List Y) (xs : List X) (y : Y) → ((x : X) → Contains (p x) y → Contains (q x) y) → Contains (flat_map p xs) y → Contains (flat_map q xs) y
+more_listed p q [] y more c = c
+more_listed p q (x ∷ xs) y more c =
+    elim (Contains-append_cases (p x) (flat_map p xs) y c) as (λ _. Contains (flat_map q (x ∷ xs)) y) [
+      | inl here ↦ Contains-append_left (q x) (flat_map q xs) y (more x here)
+      | inr later ↦ Contains-append_right (q x) (flat_map q xs) y (more_listed p q xs y more later)
+    ]
 
-or_more : (a b c d : Bool) → (a ≡ true → c ≡ true) → (b ≡ true → d ≡ true) → (a || b) ≡ true → (c || d) ≡ true
-or_more true b c d f g h = or_left c d (f refl)
-or_more false b c d f g h = or_right c d (g h)
+module _ (fit : List Name → List Name) (s : Atoms) where
+  under_more : (p q : Valuation → List Spoken) (y : Spoken) → ((v : Valuation) → Contains (p v) y → Contains (q v) y) → (xs : List TypedValue) (v : Valuation) → Contains (over_valuations fit xs p v) y → Contains (over_valuations fit xs q v) y
+  under_more p q y more [] v c = more v c
+  under_more p q y more (x ∷ xs) v c =
+      more_listed (λ o. over_valuations fit xs p ((x.item, o) ∷ v)) (λ o. over_valuations fit xs q ((x.item, o) ∷ v)) (fit x.of) y (λ o. under_more p q y more xs ((x.item, o) ∷ v)) c
 
-module _ (fit : List Name → List Name) (s : Atoms) (read added deleted : Atoms) where
-  under_more : (p q : Valuation → Bool) → ((v : Valuation) → p v ≡ true → q v ≡ true) → (xs : List TypedValue) (v : Valuation) → some_valuation fit xs p v ≡ true → some_valuation fit xs q v ≡ true
-  under_more p q more [] v h = more v h
-  under_more p q more (x ∷ xs) v h =
-      any_more (λ o. some_valuation fit xs p ((x.item, o) ∷ v)) (λ o. some_valuation fit xs q ((x.item, o) ∷ v)) (fit x.of) (λ o k. under_more p q more xs ((x.item, o) ∷ v) k) h
+  where_true : (b : Bool) (xs : List Spoken) (y : Spoken) → Contains (cond b xs []) y → Contains xs y
+  where_true true xs y c = c
+  where_true false xs y c = absurd (omega (arith, c.1))
 
   mutual
-    pub fired_spoken : (e : EffectValue) (v : Valuation) → some_fired fit s e added deleted v ≡ true → some_of fit e read added deleted v ≡ true
-    fired_spoken (effects.conjunction es) v h = fired_in_spoken es v h
-    fired_spoken (effects.universal xs e) v h = under_more (some_fired fit s e added deleted) (some_of fit e read added deleted) (λ u k. fired_spoken e u k) xs v h
-    fired_spoken (conditional f e) v h = or_right (some_read fit f read v) (some_of fit e read added deleted v) (fired_spoken e v (and_right (truth fit s f v) (some_fired fit s e added deleted v) h))
-    fired_spoken (addition a) v h = h
-    fired_spoken (deletion a) v h = h
-    fired_spoken (increase a) v h = h
+    pub fired_spoken : (e : EffectValue) (v : Valuation) (y : Spoken) → Contains (fired fit s e v) y → Contains (effect_atoms fit e v) y
+    fired_spoken (effects.conjunction es) v y c = all_fired_spoken es v y c
+    fired_spoken (effects.universal xs e) v y c = under_more (fired fit s e) (effect_atoms fit e) y (λ u. fired_spoken e u y) xs v c
+    fired_spoken (conditional f e) v y c =
+        Contains-append_right (map is_read (formula_atoms fit f v)) (effect_atoms fit e v) y (fired_spoken e v y (where_true (truth fit s f v) (fired fit s e v) y c))
+    fired_spoken (addition a) v y c = c
+    fired_spoken (deletion a) v y c = c
+    fired_spoken (increase a) v y c = c
 
-    fired_in_spoken : (es : EffectValues) (v : Valuation) → some_fired_in fit s es added deleted v ≡ true → some_of_all fit es read added deleted v ≡ true
-    fired_in_spoken no_effects v h = h
-    fired_in_spoken (effect e es) v h =
-        or_more (some_fired fit s e added deleted v) (some_fired_in fit s es added deleted v) (some_of fit e read added deleted v) (some_of_all fit es read added deleted v) (λ k. fired_spoken e v k) (λ k. fired_in_spoken es v k) h
+    all_fired_spoken : (es : EffectValues) (v : Valuation) (y : Spoken) → Contains (all_fired fit s es v) y → Contains (effects_atoms fit es v) y
+    all_fired_spoken no_effects v y c = c
+    all_fired_spoken (effect e es) v y c =
+        elim (Contains-append_cases (fired fit s e v) (all_fired fit s es v) y c) as (λ _. Contains (effect_atoms fit e v ++ effects_atoms fit es v) y) [
+          | inl here ↦ Contains-append_left (effect_atoms fit e v) (effects_atoms fit es v) y (fired_spoken e v y here)
+          | inr later ↦ Contains-append_right (effect_atoms fit e v) (effects_atoms fit es v) y (all_fired_spoken es v y later)
+        ]

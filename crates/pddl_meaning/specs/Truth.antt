@@ -1,9 +1,10 @@
 -- Truth of formulas in sets of ground atoms (Fox and Long, PDDL2.1, JAIR 20, 2003, after Pednault's ADL), and what formulas read.
 use Rattle.std.specs.Prelude.{Bool, true, false, not, ◌&&◌, ◌||◌, List, bytes_eq}
+use Rattle.std.specs.List.{list_any}
 use Rattle.pddl_formula.specs.Formulas.{FormulaValue, FormulaValues, atom, equal, negation, implication, conjunction, disjunction, existential, universal, no_formulas, formula}
 use Rattle.pddl_task.specs.Names.{Name}
 use Rattle.pddl_task.specs.Faults.{same_ground}
-use Rattle.pddl_task.specs.Known.{some_read}
+use Rattle.pddl_task.specs.Known.{formula_atoms}
 use Rattle.pddl_task.specs.Valuations.{Valuation, object_at, grounded, some_valuation, every_valuation}
 use Rattle.pddl_meaning.specs.Worlds.{Atoms}
 
@@ -31,4 +32,4 @@ abbrev mutual
 -- The atoms that a formula reads: those of its expansion over all fitting objects, whatever holds (Fox and Long, GPre; that quantified
 -- atoms are read under every valuation is own).
 abbrev pub formula_reads : (List Name → List Name) → FormulaValue → Valuation → Atoms
-formula_reads fit f v g = some_read fit f (same_ground g) v
+formula_reads fit f v g = list_any (same_ground g) (formula_atoms fit f v)

@@ -1,17 +1,17 @@
 //! What holds of the meaning of every formula, effect and step, whatever code computes it.
 
-ghost use Rattle.std.specs.Prelude.{◌≡◌, Bool, true, List};
+ghost use Rattle.std.specs.Prelude.{◌≡◌, List, Contains};
 ghost use Rattle.pddl_formula.specs.Formulas.{FormulaValue};
 ghost use Rattle.pddl_effect.specs.Effects.{EffectValue};
 ghost use Rattle.pddl_domain.specs.Actions.{ActionValue};
 ghost use Rattle.pddl_problem.specs.Inits.{GroundValue};
 ghost use Rattle.pddl_task.specs.Names.{Name};
 ghost use Rattle.pddl_task.specs.Tasks.{TaskValue};
-ghost use Rattle.pddl_task.specs.Known.{some_of};
+ghost use Rattle.pddl_task.specs.Known.{Spoken, effect_atoms};
 ghost use Rattle.pddl_task.specs.Valuations.{Valuation};
-ghost use Rattle.pddl_meaning.specs.Worlds.{Atoms, no_atoms, World};
+ghost use Rattle.pddl_meaning.specs.Worlds.{Atoms, World};
 ghost use Rattle.pddl_meaning.specs.Truth.{truth, formula_reads};
-ghost use Rattle.pddl_meaning.specs.Effects.{effect_reads, some_fired, effect_adds, effect_dels, effect_cost};
+ghost use Rattle.pddl_meaning.specs.Effects.{effect_reads, fired, effect_adds, effect_dels, effect_cost};
 ghost use Rattle.pddl_happenings.specs.Steps.{Agree, IsFramed};
 ghost use Rattle.pddl_meaning.specs.Steps.{step_of};
 
@@ -38,6 +38,6 @@ pub fn steps_are_framed()
 
 /// Every atom that an effect adds or deletes in some state is one that it speaks of.
 pub fn fired_are_spoken_of()
-    ensures { (fit : List Name → List Name) (s : Atoms) (e : EffectValue) (read added deleted : Atoms) (v : Valuation)
-        → some_fired fit s e added deleted v ≡ true → some_of fit e read added deleted v ≡ true }
+    ensures { (fit : List Name → List Name) (s : Atoms) (e : EffectValue) (v : Valuation) (x : Spoken)
+        → Contains (fired fit s e v) x → Contains (effect_atoms fit e v) x }
 {}

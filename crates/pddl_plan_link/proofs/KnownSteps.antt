@@ -23,4 +23,5 @@ found_there test (y ∷ xs) x h = at_either (test y) y xs (find test xs) x h (fo
 pub step_is_known : (d : DomainValue) (p : ProblemValue) → IsLinked d p → (s : StepValue) → IsGoodStep (task_of d p) s → IsKnownStep (task_of d p) s
 step_is_known d p linked s good =
     let f = faultless_of (task_of d p) s good in
-    (f.action, f.named, steps_are_known d p linked f.action (found_there (λ b. bytes_eq s.action b.name) (task_of d p).actions f.action f.named) s.objects f.arity f.known)
+    let known = steps_are_known d p linked f.action (found_there (λ b. bytes_eq s.action b.name) (task_of d p).actions f.action f.named) s.objects f.arity f.known in
+    (f.action, f.named, known.0, known.1)

@@ -1,4 +1,3 @@
-pub mod Listed
 pub mod NamedSteps
 pub mod Framed
 pub mod PlanSteps

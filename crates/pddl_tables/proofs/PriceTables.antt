@@ -1,9 +1,10 @@
 -- A table of costs that is filled from the last item of `:init` to the first.
-use Rattle.std.proofs.Common.{◌≡◌, ◌<◌, ℕ, ◌+◌, ◌/◌, cond, List, ◌∷◌, map, length, get_or, drop, Option, Some, refl, sym, ap, ◌∙◌, add-one, drop-cons}
+use Rattle.std.proofs.Common.{◌≡◌, ◌<◌, ℕ, ◌+◌, ◌/◌, cond, List, ◌∷◌, map, length, get_or, drop, Option, Some, Result, Ok, Err, IfOk, OnOk, refl, sym, ap, ◌∙◌, add-one, drop-cons}
 use Rattle.std.specs.Prelude.{None}
 use Rattle.std.specs.List.{filter_map}
 use Rattle.std.specs.Map.{lookup}
 use Rattle.std.specs.Option.{option_map_or}
+use Rattle.std.specs.Result.{result_and}
 use Rattle.pddl_problem.specs.Inits.{GroundValue, InitValue, holds, fails, value}
 use Rattle.pddl_task.specs.Faults.{billion}
 use Rattle.pddl_task.specs.Tasks.{TaskValue, cost_in, object_names, function_names}
@@ -51,3 +52,8 @@ module _ (task : TaskValue) where
 
       front : drop i xs ≡ x ∷ drop j xs
       front = behind ∙ ap (λ y. y ∷ drop (i + 1) xs) (sym at) ∙ ap (λ k. x ∷ drop k xs) (sym next)
+
+-- what a pass tells where it went right holds of what is answered behind it
+pub behind : {T E : Type 0} (r : Result (Unit {0}) E) (answer : T) (P : T → Type 0) (Told : Type 0) → OnOk r Told → (Told → P answer) → IfOk (result_and r (Ok answer)) P
+behind (Ok u) answer P Told told gives = gives told
+behind (Err e) answer P Told told gives = tt

@@ -17,9 +17,10 @@ use Rattle.pddl_task.specs.Settings.{Setting, symbol_of, function_signatures, in
 use Rattle.pddl_task.specs.Faults.{unknown_at, unknown_term}
 use Rattle.pddl_task.specs.Linked.{IsLinked}
 use Rattle.pddl_task.specs.Tasks.{task_of, fact_in, cost_in, object_names, fitting_names}
-use Rattle.pddl_task.specs.Valuations.{Valuation, object_of, object_at, grounded, giving, some_valuation}
-use Rattle.pddl_task.specs.Known.{some_read, some_read_in, some_of, some_of_all, is_known, is_known_call, StepsAreKnown, GoalIsKnown, InitialIsKnown, CostsAreKnown}
-use Rattle.pddl_task.proofs.Lists.{and_left, and_right, and_both, or_right, or_none, none_of, same_bytes, is_in-append, is_in-firsts, no_word, nil_parts, flat_parts, flat_flat}
+use Rattle.pddl_task.specs.Valuations.{Valuation, object_of, object_at, grounded, giving, over_valuations}
+use Rattle.pddl_task.specs.Known.{formula_atoms, formulas_atoms, Spoken, is_read, atom_of, effect_atoms, effects_atoms, is_known, is_known_call, StepsAreKnown, GoalIsKnown, InitialIsKnown, CostsAreKnown}
+use Rattle.std.proofs.lemmas.List.Folds.{list_all-append, list_all-map}
+use Rattle.pddl_task.proofs.Lists.{and_left, and_right, and_both, or_right, all_found, has_first, has_later, same_bytes, is_in-append, is_in-firsts, no_word, nil_parts, flat_parts, flat_flat}
 
 -- ---- valuations
 
@@ -56,11 +57,24 @@ atom_names s b a h =
     let parts = nil_parts (word_if (not (is_in (map symbol_of s.predicates) a.predicate)) a.predicate) (flat_map (unknown_term s b) a.terms) h in
     (no_word (is_in (map symbol_of s.predicates) a.predicate) a.predicate parts.0, parts.1)
 
--- over a setting, the names of the task's objects, the fitting ones, and a test that passes no known atom
-module _ (s : Setting) (names : List Name) (fit : List Name → List Name) (test : GroundValue → Bool)
+-- each of what two lists hold, and of what is listed of each of a list
+all_joined : {X : Type 0} (q : X → Bool) (xs ys : List X) → list_all q xs ≡ true → list_all q ys ≡ true → list_all q (xs ++ ys) ≡ true
+all_joined q xs ys h k = list_all-append q xs ys ∙ and_both (list_all q xs) (list_all q ys) h k
+
+all_listed : {X Y : Type 0} (q : X → Bool) (f : Y → List X) (os : List Y) → ((o : Y) → Contains os o → list_all q (f o) ≡ true) → list_all q (flat_map f os) ≡ true
+all_listed q f [] h = refl
+all_listed q f (o ∷ os) h = all_joined q (f o) (flat_map f os) (h o (has_first o os)) (all_listed q f os (λ x c. h x (has_later o os x c)))
+
+-- over a setting, the names of the task's objects, and the fitting ones
+module _ (s : Setting) (names : List Name) (fit : List Name → List Name)
     (constants : (n : Name) → is_in (map item_of s.objects) n ≡ true → is_in names n ≡ true)
-    (fitted : (types : List Name) (o : Name) → Contains (fit types) o → is_in names o ≡ true)
-    (passes : (g : GroundValue) → (is_in (map symbol_of s.predicates) g.name && list_all (is_in names) g.objects) ≡ true → test g ≡ false) where
+    (fitted : (types : List Name) (o : Name) → Contains (fit types) o → is_in names o ≡ true) where
+  abbrev knows : GroundValue → Bool
+  knows g = is_in (map symbol_of s.predicates) g.name && list_all (is_in names) g.objects
+
+  abbrev knows_spoken : Spoken → Bool
+  knows_spoken x = knows (atom_of x)
+
   term_known : (v : Valuation) (b : List TypedValue) (t : TermValue) → Covers names v b → unknown_term s b t ≡ [] → is_in names (object_at v t) ≡ true
   unfolding Covers
   term_known v b (name n) covers h = constants n (no_word (is_in (map item_of s.objects) n) n h)
@@ -72,54 +86,56 @@ module _ (s : Setting) (names : List Name) (fit : List Name → List Name) (test
       let parts = nil_parts (unknown_term s b t) (flat_map (unknown_term s b) ts) h in
       and_both (is_in names (object_at v t)) (list_all (is_in names) (map (object_at v) ts)) (term_known v b t covers parts.0) (terms_known v b ts covers parts.1)
 
-  atom_known : (v : Valuation) (b : List TypedValue) (a : AtomValue) → Covers names v b → unknown_at s (at b (says a)) ≡ [] → test (grounded v a) ≡ false
+  atom_known : (v : Valuation) (b : List TypedValue) (a : AtomValue) → Covers names v b → unknown_at s (at b (says a)) ≡ [] → (knows (grounded v a) && true) ≡ true
   atom_known v b a covers h =
       let parts = atom_names s b a h in
-      passes (grounded v a) (and_both (is_in (map symbol_of s.predicates) a.predicate) (list_all (is_in names) (map (object_at v) a.terms)) parts.0 (terms_known v b a.terms covers parts.1))
+      and_both (knows (grounded v a)) true (and_both (is_in (map symbol_of s.predicates) a.predicate) (list_all (is_in names) (map (object_at v) a.terms)) parts.0 (terms_known v b a.terms covers parts.1)) refl
 
-  under_known : (inner : Valuation → Bool) (xs : List TypedValue) (b : List TypedValue) → ((u : Valuation) → Covers names u (binding xs b) → inner u ≡ false) → (v : Valuation) → Covers names v b → some_valuation fit xs inner v ≡ false
-  under_known inner [] b h v covers = h v covers
-  under_known inner (x ∷ xs) b h v covers =
-      none_of (λ o. some_valuation fit xs inner ((x.item, o) ∷ v)) (fit x.of) (λ o c. under_known inner xs (x ∷ b) h ((x.item, o) ∷ v) (covers_more names v b x o covers (fitted x.of o c)))
+  under_known : {X : Type 0} (q : X → Bool) (listed : Valuation → List X) (xs b : List TypedValue) → ((u : Valuation) → Covers names u (binding xs b) → list_all q (listed u) ≡ true)
+      → (v : Valuation) → Covers names v b → list_all q (over_valuations fit xs listed v) ≡ true
+  under_known q listed [] b h v covers = h v covers
+  under_known q listed (x ∷ xs) b h v covers =
+      all_listed q (λ o. over_valuations fit xs listed ((x.item, o) ∷ v)) (fit x.of) (λ o c. under_known q listed xs (x ∷ b) h ((x.item, o) ∷ v) (covers_more names v b x o covers (fitted x.of o c)))
 
   mutual
-    pub formula_known : (f : FormulaValue) (b : List TypedValue) (v : Valuation) → Covers names v b → flat_map (unknown_at s) (places_in f b) ≡ [] → some_read fit f test v ≡ false
+    pub formula_known : (f : FormulaValue) (b : List TypedValue) (v : Valuation) → Covers names v b → flat_map (unknown_at s) (places_in f b) ≡ [] → list_all knows (formula_atoms fit f v) ≡ true
     formula_known (atom a) b v covers h = atom_known v b a covers (one_place s (at b (says a)) [] h).0
     formula_known (equal t u) b v covers h = refl
     formula_known (negation f) b v covers h = formula_known f b v covers h
     formula_known (implication f g) b v covers h =
         let parts = flat_parts (unknown_at s) (places_in f b) (places_in g b) h in
-        or_none (some_read fit f test v) (some_read fit g test v) (formula_known f b v covers parts.0) (formula_known g b v covers parts.1)
+        all_joined knows (formula_atoms fit f v) (formula_atoms fit g v) (formula_known f b v covers parts.0) (formula_known g b v covers parts.1)
     formula_known (conjunction fs) b v covers h = formulas_known fs b v covers h
     formula_known (disjunction fs) b v covers h = formulas_known fs b v covers h
     formula_known (existential xs f) b v covers h =
-        under_known (some_read fit f test) xs b (λ u c. formula_known f (binding xs b) u c (one_place s (at b (binds xs)) (places_in f (binding xs b)) h).1) v covers
+        under_known knows (formula_atoms fit f) xs b (λ u c. formula_known f (binding xs b) u c (one_place s (at b (binds xs)) (places_in f (binding xs b)) h).1) v covers
     formula_known (universal xs f) b v covers h =
-        under_known (some_read fit f test) xs b (λ u c. formula_known f (binding xs b) u c (one_place s (at b (binds xs)) (places_in f (binding xs b)) h).1) v covers
+        under_known knows (formula_atoms fit f) xs b (λ u c. formula_known f (binding xs b) u c (one_place s (at b (binds xs)) (places_in f (binding xs b)) h).1) v covers
 
-    pub formulas_known : (fs : FormulaValues) (b : List TypedValue) (v : Valuation) → Covers names v b → flat_map (unknown_at s) (places_in_all fs b) ≡ [] → some_read_in fit fs test v ≡ false
+    pub formulas_known : (fs : FormulaValues) (b : List TypedValue) (v : Valuation) → Covers names v b → flat_map (unknown_at s) (places_in_all fs b) ≡ [] → list_all knows (formulas_atoms fit fs v) ≡ true
     formulas_known no_formulas b v covers h = refl
     formulas_known (formula f fs) b v covers h =
         let parts = flat_parts (unknown_at s) (places_in f b) (places_in_all fs b) h in
-        or_none (some_read fit f test v) (some_read_in fit fs test v) (formula_known f b v covers parts.0) (formulas_known fs b v covers parts.1)
+        all_joined knows (formula_atoms fit f v) (formulas_atoms fit fs v) (formula_known f b v covers parts.0) (formulas_known fs b v covers parts.1)
 
   mutual
-    pub effect_known : (e : EffectValue) (b : List TypedValue) (v : Valuation) → Covers names v b → flat_map (unknown_at s) (effect_places e b) ≡ [] → some_of fit e test test test v ≡ false
+    pub effect_known : (e : EffectValue) (b : List TypedValue) (v : Valuation) → Covers names v b → flat_map (unknown_at s) (effect_places e b) ≡ [] → list_all knows_spoken (effect_atoms fit e v) ≡ true
     effect_known (effects.conjunction es) b v covers h = effects_known es b v covers h
     effect_known (effects.universal xs e) b v covers h =
-        under_known (some_of fit e test test test) xs b (λ u c. effect_known e (binding xs b) u c (one_place s (at b (binds xs)) (effect_places e (binding xs b)) h).1) v covers
+        under_known knows_spoken (effect_atoms fit e) xs b (λ u c. effect_known e (binding xs b) u c (one_place s (at b (binds xs)) (effect_places e (binding xs b)) h).1) v covers
     effect_known (conditional f e) b v covers h =
         let parts = flat_parts (unknown_at s) (places_in f b) (effect_places e b) h in
-        or_none (some_read fit f test v) (some_of fit e test test test v) (formula_known f b v covers parts.0) (effect_known e b v covers parts.1)
+        all_joined knows_spoken (map is_read (formula_atoms fit f v)) (effect_atoms fit e v)
+        (list_all-map knows_spoken is_read (formula_atoms fit f v) ∙ formula_known f b v covers parts.0) (effect_known e b v covers parts.1)
     effect_known (addition a) b v covers h = atom_known v b a covers (one_place s (at b (says a)) [] h).0
     effect_known (deletion a) b v covers h = atom_known v b a covers (one_place s (at b (says a)) [] h).0
     effect_known (increase a) b v covers h = refl
 
-    pub effects_known : (es : EffectValues) (b : List TypedValue) (v : Valuation) → Covers names v b → flat_map (unknown_at s) (effects_places es b) ≡ [] → some_of_all fit es test test test v ≡ false
+    pub effects_known : (es : EffectValues) (b : List TypedValue) (v : Valuation) → Covers names v b → flat_map (unknown_at s) (effects_places es b) ≡ [] → list_all knows_spoken (effects_atoms fit es v) ≡ true
     effects_known no_effects b v covers h = refl
     effects_known (effect e es) b v covers h =
         let parts = flat_parts (unknown_at s) (effect_places e b) (effects_places es b) h in
-        or_none (some_of fit e test test test v) (some_of_all fit es test test test v) (effect_known e b v covers parts.0) (effects_known es b v covers parts.1)
+        all_joined knows_spoken (effect_atoms fit e v) (effects_atoms fit es v) (effect_known e b v covers parts.0) (effects_known es b v covers parts.1)
 
 -- ---- objects
 
@@ -156,7 +172,7 @@ knows_names : (d : DomainValue) (p : ProblemValue) → IsLinked d p → (flat_ma
 knows_names d p linked = nil_parts (flat_map (unknown_at (in_domain d)) (domain_places d)) (flat_map (unknown_at (in_problem d p)) (problem_places p)) linked.1.1.1.1.1.1.0
 
 pub steps_are_known : (d : DomainValue) (p : ProblemValue) → IsLinked d p → StepsAreKnown (task_of d p)
-steps_are_known d p linked a has os len known test passes =
+steps_are_known d p linked a has os len known =
     let s = in_domain d in
     let names = map item_of (objects_of d p) in
     let fit = fitting_names (task_of d p) in
@@ -164,9 +180,12 @@ steps_are_known d p linked a has os len known test passes =
     let places = flat_flat (unknown_at s) action_places d.actions (knows_names d p linked).0 a has in
     let inner = (one_place s (at [] (binds a.parameters)) (places_in a.precondition bound ++ effect_places a.effect bound) places).1 in
     let parts = flat_parts (unknown_at s) (places_in a.precondition bound) (effect_places a.effect bound) inner in
-    let covers = covers_given names a.parameters os [] [] len known (covers_nothing names) in (
-      formula_known s names fit test (constants_are_objects d p) (fitting_are_objects d p) passes a.precondition bound (giving a.parameters os []) covers parts.0,
-      effect_known s names fit test (constants_are_objects d p) (fitting_are_objects d p) passes a.effect bound (giving a.parameters os []) covers parts.1,
+    let v = giving a.parameters os [] in
+    let covers = covers_given names a.parameters os [] [] len known (covers_nothing names) in
+    let read = formula_known s names fit (constants_are_objects d p) (fitting_are_objects d p) a.precondition bound v covers parts.0 in
+    let spoken = effect_known s names fit (constants_are_objects d p) (fitting_are_objects d p) a.effect bound v covers parts.1 in (
+      λ g c. all_found (is_known (task_of d p)) (formula_atoms fit a.precondition v) read g c,
+      λ g c. all_found (is_known (task_of d p)) (map atom_of (effect_atoms fit a.effect v)) (list_all-map (is_known (task_of d p)) atom_of (effect_atoms fit a.effect v) ∙ spoken) g c,
     )
 
 -- what is said in `:init`, the goal and the metric, each part apart
@@ -177,9 +196,10 @@ problem_parts d p linked =
     flat_parts (unknown_at s) (flat_map init_places p.init) (places_in p.goal []) before_metric
 
 pub goal_is_known : (d : DomainValue) (p : ProblemValue) → IsLinked d p → GoalIsKnown (task_of d p)
-goal_is_known d p linked test passes =
+goal_is_known d p linked g c =
     let names = map item_of (objects_of d p) in
-    formula_known (in_problem d p) names (fitting_names (task_of d p)) test (λ n h. h) (fitting_are_objects d p) passes p.goal [] [] (covers_nothing names) (problem_parts d p linked).1
+    all_found (is_known (task_of d p)) (formula_atoms (fitting_names (task_of d p)) p.goal [])
+    (formula_known (in_problem d p) names (fitting_names (task_of d p)) (λ n h. h) (fitting_are_objects d p) p.goal [] [] (covers_nothing names) (problem_parts d p linked).1) g c
 
 -- names that stand as terms are objects
 names_known : (s : Setting) (ns : List Name) → flat_map (unknown_term s []) (map name ns) ≡ [] → list_all (is_in (map item_of s.objects)) ns ≡ true

@@ -29,7 +29,7 @@ pub objects_stand_once : (d : DomainValue) (p : ProblemValue) → IsDistinct byt
 objects_stand_once d p = firsts_distinct (d.constants ++ p.objects)
 
 pub types_stand_once : (d : DomainValue) → IsGood d → IsDistinct bytes_eq (map item_of d.types)
-types_stand_once d good = no_repetition [] (map item_of d.types) nothing_once good.0
+types_stand_once d good = no_repetition [] (map item_of d.types) nothing_once good.1.0
 
 -- the parts of fault 24, in a domain
 name_parts : (d : DomainValue) → IsGood d → ((repeated [] (map symbol_of d.predicates) ≡ []) × (repeated [] (map symbol_of (function_signatures d)) ≡ []) × (repeated_in_actions [] d.actions ≡ []))
@@ -37,7 +37,7 @@ name_parts d good =
     let constants = retyped [] d.constants in
     let predicates = repeated [] (map symbol_of d.predicates) in
     let functions = repeated [] (map symbol_of (function_signatures d)) in
-    let all = nil_parts (constants ++ predicates ++ functions) (repeated_in_actions [] d.actions) good.1.1.1.0 in
+    let all = nil_parts (constants ++ predicates ++ functions) (repeated_in_actions [] d.actions) good.1.1.1.1.0 in
     let front = nil_parts (constants ++ predicates) functions all.0 in
     ((nil_parts constants predicates front.0).1, front.1, all.1)
 

@@ -1,16 +1,12 @@
 -- Faults that stand, and the lowest of them.
-use Rattle.std.proofs.Common.{◌≡◌, ◌≤◌, ℕ, zero, suc, List, [], ◌∷◌, ◌++◌, refl, sym, ap, ◌∙◌, arith, subst, ◌⊎◌, inl, inr}
+use Rattle.std.proofs.Common.{◌≡◌, ◌≤◌, ℕ, zero, suc, List, [], ◌∷◌, ◌++◌, map, refl, sym, ap, ◌∙◌, arith, subst, ◌⊎◌, inl, inr}
 use Rattle.std.specs.Prelude.{Contains}
-use Rattle.std.specs.List.{flat_map}
 use Rattle.std.proofs.lemmas.Bool.{cases_lt}
 use Rattle.std.proofs.lemmas.List.Elements.{Contains-append_left}
 use Rattle.pddl_domain.specs.Domains.{DomainValue}
 use Rattle.pddl_problem.specs.Problems.{ProblemValue}
 use Rattle.pddl_task.specs.Names.{Name}
-use Rattle.pddl_task.specs.Places.{problem_places}
-use Rattle.pddl_task.specs.Settings.{in_problem}
-use Rattle.pddl_task.specs.Faults.{unknown_types, problem_typed, problem_repeats, object_types, unknown_at, arity_at, misfit_at, fraction_at}
-use Rattle.pddl_task.specs.Linked.{Fault, domain_faults, faults, NoneStands, Stands, IsLowest, IsLinked, IsGood}
+use Rattle.pddl_task.specs.Linked.{Fault, FaultRule, rules, domain_fault, fault_in, domain_faults, faults, NoneStands, Stands, IsLowest, IsLinked, IsGood}
 
 -- ---- at most one number
 
@@ -83,46 +79,20 @@ first_is_lowest [] f after w none has above = lowest_here f after w has (λ m v 
 first_is_lowest (g ∷ before) f after w none has above =
     lowest_later g (before ++ f ∷ after) f.number w (first_is_lowest before f after w none.1 has above) (λ v c. absurd (nothing_in g.words v none.0 c))
 
--- ---- the faults of a domain among those of a pair
+-- ---- the faults of a domain among those of a domain and a problem
 
--- each fault of the one list is in the other, which may have more faults and more words
-pub data IsAmong : List Fault → List Fault → Type 0 where
-  nothing : {gs : List Fault} → IsAmong [] gs
-  other : {fs gs : List Fault} {g : Fault} → IsAmong fs gs → IsAmong fs (g ∷ gs)
-  more : {fs gs : List Fault} {f g : Fault} (words : List Name) → f.number ≡ g.number → g.words ≡ f.words ++ words → IsAmong fs gs → IsAmong (f ∷ fs) (g ∷ gs)
-  equal : {fs gs : List Fault} {f : Fault} → IsAmong fs gs → IsAmong (f ∷ fs) (f ∷ gs)
-
-stands_among : (fs gs : List Fault) → IsAmong fs gs → (n : ℕ) (w : Name) → Stands fs n w → Stands gs n w
-stands_among fs gs nothing n w s = absurd (omega (arith, s.1.1))
-stands_among fs gs (other {gs = hs} {g = g} rest) n w s = stands_later g hs n w (stands_among fs hs rest n w s)
-stands_among fs gs (more {fs = es} {gs = hs} {f = f} {g = g} words number is rest) n w s =
-    elim (stands_cases f es n w s) as (λ _. Stands (g ∷ hs) n w) [
-      | inl here ↦ (g, (0, omega arith, refl), sym number ∙ here.0, subst (λ ws. Contains ws w) (sym is) (Contains-append_left f.words words w here.1))
-      | inr later ↦ stands_later g hs n w (stands_among es hs rest n w later)
+-- what rules find in a domain alone, they find in it and any problem
+stands_with : (d : DomainValue) (p : ProblemValue) (rs : List FaultRule) (n : ℕ) (w : Name) → Stands (map (domain_fault d) rs) n w → Stands (map (fault_in d p) rs) n w
+stands_with d p [] n w s = absurd (omega (arith, s.1.1))
+stands_with d p (r ∷ rs) n w s =
+    elim (stands_cases (domain_fault d r) (map (domain_fault d) rs) n w s) as (λ _. Stands (map (fault_in d p) (r ∷ rs)) n w) [
+      | inl here ↦ (fault_in d p r, (0, omega arith, refl), here.0, Contains-append_left (r.in_domain d) (r.in_problem d p) w here.1)
+      | inr later ↦ stands_later (fault_in d p r) (map (fault_in d p) rs) n w (stands_with d p rs n w later)
     ]
-stands_among fs gs (equal {fs = es} {gs = hs} {f = f} rest) n w s =
-    elim (stands_cases f es n w s) as (λ _. Stands (f ∷ hs) n w) [
-      | inl here ↦ (f, (0, omega arith, refl), here.0, here.1)
-      | inr later ↦ stands_later f hs n w (stands_among es hs rest n w later)
-    ]
-
-domain_among : (d : DomainValue) (p : ProblemValue) → IsAmong (domain_faults d) (faults d p)
-domain_among d p =
-    let s = in_problem d p in
-    other (equal (equal
-    (more (unknown_types d (problem_typed p)) refl refl
-    (more (problem_repeats d p) refl refl
-    (more (object_types p.objects) refl refl
-    (more (flat_map (unknown_at s) (problem_places p)) refl refl
-    (more (flat_map (arity_at s) (problem_places p)) refl refl
-    (more (flat_map (misfit_at s) (problem_places p)) refl refl
-    (other
-    (more (flat_map fraction_at (problem_places p)) refl refl
-    (other (equal (other (other nothing))))))))))))))
 
 -- a fault of the domain alone is one of the domain and any problem
 pub domain_fault_stands : (d : DomainValue) (p : ProblemValue) (n : ℕ) (w : Name) → Stands (domain_faults d) n w → Stands (faults d p) n w
-domain_fault_stands d p = stands_among (domain_faults d) (faults d p) (domain_among d p)
+domain_fault_stands d p = stands_with d p rules
 
 none_from : (fs : List Fault) → ((n : ℕ) (w : Name) → Stands fs n w → ⊥) → NoneStands fs
 none_from fs never =

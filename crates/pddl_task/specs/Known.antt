@@ -1,5 +1,5 @@
 -- The ground atoms that a step or a goal can speak of (own), and those that a task's tables know.
-use Rattle.std.specs.Prelude.{◌≡◌, ℕ, Bool, true, false, ◌&&◌, ◌||◌, List, [], length, Contains}
+use Rattle.std.specs.Prelude.{◌≡◌, ℕ, Bool, true, ◌&&◌, List, [], ◌∷◌, ◌++◌, map, length, Contains}
 use Rattle.std.specs.List.{list_all}
 use Rattle.pddl_formula.specs.Formulas.{FormulaValue, FormulaValues, atom, equal, negation, implication, conjunction, disjunction, existential, universal, no_formulas, formula}
 use Rattle.pddl_effect.specs.Effects as effects
@@ -7,41 +7,57 @@ use Rattle.pddl_effect.specs.Effects.{EffectValue, EffectValues, conditional, ad
 use Rattle.pddl_domain.specs.Actions.{ActionValue}
 use Rattle.pddl_problem.specs.Inits.{GroundValue}
 use Rattle.pddl_task.specs.Names.{Name, is_in}
-use Rattle.pddl_task.specs.Valuations.{Valuation, grounded, giving, some_valuation}
+use Rattle.pddl_task.specs.Valuations.{Valuation, grounded, giving, over_valuations}
 use Rattle.pddl_task.specs.Tasks.{TaskValue, object_names, predicate_names, function_names, fitting_names}
 
--- ---- what is spoken of
+-- ---- what is spoken of, under a valuation; fit says which objects fit a type
 
--- some ground atom in the expansion of a formula, or of formulas in turn, passes a test; fit says which objects fit a type
+-- the ground atoms in the expansion of a formula, or of formulas in turn
 abbrev mutual
-  pub some_read : (List Name → List Name) → FormulaValue → (GroundValue → Bool) → Valuation → Bool
-  some_read fit (atom a) test v = test (grounded v a)
-  some_read fit (equal t u) test v = false
-  some_read fit (negation f) test v = some_read fit f test v
-  some_read fit (implication f g) test v = some_read fit f test v || some_read fit g test v
-  some_read fit (conjunction fs) test v = some_read_in fit fs test v
-  some_read fit (disjunction fs) test v = some_read_in fit fs test v
-  some_read fit (existential xs f) test v = some_valuation fit xs (some_read fit f test) v
-  some_read fit (universal xs f) test v = some_valuation fit xs (some_read fit f test) v
+  pub formula_atoms : (List Name → List Name) → FormulaValue → Valuation → List GroundValue
+  formula_atoms fit (atom a) v = grounded v a ∷ []
+  formula_atoms fit (equal t u) v = []
+  formula_atoms fit (negation f) v = formula_atoms fit f v
+  formula_atoms fit (implication f g) v = formula_atoms fit f v ++ formula_atoms fit g v
+  formula_atoms fit (conjunction fs) v = formulas_atoms fit fs v
+  formula_atoms fit (disjunction fs) v = formulas_atoms fit fs v
+  formula_atoms fit (existential xs f) v = over_valuations fit xs (formula_atoms fit f) v
+  formula_atoms fit (universal xs f) v = over_valuations fit xs (formula_atoms fit f) v
 
-  pub some_read_in : (List Name → List Name) → FormulaValues → (GroundValue → Bool) → Valuation → Bool
-  some_read_in fit no_formulas test v = false
-  some_read_in fit (formula f fs) test v = some_read fit f test v || some_read_in fit fs test v
+  pub formulas_atoms : (List Name → List Name) → FormulaValues → Valuation → List GroundValue
+  formulas_atoms fit no_formulas v = []
+  formulas_atoms fit (formula f fs) v = formula_atoms fit f v ++ formulas_atoms fit fs v
 
--- some ground atom of an effect, or of effects in turn, passes the test for its kind, read in a condition, added or deleted,
--- whatever holds
+-- a ground atom of an effect: read in a condition, added or deleted
+pub data Spoken : Type 0 where
+  is_read : GroundValue → Spoken
+  is_added : GroundValue → Spoken
+  is_deleted : GroundValue → Spoken
+
+abbrev pub atom_of : Spoken → GroundValue
+atom_of (is_read g) = g
+atom_of (is_added g) = g
+atom_of (is_deleted g) = g
+
+-- it passes the test for its kind
+abbrev pub tested : (GroundValue → Bool) → (GroundValue → Bool) → (GroundValue → Bool) → Spoken → Bool
+tested read added deleted (is_read g) = read g
+tested read added deleted (is_added g) = added g
+tested read added deleted (is_deleted g) = deleted g
+
+-- the ground atoms in the expansion of an effect, or of effects in turn, whatever holds
 abbrev mutual
-  pub some_of : (List Name → List Name) → EffectValue → (GroundValue → Bool) → (GroundValue → Bool) → (GroundValue → Bool) → Valuation → Bool
-  some_of fit (effects.conjunction es) read added deleted v = some_of_all fit es read added deleted v
-  some_of fit (effects.universal xs e) read added deleted v = some_valuation fit xs (some_of fit e read added deleted) v
-  some_of fit (conditional f e) read added deleted v = some_read fit f read v || some_of fit e read added deleted v
-  some_of fit (addition a) read added deleted v = added (grounded v a)
-  some_of fit (deletion a) read added deleted v = deleted (grounded v a)
-  some_of fit (increase a) read added deleted v = false
+  pub effect_atoms : (List Name → List Name) → EffectValue → Valuation → List Spoken
+  effect_atoms fit (effects.conjunction es) v = effects_atoms fit es v
+  effect_atoms fit (effects.universal xs e) v = over_valuations fit xs (effect_atoms fit e) v
+  effect_atoms fit (conditional f e) v = map is_read (formula_atoms fit f v) ++ effect_atoms fit e v
+  effect_atoms fit (addition a) v = is_added (grounded v a) ∷ []
+  effect_atoms fit (deletion a) v = is_deleted (grounded v a) ∷ []
+  effect_atoms fit (increase a) v = []
 
-  pub some_of_all : (List Name → List Name) → EffectValues → (GroundValue → Bool) → (GroundValue → Bool) → (GroundValue → Bool) → Valuation → Bool
-  some_of_all fit no_effects read added deleted v = false
-  some_of_all fit (effect e es) read added deleted v = some_of fit e read added deleted v || some_of_all fit es read added deleted v
+  pub effects_atoms : (List Name → List Name) → EffectValues → Valuation → List Spoken
+  effects_atoms fit no_effects v = []
+  effects_atoms fit (effect e es) v = effect_atoms fit e v ++ effects_atoms fit es v
 
 -- ---- what is known
 
@@ -53,25 +69,24 @@ is_known task g = is_in (predicate_names task) g.name && list_all (is_in (object
 abbrev pub is_known_call : TaskValue → GroundValue → Bool
 is_known_call task g = is_in (function_names task) g.name && list_all (is_in (object_names task)) g.objects
 
--- a test that no known atom passes
-abbrev pub PassesNoneKnown : TaskValue → (GroundValue → Bool) → Type 0
-PassesNoneKnown task test = (g : GroundValue) → is_known task g ≡ true → test g ≡ false
+-- each of these atoms is known
+abbrev pub AreKnown : TaskValue → List GroundValue → Type 0
+AreKnown task gs = (g : GroundValue) → Contains gs g → is_known task g ≡ true
 
 -- As many objects of the task as an action has parameters: every atom that the precondition and the effect speak of is known.
 abbrev pub StepsAreKnown : TaskValue → Type 0
 StepsAreKnown task =
     (a : ActionValue) → Contains task.actions a → (os : List Name) → length os ≡ length a.parameters → list_all (is_in (object_names task)) os ≡ true
-    → (test : GroundValue → Bool) → PassesNoneKnown task test
-    → (some_read (fitting_names task) a.precondition test (giving a.parameters os []) ≡ false)
-    × (some_of (fitting_names task) a.effect test test test (giving a.parameters os []) ≡ false)
+    → AreKnown task (formula_atoms (fitting_names task) a.precondition (giving a.parameters os []))
+    × AreKnown task (map atom_of (effect_atoms (fitting_names task) a.effect (giving a.parameters os [])))
 
 -- Every atom that the goal speaks of is known.
 abbrev pub GoalIsKnown : TaskValue → Type 0
-GoalIsKnown task = (test : GroundValue → Bool) → PassesNoneKnown task test → some_read (fitting_names task) task.goal test [] ≡ false
+GoalIsKnown task = AreKnown task (formula_atoms (fitting_names task) task.goal [])
 
 -- Every atom that holds at first is known.
 abbrev pub InitialIsKnown : TaskValue → Type 0
-InitialIsKnown task = (g : GroundValue) → Contains task.initial g → is_known task g ≡ true
+InitialIsKnown task = AreKnown task task.initial
 
 -- Every function of objects that `:init` gives a cost is known.
 abbrev pub CostsAreKnown : TaskValue → Type 0

@@ -1,6 +1,6 @@
 -- Valuations: what variables stand for, and what holds or counts under all of them (own).
 use Rattle.std.specs.Prelude.{ℕ, Bool, cond, List, [], ◌∷◌, map, sum_by, bytes_eq}
-use Rattle.std.specs.List.{list_any, list_all}
+use Rattle.std.specs.List.{list_any, list_all, flat_map}
 use Rattle.pddl_formula.specs.Terms.{TermValue, AtomValue, name, variable}
 use Rattle.pddl_formula.specs.TypedLists.{TypedValue}
 use Rattle.pddl_effect.specs.Effects.{FunctionTermValue}
@@ -51,3 +51,8 @@ every_valuation fit (x ∷ xs) test v = list_all (λ o. every_valuation fit xs t
 abbrev pub sum_valuations : (List Name → List Name) → List TypedValue → (Valuation → ℕ) → Valuation → ℕ
 sum_valuations fit [] amount v = amount v
 sum_valuations fit (x ∷ xs) amount v = sum_by (λ o. sum_valuations fit xs amount ((x.item, o) ∷ v)) (fit x.of)
+
+-- what is listed under each of them, one after another
+abbrev pub over_valuations : {X : Type 0} → (List Name → List Name) → List TypedValue → (Valuation → List X) → Valuation → List X
+over_valuations fit [] listed v = listed v
+over_valuations fit (x ∷ xs) listed v = flat_map (λ o. over_valuations fit xs listed ((x.item, o) ∷ v)) (fit x.of)

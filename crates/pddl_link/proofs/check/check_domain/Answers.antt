@@ -4,7 +4,8 @@ use Rattle.pddl_domain.specs.Declarations.{predicate_view}
 use Rattle.pddl_domain.specs.Domains.{domain_view}
 use Rattle.pddl_task.specs.Names.{repeated}
 use Rattle.pddl_task.specs.Settings.{symbol_of}
-use Rattle.pddl_link.specs.Parts.{domain_type_faults, domain_name_faults, domain_term_faults, domain_cost_faults}
+use Rattle.pddl_task.specs.Linked.{domain_fault}
+use Rattle.pddl_link.specs.Parts.{type_rules, name_rules, place_rules}
 use Rattle.pddl_link.proofs.ActionNames.{no_repeats}
 use Rattle.pddl_link.proofs.Verdicts.{none_behind, decided_after}
 use Rattle.pddl_link.proofs.check.check_domain.Goals as goal
@@ -35,5 +36,7 @@ check_uses-requires-clause-once g c = c.in_ok-constants.ensures.verdict.0
 pub returns : goal.returns
 returns g c =
     let d = domain_view c.args.domain.now in
-    decided_after (domain_type_faults d ++ domain_name_faults d) (domain_term_faults d ++ domain_cost_faults d) c.check_uses.result
-    (none_behind (domain_type_faults d) (domain_name_faults d) c.in_ok-types.ensures.verdict c.in_ok-constants.ensures.verdict) c.check_uses.ensures
+    let types = map (domain_fault d) type_rules in
+    let names = map (domain_fault d) name_rules in
+    decided_after (types ++ names) (map (domain_fault d) place_rules) c.check_uses.result
+    (none_behind types names c.in_ok-types.ensures.verdict c.in_ok-constants.ensures.verdict) c.check_uses.ensures

@@ -5,8 +5,9 @@ use Rattle.pddl_domain.specs.Declarations.{function_view}
 use Rattle.pddl_domain.specs.Domains.{domain_view}
 use Rattle.pddl_task.specs.Names.{repeated, item_of, firsts}
 use Rattle.pddl_task.specs.Settings.{symbol_of}
+use Rattle.pddl_task.specs.Linked.{domain_fault}
 use Rattle.pddl_link.specs.KnownNames.{signature_in, object_in}
-use Rattle.pddl_link.specs.Parts.{domain_term_faults, domain_cost_faults}
+use Rattle.pddl_link.specs.Parts.{term_rules, last_rules}
 use Rattle.pddl_link.proofs.ActionNames.{no_repeats}
 use Rattle.pddl_link.proofs.Settings.{setting_by_parts}
 use Rattle.pddl_link.proofs.Verdicts.{decided_after}
@@ -29,4 +30,4 @@ returns-in_err-check_terms g c =
 
 pub returns : goal.returns
 returns g c =
-    decided_after (domain_term_faults (domain_view c.args.domain.now)) (domain_cost_faults (domain_view c.args.domain.now)) c.check_costs.result c.in_ok-check_terms.ensures c.check_costs.ensures
+    decided_after (map (domain_fault (domain_view c.args.domain.now)) term_rules) (map (domain_fault (domain_view c.args.domain.now)) last_rules) c.check_costs.result c.in_ok-check_terms.ensures c.check_costs.ensures

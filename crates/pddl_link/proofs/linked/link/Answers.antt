@@ -1,24 +1,25 @@
-use Rattle.std.proofs.Common.{◌++◌, Err}
+use Rattle.std.proofs.Common.{◌++◌, Err, map}
 use Rattle.std.proofs.lemmas.Result.{err_from_is_err_and}
 use Rattle.pddl_domain.specs.Domains.{domain_view}
 use Rattle.pddl_problem.specs.Problems.{problem_view}
-use Rattle.pddl_link.specs.Parts.{type_faults, name_faults, place_faults}
+use Rattle.pddl_task.specs.Linked.{fault_in}
+use Rattle.pddl_link.specs.Parts.{type_rules, name_rules, place_rules}
 use Rattle.pddl_link.proofs.Verdicts.{none_behind, decided_after}
 use Rattle.pddl_link.proofs.linked.link.Goals as goal
 
 pub returns-in_err-predicates-clause-verdict : goal.returns-in_err-predicates-clause-verdict
 returns-in_err-predicates-clause-verdict g c =
     let p = err_from_is_err_and c.from_residual-in_err-predicates.result c.from_residual-in_err-predicates.ensures.1 in
-    let types = type_faults (domain_view c.args.domain.now) (problem_view c.args.problem.now) in
-    let names = name_faults (domain_view c.args.domain.now) (problem_view c.args.problem.now) in
-    rw (p.1, p.2) (decided_after {T = Unit {0}} (types ++ names) (place_faults (domain_view c.args.domain.now) (problem_view c.args.problem.now)) (Err c.in_err-predicates.field-0.0)
+    let types = map (fault_in (domain_view c.args.domain.now) (problem_view c.args.problem.now)) type_rules in
+    let names = map (fault_in (domain_view c.args.domain.now) (problem_view c.args.problem.now)) name_rules in
+    rw (p.1, p.2) (decided_after {T = Unit {0}} (types ++ names) (map (fault_in (domain_view c.args.domain.now) (problem_view c.args.problem.now)) place_rules) (Err c.in_err-predicates.field-0.0)
     (none_behind types names c.in_ok-types.ensures.verdict c.in_ok-constants.ensures.verdict) c.in_err-predicates.ensures.verdict)
 
 pub invariant_of-result : goal.invariant_of-result
 invariant_of-result g c =
-    let types = type_faults (domain_view c.args.domain.now) (problem_view c.args.problem.now) in
-    let names = name_faults (domain_view c.args.domain.now) (problem_view c.args.problem.now) in
-    let places = place_faults (domain_view c.args.domain.now) (problem_view c.args.problem.now) in
+    let types = map (fault_in (domain_view c.args.domain.now) (problem_view c.args.problem.now)) type_rules in
+    let names = map (fault_in (domain_view c.args.domain.now) (problem_view c.args.problem.now)) name_rules in
+    let places = map (fault_in (domain_view c.args.domain.now) (problem_view c.args.problem.now)) place_rules in
     record {
       tables = record {
         linked = none_behind (types ++ names) places (none_behind types names c.in_ok-types.ensures.verdict c.in_ok-constants.ensures.verdict) c.in_ok-predicates.ensures.verdict;
