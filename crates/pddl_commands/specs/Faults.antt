@@ -8,8 +8,8 @@ use Rattle.pddl_tree.specs.declared.fault.ReadFault.TheVariants as plans
 use Rattle.pddl_file.specs.declared.fault.FileFault.{FileFault}
 use Rattle.pddl_file.specs.declared.fault.FileFault.TheVariants as files
 use Rattle.pddl_task.specs.Names.{Name}
-use Rattle.pddl_link.specs.declared.fault.LinkFault.{LinkFault}
-use Rattle.pddl_link.specs.Passes.{fault_of}
+use Rattle.pddl_faults.specs.declared.fault.LinkFault.{LinkFault}
+use Rattle.pddl_faults.specs.Passes.{fault_of}
 use Rattle.pddl_commands.specs.declared.fault_names.FaultName.{FaultName}
 use Rattle.pddl_commands.specs.Lines.{link_fault_text, IsFaultLine}
 

@@ -4,7 +4,7 @@ ghost use Rattle.std.specs.Prelude.{◌≡◌, IfOk};
 ghost use Rattle.pddl_domain.specs.Domains.{domain_view};
 ghost use Rattle.pddl_problem.specs.Problems.{problem_view};
 ghost use Rattle.pddl_task.specs.Linked.{faults};
-ghost use Rattle.pddl_link.specs.Passes.{Verdict};
+ghost use Rattle.pddl_faults.specs.Passes.{Verdict};
 ghost use Rattle.pddl_commands.specs.Checks.{good_line, IsDomainJudged, IsProblemJudged, IsDomainChecked, ForProblem};
 ghost use Rattle.pddl_commands.specs.Faults.{IsLinkFaultLine};
 

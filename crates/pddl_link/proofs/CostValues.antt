@@ -6,7 +6,7 @@ use Rattle.std.specs.Map.{lookup}
 use Rattle.pddl_problem.specs.Inits.{GroundValue, InitValue, holds, fails, value}
 use Rattle.pddl_task.specs.Faults.{same_ground, billion}
 use Rattle.pddl_task.specs.Tasks.{cost_in}
-use Rattle.pddl_link.specs.Claims.{value_in, HoldsValues}
+use Rattle.pddl_search.specs.Claims.{value_in, HoldsValues}
 
 -- a value in whole numbers
 abbrev pub whole : ℕ → ℕ

@@ -1,12 +1,2 @@
-pub mod Passes
-pub mod LastTypes
-pub mod Scopes
-pub mod TypeTables
-pub mod KnownNames
-pub mod ObjectCounts
-pub mod Grounds
-pub mod Claims
-pub mod Parts
-pub mod SoundInits
 pub mod TaskTables
 pub mod LinkedTasks

@@ -9,10 +9,10 @@ use Rattle.pddl_problem.specs.Problems.{ProblemValue}
 use Rattle.pddl_task.specs.Settings.{objects_of}
 use Rattle.pddl_task.specs.Linked.{IsLinked}
 use Rattle.pddl_task.specs.Tasks.{TaskValue, task_of}
-use Rattle.pddl_link.specs.KnownNames.{AreNamed, signature_in, object_in}
-use Rattle.pddl_link.specs.ObjectCounts.{AreCountsOf}
-use Rattle.pddl_link.specs.TypeTables.{Row}
-use Rattle.pddl_link.specs.Claims.{HoldsValues}
+use Rattle.pddl_types.specs.KnownNames.{AreNamed, signature_in, object_in}
+use Rattle.pddl_types.specs.ObjectCounts.{AreCountsOf}
+use Rattle.pddl_types.specs.TypeTables.{Row}
+use Rattle.pddl_search.specs.Claims.{HoldsValues}
 
 -- a domain and a problem
 pub record Files : Type 0 where

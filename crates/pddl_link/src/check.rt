@@ -7,34 +7,27 @@ ghost use Rattle.pddl_problem.specs.Inits.{init_view};
 ghost use Rattle.pddl_problem.specs.Problems.{problem_view};
 ghost use Rattle.pddl_task.specs.Places.{init_places};
 ghost use Rattle.pddl_task.specs.Names.{firsts};
-ghost use Rattle.pddl_task.specs.Settings.{in_domain, in_problem, objects_of};
+ghost use Rattle.pddl_task.specs.Settings.{in_domain, in_problem, objects_of, function_signatures};
 ghost use Rattle.pddl_task.specs.Faults.{domain_repeats, large_goals};
-ghost use Rattle.pddl_task.specs.Linked.{NoneStands, domain_fault, fault_in, domain_faults};
-ghost use Rattle.pddl_link.specs.Passes.{Passes, Settles, Verdict};
-ghost use Rattle.pddl_link.specs.Claims.{HoldsValues};
-ghost use Rattle.pddl_link.specs.KnownNames.{setting_of, signature_in, object_in};
-ghost use Rattle.pddl_link.specs.Parts.{words_of_both, type_rules, name_rules, place_rules, term_rules, last_rules, cost_rules};
+ghost use Rattle.pddl_task.specs.Linked.{domain_fault, fault_in, domain_faults};
+ghost use Rattle.pddl_faults.specs.Passes.{Passes, Settles, Verdict};
+ghost use Rattle.pddl_search.specs.Claims.{HoldsValues};
+ghost use Rattle.pddl_types.specs.KnownNames.{setting_of, signature_in, object_in};
+ghost use Rattle.pddl_names.specs.Parts.{words_of_both, type_rules, rules_behind_types, name_rules, place_rules, term_rules, last_rules, cost_rules};
 
-use crate::arity::OtherArities;
-use crate::declared_types::domain_types_known;
-use crate::fault::LinkFault;
-use crate::fractions::Fractions;
-use crate::init::{Values, contradictions, cost_values};
-use crate::known::{Known, Objects, Signatures, functions, predicates};
-use crate::misfits::Misfits;
-use crate::names::domain_names;
-use crate::object_counts::ObjectCounts;
-use crate::passes::{metric, object_fluents, object_types};
-use crate::repeats::type_twice;
-use crate::search::Search;
-use crate::search_files::{search_domain, search_goal_and_metric, search_problem};
-use crate::size::ground_size;
-use crate::slot_tops::Tops;
-use crate::sound_init::is_sound_init;
-use crate::types::Types;
-use crate::unknown::UnknownNames;
 use pddl_domain::Domain;
+use pddl_faults::LinkFault;
+use pddl_names::{
+    Misfits, OtherArities, UnknownNames, domain_names, domain_types_known, is_sound_init,
+};
 use pddl_problem::Problem;
+use pddl_search::{
+    Fractions, Search, Values, contradictions, cost_values, metric, object_fluents, object_types,
+    search_domain, search_goal_and_metric, search_problem, type_twice,
+};
+use pddl_types::{
+    Known, ObjectCounts, Objects, Signatures, Tops, Types, functions, ground_size, predicates,
+};
 use std::alloc::Allocator;
 
 /// The types of a domain, where no fault of types stands.
@@ -56,9 +49,8 @@ fn domain_objects<'m, 'a, A: Allocator, B: Allocator>(
     alloc: &'a B,
     domain: &'m Domain<A>,
 ) -> Result<Objects<'m, 'a, A, B>, LinkFault<'m>>
-    requires { NoneStands (map (domain_fault (domain_view domain.now)) type_rules) }
     ensures constants { IfOk result (λ constants. map object_in constants.entries ≡ firsts (domain_view domain.now).constants) }
-    ensures verdict { Settles (map (domain_fault (domain_view domain.now)) name_rules) (domain_faults (domain_view domain.now)) result }
+    ensures verdict { Settles (map (domain_fault (domain_view domain.now)) name_rules) (map (domain_fault (domain_view domain.now)) rules_behind_types) result }
 {
     let constants = domain_names(alloc, domain)?;
     object_types(&domain.constants).and(Ok(constants))
@@ -89,8 +81,47 @@ fn check_costs<'a, 'd, A: Allocator, B: Allocator>(
     object_fluents(domain)
 }
 
-/// Checks a domain's places and costs, with its predicates in a table.
-fn check_uses<'t, 'm, 'a, A: Allocator, B: Allocator>(
+/// Checks a domain's places and costs.
+fn check_uses<'k, 'm, 'a, A: Allocator, B: Allocator>(
+    alloc: &'a B,
+    known: &Known<'k, 'm, 'a, A, B>,
+    domain: &'m Domain<A>,
+) -> Result<(), LinkFault<'m>>
+    requires { setting_of known.now ≡ in_domain (domain_view domain.now) }
+    ensures { Verdict (map (domain_fault (domain_view domain.now)) place_rules) result }
+{
+    check_terms(alloc, known, domain)?;
+    check_costs(alloc, domain)
+}
+
+/// Checks a domain behind its signatures, with the tops of their slots.
+fn check_by_signatures<'t, 'm, 'a, A: Allocator, B: Allocator>(
+    alloc: &'a B,
+    types: &'t Types<'m, 'a, A, B>,
+    constants: &'t Objects<'m, 'a, A, B>,
+    predicates: &'t Signatures<'m, 'a, A, B>,
+    functions: &'t Signatures<'m, 'a, A, B>,
+    domain: &'m Domain<A>,
+) -> Result<(), LinkFault<'m>>
+    requires types { types.now ≡ (domain_view domain.now).types }
+    requires constants { map object_in constants.now.entries ≡ firsts (domain_view domain.now).constants }
+    requires predicates { map signature_in predicates.now.entries ≡ (domain_view domain.now).predicates }
+    requires functions { map signature_in functions.now.entries ≡ function_signatures (domain_view domain.now) }
+    ensures { Verdict (map (domain_fault (domain_view domain.now)) place_rules) result }
+{
+    let tops = Tops::of(alloc, types, predicates, functions)?;
+    let known = Known {
+        types,
+        predicates,
+        functions,
+        tops: &tops,
+        objects: constants,
+    };
+    check_uses(alloc, &known, domain)
+}
+
+/// Checks a domain behind its predicates, with a table of its functions.
+fn check_by_predicates<'t, 'm, 'a, A: Allocator, B: Allocator>(
     alloc: &'a B,
     types: &'t Types<'m, 'a, A, B>,
     constants: &'t Objects<'m, 'a, A, B>,
@@ -104,16 +135,36 @@ fn check_uses<'t, 'm, 'a, A: Allocator, B: Allocator>(
     ensures { Verdict (map (domain_fault (domain_view domain.now)) place_rules) result }
 {
     let functions = functions(alloc, &domain.functions)?;
-    let tops = Tops::of(alloc, types, predicates, &functions)?;
-    let known = Known {
-        types,
-        predicates,
-        functions: &functions,
-        tops: &tops,
-        objects: constants,
-    };
-    check_terms(alloc, &known, domain)?;
-    check_costs(alloc, domain)
+    check_by_signatures(alloc, types, constants, predicates, &functions, domain)
+}
+
+/// Checks a domain behind its constants, with a table of its predicates.
+fn check_by_constants<'t, 'm, 'a, A: Allocator, B: Allocator>(
+    alloc: &'a B,
+    types: &'t Types<'m, 'a, A, B>,
+    constants: &'t Objects<'m, 'a, A, B>,
+    domain: &'m Domain<A>,
+) -> Result<(), LinkFault<'m>>
+    requires types { types.now ≡ (domain_view domain.now).types }
+    requires constants { map object_in constants.now.entries ≡ firsts (domain_view domain.now).constants }
+    requires once { domain_repeats (domain_view domain.now) ≡ [] }
+    ensures { Verdict (map (domain_fault (domain_view domain.now)) place_rules) result }
+{
+    let predicates = predicates(alloc, &domain.predicates)?;
+    check_by_predicates(alloc, types, constants, &predicates, domain)
+}
+
+/// Checks a domain behind its types, with a table of its constants.
+fn check_by_types<'t, 'm, 'a, A: Allocator, B: Allocator>(
+    alloc: &'a B,
+    types: &'t Types<'m, 'a, A, B>,
+    domain: &'m Domain<A>,
+) -> Result<(), LinkFault<'m>>
+    requires types { types.now ≡ (domain_view domain.now).types }
+    ensures { Verdict (map (domain_fault (domain_view domain.now)) rules_behind_types) result }
+{
+    let constants = domain_objects(alloc, domain)?;
+    check_by_constants(alloc, types, &constants, domain)
 }
 
 /// Checks a domain: the faults 21 to 32 that it shows by itself.
@@ -130,9 +181,7 @@ pub fn check_domain<'d, 'a, A: Allocator, B: Allocator>(
     ensures { Verdict (domain_faults (domain_view domain.now)) result }
 {
     let types = domain_types(alloc, domain)?;
-    let constants = domain_objects(alloc, domain)?;
-    let predicates = predicates(alloc, &domain.predicates)?;
-    check_uses(alloc, &types, &constants, &predicates, domain)
+    check_by_types(alloc, &types, domain)
 }
 
 /// Searches a domain by one search, and then a problem by another, which passes over an `:init` that is sound.

@@ -4,33 +4,28 @@ ghost use Rattle.std.specs.Prelude.{◌≡◌, [], map, IfOk};
 ghost use Rattle.pddl_domain.specs.Domains.{domain_view};
 ghost use Rattle.pddl_problem.specs.Problems.{problem_view};
 ghost use Rattle.pddl_task.specs.Names.{firsts};
-ghost use Rattle.pddl_task.specs.Settings.{objects_of};
+ghost use Rattle.pddl_task.specs.Settings.{objects_of, function_signatures};
 ghost use Rattle.pddl_task.specs.Faults.{domain_repeats};
-ghost use Rattle.pddl_task.specs.Linked.{NoneStands, fault_in, faults};
-ghost use Rattle.pddl_link.specs.Claims.{HoldsValues};
+ghost use Rattle.pddl_task.specs.Linked.{fault_in, faults};
+ghost use Rattle.pddl_search.specs.Claims.{HoldsValues};
 ghost use Rattle.pddl_task.specs.Types.{pairs};
-ghost use Rattle.pddl_link.specs.ObjectCounts.{AreCountsOf};
-ghost use Rattle.pddl_link.specs.KnownNames.{AreNamed, signature_in, object_in};
-ghost use Rattle.pddl_link.specs.Parts.{type_rules, name_rules, place_rules};
-ghost use Rattle.pddl_link.specs.Passes.{Settles, Verdict};
+ghost use Rattle.pddl_types.specs.ObjectCounts.{AreCountsOf};
+ghost use Rattle.pddl_types.specs.KnownNames.{AreNamed, signature_in, object_in};
+ghost use Rattle.pddl_names.specs.Parts.{type_rules, rules_behind_types, name_rules, place_rules};
+ghost use Rattle.pddl_faults.specs.Passes.{Settles, Verdict};
 ghost use Rattle.pddl_link.specs.TaskTables.{files};
 ghost use Rattle.pddl_link.specs.LinkedTasks.{files_of};
 
 use crate::check::check_places;
-use crate::declared_types::types_known;
-use crate::fault::LinkFault;
-use crate::init::Values;
-use crate::known::{Known, Objects, Signatures, functions, predicates};
-use crate::names::{domain_names, problem_names};
-use crate::object_counts::ObjectCounts;
-use crate::passes::{domain_name, objects_have_one_type};
-use crate::repeats::type_twice;
-use crate::slot_tops::Tops;
 use crate::task::Task;
-use crate::type_counts::TypeCounts;
-use crate::types::Types;
 use pddl_domain::Domain;
+use pddl_faults::LinkFault;
+use pddl_names::{domain_names, problem_names, types_known};
 use pddl_problem::Problem;
+use pddl_search::{Values, domain_name, objects_have_one_type, type_twice};
+use pddl_types::{
+    Known, ObjectCounts, Objects, Signatures, Tops, TypeCounts, Types, functions, predicates,
+};
 use std::alloc::Allocator;
 
 /// The types of a task, where no fault up to 23 stands.
@@ -56,17 +51,77 @@ fn linked_objects<'m, 'a, A: Allocator, B: Allocator>(
     domain: &'m Domain<A>,
     problem: &'m Problem<A>,
 ) -> Result<(Objects<'m, 'a, A, B>, Objects<'m, 'a, A, B>), LinkFault<'m>>
-    requires { NoneStands (map (fault_in (domain_view domain.now) (problem_view problem.now)) type_rules) }
     ensures constants { IfOk result (λ both. map object_in both.0.entries ≡ firsts (domain_view domain.now).constants) }
     ensures objects { IfOk result (λ both. map object_in both.1.entries ≡ objects_of (domain_view domain.now) (problem_view problem.now)) }
     ensures named { IfOk result (λ both. AreNamed both.1.entries) }
     ensures once { IfOk result (λ _. domain_repeats (domain_view domain.now) ≡ []) }
-    ensures verdict { Settles (map (fault_in (domain_view domain.now) (problem_view problem.now)) name_rules) (faults (domain_view domain.now) (problem_view problem.now)) result }
+    ensures verdict { Settles (map (fault_in (domain_view domain.now) (problem_view problem.now)) name_rules) (map (fault_in (domain_view domain.now) (problem_view problem.now)) rules_behind_types) result }
 {
     let constants = domain_names(alloc, domain)?;
     let objects = problem_names(alloc, domain, problem)?;
     objects_have_one_type(domain, problem)?;
     Ok((constants, objects))
+}
+
+/// The values of functions of objects, where no fault of places stands, and none after those: behind signatures, with the tops of their slots.
+fn values_by_signatures<'t, 'm, 'a, A: Allocator, B: Allocator>(
+    alloc: &'a B,
+    constants: &'t Objects<'m, 'a, A, B>,
+    counts: &ObjectCounts<'t, 'm, 'a, A, B>,
+    predicates: &'t Signatures<'m, 'a, A, B>,
+    functions: &'t Signatures<'m, 'a, A, B>,
+    domain: &'m Domain<A>,
+    problem: &'m Problem<A>,
+) -> Result<Values<'m, 'a, A, B>, LinkFault<'m>>
+    requires types { counts.now.types.now ≡ (domain_view domain.now).types }
+    requires constants { map object_in constants.now.entries ≡ firsts (domain_view domain.now).constants }
+    requires objects { map object_in counts.now.objects.now.entries ≡ objects_of (domain_view domain.now) (problem_view problem.now) }
+    requires predicates { map signature_in predicates.now.entries ≡ (domain_view domain.now).predicates }
+    requires functions { map signature_in functions.now.entries ≡ function_signatures (domain_view domain.now) }
+    ensures values { IfOk result (λ values. HoldsValues (problem_view problem.now).init values.entries) }
+    ensures verdict { Verdict (map (fault_in (domain_view domain.now) (problem_view problem.now)) place_rules) result }
+{
+    let types = counts.types;
+    let objects = counts.objects;
+    let tops = Tops::of(alloc, types, predicates, functions)?;
+    let inner = Known {
+        types,
+        predicates,
+        functions,
+        tops: &tops,
+        objects: constants,
+    };
+    let outer = Known {
+        types,
+        predicates,
+        functions,
+        tops: &tops,
+        objects,
+    };
+    check_places(alloc, &inner, &outer, counts, domain, problem)
+}
+
+/// The values of functions of objects, where no fault of places stands, and none after those: behind predicates, with a table of the functions.
+fn values_by_predicates<'t, 'm, 'a, A: Allocator, B: Allocator>(
+    alloc: &'a B,
+    constants: &'t Objects<'m, 'a, A, B>,
+    counts: &ObjectCounts<'t, 'm, 'a, A, B>,
+    predicates: &'t Signatures<'m, 'a, A, B>,
+    domain: &'m Domain<A>,
+    problem: &'m Problem<A>,
+) -> Result<Values<'m, 'a, A, B>, LinkFault<'m>>
+    requires types { counts.now.types.now ≡ (domain_view domain.now).types }
+    requires constants { map object_in constants.now.entries ≡ firsts (domain_view domain.now).constants }
+    requires objects { map object_in counts.now.objects.now.entries ≡ objects_of (domain_view domain.now) (problem_view problem.now) }
+    requires predicates { map signature_in predicates.now.entries ≡ (domain_view domain.now).predicates }
+    requires once { domain_repeats (domain_view domain.now) ≡ [] }
+    ensures values { IfOk result (λ values. HoldsValues (problem_view problem.now).init values.entries) }
+    ensures verdict { Verdict (map (fault_in (domain_view domain.now) (problem_view problem.now)) place_rules) result }
+{
+    let functions = functions(alloc, &domain.functions)?;
+    values_by_signatures(
+        alloc, constants, counts, predicates, &functions, domain, problem,
+    )
 }
 
 /// The predicates of a task and the values of functions of objects, where no fault of places stands, and none after those.
@@ -89,28 +144,12 @@ fn linked_values<'t, 'm, 'a, A: Allocator, B: Allocator>(
     ensures verdict { Verdict (map (fault_in (domain_view domain.now) (problem_view problem.now)) place_rules) result }
 {
     let predicates = predicates(alloc, &domain.predicates)?;
-    let functions = functions(alloc, &domain.functions)?;
-    let tops = Tops::of(alloc, types, &predicates, &functions)?;
-    let inner = Known {
-        types,
-        predicates: &predicates,
-        functions: &functions,
-        tops: &tops,
-        objects: constants,
-    };
-    let outer = Known {
-        types,
-        predicates: &predicates,
-        functions: &functions,
-        tops: &tops,
-        objects,
-    };
     let counts = ObjectCounts {
         types,
         objects,
         counts,
     };
-    let values = check_places(alloc, &inner, &outer, &counts, domain, problem)?;
+    let values = values_by_predicates(alloc, constants, &counts, &predicates, domain, problem)?;
     Ok((predicates, values))
 }
 

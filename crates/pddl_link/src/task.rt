@@ -12,20 +12,15 @@ ghost use Rattle.pddl_task.specs.Linked.{IsLinked};
 ghost use Rattle.pddl_task.specs.Tasks.{task_count, predicate_names, object_names, fitting_numbers, cost_of};
 ghost use Rattle.pddl_link.specs.TaskTables.{AreTablesOf};
 
-use crate::effect_size::action_ground_size;
-use crate::fitting::fitting_objects;
-use crate::function_numbers::FunctionNumbers;
-use crate::ground::Ground;
-use crate::init::Values;
-use crate::known::{Objects, Signatures};
-use crate::object_counts::ObjectCounts;
-use crate::size::ground_size;
-use crate::type_counts::TypeCounts;
-use crate::types::Types;
 use pddl_domain::{Action, Domain};
 use pddl_formula::{Formula, TypeNames};
 use pddl_problem::Problem;
+use pddl_search::{Ground, Values};
 use pddl_tree::Name;
+use pddl_types::{
+    FunctionNumbers, ObjectCounts, Objects, Signatures, TypeCounts, Types, action_ground_size,
+    fitting_objects, ground_size,
+};
 use std::alloc::{AllocError, Allocator};
 
 /// What a domain and a problem that link say together.

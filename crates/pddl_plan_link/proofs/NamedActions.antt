@@ -20,8 +20,8 @@ use Rattle.pddl_task.specs.Linked.{IsLinked}
 use Rattle.pddl_task.specs.Tasks.{TaskValue, task_count}
 use Rattle.pddl_task.proofs.Lists.{nil_parts}
 use Rattle.pddl_link.specs.TaskTables.{Files}
-use Rattle.pddl_link.proofs.SignatureTables.{Held}
-use Rattle.pddl_link.proofs.Lookups.{found_or}
+use Rattle.pddl_types.proofs.SignatureTables.{Held}
+use Rattle.pddl_faults.proofs.PutValues.{found_or}
 use Rattle.pddl_plan_link.specs.StepFaults.{action_name, action_names, action_named}
 use Rattle.pddl_plan_link.specs.declared.action_table.SizedAction.{SizedAction}
 use Rattle.pddl_plan_link.specs.StepTables.{NamedAction, named_action, named_in}

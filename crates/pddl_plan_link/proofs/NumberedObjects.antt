@@ -13,7 +13,7 @@ use Rattle.pddl_task.specs.Types.{pairs, fits}
 use Rattle.pddl_task.specs.Faults.{is_misfit, some_misfit}
 use Rattle.pddl_task.specs.Tasks.{TaskValue, object_names}
 use Rattle.pddl_task.proofs.Lists.{none_left, none_right}
-use Rattle.pddl_link.proofs.ListTurns.{rest_is}
+use Rattle.pddl_faults.proofs.ListTurns.{rest_is}
 use Rattle.pddl_plan_link.specs.StepFaults.{naming}
 use Rattle.pddl_plan_link.specs.StepTables.{fits_number, some_unfit}
 use Rattle.pddl_task.proofs.Numbers.{number_is, is_placed}

@@ -4,7 +4,7 @@ use Rattle.std.specs.Prelude.{Option, Some, None, is_some, find, position}
 use Rattle.std.specs.Borrow.{Bor}
 use Rattle.std.specs.Map.{keys_of}
 use Rattle.std.specs.List.{slice_get, position_or_len}
-use Rattle.pddl_link.proofs.Lookups.{found_or}
+use Rattle.pddl_faults.proofs.PutValues.{found_or}
 use Rattle.pddl_task.specs.Names.{Name, is_in, number_in}
 
 -- ---- what stands at a name's number

@@ -12,7 +12,7 @@ use Rattle.pddl_plan_link.specs.StepFaults.{action_names, step_faults, IsGoodSte
 use Rattle.pddl_plan_link.specs.LinkedSteps.{LinkedStepValue, linked_step, linked_steps}
 use Rattle.pddl_plan_link.specs.declared.fault.StepFault.{StepFault}
 use Rattle.pddl_plan_link.specs.StepVerdicts.{plan_fault_of, PlanVerdict}
-use Rattle.pddl_link.proofs.ListTurns.{rest_is}
+use Rattle.pddl_faults.proofs.ListTurns.{rest_is}
 
 good_more : (task : TaskValue) (before : List StepValue) (s : StepValue) → AllByRecursion (IsGoodStep task) before → IsGoodStep task s → AllByRecursion (IsGoodStep task) (before ++ s ∷ [])
 good_more task [] s good is = (is, tt)

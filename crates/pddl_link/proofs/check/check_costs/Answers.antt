@@ -2,8 +2,8 @@ use Rattle.std.proofs.Common.{[], ◌∷◌, take, drop, map, refl}
 use Rattle.std.proofs.lemmas.Result.{err_from_is_err_and}
 use Rattle.pddl_domain.specs.Domains.{domain_view}
 use Rattle.pddl_task.specs.Linked.{fault, domain_fault, NoneStands}
-use Rattle.pddl_link.specs.Parts.{last_rules}
-use Rattle.pddl_link.proofs.Verdicts.{found_at, decided_last}
+use Rattle.pddl_names.specs.Parts.{last_rules}
+use Rattle.pddl_faults.proofs.Verdicts.{found_at, decided_last}
 use Rattle.pddl_link.proofs.check.check_costs.Goals as goal
 
 pub returns-in_err-search_domain : goal.returns-in_err-search_domain

@@ -3,12 +3,12 @@ use Rattle.std.proofs.lemmas.Result.{err_from_is_err_and}
 use Rattle.pddl_problem.specs.Inits.{init_view}
 use Rattle.pddl_task.specs.Faults.{clashing, contradicts, wrong_values}
 use Rattle.pddl_task.specs.Linked.{fault, fault_in}
-use Rattle.pddl_link.specs.Claims.{HoldsValues}
-use Rattle.pddl_link.specs.Passes.{Passes}
+use Rattle.pddl_search.specs.Claims.{HoldsValues}
+use Rattle.pddl_faults.specs.Passes.{Passes}
 use Rattle.pddl_domain.specs.Domains.{domain_view}
 use Rattle.pddl_problem.specs.Problems.{problem_view}
-use Rattle.pddl_link.specs.Parts.{cost_rules}
-use Rattle.pddl_link.proofs.Verdicts.{found_at, decided_after}
+use Rattle.pddl_names.specs.Parts.{cost_rules}
+use Rattle.pddl_faults.proofs.Verdicts.{found_at, decided_after}
 use Rattle.pddl_link.proofs.check.check_init.Goals as goal
 
 pub returns-in_err-contradictions-clause-verdict : goal.returns-in_err-contradictions-clause-verdict

@@ -3,9 +3,9 @@ use Rattle.std.proofs.lemmas.Result.{err_from_is_err_and}
 use Rattle.pddl_domain.specs.Domains.{domain_view}
 use Rattle.pddl_problem.specs.Problems.{problem_view}
 use Rattle.pddl_task.specs.Linked.{fault, fault_in, NoneStands}
-use Rattle.pddl_link.specs.Parts.{cost_rules}
-use Rattle.pddl_link.proofs.Verdicts.{found_at, decided_last}
-use Rattle.pddl_link.proofs.Walks.{pass_front}
+use Rattle.pddl_names.specs.Parts.{cost_rules}
+use Rattle.pddl_faults.proofs.Verdicts.{found_at, decided_last}
+use Rattle.pddl_faults.proofs.PassedParts.{pass_front}
 use Rattle.pddl_link.proofs.check.check_last.Goals as goal
 
 pub returns-in_err-object_fluents : goal.returns-in_err-object_fluents

@@ -5,11 +5,11 @@ use Rattle.pddl_problem.specs.Problems.{problem_view}
 use Rattle.pddl_task.specs.Settings.{in_domain}
 use Rattle.pddl_task.specs.Faults.{unknown_at, arity_at, misfit_at}
 use Rattle.pddl_task.specs.Linked.{fault, fault_in}
-use Rattle.pddl_link.specs.Passes.{Passes}
-use Rattle.pddl_link.specs.KnownNames.{setting_of}
-use Rattle.pddl_link.specs.Parts.{words_of_both, last_rules}
-use Rattle.pddl_link.proofs.SoundInits.{items_read}
-use Rattle.pddl_link.proofs.Verdicts.{found_at, decided_after}
+use Rattle.pddl_faults.specs.Passes.{Passes}
+use Rattle.pddl_types.specs.KnownNames.{setting_of}
+use Rattle.pddl_names.specs.Parts.{words_of_both, last_rules}
+use Rattle.pddl_names.proofs.SoundInits.{items_read}
+use Rattle.pddl_faults.proofs.Verdicts.{found_at, decided_after}
 use Rattle.pddl_link.proofs.check.check_places.Goals as goal
 
 pub search_both-requires : goal.search_both-requires

@@ -5,8 +5,8 @@ use Rattle.pddl_domain.specs.Domains.{domain_view}
 use Rattle.pddl_task.specs.Places.{domain_places}
 use Rattle.pddl_task.specs.Faults.{unknown_at, arity_at, misfit_at}
 use Rattle.pddl_task.specs.Linked.{fault}
-use Rattle.pddl_link.specs.Passes.{Passes}
-use Rattle.pddl_link.proofs.Verdicts.{found_at, settled_last}
+use Rattle.pddl_faults.specs.Passes.{Passes}
+use Rattle.pddl_faults.proofs.Verdicts.{found_at, settled_last}
 use Rattle.pddl_link.proofs.check.check_terms.Goals as goal
 
 pub returns-in_err-search_domain : goal.returns-in_err-search_domain

@@ -6,10 +6,10 @@ use Rattle.pddl_task.specs.Names.{repeated, item_of}
 use Rattle.pddl_task.specs.Types.{pairs, is_cyclic}
 use Rattle.pddl_task.specs.Faults.{first_alone, domain_typed}
 use Rattle.pddl_task.specs.Linked.{fault, domain_fault, domain_faults}
-use Rattle.pddl_link.specs.Passes.{Passes}
-use Rattle.pddl_link.specs.Parts.{unknown_among, type_rules}
+use Rattle.pddl_faults.specs.Passes.{Passes}
+use Rattle.pddl_names.specs.Parts.{unknown_among, type_rules}
 use Rattle.pddl_link.proofs.OkResults.{ok_with}
-use Rattle.pddl_link.proofs.Verdicts.{found_at, settled_last, settled_with}
+use Rattle.pddl_faults.proofs.Verdicts.{found_at, settled_last, settled_with}
 use Rattle.pddl_link.proofs.check.domain_types.Goals as goal
 
 pub of-requires : goal.of-requires

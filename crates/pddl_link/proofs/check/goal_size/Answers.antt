@@ -6,7 +6,7 @@ use Rattle.pddl_task.specs.Settings.{in_problem}
 use Rattle.pddl_task.specs.Faults.{setting_count}
 use Rattle.pddl_task.specs.Types.{pairs}
 use Rattle.pddl_task.specs.GroundSize.{capped, fitting_count, formula_size}
-use Rattle.pddl_link.specs.KnownNames.{object_in}
+use Rattle.pddl_types.specs.KnownNames.{object_in}
 use Rattle.pddl_link.proofs.GoalSizes.{too_large}
 use Rattle.pddl_link.proofs.check.goal_size.Goals as goal
 

@@ -3,9 +3,16 @@ use Rattle.std.proofs.lemmas.Result.{err_from_is_err_and}
 use Rattle.pddl_domain.specs.Domains.{domain_view}
 use Rattle.pddl_problem.specs.Problems.{problem_view}
 use Rattle.pddl_task.specs.Linked.{fault_in}
-use Rattle.pddl_link.specs.Parts.{type_rules, name_rules, place_rules}
-use Rattle.pddl_link.proofs.Verdicts.{none_behind, decided_after}
+use Rattle.pddl_names.specs.Parts.{type_rules, rules_behind_types, name_rules, place_rules}
+use Rattle.pddl_faults.proofs.Verdicts.{none_behind, decided_after}
 use Rattle.pddl_link.proofs.linked.link.Goals as goal
+
+pub returns-in_err-constants-clause-verdict : goal.returns-in_err-constants-clause-verdict
+returns-in_err-constants-clause-verdict g c =
+    let p = err_from_is_err_and c.from_residual-in_err-constants.result c.from_residual-in_err-constants.ensures.1 in
+    let types = map (fault_in (domain_view c.args.domain.now) (problem_view c.args.problem.now)) type_rules in
+    let behind = map (fault_in (domain_view c.args.domain.now) (problem_view c.args.problem.now)) rules_behind_types in
+    rw (p.1, p.2) (decided_after {T = Unit {0}} types behind (Err c.in_err-constants.field-0.0) c.in_ok-types.ensures.verdict c.in_err-constants.ensures.verdict)
 
 pub returns-in_err-predicates-clause-verdict : goal.returns-in_err-predicates-clause-verdict
 returns-in_err-predicates-clause-verdict g c =

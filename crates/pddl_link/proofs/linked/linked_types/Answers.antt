@@ -7,10 +7,10 @@ use Rattle.pddl_task.specs.Names.{repeated, item_of}
 use Rattle.pddl_task.specs.Types.{pairs, is_cyclic}
 use Rattle.pddl_task.specs.Faults.{first_alone, domain_typed, problem_typed}
 use Rattle.pddl_task.specs.Linked.{fault}
-use Rattle.pddl_link.specs.Passes.{Passes}
-use Rattle.pddl_link.specs.Parts.{unknown_among}
-use Rattle.pddl_link.proofs.Verdicts.{found_at}
-use Rattle.pddl_link.proofs.Walks.{pass_front}
+use Rattle.pddl_faults.specs.Passes.{Passes}
+use Rattle.pddl_names.specs.Parts.{unknown_among}
+use Rattle.pddl_faults.proofs.Verdicts.{found_at}
+use Rattle.pddl_faults.proofs.PassedParts.{pass_front}
 use Rattle.pddl_link.proofs.linked.linked_types.Goals as goal
 
 pub of-requires : goal.of-requires

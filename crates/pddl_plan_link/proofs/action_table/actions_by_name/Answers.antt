@@ -3,8 +3,8 @@ use Rattle.std.proofs.lemmas.List.{drop_all}
 use Rattle.pddl_domain.specs.Actions.{action_view}
 use Rattle.pddl_task.specs.Tasks.{task_count}
 use Rattle.pddl_link.specs.LinkedTasks.{task_of_files}
-use Rattle.pddl_link.proofs.ListPasses.{views_drop}
-use Rattle.pddl_link.proofs.SignatureTables.{held_more, held_all}
+use Rattle.pddl_faults.proofs.ListPasses.{views_drop}
+use Rattle.pddl_types.proofs.SignatureTables.{held_more, held_all}
 use Rattle.pddl_plan_link.specs.StepTables.{named_action, named_in}
 use Rattle.pddl_plan_link.proofs.NamedActions.{name_in, is_named, held_start, entry_is}
 use Rattle.pddl_plan_link.proofs.action_table.actions_by_name.Goals as goal

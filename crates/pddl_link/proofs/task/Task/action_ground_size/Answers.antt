@@ -3,7 +3,7 @@ use Rattle.pddl_domain.specs.Actions.{action_view}
 use Rattle.pddl_domain.specs.Domains.{domain_view}
 use Rattle.pddl_task.specs.Types.{pairs}
 use Rattle.pddl_task.specs.GroundSize.{capped, fitting_count, action_size}
-use Rattle.pddl_link.specs.KnownNames.{object_in}
+use Rattle.pddl_types.specs.KnownNames.{object_in}
 use Rattle.pddl_link.proofs.task.Task.action_ground_size.Goals as goal
 
 pub returns : goal.returns

@@ -1,7 +1,7 @@
 use Rattle.std.proofs.Common.{map, ap, ◌∙◌}
 use Rattle.pddl_domain.specs.Domains.{domain_view}
 use Rattle.pddl_task.specs.Types.{pairs, fits}
-use Rattle.pddl_link.specs.KnownNames.{object_in}
+use Rattle.pddl_types.specs.KnownNames.{object_in}
 use Rattle.pddl_task.specs.Tasks.{places_from}
 use Rattle.pddl_link.proofs.OkResults.{ok_is}
 use Rattle.pddl_link.proofs.task.Task.fitting.Goals as goal

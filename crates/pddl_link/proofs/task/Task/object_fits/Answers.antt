@@ -4,7 +4,7 @@ use Rattle.pddl_domain.specs.Domains.{domain_view}
 use Rattle.pddl_problem.specs.Problems.{problem_view}
 use Rattle.pddl_task.specs.Types.{pairs, fits}
 use Rattle.pddl_task.specs.Settings.{objects_of}
-use Rattle.pddl_link.proofs.TaskNames.{fits_at}
+use Rattle.pddl_types.proofs.TaskNames.{fits_at}
 use Rattle.pddl_link.proofs.task.Task.object_fits.Goals as goal
 
 pub returns-in-Some : goal.returns-in-Some

@@ -2,7 +2,7 @@ use Rattle.std.specs.Prelude.{Some, None}
 use Rattle.pddl_domain.specs.Domains.{domain_view}
 use Rattle.pddl_problem.specs.Problems.{problem_view}
 use Rattle.pddl_task.specs.Settings.{objects_of}
-use Rattle.pddl_link.proofs.TaskNames.{item_at}
+use Rattle.pddl_types.proofs.TaskNames.{item_at}
 use Rattle.pddl_link.proofs.task.Task.object_name.Goals as goal
 
 pub returns-in-Some : goal.returns-in-Some

@@ -1,7 +1,7 @@
 use Rattle.pddl_domain.specs.Domains.{domain_view}
 use Rattle.pddl_problem.specs.Problems.{problem_view}
 use Rattle.pddl_task.specs.Settings.{objects_of}
-use Rattle.pddl_link.proofs.TaskNames.{object_number}
+use Rattle.pddl_types.proofs.TaskNames.{object_number}
 use Rattle.pddl_link.proofs.task.Task.object_number.Goals as goal
 
 pub returns : goal.returns

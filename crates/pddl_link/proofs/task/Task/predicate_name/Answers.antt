@@ -4,7 +4,7 @@ use Rattle.std.proofs.lemmas.Bool.{ltb-true, ltb-false}
 use Rattle.std.proofs.lemmas.Option.{slice_get_read, slice_get_past}
 use Rattle.pddl_domain.specs.Declarations.{predicate_view}
 use Rattle.pddl_domain.specs.Domains.{domain_view}
-use Rattle.pddl_link.proofs.TaskNames.{symbol_at}
+use Rattle.pddl_types.proofs.TaskNames.{symbol_at}
 use Rattle.pddl_link.proofs.task.Task.predicate_name.Goals as goal
 
 pub returns-in-Some : goal.returns-in-Some

@@ -1,5 +1,5 @@
 use Rattle.pddl_domain.specs.Domains.{domain_view}
-use Rattle.pddl_link.proofs.TaskNames.{predicate_number}
+use Rattle.pddl_types.proofs.TaskNames.{predicate_number}
 use Rattle.pddl_link.proofs.task.Task.predicate_number.Goals as goal
 
 pub returns : goal.returns

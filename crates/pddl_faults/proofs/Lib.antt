@@ -1,0 +1,6 @@
+pub mod ListPasses
+pub mod ListTurns
+pub mod Verdicts
+pub mod PassedParts
+pub mod ViewTurns
+pub mod PutValues

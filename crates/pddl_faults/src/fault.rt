@@ -1,0 +1,77 @@
+//! Why files are not linked.
+
+ghost use Rattle.std.specs.Prelude.{◌≡◌};
+ghost use Rattle.pddl_faults.specs.declared.fault.LinkFault.TheVariants.{Memory};
+
+use std::alloc::{AllocError, AllocFailed};
+use thiserror::Error;
+
+/// Why a domain, or a domain with a problem, is not linked: the fault, and its word where it has one. A variable's word is its
+/// name without `?`. Own.
+#[derive(Clone, Copy, Debug, Error)]
+pub enum LinkFault<'d> {
+    /// A growth was refused.
+    #[error("memory was refused")]
+    Memory,
+    /// 20: the problem's `:domain` is not the domain's name. The word is the name in `:domain`.
+    #[error("the problem is of another domain")]
+    DomainName(&'d [u8]),
+    /// 21: a name is declared twice in `:types`. The word is the type.
+    #[error("a type is declared twice")]
+    TypeTwice(&'d [u8]),
+    /// 22: a type is above itself. The word is the first type in `:types` that is.
+    #[error("a type is above itself")]
+    TypeCycle(&'d [u8]),
+    /// 23: a type that is used is no type of the domain. The word is the type.
+    #[error("a type is not known")]
+    UnknownType(&'d [u8]),
+    /// 24: a predicate, a function, an action or a variable stands twice, or an object with two types. The word is the name.
+    #[error("a name stands twice")]
+    NameTwice(&'d [u8]),
+    /// 25: a constant or an object whose type has more than one primitive. The word is the object.
+    #[error("an object has several types")]
+    ObjectTypes(&'d [u8]),
+    /// 26: a predicate, a function, a constant, an object or a variable that is not declared. The word is the name.
+    #[error("a name is not known")]
+    UnknownName(&'d [u8]),
+    /// 27: another number of terms than declared. The word is the predicate or the function.
+    #[error("a number of terms other than declared")]
+    Arity(&'d [u8]),
+    /// 28: a term that does not fit its slot. The word is the predicate or the function.
+    #[error("a term does not fit its slot")]
+    ArgumentType(&'d [u8]),
+    /// 29: an atom holds and fails in `:init`. The word is the predicate.
+    #[error("an atom holds and fails at the start")]
+    InitContradiction(&'d [u8]),
+    /// 30: a number that is not whole, in an increase or in `:init`. The word is `total-cost`, or the function.
+    #[error("a cost is not whole")]
+    FractionalCost(&'d [u8]),
+    /// 31: two different values for one function of objects, or a start of `total-cost` other than 0. The word is the function.
+    #[error("a cost has another value")]
+    CostValue(&'d [u8]),
+    /// 32: a declared function whose result is not `number`. The word is the function.
+    #[error("a function does not give a number")]
+    ObjectFluent(&'d [u8]),
+    /// 33: a metric that is not `minimize` of `total-cost` without arguments.
+    #[error("another metric than the total cost")]
+    Metric,
+    /// 35: the goal's ground size is over 1,000,000.
+    #[error("the goal is too large")]
+    GoalTooLarge,
+}
+
+impl<'d> From<AllocError> for LinkFault<'d> {
+    ghost from_gives = { λ _ fault. fault ≡ Memory };
+
+    fn from(_error: AllocError) -> LinkFault<'d> {
+        LinkFault::Memory
+    }
+}
+
+impl<'d, T: Drop> From<AllocFailed<T>> for LinkFault<'d> {
+    ghost from_gives = { λ _ fault. fault ≡ Memory };
+
+    fn from(_error: AllocFailed<T>) -> LinkFault<'d> {
+        LinkFault::Memory
+    }
+}

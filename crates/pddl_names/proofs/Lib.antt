@@ -1,0 +1,5 @@
+pub mod ActionNames
+pub mod ObjectTables
+pub mod Slots
+pub mod SoundInits
+pub mod UnknownTypes

@@ -1,0 +1,94 @@
+-- Types that are used and not known, part by part.
+use Rattle.std.proofs.Common.{◌≡◌, ℕ, ◌+◌, ◌<◌, List, [], ◌∷◌, ◌++◌, map, filter, not, length, get_or, drop, refl, sym, ap, ◌∙◌, append_assoc}
+use Rattle.std.specs.List.{flat_map}
+use Rattle.std.proofs.lemmas.List.Concat.{flat_map-append}
+use Rattle.std.proofs.lemmas.List.Elements.{filter-append}
+use Rattle.pddl_formula.specs.TypedLists.{TypedValue, typed_view}
+use Rattle.pddl_formula.specs.declared.type_names.Typed.{Typed}
+use Rattle.pddl_domain.specs.declared.domain.DeclaredPredicate.{DeclaredPredicate}
+use Rattle.pddl_domain.specs.declared.domain.DeclaredFunction.{DeclaredFunction}
+use Rattle.pddl_domain.specs.Declarations.{TypeValue, predicate_view, function_view}
+use Rattle.pddl_domain.specs.declared.domain.Domain.{Domain}
+use Rattle.pddl_domain.specs.Domains.{DomainValue, domain_view}
+use Rattle.pddl_problem.specs.declared.problem.Problem.{Problem}
+use Rattle.pddl_problem.specs.Problems.{ProblemValue, problem_view}
+use Rattle.pddl_task.specs.Names.{is_in, item_of}
+use Rattle.pddl_task.specs.Types.{types_of}
+use Rattle.pddl_task.specs.Places.{Place, domain_places, problem_places}
+use Rattle.pddl_task.specs.Settings.{parameters_of, function_signatures}
+use Rattle.pddl_task.specs.Faults.{primitives_of, variables_at, domain_typed, problem_typed}
+use Rattle.pddl_names.specs.Parts.{unknown_among}
+use Rattle.pddl_faults.proofs.ListPasses.{views_drop}
+
+pub unknown-append : (ts : List TypeValue) (xs ys : List TypedValue) → unknown_among ts (xs ++ ys) ≡ unknown_among ts xs ++ unknown_among ts ys
+unknown-append ts xs ys =
+    ap (filter (λ t. not (is_in (types_of ts) t))) (flat_map-append primitives_of xs ys)
+    ∙ filter-append (λ t. not (is_in (types_of ts) t)) (flat_map primitives_of xs) (flat_map primitives_of ys)
+
+regroup : (a b c e : List TypedValue) → a ++ b ++ c ++ e ≡ a ++ (b ++ (c ++ e))
+regroup a b c e = append_assoc (a ++ b) c e ∙ append_assoc a b (c ++ e)
+
+-- the types of the variables of places
+pub unknown-places : (ts : List TypeValue) (pls : List Place) → unknown_among ts (flat_map variables_at pls) ≡ flat_map (λ pl. unknown_among ts (variables_at pl)) pls
+unknown-places ts [] = refl
+unknown-places ts (pl ∷ pls) = unknown-append ts (variables_at pl) (flat_map variables_at pls) ∙ ap (λ ws. unknown_among ts (variables_at pl) ++ ws) (unknown-places ts pls)
+
+-- a domain's parts
+pub unknown-domain : (ts : List TypeValue) (d : DomainValue)
+    → unknown_among ts (domain_typed d) ≡ unknown_among ts d.constants ++ (unknown_among ts (flat_map parameters_of d.predicates)
+    ++ (unknown_among ts (flat_map parameters_of (function_signatures d)) ++ flat_map (λ pl. unknown_among ts (variables_at pl)) (domain_places d)))
+unknown-domain ts d =
+    let a = d.constants in
+    let b = flat_map parameters_of d.predicates in
+    let c = flat_map parameters_of (function_signatures d) in
+    let e = flat_map variables_at (domain_places d) in
+    ap (unknown_among ts) (regroup a b c e)
+    ∙ unknown-append ts a (b ++ (c ++ e)) ∙ ap (λ ws. unknown_among ts a ++ ws) (unknown-append ts b (c ++ e)
+    ∙ ap (λ ws. unknown_among ts b ++ ws) (unknown-append ts c e ∙ ap (λ ws. unknown_among ts c ++ ws) (unknown-places ts (domain_places d))))
+
+-- a problem's parts
+pub unknown-problem : (ts : List TypeValue) (p : ProblemValue)
+    → unknown_among ts (problem_typed p) ≡ unknown_among ts p.objects ++ flat_map (λ pl. unknown_among ts (variables_at pl)) (problem_places p)
+unknown-problem ts p = unknown-append ts p.objects (flat_map variables_at (problem_places p)) ∙ ap (λ ws. unknown_among ts p.objects ++ ws) (unknown-places ts (problem_places p))
+
+-- what is left of predicates: the first, and the rest
+pub predicates_left : {A : Type 0} (ts : List TypeValue) (xs : List (DeclaredPredicate A)) (i : ℕ) (d : DeclaredPredicate A) (items : List (Typed A)) → i < length xs → d ≡ get_or xs i d
+    → items ≡ d.parameters.items → unknown_among ts (flat_map parameters_of (map predicate_view (drop i xs)))
+    ≡ unknown_among ts (map typed_view items) ++ unknown_among ts (flat_map parameters_of (map predicate_view (drop (i + 1) xs)))
+predicates_left ts xs i d items h at same =
+    let rest = flat_map parameters_of (map predicate_view (drop (i + 1) xs)) in
+    ap (λ ys. unknown_among ts (flat_map parameters_of ys)) (views_drop predicate_view xs i d h at)
+    ∙ unknown-append ts (map typed_view d.parameters.items) rest
+    ∙ ap (λ (ps : List (Typed _)). unknown_among ts (map typed_view ps) ++ unknown_among ts rest) (sym same)
+
+-- what is left of functions: the first, and the rest
+pub functions_left : {A : Type 0} (ts : List TypeValue) (xs : List (DeclaredFunction A)) (i : ℕ) (d : DeclaredFunction A) (items : List (Typed A)) → i < length xs → d ≡ get_or xs i d
+    → items ≡ d.parameters.items → unknown_among ts (flat_map parameters_of (map item_of (map function_view (drop i xs))))
+    ≡ unknown_among ts (map typed_view items) ++ unknown_among ts (flat_map parameters_of (map item_of (map function_view (drop (i + 1) xs))))
+functions_left ts xs i d items h at same =
+    let rest = flat_map parameters_of (map item_of (map function_view (drop (i + 1) xs))) in
+    ap (λ ys. unknown_among ts (flat_map parameters_of (map item_of ys))) (views_drop function_view xs i d h at)
+    ∙ unknown-append ts (map typed_view d.parameters.items) rest
+    ∙ ap (λ (ps : List (Typed _)). unknown_among ts (map typed_view ps) ++ unknown_among ts rest) (sym same)
+
+-- a domain's parts, as its lists are read
+pub unknown-domain-read : {A : Type 0} (ts : List TypeValue) (d : Domain A) (constants : List (Typed A)) (predicates : List (DeclaredPredicate A)) (functions : List (DeclaredFunction A))
+    → constants ≡ d.constants.items → predicates ≡ d.predicates.items → functions ≡ d.functions.items
+    → unknown_among ts (domain_typed (domain_view d)) ≡ unknown_among ts (map typed_view constants) ++ (unknown_among ts (flat_map parameters_of (map predicate_view predicates))
+    ++ (unknown_among ts (flat_map parameters_of (map item_of (map function_view functions))) ++ flat_map (λ pl. unknown_among ts (variables_at pl)) (domain_places (domain_view d))))
+unknown-domain-read ts d constants predicates functions first second third =
+    let places = flat_map (λ pl. unknown_among ts (variables_at pl)) (domain_places (domain_view d)) in
+    unknown-domain ts (domain_view d)
+    ∙ ap (λ (cs : List (Typed _)). unknown_among ts (map typed_view cs) ++ (unknown_among ts (flat_map parameters_of (map predicate_view d.predicates.items))
+    ++ (unknown_among ts (flat_map parameters_of (map item_of (map function_view d.functions.items))) ++ places))) (sym first)
+    ∙ ap (λ (ps : List (DeclaredPredicate _)). unknown_among ts (map typed_view constants) ++ (unknown_among ts (flat_map parameters_of (map predicate_view ps))
+    ++ (unknown_among ts (flat_map parameters_of (map item_of (map function_view d.functions.items))) ++ places))) (sym second)
+    ∙ ap (λ (fs : List (DeclaredFunction _)). unknown_among ts (map typed_view constants) ++ (unknown_among ts (flat_map parameters_of (map predicate_view predicates))
+    ++ (unknown_among ts (flat_map parameters_of (map item_of (map function_view fs))) ++ places))) (sym third)
+
+-- a problem's parts, as its objects are read
+pub unknown-problem-read : {A : Type 0} (ts : List TypeValue) (p : Problem A) (objects : List (Typed A)) → objects ≡ p.objects.items
+    → unknown_among ts (problem_typed (problem_view p)) ≡ unknown_among ts (map typed_view objects) ++ flat_map (λ pl. unknown_among ts (variables_at pl)) (problem_places (problem_view p))
+unknown-problem-read ts p objects same =
+    unknown-problem ts (problem_view p)
+    ∙ ap (λ (xs : List (Typed _)). unknown_among ts (map typed_view xs) ++ flat_map (λ pl. unknown_among ts (variables_at pl)) (problem_places (problem_view p))) (sym same)

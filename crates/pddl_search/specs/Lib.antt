@@ -1,0 +1,4 @@
+pub mod LastTypes
+pub mod Scopes
+pub mod Grounds
+pub mod Claims

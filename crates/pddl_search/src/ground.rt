@@ -1,0 +1,158 @@
+//! Predicates and functions of objects, as keys of tables.
+
+ghost use Rattle.std.specs.Prelude.{◌≡◌, ◌++◌, map};
+ghost use Rattle.std.proofs.Common.{ap};
+ghost use Rattle.std.specs.Cmp.{partial_equiv_from_equiv};
+ghost use Rattle.std.specs.Hash as fed;
+ghost use Rattle.std.specs.List.{fold};
+ghost use Rattle.pddl_task.specs.Names.{same_names};
+ghost use Rattle.pddl_task.specs.Faults.{same_ground};
+ghost use Rattle.pddl_search.specs.Grounds.{names_in, ground_equiv, ground_is};
+
+use pddl_tree::Name;
+use std::alloc::Allocator;
+use std::hash::{Hash, Hasher};
+use std::marker::Model;
+
+/// Names in order, lent: as a file has them, or each by itself.
+#[derive(Drop)]
+pub enum LentNames<'d, A: Allocator> {
+    Listed(&'d [Name<A>]),
+    Asked(&'d [&'d [u8]]),
+}
+
+/// A predicate or a function with the names of objects, lent. Two are equal where their names are.
+#[derive(Drop)]
+pub struct Ground<'d, A: Allocator> {
+    name: &'d [u8],
+    objects: LentNames<'d, A>,
+}
+
+impl<'d, A: Allocator> Model for Ground<'d, A> {
+    ghost use Rattle.pddl_problem.specs.Inits.{GroundValue};
+    ghost use Rattle.pddl_search.specs.Grounds.{names_in};
+
+    ghost Value = { GroundValue };
+
+    ghost view = { λ g. record { name = g.name.now; objects = names_in g.objects } };
+}
+
+impl<'d, A: Allocator> Ground<'d, A> {
+    /// The predicate or function of this name with these objects.
+    pub fn of(name: &'d [u8], objects: &'d [Name<A>]) -> Ground<'d, A>
+        ensures { result ≡ record { name = name.now; objects = objects.now } }
+    {
+        Ground {
+            name,
+            objects: LentNames::Listed(objects),
+        }
+    }
+
+    /// The predicate or function of this name with objects of these names.
+    pub fn asked(name: &'d [u8], objects: &'d [&'d [u8]]) -> Ground<'d, A>
+        ensures { result ≡ record { name = name.now; objects = map (λ o. o.now) objects.now } }
+    {
+        Ground {
+            name,
+            objects: LentNames::Asked(objects),
+        }
+    }
+}
+
+/// Whether two lists have the same names in the same order.
+fn same_names<A: Allocator>(first: &[Name<A>], second: &[Name<A>]) -> bool
+    ensures { result ≡ same_names first.now second.now }
+{
+    if first.len() != second.len() {
+        return false;
+    }
+    for i in 0..first.len() {
+        if first[i].as_bytes() != second[i].as_bytes() {
+            return false;
+        }
+    }
+    true
+}
+
+/// Whether a list has the same names in the same order as one of names by themselves.
+fn has_names<A: Allocator>(first: &[Name<A>], second: &[&[u8]]) -> bool
+    ensures { result ≡ same_names first.now (map (λ n. n.now) second.now) }
+{
+    if first.len() != second.len() {
+        return false;
+    }
+    for i in 0..first.len() {
+        if first[i].as_bytes() != second[i] {
+            return false;
+        }
+    }
+    true
+}
+
+/// Whether two lists have the same names in the same order, however they are lent.
+fn are_same<A: Allocator>(first: &LentNames<A>, second: &LentNames<A>) -> bool
+    ensures { result ≡ same_names (names_in first.now) (names_in second.now) }
+{
+    match first {
+        LentNames::Listed(names) => match second {
+            LentNames::Listed(others) => same_names(*names, *others),
+            LentNames::Asked(others) => has_names(*names, *others),
+        },
+        LentNames::Asked(names) => match second {
+            LentNames::Listed(others) => has_names(*others, *names),
+            LentNames::Asked(others) => *names == *others,
+        },
+    }
+}
+
+/// Feeds names to a hasher.
+fn hash_names<A: Allocator, H: Hasher>(names: &[Name<A>], state: &mut H)
+    ensures { state.new ≡ fold H.write state.old (fed.slice (fed.slice fed.u8) names.now) }
+{
+    state.write_usize(names.len());
+    for name in names {
+        name.as_bytes().hash(state);
+    }
+}
+
+/// Feeds names by themselves to a hasher, as those of a list are.
+fn hash_words<H: Hasher>(words: &[&[u8]], state: &mut H)
+    ensures { state.new ≡ fold H.write state.old (fed.slice (fed.slice fed.u8) (map (λ n. n.now) words.now)) }
+{
+    words.hash(state);
+}
+
+/// Feeds names to a hasher, however they are lent.
+fn hash_lent<A: Allocator, H: Hasher>(names: &LentNames<A>, state: &mut H)
+    ensures { state.new ≡ fold H.write state.old (fed.slice (fed.slice fed.u8) (names_in names.now)) }
+{
+    match names {
+        LentNames::Listed(names) => hash_names(*names, state),
+        LentNames::Asked(words) => hash_words(*words, state),
+    }
+}
+
+impl<'d, A: Allocator> PartialEq for Ground<'d, A> {
+    ghost eq = { same_ground };
+
+    ghost laws = { partial_equiv_from_equiv ground_equiv };
+
+    fn eq(&self, other: &Ground<'d, A>) -> bool {
+        self.name == other.name && are_same(&self.objects, &other.objects)
+    }
+}
+
+impl<'d, A: Allocator> Eq for Ground<'d, A> {
+    ghost laws = { ground_equiv };
+}
+
+impl<'d, A: Allocator> Hash for Ground<'d, A> {
+    ghost hash_input = { λ g. fed.slice fed.u8 g.name ++ fed.slice (fed.slice fed.u8) g.objects };
+
+    ghost respects_eq = { λ f g same. ap (λ h. fed.slice fed.u8 h.name ++ fed.slice (fed.slice fed.u8) h.objects) (ground_is f g same) };
+
+    fn hash<H: Hasher>(&self, state: &mut H) {
+        self.name.hash(state);
+        hash_lent(&self.objects, state);
+    }
+}

@@ -1,0 +1,225 @@
+//! One walk over formulas, effects and actions, for each fault that is looked for in places.
+
+ghost use Rattle.std.specs.Prelude.{◌≡◌, List, [], map, IfOk};
+ghost use Rattle.std.specs.List.{flat_map};
+ghost use Rattle.pddl_formula.specs.Terms.{term_view, name};
+ghost use Rattle.pddl_formula.specs.TypedLists.{TypedValue, typed_view};
+ghost use Rattle.pddl_formula.specs.Formulas.{formula_view, formulas_of};
+ghost use Rattle.pddl_effect.specs.Effects.{amount_view, effect_view, effects_of};
+ghost use Rattle.pddl_domain.specs.Actions.{action_view};
+ghost use Rattle.pddl_task.specs.Places.{at, says, calls, equates, binds, counts, action_places};
+ghost use Rattle.pddl_faults.specs.Passes.{Passes};
+ghost use Rattle.pddl_search.specs.Scopes.{bound_of, words_in, words_in_all, effect_words, effects_words, increase_words};
+
+use crate::variables::Variables;
+use pddl_domain::Action;
+use pddl_effect::{Amount, Effect};
+use pddl_faults::LinkFault;
+use pddl_formula::{Formula, Term, Typed};
+use pddl_text::Fixed;
+use pddl_tree::Name;
+use std::alloc::Allocator;
+
+/// The variables in scope, a list for each quantifier, the innermost first.
+#[derive(Drop)]
+pub enum Scope<'s, 'd, 'a, A: Allocator, B: Allocator> {
+    Empty,
+    Inside(&'s Variables<'d, 'a, A, B>, &'s Scope<'s, 'd, 'a, A, B>),
+}
+
+/// A search for one fault, part by part. Tables of variables in scope take their memory from `B`.
+pub trait Search<A: Allocator, B: Allocator> {
+    ghost use Rattle.std.specs.Prelude.{List, ℕ};
+    ghost use Rattle.pddl_task.specs.Places.{Place};
+
+    ghost number: { ℕ };
+
+    ghost words: { Self → Place → List (List ℕ) };
+
+    /// Looks at a predicate of terms.
+    fn says<'d>(
+        &self,
+        predicate: &'d [u8],
+        terms: &'d [Term<A>],
+        scope: &Scope<A, B>,
+    ) -> Result<(), LinkFault<'d>>
+        ensures { Passes number (words self.now (at (bound_of scope.now) (says (record { predicate = predicate.now; terms = map term_view terms.now })))) result };
+
+    /// Looks at a function of terms.
+    fn calls<'d>(
+        &self,
+        function: &'d [u8],
+        terms: &'d [Term<A>],
+        scope: &Scope<A, B>,
+    ) -> Result<(), LinkFault<'d>>
+        ensures { Passes number (words self.now (at (bound_of scope.now) (calls (record { function = function.now; terms = map term_view terms.now })))) result };
+
+    /// Looks at an equality.
+    fn equates<'d>(
+        &self,
+        first: &'d Term<A>,
+        second: &'d Term<A>,
+        scope: &Scope<A, B>,
+    ) -> Result<(), LinkFault<'d>>
+        ensures { Passes number (words self.now (at (bound_of scope.now) (equates (term_view first.now) (term_view second.now)))) result };
+
+    /// Looks at the variables of a quantifier, or at parameters.
+    fn binds<'d>(&self, variables: &'d [Typed<A>], scope: &Scope<A, B>) -> Result<(), LinkFault<'d>>
+        ensures { Passes number (words self.now (at (bound_of scope.now) (binds (map typed_view variables.now)))) result };
+
+    /// Looks at a number for a function, whatever is bound.
+    fn counts<'d>(&self, function: &'d [u8], amount: Fixed) -> Result<(), LinkFault<'d>>
+        ensures { (bound : List TypedValue) → Passes number (words self.now (at bound (counts function.now amount))) result };
+
+    /// Looks at a predicate of objects, in `:init`.
+    fn says_ground<'d>(
+        &self,
+        predicate: &'d [u8],
+        objects: &'d [Name<A>],
+    ) -> Result<(), LinkFault<'d>>
+        ensures { Passes number (words self.now (at [] (says (record { predicate = predicate.now; terms = map name objects.now })))) result };
+
+    /// Looks at a function of objects, in `:init`.
+    fn calls_ground<'d>(
+        &self,
+        function: &'d [u8],
+        objects: &'d [Name<A>],
+    ) -> Result<(), LinkFault<'d>>
+        ensures { Passes number (words self.now (at [] (calls (record { function = function.now; terms = map name objects.now })))) result };
+}
+
+/// Searches the variables of a quantifier, or parameters, and answers them as they are looked up.
+fn search_variables<'d, 's, 'a, A: Allocator, B: Allocator, S: Search<A, B>>(
+    alloc: &'a B,
+    search: &S,
+    variables: &'d [Typed<A>],
+    scope: &'s Scope<'s, 'd, 'a, A, B>,
+) -> Result<Variables<'d, 'a, A, B>, LinkFault<'d>>
+    ensures passes { Passes S.number (S.words search.now (at (bound_of scope.now) (binds (map typed_view variables.now)))) result }
+    ensures bound { IfOk result (λ bound. bound ≡ map typed_view variables.now) }
+{
+    search.binds(variables, &*scope)?;
+    Ok(Variables::of(alloc, variables)?)
+}
+
+/// Searches a formula.
+#[cycle(formulas)]
+pub fn search_formula<'d, 's, 'a, A: Allocator, B: Allocator, S: Search<A, B>>(
+    alloc: &'a B,
+    search: &S,
+    formula: &'d Formula<A>,
+    scope: &'s Scope<'s, 'd, 'a, A, B>,
+) -> Result<(), LinkFault<'d>>
+    ensures { Passes S.number (words_in (S.words search.now) (formula_view formula.now) (bound_of scope.now)) result }
+{
+    match formula {
+        Formula::Atom(atom) => search.says(atom.predicate.as_bytes(), &atom.terms, &*scope),
+        Formula::Equal(first, second) => search.equates(first, second, &*scope),
+        Formula::Not(inner) => search_formula(alloc, search, inner, &*scope),
+        Formula::Imply(first, second) => {
+            search_formula(alloc, search, first, &*scope)?;
+            search_formula(alloc, search, second, &*scope)
+        }
+        Formula::And(parts) => search_formulas(alloc, search, parts, &*scope),
+        Formula::Or(parts) => search_formulas(alloc, search, parts, &*scope),
+        Formula::Exists(variables, inner) => {
+            let bound = search_variables(alloc, search, variables, &*scope)?;
+            let inside = Scope::Inside(&bound, &*scope);
+            search_formula(alloc, search, inner, &inside)
+        }
+        Formula::Forall(variables, inner) => {
+            let bound = search_variables(alloc, search, variables, &*scope)?;
+            let inside = Scope::Inside(&bound, &*scope);
+            search_formula(alloc, search, inner, &inside)
+        }
+    }
+}
+
+/// Searches formulas in turn.
+#[cycle(formulas)]
+fn search_formulas<'d, 's, 'a, A: Allocator, B: Allocator, S: Search<A, B>>(
+    alloc: &'a B,
+    search: &S,
+    formulas: &'d Vec<Formula<A>, A>,
+    scope: &'s Scope<'s, 'd, 'a, A, B>,
+) -> Result<(), LinkFault<'d>>
+    ensures { Passes S.number (words_in_all (S.words search.now) (formulas_of (map formula_view formulas.now.items)) (bound_of scope.now)) result }
+{
+    for formula in formulas {
+        search_formula(alloc, search, formula, &*scope)?;
+    }
+    Ok(())
+}
+
+/// Searches what an increase adds, the total cost first.
+fn search_increase<'d, 's, 'a, A: Allocator, B: Allocator, S: Search<A, B>>(
+    search: &S,
+    amount: &'d Amount<A>,
+    scope: &'s Scope<'s, 'd, 'a, A, B>,
+) -> Result<(), LinkFault<'d>>
+    ensures { Passes S.number (increase_words (S.words search.now) (amount_view amount.now) (bound_of scope.now)) result }
+{
+    search.calls(b"total-cost".as_slice(), &[], &*scope)?;
+    match amount {
+        Amount::Number(number) => search.counts(b"total-cost".as_slice(), *number),
+        Amount::Function(call) => search.calls(call.function.as_bytes(), &call.terms, &*scope),
+    }
+}
+
+/// Searches an effect.
+#[cycle(effects)]
+pub fn search_effect<'d, 's, 'a, A: Allocator, B: Allocator, S: Search<A, B>>(
+    alloc: &'a B,
+    search: &S,
+    effect: &'d Effect<A>,
+    scope: &'s Scope<'s, 'd, 'a, A, B>,
+) -> Result<(), LinkFault<'d>>
+    ensures { Passes S.number (effect_words (S.words search.now) (effect_view effect.now) (bound_of scope.now)) result }
+{
+    match effect {
+        Effect::And(parts) => search_effects(alloc, search, parts, &*scope),
+        Effect::Forall(variables, inner) => {
+            let bound = search_variables(alloc, search, variables, &*scope)?;
+            let inside = Scope::Inside(&bound, &*scope);
+            search_effect(alloc, search, inner, &inside)
+        }
+        Effect::When(condition, inner) => {
+            search_formula(alloc, search, condition, &*scope)?;
+            search_effect(alloc, search, inner, &*scope)
+        }
+        Effect::Add(atom) => search.says(atom.predicate.as_bytes(), &atom.terms, &*scope),
+        Effect::Del(atom) => search.says(atom.predicate.as_bytes(), &atom.terms, &*scope),
+        Effect::Increase(amount) => search_increase(search, amount, &*scope),
+    }
+}
+
+/// Searches effects in turn.
+#[cycle(effects)]
+fn search_effects<'d, 's, 'a, A: Allocator, B: Allocator, S: Search<A, B>>(
+    alloc: &'a B,
+    search: &S,
+    effects: &'d Vec<Effect<A>, A>,
+    scope: &'s Scope<'s, 'd, 'a, A, B>,
+) -> Result<(), LinkFault<'d>>
+    ensures { Passes S.number (effects_words (S.words search.now) (effects_of (map effect_view effects.now.items)) (bound_of scope.now)) result }
+{
+    for effect in effects {
+        search_effect(alloc, search, effect, &*scope)?;
+    }
+    Ok(())
+}
+
+/// Searches an action: its parameters, its precondition and its effect.
+pub fn search_action<'d, 'a, A: Allocator, B: Allocator, S: Search<A, B>>(
+    alloc: &'a B,
+    search: &S,
+    action: &'d Action<A>,
+) -> Result<(), LinkFault<'d>>
+    ensures { Passes S.number (flat_map (S.words search.now) (action_places (action_view action.now))) result }
+{
+    let outside = Scope::Empty;
+    let parameters = search_variables(alloc, search, &action.parameters, &outside)?;
+    let inside = Scope::Inside(&parameters, &outside);
+    search_formula(alloc, search, &action.precondition, &inside)?;
+    search_effect(alloc, search, &action.effect, &inside)
+}

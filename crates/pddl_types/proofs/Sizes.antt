@@ -1,0 +1,45 @@
+-- Sizes of formulas with parts.
+use Rattle.std.proofs.Common.{◌≡◌, ℕ, ◌+◌, List, map, Vec, Box, ap, ◌∙◌, sym}
+use Rattle.pddl_formula.specs.TypedLists.{typed_view}
+use Rattle.pddl_formula.specs.Formulas.{FormulaValue, formula_view, formulas_of}
+use Rattle.pddl_formula.specs.declared.type_names.Typed.{Typed}
+use Rattle.pddl_formula.specs.declared.formula.Formula.{Formula}
+use Rattle.pddl_formula.specs.declared.formula.Formula.TheVariants.{And, Or, Exists, Forall}
+use Rattle.pddl_formula.proofs.TurnsOfFormulas.{view_and, view_or, view_exists, view_forall}
+use Rattle.pddl_task.specs.Names.{Name}
+use Rattle.pddl_task.specs.GroundSize.{capped, quantifier_size, formula_size, formulas_size}
+use Rattle.pddl_types.proofs.Capped.{one_more, quantified}
+
+-- the size of a formula by its view
+at_view : {A : Type 0} (count : List Name → ℕ) (f g : Formula A) (v : FormulaValue) → f ≡ g → formula_view g ≡ v → capped (formula_size count v) ≡ capped (formula_size count (formula_view f))
+at_view count f g v is view = sym (ap (λ h. capped (formula_size count (formula_view h))) is ∙ ap (λ w. capped (formula_size count w)) view)
+
+pub size_of_and : {A : Type 0} (count : List Name → ℕ) (f : Formula A) (parts : Vec (Formula A) A) (items : List (Formula A)) (r s : ℕ)
+    → f ≡ And parts → items ≡ parts.items → r ≡ capped (1 + s) → s ≡ capped (formulas_size count (formulas_of (map formula_view items))) → r ≡ capped (formula_size count (formula_view f))
+size_of_and count f parts items r s is same total part =
+    one_more r s (formulas_size count (formulas_of (map formula_view items))) total part
+    ∙ ap (λ xs. capped (1 + formulas_size count (formulas_of (map formula_view xs)))) same
+    ∙ at_view count f (And parts) _ is (view_and parts)
+
+pub size_of_or : {A : Type 0} (count : List Name → ℕ) (f : Formula A) (parts : Vec (Formula A) A) (items : List (Formula A)) (r s : ℕ)
+    → f ≡ Or parts → items ≡ parts.items → r ≡ capped (1 + s) → s ≡ capped (formulas_size count (formulas_of (map formula_view items))) → r ≡ capped (formula_size count (formula_view f))
+size_of_or count f parts items r s is same total part =
+    one_more r s (formulas_size count (formulas_of (map formula_view items))) total part
+    ∙ ap (λ xs. capped (1 + formulas_size count (formulas_of (map formula_view xs)))) same
+    ∙ at_view count f (Or parts) _ is (view_or parts)
+
+pub size_of_exists : {A : Type 0} (count : List Name → ℕ) (f : Formula A) (variables : Vec (Typed A) A) (inner : Box (Formula A) A) (items : List (Typed A)) (r s : ℕ)
+    → f ≡ Exists variables inner → items ≡ variables.items → r ≡ capped (quantifier_size count (map typed_view items) s) → s ≡ capped (formula_size count (formula_view inner.value))
+    → r ≡ capped (formula_size count (formula_view f))
+size_of_exists count f variables inner items r s is same total part =
+    quantified count (map typed_view items) r s (formula_size count (formula_view inner.value)) total part
+    ∙ ap (λ xs. capped (quantifier_size count (map typed_view xs) (formula_size count (formula_view inner.value)))) same
+    ∙ at_view count f (Exists variables inner) _ is (view_exists variables inner)
+
+pub size_of_forall : {A : Type 0} (count : List Name → ℕ) (f : Formula A) (variables : Vec (Typed A) A) (inner : Box (Formula A) A) (items : List (Typed A)) (r s : ℕ)
+    → f ≡ Forall variables inner → items ≡ variables.items → r ≡ capped (quantifier_size count (map typed_view items) s) → s ≡ capped (formula_size count (formula_view inner.value))
+    → r ≡ capped (formula_size count (formula_view f))
+size_of_forall count f variables inner items r s is same total part =
+    quantified count (map typed_view items) r s (formula_size count (formula_view inner.value)) total part
+    ∙ ap (λ xs. capped (quantifier_size count (map typed_view xs) (formula_size count (formula_view inner.value)))) same
+    ∙ at_view count f (Forall variables inner) _ is (view_forall variables inner)

@@ -1,0 +1,146 @@
+-- Declared types that are put into a table one by one, and then told their parents.
+use Rattle.std.proofs.Common.{◌≡◌, ℕ, zero, suc, ◌+◌, ◌<◌, ◌≤◌, true, false, ◌||◌, cond, List, [], ◌∷◌, ◌++◌, map, length, get_or, take, refl, sym, ap, ◌∙◌, subst, arith, bytes_eq}
+use Rattle.std.specs.Borrow.{Bor}
+use Rattle.std.specs.List.{IsDistinct}
+use Rattle.std.proofs.lemmas.Cmp.{nat_list_eq_equiv}
+use Rattle.std.proofs.lemmas.List.{take_more, take_all}
+use Rattle.std.proofs.lemmas.List.Elements.{Contains-get_or}
+use Rattle.std.proofs.lemmas.Map.Keys.{IsDistinct-head, IsDistinct-tail}
+use Rattle.pddl_domain.specs.Declarations.{TypeValue}
+use Rattle.pddl_task.specs.Names.{Name, is_in, repeated, item_of}
+use Rattle.pddl_task.specs.Types.{root, parent_of}
+use Rattle.pddl_types.specs.TypeTables.{Row, names_in, name_at, with_name, IsTableOf, IsTypeTable}
+use Rattle.pddl_task.proofs.Lists.{append-none, or_right, none_left, none_right, is_mapped}
+use Rattle.pddl_types.proofs.TypeTables.{or_none, or_group, put, known, apart, put_under_root, put_under}
+use Rattle.pddl_types.proofs.TypeClimbs.{has_in, parent_undeclared, once_declared}
+
+-- ---- names so far
+
+-- a name that comes last
+in_last : {X : Type 0} (name : X → Name) (front : List Name) (xs : List X) (x : X) (t : Name) → is_in (front ++ map name (xs ++ x ∷ [])) t ≡ is_in (front ++ map name xs) t || bytes_eq t (name x)
+in_last name [] [] x t = or_none (bytes_eq t (name x))
+in_last name [] (y ∷ xs) x t = ap (λ b. bytes_eq t (name y) || b) (in_last name [] xs x t) ∙ or_group (bytes_eq t (name y)) (is_in (map name xs) t) (bytes_eq t (name x))
+in_last name (n ∷ front) xs x t = ap (λ b. bytes_eq t n || b) (in_last name front xs x t) ∙ or_group (bytes_eq t n) (is_in (front ++ map name xs) t) (bytes_eq t (name x))
+
+in_next : {X : Type 0} (name : X → Name) (front : List Name) (xs : List X) (i : ℕ) (x : X) (t : Name) → i < length xs → x ≡ get_or xs i x
+    → is_in (front ++ map name (take (i + 1) xs)) t ≡ is_in (front ++ map name (take i xs)) t || bytes_eq t (name x)
+in_next name front xs i x t low is =
+    ap (λ ys. is_in (front ++ map name ys) t) (take_more xs i x low ∙ ap (λ y. take i xs ++ y ∷ []) (sym is)) ∙ in_last name front (take i xs) x t
+
+in_all : {X : Type 0} (name : X → Name) (xs : List X) (i : ℕ) (n : Name) → is_in (map name xs) n ≡ false → is_in (map name (take i xs)) n ≡ false
+in_all name [] zero n h = refl
+in_all name [] (suc i) n h = refl
+in_all name (x ∷ xs) zero n h = refl
+in_all name (x ∷ xs) (suc i) n h =
+    ap (λ b. b || is_in (map name (take i xs)) n) (none_left (bytes_eq n (name x)) (is_in (map name xs) n) h) ∙ in_all name xs i n (none_right (bytes_eq n (name x)) (is_in (map name xs) n) h)
+
+in_front : (front back : List Name) (n : Name) → is_in (front ++ back) n ≡ false → is_in front n ≡ false
+in_front [] back n h = refl
+in_front (m ∷ ms) back n h =
+    ap (λ b. b || is_in ms n) (none_left (bytes_eq n m) (is_in (ms ++ back) n) h) ∙ in_front ms back n (none_right (bytes_eq n m) (is_in (ms ++ back) n) h)
+
+front_in : (front back : List Name) (n : Name) → is_in front n ≡ true → is_in (front ++ back) n ≡ true
+front_in [] back n h = cc
+front_in (m ∷ ms) back n h = elim (bytes_eq n m) as (λ b. b || is_in ms n ≡ true → b || is_in (ms ++ back) n ≡ true) [ true ↦ λ _. refl | false ↦ front_in ms back n ] h
+
+-- no name so far is that of the next
+not_before : {X : Type 0} (name : X → Name) (xs : List X) (i : ℕ) (d : X) → IsDistinct bytes_eq (map name xs) → i < length xs → is_in (map name (take i xs)) (name (get_or xs i d)) ≡ false
+not_before name [] i d once low = absurd (omega (arith, low))
+not_before name (x ∷ xs) zero d once low = refl
+not_before name (x ∷ xs) (suc i) d once low =
+    let n = name (get_or xs i d) in
+    ap (λ b. b || is_in (map name (take i xs)) n)
+    (nat_list_eq_equiv.symm n (name x) ∙ apart (name x) (map name xs) n (IsDistinct-head bytes_eq (name x) (map name xs) once) (is_mapped name xs (get_or xs i d) (Contains-get_or xs i d (omega (arith, low)))))
+    ∙ not_before name xs i d (IsDistinct-tail bytes_eq (name x) (map name xs) once) (omega (arith, low))
+
+maps : {X : Type 0} (view : X → TypeValue) (f : TypeValue → Name) (xs : List X) → map f (map view xs) ≡ map (λ x. f (view x)) xs
+maps view f [] = refl
+maps view f (x ∷ xs) = ap (λ ns. f (view x) ∷ ns) (maps view f xs)
+
+map_last : {X : Type 0} (view : X → TypeValue) (xs : List X) (x : X) → map view (xs ++ x ∷ []) ≡ map view xs ++ view x ∷ []
+map_last view [] x = refl
+map_last view (y ∷ xs) x = ap (λ vs. view y ∷ vs) (map_last view xs x)
+
+-- ---- the declared types, under `object`
+
+abbrev pub Declares : {X : Type 0} → (X → TypeValue) → List X → List Row → Type 0
+Declares view xs rows = IsTableOf (root ∷ map item_of (map view xs)) [] rows
+
+pub declared_next : {X : Type 0} (view : X → TypeValue) (xs : List X) (i : ℕ) (x : X) (rows next : List Row) (k : Bor (List ℕ)) → i < length xs → x ≡ get_or xs i x → k.now ≡ (view x).item
+    → Declares view (take i xs) rows → next ≡ put rows k 0 → Declares view (take (i + 1) xs) next
+declared_next view xs i x rows next k low is named h put_in =
+    subst (Declares view (take (i + 1) xs)) (sym put_in)
+    (put_under_root (root ∷ map item_of (map view (take i xs))) (root ∷ map item_of (map view (take (i + 1) xs))) [] rows k h
+    (λ t. ap (λ ns. is_in (root ∷ ns) t) (maps view item_of (take (i + 1) xs)) ∙ in_next (λ y. (view y).item) (root ∷ []) xs i x t low is
+    ∙ ap (λ ns. is_in (root ∷ ns) t || bytes_eq t (view x).item) (sym (maps view item_of (take i xs))) ∙ ap (λ n. is_in (root ∷ map item_of (map view (take i xs))) t || bytes_eq t n) (sym named))
+    refl)
+
+pub declared_all : {X : Type 0} (view : X → TypeValue) (xs : List X) (i : ℕ) (rows : List Row) → length xs ≤ i → Declares view (take i xs) rows → Declares view xs rows
+declared_all view xs i rows past h = subst (λ ys. Declares view ys rows) (take_all i xs past) h
+
+-- ---- the same, with the parents of some
+
+abbrev pub Tells : {X : Type 0} → (X → TypeValue) → List X → List X → List Row → Type 0
+Tells view xs told rows = IsTableOf (root ∷ map item_of (map view xs) ++ map parent_of (map view told)) (map view told) rows
+
+pub tells_none : {X : Type 0} (view : X → TypeValue) (xs : List X) (rows : List Row) → Declares view xs rows → Tells view xs (take 0 xs) rows
+tells_none view [] rows h = h
+tells_none view (x ∷ xs) rows h = record {
+  names = λ t. h.names t ∙ ap (λ ns. is_in ns t) (sym (append-none (root ∷ map item_of (map view (x ∷ xs)))));
+  once = h.once;
+  some = h.some;
+  first = h.first;
+  parents = h.parents;
+}
+
+parent_there : {X : Type 0} (view : X → TypeValue) (xs : List X) (i : ℕ) (x : X) (rows : List Row) (k : Bor (List ℕ)) → i < length xs → x ≡ get_or xs i x → k.now ≡ (view x).of
+    → Tells view xs (take i xs) rows
+    → IsTableOf (root ∷ map item_of (map view xs) ++ map parent_of (map view (take (i + 1) xs))) (map view (take i xs)) (with_name rows k)
+parent_there view xs i x rows k low is named h =
+    let front = root ∷ map item_of (map view xs) in
+    let types = front ++ map parent_of (map view (take i xs)) in
+    let more = front ++ map parent_of (map view (take (i + 1) xs)) in
+    let told = map view (take i xs) in
+    let are = λ (t : Name). ap (λ ns. is_in (front ++ ns) t) (maps view parent_of (take (i + 1) xs)) ∙ in_next (λ y. (view y).of) front xs i x t low is
+    ∙ ap (λ ns. is_in (front ++ ns) t || bytes_eq t (view x).of) (sym (maps view parent_of (take i xs))) ∙ ap (λ n. is_in types t || bytes_eq t n) (sym named) in
+    elim (is_in (names_in rows) k.now) as (λ b. is_in (names_in rows) k.now ≡ b → IsTableOf more told (cond b rows (put rows k 0))) [
+      | true ↦ λ there. record {
+        names = λ t. h.names t ∙ sym (known (is_in types) t k.now (sym (h.names k.now) ∙ there)) ∙ sym (are t);
+        once = h.once;
+        some = h.some;
+        first = h.first;
+        parents = h.parents;
+      }
+      | false ↦ λ new.
+          let off : is_in types k.now ≡ false = sym (h.names k.now) ∙ new in
+          let undeclared : is_in (map item_of (map view xs)) k.now ≡ false = none_right (bytes_eq k.now root) (is_in (map item_of (map view xs)) k.now) (in_front front (map parent_of told) k.now off) in
+          let untold : is_in (map item_of told) k.now ≡ false =
+          ap (λ ns. is_in ns k.now) (maps view item_of (take i xs)) ∙ in_all (λ y. (view y).item) xs i k.now (ap (λ ns. is_in ns k.now) (sym (maps view item_of xs)) ∙ undeclared) in
+          put_under_root types more told rows k h are (parent_undeclared told k.now untold)
+    ] refl
+
+-- a declared type is told its parent, which stands in the table by then
+pub told_next : {X : Type 0} (view : X → TypeValue) (xs : List X) (i : ℕ) (x : X) (rows wider next : List Row) (parent child : Bor (List ℕ)) (place : ℕ)
+    → i < length xs → x ≡ get_or xs i x → parent.now ≡ (view x).of → child.now ≡ (view x).item → repeated [] (map item_of (map view xs)) ≡ []
+    → Tells view xs (take i xs) rows → wider ≡ with_name rows parent → place < length wider → name_at wider place ≡ parent.now → next ≡ put wider child place
+    → Tells view xs (take (i + 1) xs) next
+told_next view xs i x rows wider next parent child place low is above named once h widened there at put_in =
+    let front = root ∷ map item_of (map view xs) in
+    let more = front ++ map parent_of (map view (take (i + 1) xs)) in
+    let table = subst (IsTableOf more (map view (take i xs))) (sym widened) (parent_there view xs i x rows parent low is above h) in
+    let distinct : IsDistinct bytes_eq (map (λ y. (view y).item) xs) = subst (IsDistinct bytes_eq) (maps view item_of xs) (once_declared (map view xs) once) in
+    let new : is_in (map item_of (map view (take i xs))) child.now ≡ false =
+    ap (λ ns. is_in ns child.now) (maps view item_of (take i xs)) ∙ ap (is_in (map (λ y. (view y).item) (take i xs))) (named ∙ ap (λ y. (view y).item) is) ∙ not_before (λ y. (view y).item) xs i x distinct low in
+    let type : is_in more child.now ≡ true =
+    front_in front (map parent_of (map view (take (i + 1) xs))) child.now
+    (or_right (bytes_eq child.now root) (is_in (map item_of (map view xs)) child.now)
+    (ap (is_in (map item_of (map view xs))) (named ∙ ap (λ y. (view y).item) is) ∙ has_in (map item_of (map view xs)) (view (get_or xs i x)).item
+    (is_mapped item_of (map view xs) (view (get_or xs i x)) (is_mapped view xs (get_or xs i x) (Contains-get_or xs i x low))))) in
+    let told : map view (take (i + 1) xs) ≡ map view (take i xs) ++ view x ∷ [] = ap (map view) (take_more xs i x low ∙ ap (λ y. take i xs ++ y ∷ []) (sym is)) ∙ map_last view (take i xs) x in
+    subst (IsTableOf more (map view (take (i + 1) xs))) (sym put_in)
+    (subst (λ d. IsTableOf more d (put wider child place)) (sym told)
+    (put_under more (map view (take i xs)) wider child place (view x) table type there new (sym named) (sym above ∙ sym at)))
+
+pub told_all : {X : Type 0} (view : X → TypeValue) (xs : List X) (i : ℕ) (rows : List Row) → length xs ≤ i → repeated [] (map item_of (map view xs)) ≡ [] → Tells view xs (take i xs) rows
+    → IsTypeTable (map view xs) rows
+told_all view xs i rows past once h = record { declared_once = once; table = subst (λ ys. Tells view xs ys rows) (take_all i xs past) h }

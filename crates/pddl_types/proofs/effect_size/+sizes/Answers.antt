@@ -1,0 +1,47 @@
+use Rattle.std.proofs.Common.{ap, ◌∙◌, sym, subst, ◌+◌, ◌<◌, ◌≤◌, List, length, get_or, drop, map, arith}
+use Rattle.std.proofs.lemmas.List.{drop_all}
+use Rattle.pddl_effect.specs.declared.effect.Effect.{Effect}
+use Rattle.pddl_effect.specs.Effects.{effect_view, effects_of}
+use Rattle.pddl_task.specs.GroundSize.{capped, effect_size, effects_size}
+use Rattle.pddl_types.proofs.Capped.{one_added, all_added}
+use Rattle.pddl_faults.proofs.ViewTurns.{effects-drop}
+use Rattle.pddl_types.proofs.EffectSizes.{size_of_all, size_of_each}
+use Rattle.pddl_types.proofs.effect_size.+sizes.Goals as goal
+
+pub effect_ground_size-returns-in-And : goal.effect_ground_size-returns-in-And
+effect_ground_size-returns-in-And g t c =
+    size_of_all (g.C.FittingCount.count c.args.counts.now) c.args.effect.now c.in-And.parts _ c.effect_ground_sizes.result c.in-And.is c.sum.ensures c.effect_ground_sizes.ensures
+
+pub effect_ground_size-returns-in-Forall : goal.effect_ground_size-returns-in-Forall
+effect_ground_size-returns-in-Forall g t c =
+    size_of_each (g.C.FittingCount.count c.args.counts.now) c.args.effect.now c.in-Forall.variables c.in-Forall.inner c.deref.result.now _ c.effect_ground_size.result c.in-Forall.is c.deref.ensures.value
+    c.quantifier_size.ensures (c.effect_ground_size.ensures ∙ ap (λ e. capped (effect_size (g.C.FittingCount.count c.args.counts.now) (effect_view e))) c.deref-in-Forall.ensures)
+
+pub effect_ground_sizes-loop-effect-preserved : goal.effect_ground_sizes-loop-effect-preserved
+effect_ground_sizes-loop-effect-preserved g t c =
+    let count = g.C.FittingCount.count c.args.counts.now in
+    let l = c.loop-effect in
+    let x = c.effect-item.result in
+    let all = c.args.effects.now.items in
+    let all_are = c.deref-effect-items.ensures.value in
+    let lt : l.effect-index < length all = subst (λ (xs : List (Effect _)). l.effect-index < length xs) all_are (omega arith) in
+    let here = c.effect-item.is ∙ ap (λ (xs : List (Effect _)). get_or xs l.effect-index x) all_are in
+    let front = effects-drop all l.effect-index x lt in
+    let rest = effects_of (map effect_view (drop (l.effect-index + 1) all)) in
+    record {
+      low = omega (arith, c.sum-total.ensures);
+      whole = one_added l.total c.effect_ground_size.result (effect_size count (effect_view x)) (effects_size count rest) _ c.sum-total.result
+          c.sum-total.ensures c.effect_ground_size.ensures
+          (ap (λ e. capped (l.total + (effect_size count (effect_view e) + effects_size count rest))) here
+          ∙ sym (ap (λ es. capped (l.total + effects_size count es)) front) ∙ l.invariant.whole);
+    }
+
+pub effect_ground_sizes-returns : goal.effect_ground_sizes-returns
+effect_ground_sizes-returns g t c =
+    let count = g.C.FittingCount.count c.args.counts.now in
+    let l = c.loop-effect in
+    let all = c.args.effects.now.items in
+    let past : length all ≤ l.effect-index = subst (λ (xs : List (Effect _)). length xs ≤ l.effect-index) c.deref-effect-items.ensures.value (omega (arith, c.loop-effect-test.false)) in
+    let none = drop_all l.effect-index all past in
+    all_added l.total _ l.invariant.low
+    (sym (ap (λ xs. capped (l.total + effects_size count (effects_of (map effect_view xs)))) none) ∙ l.invariant.whole)

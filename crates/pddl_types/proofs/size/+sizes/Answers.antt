@@ -1,0 +1,47 @@
+use Rattle.std.proofs.Common.{ap, ◌∙◌, sym, ◌+◌, drop, map, arith}
+use Rattle.std.proofs.lemmas.List.{drop_all}
+use Rattle.pddl_formula.specs.Formulas.{formula_view, formulas_of}
+use Rattle.pddl_task.specs.GroundSize.{capped, formula_size, formulas_size}
+use Rattle.pddl_types.proofs.Capped.{one_added, all_added}
+use Rattle.pddl_faults.proofs.ViewTurns.{formulas-drop}
+use Rattle.pddl_types.proofs.Sizes.{size_of_and, size_of_or, size_of_exists, size_of_forall}
+use Rattle.pddl_types.proofs.size.+sizes.Goals as goal
+
+pub ground_size-returns-in-And : goal.ground_size-returns-in-And
+ground_size-returns-in-And g t c =
+    size_of_and (g.C.FittingCount.count c.args.counts.now) c.args.formula.now c.in-And.parts c.deref-in-And.result.now _ c.ground_sizes.result c.in-And.is c.deref-in-And.ensures.value c.sum-in-And.ensures c.ground_sizes.ensures
+
+pub ground_size-returns-in-Or : goal.ground_size-returns-in-Or
+ground_size-returns-in-Or g t c =
+    size_of_or (g.C.FittingCount.count c.args.counts.now) c.args.formula.now c.in-Or.parts c.deref-in-Or.result.now _ c.ground_sizes-in-Or.result c.in-Or.is c.deref-in-Or.ensures.value c.sum-in-Or.ensures c.ground_sizes-in-Or.ensures
+
+pub ground_size-returns-in-Exists : goal.ground_size-returns-in-Exists
+ground_size-returns-in-Exists g t c =
+    size_of_exists (g.C.FittingCount.count c.args.counts.now) c.args.formula.now c.in-Exists.variables c.in-Exists.inner c.deref-in-Exists.result.now _ c.ground_size-in-Exists.result c.in-Exists.is c.deref-in-Exists.ensures.value
+    c.quantifier_size.ensures (c.ground_size-in-Exists.ensures ∙ ap (λ f. capped (formula_size (g.C.FittingCount.count c.args.counts.now) (formula_view f))) c.deref-in-Exists-2.ensures)
+
+pub ground_size-returns-in-Forall : goal.ground_size-returns-in-Forall
+ground_size-returns-in-Forall g t c =
+    size_of_forall (g.C.FittingCount.count c.args.counts.now) c.args.formula.now c.in-Forall.variables c.in-Forall.inner c.deref-in-Forall.result.now _ c.ground_size-in-Forall.result c.in-Forall.is c.deref-in-Forall.ensures.value
+    c.quantifier_size-in-Forall.ensures (c.ground_size-in-Forall.ensures ∙ ap (λ f. capped (formula_size (g.C.FittingCount.count c.args.counts.now) (formula_view f))) c.deref-in-Forall-2.ensures)
+
+pub ground_sizes-loop-formula-preserved : goal.ground_sizes-loop-formula-preserved
+ground_sizes-loop-formula-preserved g t c =
+    let count = g.C.FittingCount.count c.args.counts.now in
+    let i = c.loop-formula.formula-index in
+    let front = formulas-drop c.args.formulas.now i c.formula-item.result c.loop-formula-test.true in
+    let rest = formulas_of (map formula_view (drop (i + 1) c.args.formulas.now)) in
+    record {
+      low = omega (arith, c.sum-total.ensures);
+      whole = one_added c.loop-formula.total c.ground_size.result (formula_size count (formula_view c.formula-item.result)) (formulas_size count rest) _ c.sum-total.result
+          c.sum-total.ensures c.ground_size.ensures
+          (ap (λ f. capped (c.loop-formula.total + (formula_size count (formula_view f) + formulas_size count rest))) c.formula-item.is
+          ∙ sym (ap (λ fs. capped (c.loop-formula.total + formulas_size count fs)) front) ∙ c.loop-formula.invariant.whole);
+    }
+
+pub ground_sizes-returns : goal.ground_sizes-returns
+ground_sizes-returns g t c =
+    let count = g.C.FittingCount.count c.args.counts.now in
+    let none = drop_all c.loop-formula.formula-index c.args.formulas.now c.loop-formula-test.false in
+    all_added c.loop-formula.total _ c.loop-formula.invariant.low
+    (sym (ap (λ xs. capped (c.loop-formula.total + formulas_size count (formulas_of (map formula_view xs)))) none) ∙ c.loop-formula.invariant.whole)

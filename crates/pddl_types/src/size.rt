@@ -1,0 +1,91 @@
+//! Ground sizes, without writing any quantifier out.
+
+ghost use Rattle.std.specs.Prelude.{◌≡◌, ◌≤◌, ◌+◌, ◌*◌, List, ℕ, map};
+ghost use Rattle.pddl_formula.specs.TypedLists.{typed_view};
+ghost use Rattle.pddl_formula.specs.Formulas.{formula_view, formulas_of};
+ghost use Rattle.pddl_task.specs.GroundSize.{capped, quantifier_size, formula_size, formulas_size};
+
+use pddl_formula::{Formula, TypeNames, Typed};
+use std::alloc::Allocator;
+
+/// What says how many objects fit a type.
+pub trait FittingCount<A: Allocator> {
+    ghost use Rattle.std.specs.Prelude.{List, ℕ};
+
+    ghost count: { Self → List (List ℕ) → ℕ };
+
+    /// How many objects fit the type.
+    fn fitting_count(&self, types: &TypeNames<A>) -> usize
+        ensures { result ≡ count self.now types.now };
+}
+
+/// The sum of two sizes.
+pub fn sum(a: u32, b: u32) -> u32
+    requires first { a ≤ 1000001 }
+    requires second { b ≤ 1000001 }
+    ensures { result ≡ capped (a + b) }
+{
+    (a + b).min(1_000_001)
+}
+
+/// A size, so many times.
+fn product(n: usize, size: u32) -> u32
+    requires { size ≤ 1000001 }
+    ensures { result ≡ capped (n * size) }
+{
+    let n = n.min(1_000_001) as u64;
+    (n * size as u64).min(1_000_001) as u32
+}
+
+/// The size of a quantifier over variables, where what is quantified has a size.
+pub fn quantifier_size<A: Allocator, C: FittingCount<A>>(
+    counts: &C,
+    variables: &[Typed<A>],
+    body: u32,
+) -> u32
+    requires { body ≤ 1000001 }
+    ensures { result ≡ capped (quantifier_size (C.count counts.now) (map typed_view variables.now) body) }
+{
+    let mut size = sum(1, body);
+    for i in (0..variables.len()).rev() {
+        size = sum(1, product(counts.fitting_count(&variables[i].types), size));
+    }
+    size
+}
+
+/// The ground size of a formula, or 1,000,001 where it is more than 1,000,000.
+#[cycle(sizes)]
+pub fn ground_size<A: Allocator, C: FittingCount<A>>(counts: &C, formula: &Formula<A>) -> u32
+    ensures { result ≡ capped (formula_size (C.count counts.now) (formula_view formula.now)) }
+{
+    match formula {
+        Formula::Atom(_) => 1,
+        Formula::Equal(_, _) => 1,
+        Formula::Not(inner) => sum(1, ground_size(counts, inner)),
+        Formula::Imply(first, second) => {
+            let first = ground_size(counts, first);
+            let second = ground_size(counts, second);
+            sum(1, sum(first, second))
+        }
+        Formula::And(parts) => sum(1, ground_sizes(counts, parts)),
+        Formula::Or(parts) => sum(1, ground_sizes(counts, parts)),
+        Formula::Exists(variables, inner) => {
+            quantifier_size(counts, variables, ground_size(counts, inner))
+        }
+        Formula::Forall(variables, inner) => {
+            quantifier_size(counts, variables, ground_size(counts, inner))
+        }
+    }
+}
+
+/// The ground sizes of formulas, added up, or 1,000,001 where that is more than 1,000,000.
+#[cycle(sizes)]
+fn ground_sizes<A: Allocator, C: FittingCount<A>>(counts: &C, formulas: &[Formula<A>]) -> u32
+    ensures { result ≡ capped (formulas_size (C.count counts.now) (formulas_of (map formula_view formulas.now))) }
+{
+    let mut total = 0;
+    for formula in formulas {
+        total = sum(total, ground_size(counts, formula));
+    }
+    total
+}

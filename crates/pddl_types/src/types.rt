@@ -1,0 +1,371 @@
+//! The types of a domain with their parents, looked up by name.
+
+ghost use Rattle.std.specs.Prelude.{◌≡◌, ◌<◌, [], ◌∷◌, true, map, not, filter, length, IfOk, OnOk, IfSome, Contains};
+ghost use Rattle.std.specs.List.{flat_map, list_any};
+ghost use Rattle.pddl_formula.specs.TypedLists.{typed_view};
+ghost use Rattle.pddl_domain.specs.Declarations.{type_view};
+ghost use Rattle.pddl_task.specs.Names.{is_in, repeated, item_of};
+ghost use Rattle.pddl_task.specs.Types.{root, says_nothing, types_of, pairs, is_under, is_subtype, is_cyclic, fits};
+ghost use Rattle.pddl_task.specs.Faults.{primitives_of, first_alone};
+ghost use Rattle.pddl_faults.specs.Passes.{Passes};
+ghost use Rattle.pddl_types.specs.KnownNames.{object_in};
+ghost use Rattle.pddl_types.specs.ObjectCounts.{AreCountsOf, AddUp};
+ghost use Rattle.pddl_types.specs.TypeTables.{IsTableOf, IsTypeTable, AreNumbered, with_name, name_at, parent_place, climbs};
+
+use crate::known::Objects;
+use crate::tops::tops;
+use crate::type_counts::{TypeCounts, single, type_counts};
+use indexmap::IndexMap;
+use pddl_domain::DeclaredType;
+use pddl_faults::{Hashed, LinkFault};
+use pddl_forest::Preorder;
+use pddl_formula::{TypeNames, Typed};
+use std::alloc::{AllocError, Allocator};
+use std::marker::Model;
+
+/// The types of a domain, each with the place of its parent in the table; `object` is at place 0, and is its own parent where no
+/// other is declared. Where all are below `object`, as in each domain without a cycle, their places are numbered in pre-order, and what is under what
+/// is told by two comparisons.
+///
+/// Contracts see it as the list of the declared types.
+#[derive(Drop)]
+pub struct Types<'m, 'a, A: Allocator, B: Allocator> {
+    declared: &'m [DeclaredType<A>],
+    parents: IndexMap<&'m [u8], usize, Hashed, &'a B>,
+    order: Option<Preorder<'a, B>>,
+}
+
+impl<'m, 'a, A: Allocator, B: Allocator> Model for Types<'m, 'a, A, B> {
+    ghost use Rattle.std.specs.Prelude.{List, map};
+    ghost use Rattle.pddl_domain.specs.Declarations.{TypeValue, type_view};
+    ghost use Rattle.pddl_types.specs.TypeTables.{IsTypeTable, AreNumbered};
+
+    ghost Value = { List TypeValue };
+
+    ghost view = { λ t. map type_view t.declared.now };
+
+    ghost invariant = { λ t. IsTypeTable (map type_view t.declared.now) t.parents.entries × AreNumbered t.parents.entries t.order };
+}
+
+/// The place of a type in the table; it is put there under `object` where it does not stand yet.
+fn place_of<'m, 'a, B: Allocator>(
+    parents: &mut IndexMap<&'m [u8], usize, Hashed, &'a B>,
+    name: &'m [u8],
+) -> Result<usize, AllocError>
+    ensures rows { OnOk result (parents.new.entries ≡ with_name parents.old.entries name.entry) }
+    ensures place { IfOk result (λ place. place < length parents.new.entries) }
+    ensures named { IfOk result (λ place. name_at parents.new.entries place ≡ name.now) }
+{
+    match parents.get_index_of(name) {
+        Some(place) => Ok(place),
+        None => {
+            let (place, _) = parents.insert_full(name, 0)?;
+            Ok(place)
+        }
+    }
+}
+
+/// Puts each declared type under `object`.
+fn put_under_object<'m, 'a, A: Allocator, B: Allocator>(
+    parents: &mut IndexMap<&'m [u8], usize, Hashed, &'a B>,
+    declared: &'m [DeclaredType<A>],
+) -> Result<(), AllocError>
+    requires { IsTableOf (root ∷ []) [] parents.old.entries }
+    ensures { OnOk result (IsTableOf (root ∷ map item_of (map type_view declared.now)) [] parents.new.entries) }
+{
+    for declared_type in declared {
+        parents.insert(declared_type.name.as_bytes(), 0)?;
+    }
+    Ok(())
+}
+
+/// Puts each declared type under its parent.
+fn put_under_parents<'m, 'a, A: Allocator, B: Allocator>(
+    parents: &mut IndexMap<&'m [u8], usize, Hashed, &'a B>,
+    declared: &'m [DeclaredType<A>],
+) -> Result<(), AllocError>
+    requires once { repeated [] (map item_of (map type_view declared.now)) ≡ [] }
+    requires table { IsTableOf (root ∷ map item_of (map type_view declared.now)) [] parents.old.entries }
+    ensures { OnOk result (IsTypeTable (map type_view declared.now) parents.new.entries) }
+{
+    for declared_type in declared {
+        let place = place_of(parents, declared_type.parent.as_bytes())?;
+        parents.insert(declared_type.name.as_bytes(), place)?;
+    }
+    Ok(())
+}
+
+/// The place of the parent of the type at a place.
+fn parent_of<'m, 'a, B: Allocator>(
+    parents: &IndexMap<&'m [u8], usize, Hashed, &'a B>,
+    place: usize,
+) -> usize
+    ensures { result ≡ parent_place parents.now.entries place }
+{
+    match parents.get_index(place) {
+        Some((_, parent)) => *parent,
+        None => place,
+    }
+}
+
+/// The places of a table, numbered where all are below `object`.
+///
+/// Fails where memory for the numbers is refused.
+fn numbered<'m, 'a, B: Allocator>(
+    alloc: &'a B,
+    parents: &IndexMap<&'m [u8], usize, Hashed, &'a B>,
+) -> Result<Option<Preorder<'a, B>>, AllocError>
+    ensures { IfOk result (λ order. AreNumbered parents.now.entries order) }
+{
+    let mut places = Vec::with_capacity(alloc, parents.len())?;
+    for place in 0..parents.len() {
+        places.push(parent_of(parents, place))?;
+    }
+    Preorder::of(alloc, places)
+}
+
+/// Whether one place is come to from another, from parent to parent.
+fn climbs<'m, 'a, B: Allocator>(
+    parents: &IndexMap<&'m [u8], usize, Hashed, &'a B>,
+    from: usize,
+    to: usize,
+) -> bool
+    ensures { result ≡ climbs parents.now.entries (length parents.now.entries) from to }
+{
+    let mut place = from;
+    for _step in 0..parents.len() {
+        if place == to {
+            return true;
+        }
+        match parents.get_index(place) {
+            Some((_, parent)) => {
+                if *parent == place {
+                    return false;
+                }
+                place = *parent;
+            }
+            None => return false,
+        }
+    }
+    place == to
+}
+
+/// Whether what is declared is `object` under `object`.
+fn says_nothing<A: Allocator>(declared: &DeclaredType<A>) -> bool
+    ensures { result ≡ says_nothing (type_view declared.now) }
+{
+    declared.name.as_bytes() == b"object".as_slice()
+        && declared.parent.as_bytes() == b"object".as_slice()
+}
+
+impl<'m, 'a, A: Allocator, B: Allocator> Types<'m, 'a, A, B> {
+    /// The table of these types, each declared once.
+    ///
+    /// Fails where memory for the table is refused.
+    pub fn of(
+        alloc: &'a B,
+        declared: &'m [DeclaredType<A>],
+    ) -> Result<Types<'m, 'a, A, B>, AllocError>
+        requires { repeated [] (map item_of (map type_view declared.now)) ≡ [] }
+        ensures { IfOk result (λ types. types ≡ map type_view declared.now) }
+    {
+        let mut parents: IndexMap<&'m [u8], usize, Hashed, &'a B> = IndexMap::new(alloc);
+        parents.insert(b"object".as_slice(), 0)?;
+        put_under_object(&mut parents, declared)?;
+        put_under_parents(&mut parents, declared)?;
+        let order = numbered(alloc, &parents)?;
+        Ok(Types {
+            declared,
+            parents,
+            order,
+        })
+    }
+
+    /// Whether a name is a type: `object`, a declared type, or one that stands as a parent.
+    pub fn contains(&self, name: &[u8]) -> bool
+        ensures { result ≡ is_in (types_of self.now) name.now }
+    {
+        self.parents.contains_key(name)
+    }
+
+    /// Whether a name is under another, which holds of each name and itself.
+    fn is_under(&self, sub: &[u8], over: &[u8]) -> bool
+        ensures { result ≡ is_under (pairs self.now) sub.now over.now }
+    {
+        if sub == over {
+            return true;
+        }
+        match self.parents.get_index_of(sub) {
+            None => false,
+            Some(from) => match self.parents.get_index_of(over) {
+                None => false,
+                Some(to) => match &self.order {
+                    Some(order) => order.is_under(from, to),
+                    None => climbs(&self.parents, from, to),
+                },
+            },
+        }
+    }
+
+    /// Whether a type is a subtype of another, or that type itself; no name that is no type is either.
+    pub fn is_a(&self, sub: &[u8], over: &[u8]) -> bool
+        ensures { result ≡ is_subtype self.now sub.now over.now }
+    {
+        self.contains(sub) && self.contains(over) && self.is_under(sub, over)
+    }
+
+    /// Whether a name is under some primitive of a slot's type.
+    fn fits_some<S: Allocator>(&self, name: &[u8], slot: &TypeNames<S>) -> bool
+        ensures { result ≡ list_any (is_under (pairs self.now) name.now) slot.now }
+    {
+        let primitives = slot.as_slice();
+        for primitive in primitives {
+            if self.is_under(name, primitive.as_bytes()) {
+                return true;
+            }
+        }
+        false
+    }
+
+    /// Whether a term of the first type fits a slot of the second: each primitive of the one is under some primitive of the other.
+    pub fn fits<T: Allocator, S: Allocator>(
+        &self,
+        types: &TypeNames<T>,
+        slot: &TypeNames<S>,
+    ) -> bool
+        ensures { result ≡ fits (pairs self.now) types.now slot.now }
+    {
+        let primitives = types.as_slice();
+        for primitive in primitives {
+            if !self.fits_some(primitive.as_bytes(), slot) {
+                return false;
+            }
+        }
+        true
+    }
+
+    /// The number of a type in the order in which tops come, or 0 where it has none. Nothing is promised of it.
+    fn number(&self, name: &[u8]) -> usize {
+        match &self.order {
+            Some(order) => match self.parents.get_index_of(name) {
+                Some(place) => order.number(place),
+                None => 0,
+            },
+            None => 0,
+        }
+    }
+
+    /// Whether a name was found to be under a primitive of a slot, by its tops.
+    fn is_under_top<S: Allocator>(&self, name: &[u8], slot: &TypeNames<S>, tops: &[usize]) -> bool
+        ensures { result ≡ true → list_any (is_under (pairs self.now) name.now) slot.now ≡ true }
+    {
+        let primitives = slot.as_slice();
+        let number = self.number(name);
+        let behind = tops.partition_point(|step| match primitives.get(*step) {
+            Some(primitive) => self.number(primitive.as_bytes()) <= number,
+            None => false,
+        });
+        if behind == 0 || tops.len() < behind {
+            return false;
+        }
+        let step = tops[behind - 1];
+        step < primitives.len() && self.is_under(name, primitives[step].as_bytes())
+    }
+
+    /// Whether a term of the first type fits a slot of the second, which is found fast by the slot's tops where it does and has one primitive.
+    pub fn fits_by<T: Allocator, S: Allocator>(
+        &self,
+        types: &TypeNames<T>,
+        slot: &TypeNames<S>,
+        tops: &[usize],
+    ) -> bool
+        ensures { result ≡ fits (pairs self.now) types.now slot.now }
+    {
+        match single(types) {
+            Some(name) => self.is_under_top(name, slot, tops) || self.fits(types, slot),
+            None => self.fits(types, slot),
+        }
+    }
+
+    /// How many of some objects fit each type, by its name. A name that is missing is not counted.
+    ///
+    /// Fails where memory for the counts is refused.
+    pub fn counts(
+        &self,
+        alloc: &'a B,
+        objects: &Objects<'m, 'a, A, B>,
+    ) -> Result<TypeCounts<'m, 'a, B>, AllocError>
+        ensures { IfOk result (λ counts. AreCountsOf self.now (map object_in objects.now.entries) counts.entries) }
+    {
+        match &self.order {
+            Some(order) => type_counts(alloc, &self.parents, order, objects),
+            None => Ok(IndexMap::new(alloc)),
+        }
+    }
+
+    /// The steps of some of a type's primitives, so that each object of one type which fits the type fits one of them, and one alone; `None` where they
+    /// were not found, or memory for them was refused.
+    pub fn tops<N: Allocator>(&self, types: &TypeNames<N>) -> Option<Vec<usize, &'a B>>
+        ensures { IfSome result (λ steps. AddUp self.now types.now steps.items) }
+    {
+        match &self.order {
+            Some(order) => match tops(&self.parents, order, types) {
+                Ok(found) => found,
+                Err(_) => None,
+            },
+            None => None,
+        }
+    }
+
+    /// Whether a declared type is above itself.
+    fn is_cyclic(&self, declared: &DeclaredType<A>) -> bool
+        requires once { repeated [] (map item_of self.now) ≡ [] }
+        requires listed { Contains self.now (type_view declared.now) }
+        ensures { result ≡ is_cyclic (pairs self.now) declared.now.name }
+    {
+        !says_nothing(declared)
+            && self.is_under(declared.parent.as_bytes(), declared.name.as_bytes())
+    }
+
+    /// No declared type is above itself. In a domain without a cycle all places are numbered, which shows it.
+    pub fn cycle(&self) -> Result<(), LinkFault<'m>>
+        ensures { Passes 22 (first_alone (filter (is_cyclic (pairs self.now)) (map item_of self.now))) result }
+    {
+        if self.order.is_some() {
+            return Ok(());
+        }
+        for declared in self.declared {
+            if self.is_cyclic(declared) {
+                return Err(LinkFault::TypeCycle(declared.name.as_bytes()));
+            }
+        }
+        Ok(())
+    }
+
+    /// The primitives of a type are types.
+    fn known_primitives<'d, T: Allocator>(
+        &self,
+        types: &'d TypeNames<T>,
+    ) -> Result<(), LinkFault<'d>>
+        ensures { Passes 23 (filter (λ t. not (is_in (types_of self.now) t)) types.now) result }
+    {
+        let primitives = types.as_slice();
+        for primitive in primitives {
+            let name = primitive.as_bytes();
+            if !self.contains(name) {
+                return Err(LinkFault::UnknownType(name));
+            }
+        }
+        Ok(())
+    }
+
+    /// The primitive types of what is typed are types.
+    pub fn known<'d, T: Allocator>(&self, typed: &'d [Typed<T>]) -> Result<(), LinkFault<'d>>
+        ensures { Passes 23 (filter (λ t. not (is_in (types_of self.now) t)) (flat_map primitives_of (map typed_view typed.now))) result }
+    {
+        for item in typed {
+            self.known_primitives(&item.types)?;
+        }
+        Ok(())
+    }
+}
