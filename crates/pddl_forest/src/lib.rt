@@ -6,7 +6,5 @@ mod counting;
 mod numbering;
 mod preorder;
 mod roots;
-#[cfg(test)]
-mod tests;
 
 pub use preorder::Preorder;

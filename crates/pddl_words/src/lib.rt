@@ -5,8 +5,6 @@
 #![tactic(auto)]
 
 mod help;
-#[cfg(test)]
-mod rows;
 mod words;
 
 pub use words::{Job, parse_words, words_status};

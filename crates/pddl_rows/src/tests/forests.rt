@@ -1,4 +1,6 @@
-use crate::Preorder;
+//! Forests whose places are numbered.
+
+use pddl_forest::Preorder;
 use std::alloc::{AllocError, Allocator};
 use std::process::Abort;
 use std::test::Fail;

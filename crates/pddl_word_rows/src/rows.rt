@@ -1,6 +1,6 @@
 //! Rows of command lines.
 
-use crate::{Job, parse_words, words_status};
+use pddl_words::{Job, parse_words, words_status};
 use std::alloc::{AllocError, Global};
 use std::num::NonZeroU32;
 use std::process::Abort;
