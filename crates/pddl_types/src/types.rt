@@ -14,7 +14,7 @@ ghost use Rattle.pddl_types.specs.TypeTables.{IsTableOf, IsTypeTable, AreNumbere
 
 use crate::known::Objects;
 use crate::tops::tops;
-use crate::type_counts::{TypeCounts, single, type_counts};
+use crate::type_counts::{TypeCounts, type_counts};
 use indexmap::IndexMap;
 use pddl_domain::DeclaredType;
 use pddl_faults::{Hashed, LinkFault};
@@ -227,23 +227,6 @@ impl<'m, 'a, A: Allocator, B: Allocator> Types<'m, 'a, A, B> {
         false
     }
 
-    /// Whether a term of the first type fits a slot of the second: each primitive of the one is under some primitive of the other.
-    pub fn fits<T: Allocator, S: Allocator>(
-        &self,
-        types: &TypeNames<T>,
-        slot: &TypeNames<S>,
-    ) -> bool
-        ensures { result ≡ fits (pairs self.now) types.now slot.now }
-    {
-        let primitives = types.as_slice();
-        for primitive in primitives {
-            if !self.fits_some(primitive.as_bytes(), slot) {
-                return false;
-            }
-        }
-        true
-    }
-
     /// The number of a type in the order in which tops come, or 0 where it has none. Nothing is promised of it.
     fn number(&self, name: &[u8]) -> usize {
         match &self.order {
@@ -259,6 +242,9 @@ impl<'m, 'a, A: Allocator, B: Allocator> Types<'m, 'a, A, B> {
     fn is_under_top<S: Allocator>(&self, name: &[u8], slot: &TypeNames<S>, tops: &[usize]) -> bool
         ensures { result ≡ true → list_any (is_under (pairs self.now) name.now) slot.now ≡ true }
     {
+        if tops.len() == 0 {
+            return false;
+        }
         let primitives = slot.as_slice();
         let number = self.number(name);
         let behind = tops.partition_point(|step| match primitives.get(*step) {
@@ -272,7 +258,15 @@ impl<'m, 'a, A: Allocator, B: Allocator> Types<'m, 'a, A, B> {
         step < primitives.len() && self.is_under(name, primitives[step].as_bytes())
     }
 
-    /// Whether a term of the first type fits a slot of the second, which is found fast by the slot's tops where it does and has one primitive.
+    /// Whether a name is under some primitive of a slot's type, which is found fast by the slot's tops where it is.
+    fn fits_some_by<S: Allocator>(&self, name: &[u8], slot: &TypeNames<S>, tops: &[usize]) -> bool
+        ensures { result ≡ list_any (is_under (pairs self.now) name.now) slot.now }
+    {
+        self.is_under_top(name, slot, tops) || self.fits_some(name, slot)
+    }
+
+    /// Whether a term of the first type fits a slot of the second: each primitive of the one is under some primitive of the other, which is found fast by
+    /// the slot's tops where it is.
     pub fn fits_by<T: Allocator, S: Allocator>(
         &self,
         types: &TypeNames<T>,
@@ -281,10 +275,24 @@ impl<'m, 'a, A: Allocator, B: Allocator> Types<'m, 'a, A, B> {
     ) -> bool
         ensures { result ≡ fits (pairs self.now) types.now slot.now }
     {
-        match single(types) {
-            Some(name) => self.is_under_top(name, slot, tops) || self.fits(types, slot),
-            None => self.fits(types, slot),
+        let primitives = types.as_slice();
+        for primitive in primitives {
+            if !self.fits_some_by(primitive.as_bytes(), slot, tops) {
+                return false;
+            }
         }
+        true
+    }
+
+    /// Whether a term of the first type fits a slot of the second.
+    pub fn fits<T: Allocator, S: Allocator>(
+        &self,
+        types: &TypeNames<T>,
+        slot: &TypeNames<S>,
+    ) -> bool
+        ensures { result ≡ fits (pairs self.now) types.now slot.now }
+    {
+        self.fits_by(types, slot, &[])
     }
 
     /// How many of some objects fit each type, by its name. A name that is missing is not counted.

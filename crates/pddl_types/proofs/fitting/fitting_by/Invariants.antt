@@ -1,6 +1,6 @@
 use Rattle.pddl_task.specs.Types.{pairs, fits}
 use Rattle.pddl_types.proofs.FittingObjects.{AreSplit}
-use Rattle.pddl_types.proofs.fitting.fitting_objects.Given as goal
+use Rattle.pddl_types.proofs.fitting.fitting_by.Given as goal
 
 -- the numbers that are pushed and those that are left are all
 abbrev pub invariant-loop-number : goal.invariant-loop-number
