@@ -13,6 +13,6 @@ pub use check::check_domain;
 pub use linked::link;
 pub use pddl_faults::{Hashed, LinkFault};
 pub use pddl_types::{
-    FittingCount, FunctionNumbers, action_ground_size, effect_ground_size, ground_size,
+    FittingCount, FunctionNumbers, SlotTops, action_ground_size, effect_ground_size, ground_size,
 };
 pub use task::Task;

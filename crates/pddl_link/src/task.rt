@@ -18,8 +18,8 @@ use pddl_problem::Problem;
 use pddl_search::{Ground, Values};
 use pddl_tree::Name;
 use pddl_types::{
-    FunctionNumbers, ObjectCounts, Objects, Signatures, TypeCounts, Types, action_ground_size,
-    fitting_objects, ground_size,
+    FunctionNumbers, ObjectCounts, Objects, Signatures, SlotTops, TypeCounts, Types,
+    action_ground_size, fitting_objects, ground_size,
 };
 use std::alloc::{AllocError, Allocator};
 
@@ -109,15 +109,39 @@ impl<'m, 'a, A: Allocator, B: Allocator> Task<'m, 'a, A, B> {
         self.types.is_a(sub.as_bytes(), over.as_bytes())
     }
 
+    /// The tops of the parameters of its actions, by which `object_fits_by` is fast. Nothing is promised of them.
+    ///
+    /// Fails where memory for them is refused.
+    pub fn action_tops<'c, C: Allocator>(
+        &self,
+        alloc: &'c C,
+    ) -> Result<SlotTops<'m, 'c, C>, AllocError> {
+        let domain = self.domain;
+        SlotTops::of_actions(alloc, &self.types, &domain.actions)
+    }
+
+    /// Whether the object of a number fits a type, which is found fast by the type's tops where it does; past the last there is none that does.
+    pub fn object_fits_by<N: Allocator>(
+        &self,
+        object: usize,
+        types: &TypeNames<N>,
+        tops: &[usize],
+    ) -> bool
+        ensures { result ≡ option_map_or (λ o. fits (pairs (task_of_files self.now).types) o.of types.now)
+            (slice_get (task_of_files self.now).objects object) false }
+    {
+        match self.objects.get_index(object) {
+            Some((_, listed)) => self.types.fits_by(&listed.types, types, tops),
+            None => false,
+        }
+    }
+
     /// Whether the object of a number fits a type; past the last there is none that does.
     pub fn object_fits<N: Allocator>(&self, object: usize, types: &TypeNames<N>) -> bool
         ensures { result ≡ option_map_or (λ o. fits (pairs (task_of_files self.now).types) o.of types.now)
             (slice_get (task_of_files self.now).objects object) false }
     {
-        match self.objects.get_index(object) {
-            Some((_, listed)) => self.types.fits(&listed.types, types),
-            None => false,
-        }
+        self.object_fits_by(object, types, &[])
     }
 
     /// The numbers of the objects that fit a type, rising.

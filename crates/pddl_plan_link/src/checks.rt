@@ -49,17 +49,19 @@ fn number_objects<'m, 'a, 'c, A: Allocator, B: Allocator, C: Allocator, D: Alloc
 }
 
 /// Whether an object, by its number, does not fit its parameter.
-fn some_unfit<'m, 'a, A: Allocator, B: Allocator>(
-    task: &Task<'m, 'a, A, B>,
+fn some_unfit<'t, 'm, 'a, 'c, A: Allocator, B: Allocator, C: Allocator>(
+    tables: &PlanTables<'t, 'm, 'a, 'c, A, B, C>,
+    action: &[u8],
     numbers: &[usize],
     parameters: &[Typed<A>],
 ) -> bool
-    ensures { result ≡ some_unfit (task_of_files task.now) numbers.now (map typed_view parameters.now) }
+    ensures { result ≡ some_unfit (task_of_files tables.now.task.now) numbers.now (map typed_view parameters.now) }
 {
+    let task = tables.task;
     for i in 0..numbers.len().min(parameters.len()) {
         let number = numbers[i];
         let parameter = &parameters[i];
-        if !task.object_fits(number, &parameter.types) {
+        if !task.object_fits_by(number, &parameter.types, tables.tops.at(action, i)) {
             return true;
         }
     }
@@ -120,7 +122,7 @@ where
     if !number_objects(tables.task, step, numbers)? {
         return Err(StepFault::UnknownObject { step: place });
     }
-    if some_unfit(tables.task, numbers, &action.parameters) {
+    if some_unfit(tables, step.action(), numbers, &action.parameters) {
         return Err(StepFault::StepType { step: place });
     }
     if found.size > 1_000_000 {

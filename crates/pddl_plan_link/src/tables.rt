@@ -4,16 +4,17 @@ ghost use Rattle.std.specs.Prelude.{◌≡◌, IfOk};
 ghost use Rattle.pddl_plan_link.specs.PlanTables.{ArePlanTables};
 
 use crate::action_table::{Actions, actions_by_name};
-use pddl_link::Task;
+use pddl_link::{SlotTops, Task};
 use pddl_tables::{TaskLookups, TaskPrices, task_lookups, task_prices};
 use std::alloc::{AllocError, Allocator};
 
-/// A task with its actions by name, its functions by name, and its costs by numbers.
+/// A task with its actions by name and the tops of their parameters, its functions by name, and its costs by numbers.
 #[derive(Drop)]
 pub(crate) struct PlanTables<'t, 'm, 'a, 'c, A: Allocator, B: Allocator, C: Allocator> {
     pub alloc: &'c C,
     pub task: &'t Task<'m, 'a, A, B>,
     pub actions: Actions<'m, 'c, A, C>,
+    pub tops: SlotTops<'m, 'c, C>,
     pub lookups: TaskLookups<'t, 'm, 'a, 'c, A, B, C>,
     pub prices: TaskPrices<'c, C>,
 }
@@ -30,12 +31,14 @@ pub(crate) fn plan_tables<'t, 'm, 'a, 'c, A: Allocator, B: Allocator, C: Allocat
 {
     let domain = task.domain();
     let actions = actions_by_name(alloc, task, &domain.actions)?;
+    let tops = task.action_tops(alloc)?;
     let lookups = task_lookups(alloc, task)?;
     let prices = task_prices(alloc, &lookups)?;
     Ok(PlanTables {
         alloc,
         task,
         actions,
+        tops,
         lookups,
         prices,
     })

@@ -5,6 +5,7 @@
 use crate::known::Signatures;
 use crate::types::Types;
 use indexmap::IndexMap;
+use pddl_domain::Action;
 use pddl_faults::Hashed;
 use pddl_formula::Typed;
 use std::alloc::{AllocError, Allocator};
@@ -45,9 +46,9 @@ impl<'m, 'a, B: Allocator> SlotTops<'m, 'a, B> {
     /// Adds the tops of a slot, none where it has few primitives.
     ///
     /// Fails where memory for them is refused.
-    fn put_slot<A: Allocator>(
+    fn put_slot<'t, A: Allocator, C: Allocator>(
         &mut self,
-        types: &Types<'m, 'a, A, B>,
+        types: &Types<'m, 't, A, C>,
         slot: &Typed<A>,
     ) -> Result<(), AllocError> {
         if slot.types.as_slice().len() >= MANY {
@@ -63,9 +64,9 @@ impl<'m, 'a, B: Allocator> SlotTops<'m, 'a, B> {
     /// Adds the tops of the slots of a name, where one has many primitives.
     ///
     /// Fails where memory for them is refused.
-    fn put_all<A: Allocator>(
+    fn put_all<'t, A: Allocator, C: Allocator>(
         &mut self,
-        types: &Types<'m, 'a, A, B>,
+        types: &Types<'m, 't, A, C>,
         name: &'m [u8],
         slots: &[Typed<A>],
     ) -> Result<(), AllocError> {
@@ -78,6 +79,30 @@ impl<'m, 'a, B: Allocator> SlotTops<'m, 'a, B> {
         Ok(())
     }
 
+    /// No tops.
+    fn none(alloc: &'a B) -> SlotTops<'m, 'a, B> {
+        SlotTops {
+            rows: IndexMap::new(alloc),
+            ends: Vec::new(alloc),
+            tops: Vec::new(alloc),
+        }
+    }
+
+    /// The tops of the parameters of actions.
+    ///
+    /// Fails where memory for them is refused.
+    pub fn of_actions<'t, A: Allocator, C: Allocator>(
+        alloc: &'a B,
+        types: &Types<'m, 't, A, C>,
+        actions: &'m [Action<A>],
+    ) -> Result<SlotTops<'m, 'a, B>, AllocError> {
+        let mut all = SlotTops::none(alloc);
+        for action in actions {
+            all.put_all(types, action.name.as_bytes(), &action.parameters)?;
+        }
+        Ok(all)
+    }
+
     /// The tops of the slots of what is declared.
     ///
     /// Fails where memory for them is refused.
@@ -86,11 +111,7 @@ impl<'m, 'a, B: Allocator> SlotTops<'m, 'a, B> {
         types: &Types<'m, 'a, A, B>,
         declared: &Signatures<'m, 'a, A, B>,
     ) -> Result<SlotTops<'m, 'a, B>, AllocError> {
-        let mut all = SlotTops {
-            rows: IndexMap::new(alloc),
-            ends: Vec::new(alloc),
-            tops: Vec::new(alloc),
-        };
+        let mut all = SlotTops::none(alloc);
         for number in 0..declared.len() {
             match declared.get_index(number) {
                 Some((name, slots)) => all.put_all(types, *name, *slots)?,

@@ -3,16 +3,16 @@ use Rattle.pddl_link.specs.LinkedTasks.{task_of_files}
 use Rattle.pddl_plan_link.proofs.NumberedObjects.{unfit_there, fits_there, all_fit}
 use Rattle.pddl_plan_link.proofs.checks.some_unfit.Goals as goal
 
-pub returns-then-not-object_fits : goal.returns-then-not-object_fits
-returns-then-not-object_fits g c =
-    unfit_there (task_of_files c.args.task.now) typed_view c.args.numbers.now c.args.parameters.now c.loop-i.i c.min-i-end.result c.index-parameters-i.result c.object_fits.result
-    c.min-i-end.ensures c.loop-i-test.true c.index-parameters-i.is c.object_fits.ensures c.if-not-object_fits.true c.loop-i.invariant
+pub returns-then-not-object_fits_by : goal.returns-then-not-object_fits_by
+returns-then-not-object_fits_by g c =
+    unfit_there (task_of_files c.args.tables.now.task.now) typed_view c.args.numbers.now c.args.parameters.now c.loop-i.i c.min-i-end.result c.index-parameters-i.result c.object_fits_by.result
+    c.min-i-end.ensures c.loop-i-test.true c.index-parameters-i.is c.object_fits_by.ensures c.if-not-object_fits_by.true c.loop-i.invariant
 
 pub loop-i-preserved : goal.loop-i-preserved
 loop-i-preserved g c =
-    fits_there (task_of_files c.args.task.now) typed_view c.args.numbers.now c.args.parameters.now c.loop-i.i c.min-i-end.result c.index-parameters-i.result c.object_fits.result
-    c.min-i-end.ensures c.loop-i-test.true c.index-parameters-i.is c.object_fits.ensures c.if-not-object_fits.false c.loop-i.invariant
+    fits_there (task_of_files c.args.tables.now.task.now) typed_view c.args.numbers.now c.args.parameters.now c.loop-i.i c.min-i-end.result c.index-parameters-i.result c.object_fits_by.result
+    c.min-i-end.ensures c.loop-i-test.true c.index-parameters-i.is c.object_fits_by.ensures c.if-not-object_fits_by.false c.loop-i.invariant
 
 pub returns : goal.returns
 returns g c =
-    all_fit (task_of_files c.args.task.now) typed_view c.args.numbers.now c.args.parameters.now c.loop-i.i c.min-i-end.result c.min-i-end.ensures c.loop-i-test.false c.loop-i.invariant
+    all_fit (task_of_files c.args.tables.now.task.now) typed_view c.args.numbers.now c.args.parameters.now c.loop-i.i c.min-i-end.result c.min-i-end.ensures c.loop-i-test.false c.loop-i.invariant

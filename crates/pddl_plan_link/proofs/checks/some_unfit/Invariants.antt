@@ -5,4 +5,4 @@ use Rattle.pddl_plan_link.proofs.checks.some_unfit.Given as goal
 
 -- some of all does not fit where some of those that are left does not
 abbrev pub invariant-loop-i : goal.invariant-loop-i
-invariant-loop-i g l = IsLeft (task_of_files l.task) typed_view l.numbers l.parameters l.i
+invariant-loop-i g l = IsLeft (task_of_files l.tables.task.now) typed_view l.numbers l.parameters l.i

@@ -5,13 +5,13 @@ use Rattle.pddl_problem.specs.Problems.{problem_view}
 use Rattle.pddl_task.specs.Types.{pairs, fits}
 use Rattle.pddl_task.specs.Settings.{objects_of}
 use Rattle.pddl_types.proofs.TaskNames.{fits_at}
-use Rattle.pddl_link.proofs.task.Task.object_fits.Goals as goal
+use Rattle.pddl_link.proofs.task.Task.object_fits_by.Goals as goal
 
 pub returns-in-Some : goal.returns-in-Some
 returns-in-Some g c =
     let t = c.args.self.now in
     let d = domain_view t.domain.now in
-    c.fits.ensures ∙ ap (λ ts. fits (pairs ts) c.in-Some.listed.now.now.types c.args.types.now) t.tables.types_are
+    c.fits_by.ensures ∙ ap (λ ts. fits (pairs ts) c.in-Some.listed.now.now.types c.args.types.now) t.tables.types_are
     ∙ fits_at (λ o. fits (pairs d.types) o.of c.args.types.now) t.objects.entries (objects_of d (problem_view t.problem.now)) c.args.object (Some (c.in-Some.field-0-0.now, c.in-Some.listed.now)) t.tables.objects_are c.in-Some.ensures.entry
 
 pub returns-in-None : goal.returns-in-None
