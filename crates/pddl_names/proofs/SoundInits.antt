@@ -23,7 +23,7 @@ use Rattle.pddl_types.specs.KnownNames.{signature_in, object_in}
 use Rattle.pddl_names.specs.SoundInits.{IsSoundObject, AreSoundObjects, IsSoundUse, AreSoundPlaces}
 use Rattle.pddl_search.proofs.FileWalks.{places_left}
 use Rattle.pddl_types.proofs.Lookups.{is_symbol, is_item, object_found, takes_found, words_left}
-use Rattle.pddl_types.proofs.ObjectCounts.{Object}
+use Rattle.pddl_types.proofs.CountedObjects.{Object}
 use Rattle.pddl_names.proofs.Slots.{misfit_is, has_found, slots_left, slots_end}
 
 -- ---- objects and their slots

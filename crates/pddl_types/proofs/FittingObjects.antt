@@ -6,7 +6,7 @@ use Rattle.std.proofs.lemmas.List.{drop_all}
 use Rattle.pddl_formula.specs.TypedLists.{TypedValue}
 use Rattle.pddl_types.specs.KnownNames.{object_in}
 use Rattle.pddl_task.specs.Tasks.{places_from}
-use Rattle.pddl_types.proofs.ObjectCounts.{Object}
+use Rattle.pddl_types.proofs.CountedObjects.{Object}
 use Rattle.pddl_types.proofs.Entries.{entry_left, past_end}
 
 -- those that are pushed, and those that are left from a place on, are all

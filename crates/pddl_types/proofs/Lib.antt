@@ -3,7 +3,7 @@ pub mod Capped
 pub mod CyclicTypes
 pub mod EffectSizes
 pub mod Lookups
-pub mod ObjectCounts
+pub mod CountedObjects
 pub mod SignatureTables
 pub mod Sizes
 pub mod TypeClimbs

@@ -18,7 +18,7 @@ use Rattle.pddl_types.specs.TypeTables.{Row, names_in, name_at, IsTypeTable}
 use Rattle.pddl_types.specs.ObjectCounts.{is_single, AreSingle, AreCountsOf, IsPlaceOf, ArePlacesOf, AreNamedCounts}
 use Rattle.pddl_task.proofs.Lists.{bytes_same}
 use Rattle.pddl_types.specs.KnownNames.{object_in}
-use Rattle.pddl_types.proofs.ObjectCounts.{Object}
+use Rattle.pddl_types.proofs.CountedObjects.{Object}
 use Rattle.pddl_types.proofs.TypeLookups.{found_place}
 use Rattle.pddl_faults.proofs.PutValues.{lookup_put}
 use Rattle.pddl_types.proofs.TypeClimbs.{name_has, has_in}

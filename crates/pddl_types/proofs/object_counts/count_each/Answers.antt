@@ -2,7 +2,7 @@ use Rattle.std.proofs.Common.{◌+◌, drop, map, ap, ◌∙◌, sym, arith}
 use Rattle.pddl_task.specs.Types.{pairs}
 use Rattle.pddl_task.specs.GroundSize.{fitting_count}
 use Rattle.pddl_types.specs.KnownNames.{object_in}
-use Rattle.pddl_types.proofs.ObjectCounts.{one_fits, one_does_not, none_there}
+use Rattle.pddl_types.proofs.CountedObjects.{one_fits, one_does_not, none_there}
 use Rattle.pddl_types.proofs.object_counts.count_each.Goals as goal
 use Rattle.pddl_types.proofs.object_counts.count_each.Goals.{in-Some+then-fits, in-Some+else-fits, in-None}
 
