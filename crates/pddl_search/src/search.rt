@@ -1,13 +1,13 @@
 //! One walk over formulas, effects and actions, for each fault that is looked for in places.
 
-ghost use Rattle.std.specs.Prelude.{◌≡◌, List, [], map, IfOk};
+ghost use Rattle.std.specs.Prelude.{◌≡◌, ◌++◌, List, [], map, IfOk};
 ghost use Rattle.std.specs.List.{flat_map};
 ghost use Rattle.pddl_formula.specs.Terms.{term_view, name};
 ghost use Rattle.pddl_formula.specs.TypedLists.{TypedValue, typed_view};
 ghost use Rattle.pddl_formula.specs.Formulas.{formula_view, formulas_of};
 ghost use Rattle.pddl_effect.specs.Effects.{amount_view, effect_view, effects_of};
 ghost use Rattle.pddl_domain.specs.Actions.{action_view};
-ghost use Rattle.pddl_task.specs.Places.{at, says, calls, equates, binds, counts, action_places};
+ghost use Rattle.pddl_task.specs.Places.{at, says, calls, equates, binds, counts, binding, action_places};
 ghost use Rattle.pddl_faults.specs.Passes.{Passes};
 ghost use Rattle.pddl_search.specs.Scopes.{bound_of, words_in, words_in_all, effect_words, effects_words, increase_words};
 
@@ -123,16 +123,29 @@ pub fn search_formula<'d, 's, 'a, A: Allocator, B: Allocator, S: Search<A, B>>(
         Formula::And(parts) => search_formulas(alloc, search, parts, &*scope),
         Formula::Or(parts) => search_formulas(alloc, search, parts, &*scope),
         Formula::Exists(variables, inner) => {
-            let bound = search_variables(alloc, search, variables, &*scope)?;
-            let inside = Scope::Inside(&bound, &*scope);
-            search_formula(alloc, search, inner, &inside)
+            search_quantified(alloc, search, variables, inner, &*scope)
         }
         Formula::Forall(variables, inner) => {
-            let bound = search_variables(alloc, search, variables, &*scope)?;
-            let inside = Scope::Inside(&bound, &*scope);
-            search_formula(alloc, search, inner, &inside)
+            search_quantified(alloc, search, variables, inner, &*scope)
         }
     }
+}
+
+/// Searches the variables of a quantifier, and what is quantified.
+#[cycle(formulas)]
+fn search_quantified<'d, 's, 'a, A: Allocator, B: Allocator, S: Search<A, B>>(
+    alloc: &'a B,
+    search: &S,
+    variables: &'d [Typed<A>],
+    inner: &'d Box<Formula<A>, A>,
+    scope: &'s Scope<'s, 'd, 'a, A, B>,
+) -> Result<(), LinkFault<'d>>
+    ensures { Passes S.number (S.words search.now (at (bound_of scope.now) (binds (map typed_view variables.now)))
+        ++ words_in (S.words search.now) (formula_view inner.now.value) (binding (map typed_view variables.now) (bound_of scope.now))) result }
+{
+    let bound = search_variables(alloc, search, variables, &*scope)?;
+    let inside = Scope::Inside(&bound, &*scope);
+    search_formula(alloc, search, inner, &inside)
 }
 
 /// Searches formulas in turn.
@@ -179,9 +192,7 @@ pub fn search_effect<'d, 's, 'a, A: Allocator, B: Allocator, S: Search<A, B>>(
     match effect {
         Effect::And(parts) => search_effects(alloc, search, parts, &*scope),
         Effect::Forall(variables, inner) => {
-            let bound = search_variables(alloc, search, variables, &*scope)?;
-            let inside = Scope::Inside(&bound, &*scope);
-            search_effect(alloc, search, inner, &inside)
+            search_each(alloc, search, variables, inner, &*scope)
         }
         Effect::When(condition, inner) => {
             search_formula(alloc, search, condition, &*scope)?;
@@ -191,6 +202,23 @@ pub fn search_effect<'d, 's, 'a, A: Allocator, B: Allocator, S: Search<A, B>>(
         Effect::Del(atom) => search.says(atom.predicate.as_bytes(), &atom.terms, &*scope),
         Effect::Increase(amount) => search_increase(search, amount, &*scope),
     }
+}
+
+/// Searches the variables of an effect for all objects, and the effect.
+#[cycle(effects)]
+fn search_each<'d, 's, 'a, A: Allocator, B: Allocator, S: Search<A, B>>(
+    alloc: &'a B,
+    search: &S,
+    variables: &'d [Typed<A>],
+    inner: &'d Box<Effect<A>, A>,
+    scope: &'s Scope<'s, 'd, 'a, A, B>,
+) -> Result<(), LinkFault<'d>>
+    ensures { Passes S.number (S.words search.now (at (bound_of scope.now) (binds (map typed_view variables.now)))
+        ++ effect_words (S.words search.now) (effect_view inner.now.value) (binding (map typed_view variables.now) (bound_of scope.now))) result }
+{
+    let bound = search_variables(alloc, search, variables, &*scope)?;
+    let inside = Scope::Inside(&bound, &*scope);
+    search_effect(alloc, search, inner, &inside)
 }
 
 /// Searches effects in turn.
@@ -209,6 +237,20 @@ fn search_effects<'d, 's, 'a, A: Allocator, B: Allocator, S: Search<A, B>>(
     Ok(())
 }
 
+/// Searches an action's precondition and its effect, with its parameters in scope.
+fn search_body<'d, 's, 'a, A: Allocator, B: Allocator, S: Search<A, B>>(
+    alloc: &'a B,
+    search: &S,
+    action: &'d Action<A>,
+    inside: &'s Scope<'s, 'd, 'a, A, B>,
+) -> Result<(), LinkFault<'d>>
+    ensures { Passes S.number (words_in (S.words search.now) (formula_view action.now.precondition) (bound_of inside.now)
+        ++ effect_words (S.words search.now) (effect_view action.now.effect) (bound_of inside.now)) result }
+{
+    search_formula(alloc, search, &action.precondition, &*inside)?;
+    search_effect(alloc, search, &action.effect, &*inside)
+}
+
 /// Searches an action: its parameters, its precondition and its effect.
 pub fn search_action<'d, 'a, A: Allocator, B: Allocator, S: Search<A, B>>(
     alloc: &'a B,
@@ -219,7 +261,5 @@ pub fn search_action<'d, 'a, A: Allocator, B: Allocator, S: Search<A, B>>(
 {
     let outside = Scope::Empty;
     let parameters = search_variables(alloc, search, &action.parameters, &outside)?;
-    let inside = Scope::Inside(&parameters, &outside);
-    search_formula(alloc, search, &action.precondition, &inside)?;
-    search_effect(alloc, search, &action.effect, &inside)
+    search_body(alloc, search, action, &Scope::Inside(&parameters, &outside))
 }

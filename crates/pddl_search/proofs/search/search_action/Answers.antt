@@ -1,4 +1,4 @@
-use Rattle.std.proofs.Common.{[], ◌++◌, map, refl, Err}
+use Rattle.std.proofs.Common.{[], ◌++◌, map, refl}
 use Rattle.std.specs.List.{flat_map}
 use Rattle.std.proofs.lemmas.Result.{err_from_is_err_and}
 use Rattle.pddl_formula.specs.TypedLists.{typed_view}
@@ -20,20 +20,6 @@ returns-in_err-parameters g c =
     rw (p.1, p.2) (pass_front g.S.Search.number (w (at [] (binds xs))) (words_in w (formula_view a.precondition) (binding xs []) ++ effect_words w (effect_view a.effect) (binding xs [])) (flat_map w (action_places (action_view a))) c.in_err-parameters.field-0.0
     (words_action w a c.deref.result.now xs c.deref.ensures.value refl) c.in_err-parameters.ensures.passes)
 
-pub returns-in_err-search_formula : goal.returns-in_err-search_formula
-returns-in_err-search_formula g c =
-    let n = g.S.Search.number in
-    let w = g.S.Search.words c.args.search.now in
-    let a = c.args.action.now in
-    let xs = c.deref.result.now in
-    let b = binding c.in_ok-parameters.parameters [] in
-    let e = c.in_err-search_formula.field-0.0 in
-    let condition = words_in w (formula_view a.precondition) b in
-    let rest = effect_words w (effect_view a.effect) b in
-    let p = err_from_is_err_and c.from_residual-in_err-search_formula.result c.from_residual-in_err-search_formula.ensures.1 in
-    rw (p.1, p.2) (pass_back n (w (at [] (binds (map typed_view xs)))) (condition ++ rest) (flat_map w (action_places (action_view a))) (Err e)
-    (words_action w a xs c.in_ok-parameters.parameters c.deref.ensures.value c.in_ok-parameters.ensures.bound) c.in_ok-parameters.ensures.passes (pass_front n condition rest (condition ++ rest) e refl c.in_err-search_formula.ensures))
-
 pub returns : goal.returns
 returns g c =
     let n = g.S.Search.number in
@@ -41,8 +27,5 @@ returns g c =
     let a = c.args.action.now in
     let xs = c.deref.result.now in
     let b = binding c.in_ok-parameters.parameters [] in
-    let condition = words_in w (formula_view a.precondition) b in
-    let rest = effect_words w (effect_view a.effect) b in
-    pass_back n (w (at [] (binds (map typed_view xs)))) (condition ++ rest) (flat_map w (action_places (action_view a))) c.search_effect.result
-    (words_action w a xs c.in_ok-parameters.parameters c.deref.ensures.value c.in_ok-parameters.ensures.bound) c.in_ok-parameters.ensures.passes
-    (pass_back n condition rest (condition ++ rest) c.search_effect.result refl c.in_ok-search_formula.ensures c.search_effect.ensures)
+    pass_back n (w (at [] (binds (map typed_view xs)))) (words_in w (formula_view a.precondition) b ++ effect_words w (effect_view a.effect) b) (flat_map w (action_places (action_view a))) c.search_body.result
+    (words_action w a xs c.in_ok-parameters.parameters c.deref.ensures.value c.in_ok-parameters.ensures.bound) c.in_ok-parameters.ensures.passes c.search_body.ensures
