@@ -66,23 +66,24 @@ fn linked_objects<'m, 'a, A: Allocator, B: Allocator>(
 /// The values of functions of objects, where no fault of places stands, and none after those: behind signatures, with the tops of their slots.
 fn values_by_signatures<'t, 'm, 'a, A: Allocator, B: Allocator>(
     alloc: &'a B,
+    types: &'t Types<'m, 'a, A, B>,
     constants: &'t Objects<'m, 'a, A, B>,
-    counts: &ObjectCounts<'t, 'm, 'a, A, B>,
+    objects: &'t Objects<'m, 'a, A, B>,
+    counts: &'t TypeCounts<'m, 'a, B>,
     predicates: &'t Signatures<'m, 'a, A, B>,
     functions: &'t Signatures<'m, 'a, A, B>,
     domain: &'m Domain<A>,
     problem: &'m Problem<A>,
 ) -> Result<Values<'m, 'a, A, B>, LinkFault<'m>>
-    requires types { counts.now.types.now ≡ (domain_view domain.now).types }
+    requires types { types.now ≡ (domain_view domain.now).types }
     requires constants { map object_in constants.now.entries ≡ firsts (domain_view domain.now).constants }
-    requires objects { map object_in counts.now.objects.now.entries ≡ objects_of (domain_view domain.now) (problem_view problem.now) }
+    requires objects { map object_in objects.now.entries ≡ objects_of (domain_view domain.now) (problem_view problem.now) }
+    requires counts { AreCountsOf types.now (map object_in objects.now.entries) counts.now.entries }
     requires predicates { map signature_in predicates.now.entries ≡ (domain_view domain.now).predicates }
     requires functions { map signature_in functions.now.entries ≡ function_signatures (domain_view domain.now) }
     ensures values { IfOk result (λ values. HoldsValues (problem_view problem.now).init values.entries) }
     ensures verdict { Verdict (map (fault_in (domain_view domain.now) (problem_view problem.now)) place_rules) result }
 {
-    let types = counts.types;
-    let objects = counts.objects;
     let tops = Tops::of(alloc, types, predicates, functions)?;
     let inner = Known {
         types,
@@ -98,21 +99,29 @@ fn values_by_signatures<'t, 'm, 'a, A: Allocator, B: Allocator>(
         tops: &tops,
         objects,
     };
-    check_places(alloc, &inner, &outer, counts, domain, problem)
+    let counts = ObjectCounts {
+        types,
+        objects,
+        counts,
+    };
+    check_places(alloc, &inner, &outer, &counts, domain, problem)
 }
 
 /// The values of functions of objects, where no fault of places stands, and none after those: behind predicates, with a table of the functions.
 fn values_by_predicates<'t, 'm, 'a, A: Allocator, B: Allocator>(
     alloc: &'a B,
+    types: &'t Types<'m, 'a, A, B>,
     constants: &'t Objects<'m, 'a, A, B>,
-    counts: &ObjectCounts<'t, 'm, 'a, A, B>,
+    objects: &'t Objects<'m, 'a, A, B>,
+    counts: &'t TypeCounts<'m, 'a, B>,
     predicates: &'t Signatures<'m, 'a, A, B>,
     domain: &'m Domain<A>,
     problem: &'m Problem<A>,
 ) -> Result<Values<'m, 'a, A, B>, LinkFault<'m>>
-    requires types { counts.now.types.now ≡ (domain_view domain.now).types }
+    requires types { types.now ≡ (domain_view domain.now).types }
     requires constants { map object_in constants.now.entries ≡ firsts (domain_view domain.now).constants }
-    requires objects { map object_in counts.now.objects.now.entries ≡ objects_of (domain_view domain.now) (problem_view problem.now) }
+    requires objects { map object_in objects.now.entries ≡ objects_of (domain_view domain.now) (problem_view problem.now) }
+    requires counts { AreCountsOf types.now (map object_in objects.now.entries) counts.now.entries }
     requires predicates { map signature_in predicates.now.entries ≡ (domain_view domain.now).predicates }
     requires once { domain_repeats (domain_view domain.now) ≡ [] }
     ensures values { IfOk result (λ values. HoldsValues (problem_view problem.now).init values.entries) }
@@ -120,7 +129,7 @@ fn values_by_predicates<'t, 'm, 'a, A: Allocator, B: Allocator>(
 {
     let functions = functions(alloc, &domain.functions)?;
     values_by_signatures(
-        alloc, constants, counts, predicates, &functions, domain, problem,
+        alloc, types, constants, objects, counts, predicates, &functions, domain, problem,
     )
 }
 
@@ -144,12 +153,16 @@ fn linked_values<'t, 'm, 'a, A: Allocator, B: Allocator>(
     ensures verdict { Verdict (map (fault_in (domain_view domain.now) (problem_view problem.now)) place_rules) result }
 {
     let predicates = predicates(alloc, &domain.predicates)?;
-    let counts = ObjectCounts {
+    let values = values_by_predicates(
+        alloc,
         types,
+        constants,
         objects,
         counts,
-    };
-    let values = values_by_predicates(alloc, constants, &counts, &predicates, domain, problem)?;
+        &predicates,
+        domain,
+        problem,
+    )?;
     Ok((predicates, values))
 }
 

@@ -10,10 +10,10 @@ use Rattle.pddl_link.proofs.linked.values_by_signatures.Goals as goal
 
 pub check_places-requires-clause-inner : goal.check_places-requires-clause-inner
 check_places-requires-clause-inner g c =
-    setting_by_parts (domain_view c.args.domain.now) c.args.counts.now.types.now (map signature_in c.args.predicates.now.entries) (map signature_in c.args.functions.now.entries)
+    setting_by_parts (domain_view c.args.domain.now) c.args.types.now (map signature_in c.args.predicates.now.entries) (map signature_in c.args.functions.now.entries)
     (map object_in c.args.constants.now.entries) (firsts (map typed_view c.args.domain.now.constants.items)) c.requires.types c.requires.predicates c.requires.functions c.requires.constants
 
 pub check_places-requires-clause-outer : goal.check_places-requires-clause-outer
 check_places-requires-clause-outer g c =
-    setting_by_parts (domain_view c.args.domain.now) c.args.counts.now.types.now (map signature_in c.args.predicates.now.entries) (map signature_in c.args.functions.now.entries)
-    (map object_in c.args.counts.now.objects.now.entries) (objects_of (domain_view c.args.domain.now) (problem_view c.args.problem.now)) c.requires.types c.requires.predicates c.requires.functions c.requires.objects
+    setting_by_parts (domain_view c.args.domain.now) c.args.types.now (map signature_in c.args.predicates.now.entries) (map signature_in c.args.functions.now.entries)
+    (map object_in c.args.objects.now.entries) (objects_of (domain_view c.args.domain.now) (problem_view c.args.problem.now)) c.requires.types c.requires.predicates c.requires.functions c.requires.objects
