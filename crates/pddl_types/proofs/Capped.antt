@@ -44,6 +44,10 @@ capped_quantifier count (x ∷ xs) b =
     ∙ ap (λ q. capped (count x.of * q)) (capped_quantifier count xs b)
     ∙ capped_product (count x.of) (quantifier_size count xs b))
 
+-- a capped size is within the limit
+pub within : (r n : ℕ) → r ≡ capped n → r ≤ 1000001
+within r n is = omega (arith, is)
+
 -- one more than a capped size
 pub one_more : (r s n : ℕ) → r ≡ capped (1 + s) → s ≡ capped n → r ≡ capped (1 + n)
 one_more r s n h k = omega arith

@@ -3,7 +3,7 @@ use Rattle.std.proofs.lemmas.List.{drop_all}
 use Rattle.pddl_effect.specs.declared.effect.Effect.{Effect}
 use Rattle.pddl_effect.specs.Effects.{effect_view, effects_of}
 use Rattle.pddl_task.specs.GroundSize.{capped, effect_size, effects_size}
-use Rattle.pddl_types.proofs.Capped.{one_added, all_added}
+use Rattle.pddl_types.proofs.Capped.{within, one_added, all_added}
 use Rattle.pddl_faults.proofs.ViewTurns.{effects-drop}
 use Rattle.pddl_types.proofs.EffectSizes.{size_of_all, size_of_each}
 use Rattle.pddl_types.proofs.effect_size.+sizes.Goals as goal
@@ -45,3 +45,24 @@ effect_ground_sizes-returns g t c =
     let none = drop_all l.effect-index all past in
     all_added l.total _ l.invariant.low
     (sym (ap (λ xs. capped (l.total + effects_size count (effects_of (map effect_view xs)))) none) ∙ l.invariant.whole)
+
+pub effect_ground_size-sum-requires-clause-second : goal.effect_ground_size-sum-requires-clause-second
+effect_ground_size-sum-requires-clause-second g t c = within c.effect_ground_sizes.result _ c.effect_ground_sizes.ensures
+
+pub effect_ground_size-quantifier_size-requires : goal.effect_ground_size-quantifier_size-requires
+effect_ground_size-quantifier_size-requires g t c = within c.effect_ground_size.result _ c.effect_ground_size.ensures
+
+pub effect_ground_size-sum-requires-in-When-clause-first : goal.effect_ground_size-sum-requires-in-When-clause-first
+effect_ground_size-sum-requires-in-When-clause-first g t c = within c.ground_size-condition.result _ c.ground_size-condition.ensures
+
+pub effect_ground_size-sum-requires-in-When-clause-second : goal.effect_ground_size-sum-requires-in-When-clause-second
+effect_ground_size-sum-requires-in-When-clause-second g t c = within c.effect_ground_size-inner.result _ c.effect_ground_size-inner.ensures
+
+pub effect_ground_size-sum-requires-in-When-2-clause-second : goal.effect_ground_size-sum-requires-in-When-2-clause-second
+effect_ground_size-sum-requires-in-When-2-clause-second g t c = within c.sum-in-When.result _ c.sum-in-When.ensures
+
+pub effect_ground_sizes-sum-total-requires-clause-first : goal.effect_ground_sizes-sum-total-requires-clause-first
+effect_ground_sizes-sum-total-requires-clause-first g t c = c.loop-effect.invariant.low
+
+pub effect_ground_sizes-sum-total-requires-clause-second : goal.effect_ground_sizes-sum-total-requires-clause-second
+effect_ground_sizes-sum-total-requires-clause-second g t c = within c.effect_ground_size.result _ c.effect_ground_size.ensures

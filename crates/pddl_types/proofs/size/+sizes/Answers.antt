@@ -2,7 +2,7 @@ use Rattle.std.proofs.Common.{ap, ◌∙◌, sym, ◌+◌, drop, map, arith}
 use Rattle.std.proofs.lemmas.List.{drop_all}
 use Rattle.pddl_formula.specs.Formulas.{formula_view, formulas_of}
 use Rattle.pddl_task.specs.GroundSize.{capped, formula_size, formulas_size}
-use Rattle.pddl_types.proofs.Capped.{one_added, all_added}
+use Rattle.pddl_types.proofs.Capped.{within, one_added, all_added}
 use Rattle.pddl_faults.proofs.ViewTurns.{formulas-drop}
 use Rattle.pddl_types.proofs.Sizes.{size_of_and, size_of_or, size_of_exists, size_of_forall}
 use Rattle.pddl_types.proofs.size.+sizes.Goals as goal
@@ -45,3 +45,33 @@ ground_sizes-returns g t c =
     let none = drop_all c.loop-formula.formula-index c.args.formulas.now c.loop-formula-test.false in
     all_added c.loop-formula.total _ c.loop-formula.invariant.low
     (sym (ap (λ xs. capped (c.loop-formula.total + formulas_size count (formulas_of (map formula_view xs)))) none) ∙ c.loop-formula.invariant.whole)
+
+pub ground_size-sum-requires-clause-second : goal.ground_size-sum-requires-clause-second
+ground_size-sum-requires-clause-second g t c = within c.ground_size.result _ c.ground_size.ensures
+
+pub ground_size-sum-requires-in-Imply-clause-first : goal.ground_size-sum-requires-in-Imply-clause-first
+ground_size-sum-requires-in-Imply-clause-first g t c = within c.ground_size-first.result _ c.ground_size-first.ensures
+
+pub ground_size-sum-requires-in-Imply-clause-second : goal.ground_size-sum-requires-in-Imply-clause-second
+ground_size-sum-requires-in-Imply-clause-second g t c = within c.ground_size-second.result _ c.ground_size-second.ensures
+
+pub ground_size-sum-requires-in-Imply-2-clause-second : goal.ground_size-sum-requires-in-Imply-2-clause-second
+ground_size-sum-requires-in-Imply-2-clause-second g t c = within c.sum-in-Imply.result _ c.sum-in-Imply.ensures
+
+pub ground_size-sum-requires-in-And-clause-second : goal.ground_size-sum-requires-in-And-clause-second
+ground_size-sum-requires-in-And-clause-second g t c = within c.ground_sizes.result _ c.ground_sizes.ensures
+
+pub ground_size-sum-requires-in-Or-clause-second : goal.ground_size-sum-requires-in-Or-clause-second
+ground_size-sum-requires-in-Or-clause-second g t c = within c.ground_sizes-in-Or.result _ c.ground_sizes-in-Or.ensures
+
+pub ground_size-quantifier_size-requires : goal.ground_size-quantifier_size-requires
+ground_size-quantifier_size-requires g t c = within c.ground_size-in-Exists.result _ c.ground_size-in-Exists.ensures
+
+pub ground_size-quantifier_size-requires-in-Forall : goal.ground_size-quantifier_size-requires-in-Forall
+ground_size-quantifier_size-requires-in-Forall g t c = within c.ground_size-in-Forall.result _ c.ground_size-in-Forall.ensures
+
+pub ground_sizes-sum-total-requires-clause-first : goal.ground_sizes-sum-total-requires-clause-first
+ground_sizes-sum-total-requires-clause-first g t c = c.loop-formula.invariant.low
+
+pub ground_sizes-sum-total-requires-clause-second : goal.ground_sizes-sum-total-requires-clause-second
+ground_sizes-sum-total-requires-clause-second g t c = within c.ground_size.result _ c.ground_size.ensures
