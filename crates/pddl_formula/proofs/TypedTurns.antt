@@ -1,6 +1,7 @@
 -- One turn of the reading of a typed list, whatever it lists.
 use Rattle.std.proofs.Common.{◌≡◌, ℕ, ◌+◌, ◌<◌, ◌≤◌, true, false, List, [], ◌∷◌, ◌++◌, length, get_or, drop, refl, sym, ap, ◌∙◌, arith}
-use Rattle.std.specs.Prelude.{Option, Some, None}
+use Rattle.std.specs.Prelude.{Bool, Option, Some, None, Result, Ok, Err, IfOk, MatchResult, option_map}
+use Rattle.std.specs.Bool.{then_some}
 use Rattle.pddl_text.specs.declared.item.Item.{Item}
 use Rattle.pddl_text.specs.Trees.{Tree}
 use Rattle.pddl_tree.specs.ItemTrees.{item_tree, item_trees}
@@ -86,3 +87,26 @@ module _ {X T : Type 0} (read_item : Tree → Option X) (read_type : Tree → Op
     pub end_done : typed_from read_item read_type default found group false (item_trees (drop i xs)) ≡ whole → Some (found ++ of_type group default) ≡ whole
     unfolding typed_from
     end_done so_far = ap (typed_from read_item read_type default found group false) (sym (trees_end xs i past)) ∙ so_far
+
+-- ---- a group that gets its type, if there is one
+
+module _ {X T E : Type 0} (old new : List (WithType X T)) (group : List X) where
+  abbrev pub Adds : Result (Option T) E → Result Bool E → Type 0
+  Adds types right = MatchResult types (λ type. IfOk right (λ b. then_some b new ≡ option_map (λ t. old ++ of_type group t) type)) (λ e. right ≡ Err e)
+
+  pub added_some : (types : Result (Option T) E) (read : Option T) → IfOk types (λ type. type ≡ read) → Adds types (Ok true)
+      → (type : T) × (read ≡ Some type) × (new ≡ old ++ of_type group type)
+  added_some (Ok None) read is adds = absurd (cc)
+  added_some (Ok (Some t)) read is adds = (t, sym is, cc)
+  added_some (Err e) read is adds = absurd (cc)
+
+  pub added_none : (types : Result (Option T) E) (read : Option T) → IfOk types (λ type. type ≡ read) → Adds types (Ok false) → read ≡ None
+  added_none (Ok None) read is adds = sym is
+  added_none (Ok (Some t)) read is adds = absurd (cc)
+  added_none (Err e) read is adds = absurd (cc)
+
+  pub added_last : (types : Result (Option T) E) (right : Result Bool E) (type : T) → IfOk types (λ o. o ≡ Some type) → Adds types right
+      → IfOk right (λ b. then_some b new ≡ Some (old ++ of_type group type))
+  added_last (Ok o) (Ok b) type is adds = rw is at adds
+  added_last (Ok o) (Err e) type is adds = tt
+  added_last (Err e) right type is adds = rw adds tt
