@@ -14,6 +14,18 @@ pub fn if_right<T: Drop, E: Drop>(value: T, right: Result<bool, E>) -> Result<Op
     if right? { Ok(Some(value)) } else { Ok(None) }
 }
 
+/// [`if_right`] of a list. (A call at `Vec<T, A>`, both of which hold references, has no proof today.)
+///
+/// Fails as what was done with the list failed.
+pub fn list_if_right<T: Drop, A: Allocator>(
+    list: Vec<T, A>,
+    right: Result<bool, AllocError>,
+) -> Result<Option<Vec<T, A>>, AllocError>
+    ensures { result ≡ right_of list right }
+{
+    if_right(list, right)
+}
+
 /// Two values, or `None` where one of them is missing.
 ///
 /// Fails as the first failed, or else as the second did.

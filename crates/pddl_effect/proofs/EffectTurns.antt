@@ -3,11 +3,14 @@ use Rattle.std.proofs.Common.{◌≡◌, ◌-◌, ◌≤◌, ◌<◌, List, [], 
 use Rattle.std.specs.Prelude.{Bool, Option, Some, None, option_map, option_and_then, if◌then◌else◌}
 use Rattle.std.specs.Option.{option_zip}
 use Rattle.std.proofs.lemmas.List.{take_all}
+use Rattle.pddl_text.specs.declared.token.Span.{Span}
 use Rattle.pddl_text.specs.declared.item.Item.{Item}
+use Rattle.pddl_text.specs.declared.item.Item.TheVariants.{List as Group}
 use Rattle.pddl_text.specs.Spelling.{Word}
 use Rattle.pddl_text.specs.Trees.{Tree, leaf}
 use Rattle.pddl_tree.specs.Words.{list}
 use Rattle.pddl_tree.specs.ItemTrees.{item_tree, item_trees}
+use Rattle.pddl_tree.proofs.TreeLists.{item_tree_list}
 use Rattle.pddl_formula.specs.declared.head.Head.{Head}
 use Rattle.pddl_formula.specs.declared.head.Head.TheVariants as heads
 use Rattle.pddl_formula.specs.declared.type_names.Typed.{Typed}
@@ -53,6 +56,11 @@ module _ {A : Type 0} where
 pub whole_effect_at_list : (ts : List Tree) → 0 < length ts → whole_effect_at (list ts) ≡ effect_at (list ts)
 whole_effect_at_list [] some = absurd (omega (arith, some))
 whole_effect_at_list (t ∷ ts) some = refl
+
+-- `()` is the empty conjunction
+pub whole_effect_at_empty : {A : Type 0} (inner : Vec (Item A) A) (span : Span) (none : Vec (Effect A) A) → inner.items ≡ [] → none.items ≡ []
+    → Some (effect_view (And none)) ≡ whole_effect_at (item_tree (Group inner span))
+whole_effect_at_empty inner span none empty is = rw (view_and none, is, item_tree_list inner span, empty) refl
 
 pub whole_effect_at_leaf : (w : Word) → whole_effect_at (leaf w) ≡ None
 whole_effect_at_leaf w = effect_at_leaf w

@@ -14,7 +14,7 @@ use crate::amount::Amount;
 use crate::amount_reader::amount_of;
 use crate::effect::Effect;
 use crate::increase::is_total_cost;
-use pddl_build::{both, boxed};
+use pddl_build::{both, boxed, push_found};
 use pddl_formula::{
     Atom, Formula, Head, Typed, atom_of, atom_of_list, formula_of, head_of, variables_of,
 };
@@ -117,10 +117,9 @@ fn effects_of<'a, B: Allocator>(
 {
     let mut effects = Vec::with_capacity(alloc, items.len())?;
     for index in 1..items.len() {
-        let Some(effect) = item_effect(alloc, &items[index])? else {
+        if !push_found(&mut effects, item_effect(alloc, &items[index]))? {
             return Ok(None);
-        };
-        effects.push(effect)?;
+        }
     }
     Ok(Some(effects))
 }

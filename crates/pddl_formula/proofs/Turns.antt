@@ -1,7 +1,7 @@
 -- Items as the code goes over them, and values read from each.
-use Rattle.std.proofs.Common.{◌≡◌, ℕ, ◌+◌, ◌<◌, ◌≤◌, List, [], ◌∷◌, ◌++◌, length, get_or, drop, map, refl, sym, ap, ◌∙◌, add-one, drop-cons}
+use Rattle.std.proofs.Common.{◌≡◌, ℕ, ◌+◌, ◌-◌, ◌<◌, ◌≤◌, List, [], ◌∷◌, ◌++◌, length, get_or, take, drop, map, refl, sym, ap, ◌∙◌, arith, add-one, drop-cons}
 use Rattle.std.specs.Prelude.{Option, Some, None}
-use Rattle.std.proofs.lemmas.List.{append-nil, drop_all}
+use Rattle.std.proofs.lemmas.List.{append-nil, drop_all, take_all}
 use Rattle.pddl_text.specs.declared.item.Item.{Item}
 use Rattle.pddl_text.specs.Trees.{Tree}
 use Rattle.pddl_tree.specs.Words.{list}
@@ -10,7 +10,7 @@ use Rattle.pddl_tree.specs.PlanReading.{both}
 use Rattle.pddl_tree.specs.TreeReading.{all_of}
 use Rattle.pddl_tree.proofs.Options.{with_front, front_more}
 use Rattle.pddl_tree.proofs.TreeLists.{list_of_trees_of}
-use Rattle.pddl_formula.specs.Reading.{atom_at, atom_of_list, type_at, either_of, variables_at, typed_variables}
+use Rattle.pddl_formula.specs.Reading.{atom_at, atom_of, atom_of_list, type_at, either_of, variables_at, typed_variables}
 
 -- the items from a place on: the one there, and those behind it
 pub trees_from : {A : Type 0} (xs : List (Item A)) (i : ℕ) (d : Item A) → i < length xs → item_trees (drop i xs) ≡ item_tree (get_or xs i d) ∷ item_trees (drop (i + 1) xs)
@@ -18,6 +18,10 @@ trees_from xs i d below = rw (add-one, drop-cons xs i d) refl
 
 pub trees_end : {A : Type 0} (xs : List (Item A)) (i : ℕ) → length xs ≤ i → item_trees (drop i xs) ≡ []
 trees_end xs i past = ap item_trees (drop_all i xs past)
+
+-- what was computed of an item is so of the one at its place
+pub there : {A Y : Type 0} (f : Item A → Y) (xs : List (Item A)) (i : ℕ) (item : Item A) (x y : Y) → item ≡ get_or xs i item → x ≡ f item → x ≡ y → f (get_or xs i item) ≡ y
+there f xs i item x y is computed e = sym (ap f is) ∙ (sym computed ∙ e)
 
 -- ---- a value of each item
 
@@ -42,6 +46,14 @@ pub each_end : {A X : Type 0} (read : Tree → Option X) (xs : List (Item A)) (i
     → with_front front (all_of (map read (item_trees (drop i xs)))) ≡ whole → Some front ≡ whole
 each_end read xs i front whole past so_far =
     ap Some (sym (append-nil front)) ∙ ap (λ ts. with_front front (all_of (map read ts))) (sym (trees_end xs i past)) ∙ so_far
+
+-- ---- atoms
+
+-- the atom of a list by its head and what stands behind it, as a call takes them
+pub atom_by_head : {A : Type 0} (xs : List (Item A)) (h : Item A) → 0 < length xs → h ≡ get_or xs 0 h
+    → atom_of_list (item_trees xs) ≡ atom_of (item_tree h) (item_trees (take (length xs - 1) (drop 1 xs)))
+atom_by_head [] h some first = absurd (omega (arith, some))
+atom_by_head (x ∷ xs) h some first = rw (take_all (length (x ∷ xs) - 1) xs (omega arith), first) refl
 
 -- ---- what lists of trees are
 

@@ -14,7 +14,7 @@ use crate::term::{Atom, Term};
 use crate::term_reader::{atom_of_list, term_of};
 use crate::type_names::Typed;
 use crate::typed_reader::variables_of;
-use pddl_build::{both, both_in_boxes, boxed};
+use pddl_build::{both, both_in_boxes, boxed, push_found};
 use pddl_text::Item;
 use std::alloc::{AllocError, Allocator};
 
@@ -72,10 +72,9 @@ fn formulas_of<'a, B: Allocator>(
 {
     let mut formulas = Vec::with_capacity(alloc, items.len())?;
     for index in 1..items.len() {
-        let Some(formula) = formula_of(alloc, &items[index])? else {
+        if !push_found(&mut formulas, formula_of(alloc, &items[index]))? {
             return Ok(None);
-        };
-        formulas.push(formula)?;
+        }
     }
     Ok(Some(formulas))
 }

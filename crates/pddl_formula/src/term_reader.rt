@@ -1,12 +1,15 @@
 //! Names, variables, terms and atoms read from items.
 
-ghost use Rattle.std.specs.Prelude.{◌≡◌, IfOk, map, option_map};
+ghost use Rattle.std.specs.Prelude.{◌≡◌, ◌++◌, IfOk, map, option_map};
+ghost use Rattle.std.specs.Bool.{then_some};
+ghost use Rattle.pddl_build.specs.Results.{map_found};
 ghost use Rattle.pddl_tree.specs.ItemTrees.{item_tree, item_trees};
 ghost use Rattle.pddl_tree.specs.TreeReading.{name_at, variable_at, variable_name, all_of};
 ghost use Rattle.pddl_formula.specs.Terms.{term_view, atom_view};
 ghost use Rattle.pddl_formula.specs.Reading.{term_at, predicate_at, atom_of_list, atom_at};
 
 use crate::term::{Atom, Predicate, Term};
+use pddl_build::{list_if_right, push_found};
 use pddl_text::{Item, TokenKind};
 use pddl_tree::Name;
 use std::alloc::{AllocError, Allocator};
@@ -39,13 +42,24 @@ pub fn names_of<'a, B: Allocator>(
     ensures { IfOk result (λ names. option_map (λ v. v.items) names ≡ all_of (map name_at (item_trees items.now))) }
 {
     let mut names = Vec::with_capacity(alloc, items.len())?;
+    let all = add_names(alloc, &mut names, items);
+    list_if_right(names, all)
+}
+
+/// Adds the names that some items spell, one each; true exactly where each of them spells one.
+fn add_names<'a, B: Allocator>(
+    alloc: &'a B,
+    names: &mut Vec<Name<&'a B>, &'a B>,
+    items: &[Item<'_, &'a B>],
+) -> Result<bool, AllocError>
+    ensures { IfOk result (λ all. then_some all names.new.items ≡ option_map (λ more. names.old.items ++ more) (all_of (map name_at (item_trees items.now)))) }
+{
     for item in items {
-        let Some(name) = name_of(alloc, item)? else {
-            return Ok(None);
-        };
-        names.push(name)?;
+        if !push_found(names, name_of(alloc, item))? {
+            return Ok(false);
+        }
     }
-    Ok(Some(names))
+    Ok(true)
 }
 
 /// The variable that an item spells, without `?`, or `None` where it spells none (Kovacs, `<variable>`).
@@ -118,13 +132,24 @@ pub fn terms_of<'a, B: Allocator>(
     ensures { IfOk result (λ terms. option_map (λ v. map term_view v.items) terms ≡ all_of (map term_at (item_trees items.now))) }
 {
     let mut terms = Vec::with_capacity(alloc, items.len())?;
+    let all = add_terms(alloc, &mut terms, items);
+    list_if_right(terms, all)
+}
+
+/// Adds the terms that some items spell, one each; true exactly where each of them spells one.
+fn add_terms<'a, B: Allocator>(
+    alloc: &'a B,
+    terms: &mut Vec<Term<&'a B>, &'a B>,
+    items: &[Item<'_, &'a B>],
+) -> Result<bool, AllocError>
+    ensures { IfOk result (λ all. then_some all (map term_view terms.new.items) ≡ option_map (λ more. map term_view terms.old.items ++ more) (all_of (map term_at (item_trees items.now)))) }
+{
     for item in items {
-        let Some(term) = term_of(alloc, item)? else {
-            return Ok(None);
-        };
-        terms.push(term)?;
+        if !push_found(terms, term_of(alloc, item))? {
+            return Ok(false);
+        }
     }
-    Ok(Some(terms))
+    Ok(true)
 }
 
 /// The predicate that an item spells, or `None` where it spells none (Kovacs, `<predicate>`).
@@ -158,7 +183,17 @@ pub fn atom_of_list<'a, B: Allocator>(
     let Some(predicate) = predicate_of(alloc, head)? else {
         return Ok(None);
     };
-    let Some(terms) = terms_of(alloc, terms)? else {
+    atom(predicate, terms_of(alloc, terms))
+}
+
+/// A predicate and its arguments, if they were read.
+fn atom<A: Allocator>(
+    predicate: Predicate<A>,
+    terms: Result<Option<Vec<Term<A>, A>>, AllocError>,
+) -> Result<Option<Atom<A>>, AllocError>
+    ensures { result ≡ map_found (λ terms. record { predicate = predicate; terms = terms }) terms }
+{
+    let Some(terms) = terms? else {
         return Ok(None);
     };
     Ok(Some(Atom { predicate, terms }))

@@ -1,19 +1,22 @@
 //! Types and typed lists read from items.
 
-ghost use Rattle.std.specs.Prelude.{◌≡◌, [], ◌∷◌, ◌++◌, IfOk, OnOk, Some, map, option_map};
+ghost use Rattle.std.specs.Prelude.{◌≡◌, [], ◌∷◌, ◌++◌, false, IsTrue, IfOk, OnOk, Err, MatchResult, Some, map, option_map};
+ghost use Rattle.std.specs.Bool.{then_some};
 ghost use Rattle.pddl_tree.specs.Names.{folded};
 ghost use Rattle.pddl_tree.specs.ItemTrees.{item_tree, item_trees};
 ghost use Rattle.pddl_tree.specs.TreeReading.{all_of, is_word_at, is_keyword_at, is_dash};
 ghost use Rattle.pddl_formula.specs.TypedLists.{object, typed_view};
-ghost use Rattle.pddl_formula.specs.Reading.{type_name_at, either_of, type_at, of_type, typed_list, typed_names, typed_variables, variables_at};
+ghost use Rattle.pddl_formula.specs.Reading.{type_name_at, either_of, type_at, of_type, typed_from, typed_list, typed_names, typed_variables, variables_at};
 ghost use Rattle.pddl_formula.specs.Sorts.{item_at};
 
 use crate::head::is_word;
 use crate::term_reader::{name_of, variable_of};
 use crate::type_names::{TypeName, TypeNames, Typed};
+use pddl_build::{list_if_right, push_found};
 use pddl_text::{Item, TokenKind};
 use pddl_tree::Name;
 use std::alloc::{AllocError, Allocator};
+use std::mem::replace;
 
 /// What a typed list lists.
 #[derive(Clone, Copy, Debug)]
@@ -83,13 +86,24 @@ fn type_names_of<'a, B: Allocator>(
     ensures { IfOk result (λ names. option_map (λ v. v.items) names ≡ all_of (map type_name_at (item_trees items.now))) }
 {
     let mut names = Vec::with_capacity(alloc, items.len())?;
+    let all = add_type_names(alloc, &mut names, items);
+    list_if_right(names, all)
+}
+
+/// Adds the primitive types that some items are; true exactly where each of them is one.
+fn add_type_names<'a, B: Allocator>(
+    alloc: &'a B,
+    names: &mut Vec<TypeName<&'a B>, &'a B>,
+    items: &[Item<'_, &'a B>],
+) -> Result<bool, AllocError>
+    ensures { IfOk result (λ all. then_some all names.new.items ≡ option_map (λ more. names.old.items ++ more) (all_of (map type_name_at (item_trees items.now)))) }
+{
     for item in items {
-        let Some(name) = type_name_of(alloc, item)? else {
-            return Ok(None);
-        };
-        names.push(name)?;
+        if !push_found(names, type_name_of(alloc, item))? {
+            return Ok(false);
+        }
     }
-    Ok(Some(names))
+    Ok(true)
 }
 
 /// The type behind the word `either`.
@@ -203,6 +217,61 @@ fn add_copies<'a, B: Allocator>(
     Ok(())
 }
 
+/// Adds the names of a group, each with the type, if there is one; true exactly where there is one, and then the group has no
+/// name left.
+///
+/// Fails as the type failed, and where memory for the names or a type is refused.
+fn add_typed<'a, B: Allocator>(
+    alloc: &'a B,
+    found: &mut Vec<Typed<&'a B>, &'a B>,
+    group: &mut Vec<Name<&'a B>, &'a B>,
+    types: Result<Option<TypeNames<&'a B>>, AllocError>,
+) -> Result<bool, AllocError>
+    ensures typed { MatchResult types.entry
+        (λ type. IfOk result (λ right. then_some right (map typed_view found.new.items) ≡ option_map (λ t. map typed_view found.old.items ++ of_type group.old.items t) type))
+        (λ e. result ≡ Err e) }
+    ensures group { IfOk result (λ right. IsTrue right → group.new.items ≡ []) }
+{
+    let Some(types) = types? else {
+        return Ok(false);
+    };
+    add_group(alloc, found, replace(group, Vec::new(alloc)), types)?;
+    Ok(true)
+}
+
+/// Adds the typed list of this sort that some items are, behind a group of names that has no type yet; true exactly where
+/// they are one.
+fn add_typed_list<'a, B: Allocator>(
+    alloc: &'a B,
+    sort: Sort,
+    found: &mut Vec<Typed<&'a B>, &'a B>,
+    group: &mut Vec<Name<&'a B>, &'a B>,
+    items: &[Item<'_, &'a B>],
+) -> Result<bool, AllocError>
+    ensures { IfOk result (λ right. then_some right (map typed_view found.new.items) ≡ typed_from (item_at sort) type_at object (map typed_view found.old.items) group.old.items false (item_trees items.now)) }
+{
+    let mut after_dash = false;
+    for item in items {
+        if after_dash {
+            if !add_typed(alloc, found, group, type_of(alloc, item))? {
+                return Ok(false);
+            }
+            after_dash = false;
+        } else if is_dash(item) {
+            if group.len() == 0 {
+                return Ok(false);
+            }
+            after_dash = true;
+        } else if !push_found(group, listed_of(alloc, sort, item))? {
+            return Ok(false);
+        }
+    }
+    if after_dash {
+        return Ok(false);
+    }
+    add_typed(alloc, found, group, object_type(alloc))
+}
+
 /// The typed list of this sort that some items are.
 fn typed_list_of<'a, B: Allocator>(
     alloc: &'a B,
@@ -213,35 +282,8 @@ fn typed_list_of<'a, B: Allocator>(
 {
     let mut found = Vec::new(alloc);
     let mut group = Vec::new(alloc);
-    let mut after_dash = false;
-    for item in items {
-        if after_dash {
-            let Some(types) = type_of(alloc, item)? else {
-                return Ok(None);
-            };
-            add_group(alloc, &mut found, group, types)?;
-            group = Vec::new(alloc);
-            after_dash = false;
-        } else if is_dash(item) {
-            if group.len() == 0 {
-                return Ok(None);
-            }
-            after_dash = true;
-        } else {
-            let Some(name) = listed_of(alloc, sort, item)? else {
-                return Ok(None);
-            };
-            group.push(name)?;
-        }
-    }
-    if after_dash {
-        return Ok(None);
-    }
-    let Some(types) = object_type(alloc)? else {
-        return Ok(None);
-    };
-    add_group(alloc, &mut found, group, types)?;
-    Ok(Some(found))
+    let right = add_typed_list(alloc, sort, &mut found, &mut group, items);
+    list_if_right(found, right)
 }
 
 /// The typed names that some items spell, or `None` where they spell none: constants or objects, those without a type

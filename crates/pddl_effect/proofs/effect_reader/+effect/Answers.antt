@@ -1,4 +1,4 @@
-use Rattle.std.proofs.Common.{◌<◌, ◌≤◌, length, map, sym, ap, ◌∙◌, refl, arith}
+use Rattle.std.proofs.Common.{map, sym, ◌∙◌, refl, arith}
 use Rattle.std.proofs.lemmas.List.{map_push}
 use Rattle.pddl_text.specs.Spelling.{view}
 use Rattle.pddl_text.specs.Trees.{unplaced}
@@ -10,7 +10,8 @@ use Rattle.pddl_formula.specs.declared.head.Head.TheVariants as heads
 use Rattle.pddl_formula.specs.Terms.{atom_view}
 use Rattle.pddl_formula.specs.TypedLists.{typed_view}
 use Rattle.pddl_formula.specs.Formulas.{formula_view}
-use Rattle.pddl_formula.proofs.Turns.{each_on, each_end}
+use Rattle.pddl_formula.proofs.Turns.{each_end}
+use Rattle.pddl_formula.proofs.Fills.{fill_on, fill_stop}
 use Rattle.pddl_formula.specs.Reading.{variables_at, formula_at}
 use Rattle.pddl_effect.specs.declared.effect.Effect.TheVariants as cases
 use Rattle.pddl_effect.specs.Effects.{conjunction, universal, conditional, addition, effects_of, effect_view}
@@ -27,19 +28,22 @@ pub item_effect-returns-in-Word : goal.item_effect-returns-in-Word
 item_effect-returns-in-Word g t c =
     rw (c.in-Word.is, item_tree_word _ c.in-Word.field-0, effect_at_leaf (unplaced (view c.in-Word.field-0))) refl
 
+pub effects_of-returns-then-not-branch : goal.effects_of-returns-then-not-branch
+effects_of-returns-then-not-branch g t c =
+    let l = c.loop-index in
+    fill_stop (map effect_view) effect_view (map_push effect_view) effect_at c.args.items.now l.index c.index-items-index.result (omega arith) c.index-items-index.is
+    l.effects.items c.push_found.new.list.items _ l.invariant c.item_effect.result c.item_effect.ensures (rw c.if-not-branch.true at c.in_ok-push_found.ensures)
+
 pub effects_of-loop-index-preserved : goal.effects_of-loop-index-preserved
 effects_of-loop-index-preserved g t c =
     let l = c.loop-index in
-    let lt : l.index < length c.args.items.now = omega arith in
-    each_on effect_at c.args.items.now l.index c.index-items-index.result (map effect_view l.effects.items) _ lt (map effect_view c.push.new.self.items) (effect_view c.in-Some.effect) l.invariant
-    ((rw c.in-Some.is at c.in_ok-effect.ensures) ∙ ap (λ item. effect_at (item_tree item)) c.index-items-index.is)
-    (ap (map effect_view) c.in_ok-push.ensures.items ∙ map_push effect_view l.effects.items c.in-Some.effect)
+    fill_on (map effect_view) effect_view (map_push effect_view) effect_at c.args.items.now l.index c.index-items-index.result (omega arith) c.index-items-index.is
+    l.effects.items c.push_found.new.list.items _ l.invariant c.item_effect.result c.item_effect.ensures (rw c.if-not-branch.false at c.in_ok-push_found.ensures)
 
 pub effects_of-returns : goal.effects_of-returns
 effects_of-returns g t c =
     let l = c.loop-index in
-    let past : length c.args.items.now ≤ l.index = omega arith in
-    each_end effect_at c.args.items.now l.index (map effect_view l.effects.items) _ past l.invariant
+    each_end effect_at c.args.items.now l.index (map effect_view l.effects.items) _ (omega arith) l.invariant
 
 pub universal_of-returns : goal.universal_of-returns
 universal_of-returns g t c =

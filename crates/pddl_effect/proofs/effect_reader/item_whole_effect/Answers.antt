@@ -1,12 +1,17 @@
 use Rattle.std.proofs.Common.{◌≡◌, ◌<◌, length, refl, ap, ◌∙◌, arith}
-use Rattle.std.proofs.lemmas.List.{length-map}
+use Rattle.std.proofs.lemmas.List.{length-map, nil_from_length}
 use Rattle.pddl_text.specs.Spelling.{view}
 use Rattle.pddl_text.specs.Trees.{unplaced}
 use Rattle.pddl_tree.specs.ItemTrees.{item_tree, item_trees}
 use Rattle.pddl_tree.proofs.TreeLists.{item_tree_list, item_tree_word}
 use Rattle.pddl_effect.specs.EffectReading.{whole_effect_at, effect_at}
-use Rattle.pddl_effect.proofs.EffectTurns.{whole_effect_at_list, whole_effect_at_leaf}
+use Rattle.pddl_effect.proofs.EffectTurns.{whole_effect_at_empty, whole_effect_at_list, whole_effect_at_leaf}
 use Rattle.pddl_effect.proofs.effect_reader.item_whole_effect.Goals as goal
+
+pub returns-then-len-eq0 : goal.returns-then-len-eq0
+returns-then-len-eq0 g c =
+    let items = c.in-List.items in
+    rw c.in-List.is (whole_effect_at_empty items c.in-List.field-1 c.new.result (nil_from_length items.items (omega (arith, items.ok.0))) c.new.ensures.items)
 
 pub returns-else-len-eq0 : goal.returns-else-len-eq0
 returns-else-len-eq0 g c =

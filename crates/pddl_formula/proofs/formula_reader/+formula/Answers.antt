@@ -1,4 +1,4 @@
-use Rattle.std.proofs.Common.{◌<◌, ◌≤◌, length, map, sym, ap, ◌∙◌, refl, arith}
+use Rattle.std.proofs.Common.{map, sym, ◌∙◌, refl, arith}
 use Rattle.std.proofs.lemmas.List.{map_push}
 use Rattle.pddl_text.specs.Spelling.{view}
 use Rattle.pddl_text.specs.Trees.{unplaced}
@@ -9,7 +9,8 @@ use Rattle.pddl_formula.specs.TypedLists.{typed_view}
 use Rattle.pddl_formula.specs.Reading.{formula_at, variables_at, behind}
 use Rattle.pddl_formula.specs.Terms.{atom_view}
 use Rattle.pddl_formula.specs.declared.head.Head.TheVariants as heads
-use Rattle.pddl_formula.proofs.Turns.{each_on, each_end}
+use Rattle.pddl_formula.proofs.Turns.{each_end}
+use Rattle.pddl_formula.proofs.Fills.{fill_on, fill_stop}
 use Rattle.pddl_build.proofs.Parts.{found_reads, both_reads, boxed_reads, both_in_boxes_reads}
 use Rattle.pddl_formula.specs.declared.formula.Formula.TheVariants as cases
 use Rattle.pddl_formula.proofs.TurnsOfFormulas.{formula_at_list, formula_at_leaf, view_atom, view_not, view_imply, view_and, view_or, view_exists, view_forall, only_is, two_is, bound_is, quantified_made, by_head, by_name, by_equal}
@@ -23,19 +24,22 @@ pub formula_of-returns-in-Word : goal.formula_of-returns-in-Word
 formula_of-returns-in-Word g t c =
     rw (c.in-Word.is, item_tree_word _ c.in-Word.field-0, formula_at_leaf (unplaced (view c.in-Word.field-0))) refl
 
+pub formulas_of-returns-then-not-branch : goal.formulas_of-returns-then-not-branch
+formulas_of-returns-then-not-branch g t c =
+    let l = c.loop-index in
+    fill_stop (map formula_view) formula_view (map_push formula_view) formula_at c.args.items.now l.index c.index-items-index.result (omega arith) c.index-items-index.is
+    l.formulas.items c.push_found.new.list.items _ l.invariant c.formula_of.result c.formula_of.ensures (rw c.if-not-branch.true at c.in_ok-push_found.ensures)
+
 pub formulas_of-loop-index-preserved : goal.formulas_of-loop-index-preserved
 formulas_of-loop-index-preserved g t c =
     let l = c.loop-index in
-    let lt : l.index < length c.args.items.now = omega arith in
-    each_on formula_at c.args.items.now l.index c.index-items-index.result (map formula_view l.formulas.items) _ lt (map formula_view c.push.new.self.items) (formula_view c.in-Some.formula) l.invariant
-    ((rw c.in-Some.is at c.in_ok-formula.ensures) ∙ ap (λ item. formula_at (item_tree item)) c.index-items-index.is)
-    (ap (map formula_view) c.in_ok-push.ensures.items ∙ map_push formula_view l.formulas.items c.in-Some.formula)
+    fill_on (map formula_view) formula_view (map_push formula_view) formula_at c.args.items.now l.index c.index-items-index.result (omega arith) c.index-items-index.is
+    l.formulas.items c.push_found.new.list.items _ l.invariant c.formula_of.result c.formula_of.ensures (rw c.if-not-branch.false at c.in_ok-push_found.ensures)
 
 pub formulas_of-returns : goal.formulas_of-returns
 formulas_of-returns g t c =
     let l = c.loop-index in
-    let past : length c.args.items.now ≤ l.index = omega arith in
-    each_end formula_at c.args.items.now l.index (map formula_view l.formulas.items) _ past l.invariant
+    each_end formula_at c.args.items.now l.index (map formula_view l.formulas.items) _ (omega arith) l.invariant
 
 pub negation_of-returns : goal.negation_of-returns
 negation_of-returns g t c =

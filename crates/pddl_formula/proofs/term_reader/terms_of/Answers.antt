@@ -1,15 +1,12 @@
-use Rattle.std.proofs.Common.{◌<◌, length, map, ap, ◌∙◌, arith}
-use Rattle.std.proofs.lemmas.List.{map_push}
-use Rattle.pddl_tree.specs.ItemTrees.{item_tree}
-use Rattle.pddl_formula.specs.Terms.{term_view}
+use Rattle.std.proofs.Common.{map, ap}
+use Rattle.pddl_tree.specs.ItemTrees.{item_trees}
+use Rattle.pddl_tree.specs.TreeReading.{all_of}
 use Rattle.pddl_formula.specs.Reading.{term_at}
-use Rattle.pddl_formula.proofs.Turns.{each_on}
+use Rattle.pddl_formula.specs.Terms.{term_view}
+use Rattle.pddl_formula.proofs.Fills.{filled}
 use Rattle.pddl_formula.proofs.term_reader.terms_of.Goals as goal
 
-pub loop-item-preserved : goal.loop-item-preserved
-loop-item-preserved g c =
-    let l = c.loop-item in
-    let lt : l.item-index < length c.args.items.now = omega arith in
-    each_on term_at c.args.items.now l.item-index c.item-item.result (map term_view l.terms.items) _ lt (map term_view c.push.new.self.items) (term_view c.in-Some.term) l.invariant
-    ((rw c.in-Some.is at c.in_ok-term.ensures) ∙ ap (λ item. term_at (item_tree item)) c.item-item.is)
-    (ap (map term_view) c.in_ok-push.ensures.items ∙ map_push term_view l.terms.items c.in-Some.term)
+pub returns : goal.returns
+returns g c =
+    rw c.list_if_right.ensures
+    (filled (map term_view) c.add_terms-all.new.terms c.add_terms-all.result (all_of (map term_at (item_trees c.args.items.now))) c.in_ok-terms.terms.items (ap (map term_view) c.in_ok-terms.ensures.items) c.add_terms-all.ensures)

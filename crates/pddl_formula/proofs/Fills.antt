@@ -1,0 +1,35 @@
+-- Lists that are filled with a value of each item.
+use Rattle.std.proofs.Common.{◌≡◌, ℕ, ◌+◌, ◌<◌, Bool, true, false, List, [], ◌∷◌, ◌++◌, Vec, length, get_or, drop, map, ap, ◌∙◌}
+use Rattle.std.specs.Prelude.{Option, None, Result, Ok, Err, IfOk, option_map}
+use Rattle.std.specs.Bool.{then_some}
+use Rattle.pddl_build.specs.Results.{right_of, PushesFound}
+use Rattle.pddl_build.proofs.Parts.{pushed_some, pushed_none}
+use Rattle.pddl_text.specs.declared.item.Item.{Item}
+use Rattle.pddl_text.specs.Trees.{Tree}
+use Rattle.pddl_tree.specs.ItemTrees.{item_tree, item_trees}
+use Rattle.pddl_tree.specs.TreeReading.{all_of}
+use Rattle.pddl_tree.proofs.Options.{with_front, front_none}
+use Rattle.pddl_formula.proofs.Turns.{each_on, each_stop}
+
+-- the list, seen as one of X, is filled with the value of the item at this place
+module _ {A T X E : Type 0} (view : List T → List X) (one : T → X) (joins : (ts : List T) (x : T) → view (ts ++ x ∷ []) ≡ view ts ++ one x ∷ [])
+    (read : Tree → Option X) (xs : List (Item A)) (i : ℕ) (item : Item A) (below : i < length xs) (there : item ≡ get_or xs i item)
+    (old new : List T) (whole : Option (List X)) (so_far : with_front (view old) (all_of (map read (item_trees (drop i xs)))) ≡ whole)
+    (value : Result (Option T) E) (reads : IfOk value (λ v. option_map one v ≡ read (item_tree item))) where
+  pub fill_on : PushesFound old value new (Ok true) → with_front (view new) (all_of (map read (item_trees (drop (i + 1) xs)))) ≡ whole
+  fill_on pushes =
+      let (x, is, put) = pushed_some old value new pushes in
+      each_on read xs i item (view old) whole below (view new) (one x) so_far ((rw is at reads) ∙ ap (λ j. read (item_tree j)) there) (ap view put ∙ joins old x)
+
+  pub fill_stop : PushesFound old value new (Ok false) → None ≡ whole
+  fill_stop pushes =
+      let (is, kept) = pushed_none old value new pushes in
+      each_stop read xs i item (view old) whole below so_far ((rw is at reads) ∙ ap (λ j. read (item_tree j)) there)
+
+-- a list that was filled from nothing, if that went right
+pub filled : {T A X E : Type 0} (view : List T → List X) (list : Vec T A) (right : Result Bool E) (read : Option (List X)) (before : List T)
+    → view before ≡ [] → IfOk right (λ b. then_some b (view list.items) ≡ with_front (view before) read)
+    → IfOk (right_of list right) (λ found. option_map (λ v. view v.items) found ≡ read)
+filled view list (Ok true) read before none is = is ∙ (ap (λ front. with_front front read) none ∙ front_none read)
+filled view list (Ok false) read before none is = is ∙ (ap (λ front. with_front front read) none ∙ front_none read)
+filled view list (Err e) read before none is = tt
