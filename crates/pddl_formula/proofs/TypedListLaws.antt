@@ -9,7 +9,7 @@ use Rattle.pddl_tree.proofs.Options.{map_some, bind_some, if_some, unless_some, 
 use Rattle.pddl_tree.proofs.TreeLists.{list_of_trees_of, trees_of_list_of}
 use Rattle.pddl_tree.proofs.Readers.{Reads, name_reads, variable_reads, equal_bytes, other_bytes, word_sound, word_complete, dash_sound, dash_complete, each_sound, each_complete}
 use Rattle.pddl_formula.specs.Reserved.{type_name_of, type_of}
-use Rattle.pddl_formula.specs.TypedLists.{WithType, TypedValue, IsTypeName, IsType, primitive, either, OfType, IsTypedList, untyped, typed, object, AreTypedNames, AreTypedVariables, IsVariableList}
+use Rattle.pddl_formula.specs.TypedLists.{WithType, TypedValue, IsTypeName, IsType, primitive, either, OfType, IsGroup, IsTypedList, untyped, typed, object, AreTypedNames, AreTypedVariables, IsVariableList}
 use Rattle.pddl_formula.specs.Reading.{type_name_at, either_of, type_at, of_type, nonempty, typed_from, typed_list, typed_names, typed_variables, variables_at}
 
 -- ---- types
@@ -98,7 +98,8 @@ module _ {X T : Type 0} (IsItem : X → Tree → Type 0) (IsTypeOf : T → Tree 
       → group ≢ [] → Each IsItem group gs → IsDash dash → IsTypeOf type t → Listed ys after → Listed (of_type group type ++ ys) (gs ++ dash ∷ t ∷ after)
   group_typed [] type gs dash t after ys some each d s more = absurd (some refl)
   group_typed (x ∷ xs) type gs dash t after ys some each d s more =
-      typed (record { item = x; of = type }) (of_type xs type) ys gs dash t after type refl refl (of_type_each (x ∷ xs) type gs each) d s more
+      typed (of_type (x ∷ xs) type) ys (gs ++ dash ∷ t ∷ []) after refl (sym (append_assoc gs (dash ∷ t ∷ []) after))
+      (record { value = type; items = gs; dash = dash; type = t; trees_are = refl; some = λ none. absurd (cc (none)); each = of_type_each (x ∷ xs) type gs each; is_dash = d; is_type = s }) more
 
   mutual
     unfolding typed_from
@@ -151,15 +152,22 @@ module _ {X T : Type 0} (IsItem : X → Tree → Type 0) (IsTypeOf : T → Tree 
       rw (readable.no_dash t x.item e.0.0, readable.items.complete t x.item e.0.0)
       (gather type xs ts rest found (group ++ x.item ∷ []) e.1 ∙ ap (λ g. From found g false rest) (append_assoc group (x.item ∷ []) (items_of xs)))
 
+  -- a group is read whole
+  group_read : (group : List (WithType X T)) (ts after : List Tree) (found : List (WithType X T)) → IsGroup IsItem IsTypeOf group ts → From found [] false (ts ++ after) ≡ From (found ++ group) [] false after
+  unfolding typed_from
+  group_read [] ts after found g = absurd (g.some refl)
+  group_read (x ∷ xs) ts after found g =
+      ap (From found [] false) (ap (λ us. us ++ after) g.trees_are ∙ append_assoc g.items (g.dash ∷ g.type ∷ []) after)
+      ∙ (gather g.value (x ∷ xs) g.items (g.dash ∷ g.type ∷ after) found [] g.each
+      ∙ rw (dash_complete g.dash g.is_dash, readable.types.complete g.type g.value g.is_type, of_type_items g.value (x ∷ xs) g.items g.each) refl)
+
   complete_from : {xs : List (WithType X T)} {ts : List Tree} → Listed xs ts → (found : List (WithType X T)) → From found [] false ts ≡ Some (found ++ xs)
   unfolding typed_from
   complete_from {xs = xs} {ts = ts} (untyped e) found =
       ap (From found [] false) (sym (append-nil ts)) ∙ (gather default xs ts [] found [] e ∙ ap (λ ys. Some (found ++ ys)) (of_type_items default xs ts e))
-  complete_from (typed x xs ys items dash type after value is spelled each d s more) found =
-      let group = of_type_items value (x ∷ xs) items each in
-      ap (From found [] false) spelled ∙ (gather value (x ∷ xs) items (dash ∷ type ∷ after) found [] each
-      ∙ rw (dash_complete dash d, readable.types.complete type value s, group)
-      (complete_from more (found ++ x ∷ xs) ∙ ap Some (append_assoc found (x ∷ xs) ys ∙ ap (λ zs. found ++ zs) (sym is))))
+  complete_from (typed group ys ts after is spelled g more) found =
+      ap (From found [] false) spelled ∙ (group_read group ts after found g
+      ∙ (complete_from more (found ++ group) ∙ ap Some (append_assoc found group ys ∙ ap (λ zs. found ++ zs) (sym is))))
 
   pub list_sound : (ts : List Tree) (xs : List (WithType X T)) → typed_list read_item read_type default ts ≡ Some xs → Listed xs ts
   list_sound ts xs e = let r = after_items ts [] [] xs [] tt e in subst (λ ys. Listed ys ts) (sym r.1) r.2

@@ -35,12 +35,24 @@ pub data IsType : List (List ℕ) → Tree → Type 0 where
 abbrev pub OfType : {X T : Type 0} → (X → Tree → Type 0) → T → WithType X T → Tree → Type 0
 OfType IsItem type x t = IsItem x.item t × (x.of ≡ type)
 
+-- `x+ - type`: items of this type, of which there is at least one
+pub record IsGroup {X T : Type 0} (IsItem : X → Tree → Type 0) (IsTypeOf : T → Tree → Type 0) (group : List (WithType X T)) (ts : List Tree) : Type 0 where
+  pub value : T
+  pub items : List Tree
+  pub dash : Tree
+  pub type : Tree
+  pub trees_are : ts ≡ items ++ dash ∷ type ∷ []
+  pub some : group ≢ []
+  pub each : Each (OfType IsItem value) group items
+  pub is_dash : IsDash dash
+  pub is_type : IsTypeOf value type
+
 -- A typed list of x is `x*`, whose items have the default type, or `x+ - type` and then a typed list of x.
 pub data IsTypedList {X T : Type 0} (IsItem : X → Tree → Type 0) (IsTypeOf : T → Tree → Type 0) (default : T) : List (WithType X T) → List Tree → Type 0 where
   untyped : {xs : List (WithType X T)} {ts : List Tree} → Each (OfType IsItem default) xs ts → IsTypedList IsItem IsTypeOf default xs ts
-  typed : {all : List (WithType X T)} {whole : List Tree} (x : WithType X T) (xs ys : List (WithType X T)) (items : List Tree) (dash type : Tree) (after : List Tree) (value : T)
-      → all ≡ (x ∷ xs) ++ ys → whole ≡ items ++ dash ∷ type ∷ after
-      → Each (OfType IsItem value) (x ∷ xs) items → IsDash dash → IsTypeOf value type → IsTypedList IsItem IsTypeOf default ys after
+  typed : {all : List (WithType X T)} {whole : List Tree} (group ys : List (WithType X T)) (ts after : List Tree)
+      → all ≡ group ++ ys → whole ≡ ts ++ after
+      → IsGroup IsItem IsTypeOf group ts → IsTypedList IsItem IsTypeOf default ys after
       → IsTypedList IsItem IsTypeOf default all whole
 
 -- the type of an item without one

@@ -1,16 +1,16 @@
 -- The canonical text of a plan reads back as the plan.
 use Rattle.std.proofs.Common.{◌≡◌, ℕ, ◌≤◌, true, List, [], ◌∷◌, ◌++◌, length, map, refl, sym, ap, subst, ◌∙◌, arith, append_assoc}
-use Rattle.std.specs.Prelude.{nat_le, nat_lt, codes, Some, IsSome}
+use Rattle.std.specs.Prelude.{nat_lt, codes, Some, IsSome}
 use Rattle.std.specs.List.{AllPass, flat_map, list_all}
 use Rattle.std.specs.Char.{is_ascii_whitespace, is_ascii_alphabetic}
 use Rattle.std.proofs.lemmas.List.Elements.{All-nil, All-cons}
 use Rattle.std.proofs.lemmas.Grind.{flat_map-append}
 use Rattle.std.proofs.lemmas.Bool.Decides.{nat_tests}
-use Rattle.std.proofs.lemmas.Bool.{and_from}
+use Rattle.std.proofs.lemmas.Bool.{and_from, leb-true}
 use Rattle.pddl_text.specs.declared.token.TokenKind.TheVariants.{Close, Name, Number, Colon}
 use Rattle.pddl_text.specs.Bytes.{is_word_byte}
 use Rattle.pddl_text.specs.Words.{IsName}
-use Rattle.pddl_text.specs.Number.{value_of}
+use Rattle.pddl_text.specs.Number.{largest, value_of}
 use Rattle.pddl_text.specs.NumberText.{number_text}
 use Rattle.pddl_text.specs.Spelling.{Word}
 use Rattle.pddl_text.specs.Trees.{Tree, leaf, node, Trees, no_trees, tree, list_of, erased}
@@ -21,12 +21,14 @@ use Rattle.pddl_text.proofs.Listed.{reads_back}
 use Rattle.pddl_text.proofs.NumberTexts.{reads_as_it}
 use Rattle.pddl_text.proofs.Tests.{both_true}
 use Rattle.pddl_text.proofs.Values.{value_in_range}
+use Rattle.pddl_tree.specs.Building.{is_moment}
 use Rattle.pddl_tree.specs.Names.{is_first_byte, is_later_byte, is_name}
-use Rattle.pddl_tree.specs.Plans.{StepValue, TimedValue, PlanValue, plain, timed, is_step, is_timed, is_plan, AreNamed, IsStep, ArePlain, AreTimed, AreSteps}
+use Rattle.pddl_tree.specs.Plans.{StepValue, TimedValue, PlanValue, plain, timed, is_step, is_timed, is_plan, IsStep, AreTimed, AreSteps}
 use Rattle.pddl_tree.specs.PlanTexts.{SpellsPlan}
-use Rattle.pddl_tree.specs.Words.{SpellsNumber}
+use Rattle.pddl_tree.specs.Words.{SpellsName, SpellsNumber, Each}
 use Rattle.pddl_tree.proofs.FoldedNames.{name_folded}
 use Rattle.pddl_tree.proofs.PlanTextLaws.{one_plan}
+use Rattle.pddl_tree.proofs.Readers.{each_good}
 use Rattle.pddl_layout.specs.PlanLayout.{spaced, plain_line, timed_line, plan_text}
 
 -- ---- names
@@ -79,26 +81,23 @@ plan_trees (timed steps) = timed_trees steps
 
 -- ---- they spell the plan
 
-names_named : (names : List (List ℕ)) → list_all is_name names ≡ true → AreNamed names (names_trees names)
+names_named : (names : List (List ℕ)) → list_all is_name names ≡ true → Each SpellsName names (list_of (names_trees names))
 names_named [] e = tt
 names_named (name ∷ names) e = let parts = both_true (is_name name) (list_all is_name names) e in ((parts.0, (refl, name_folded name parts.0)), names_named names parts.1)
 
 step_is : (step : StepValue) → is_step step ≡ true → IsStep step (step_tree step)
 step_is step e = names_named (step.action ∷ step.objects) e
 
-plain_are : (steps : List StepValue) → list_all is_step steps ≡ true → ArePlain steps (list_of (plain_trees steps))
+plain_are : (steps : List StepValue) → list_all is_step steps ≡ true → Each IsStep steps (list_of (plain_trees steps))
 plain_are [] e = tt
 plain_are (step ∷ steps) e = let parts = both_true (is_step step) (list_all is_step steps) e in (step_is step parts.0, plain_are steps parts.1)
-
-in_range : (n : ℕ) → nat_le n 9999999999999999999 ≡ true → n ≤ 9999999999999999999
-in_range n e = grind (arith, nat_tests, e)
 
 timed_are : (steps : List TimedValue) → list_all is_timed steps ≡ true → AreTimed steps (list_of (timed_trees steps))
 timed_are [] e = tt
 timed_are (s ∷ steps) e =
     let parts = both_true (is_timed s) (list_all is_timed steps) e in
-    let here = both_true (nat_le s.moment 9999999999999999999) (is_step s.step) parts.0 in
-    (((refl, (reads_as_it s.moment (in_range s.moment here.0)).1), refl, step_is s.step here.1), timed_are steps parts.1)
+    let here = both_true (is_moment s.moment) (is_step s.step) parts.0 in
+    (((refl, (reads_as_it s.moment (leb-true s.moment largest here.0)).1), refl, step_is s.step here.1), timed_are steps parts.1)
 
 plan_are : (plan : PlanValue) → is_plan plan ≡ true → AreSteps plan (list_of (plan_trees plan))
 plan_are (plain steps) e = plain_are steps e
@@ -123,8 +122,8 @@ timed_writable : (steps : List TimedValue) → list_all is_timed steps ≡ true 
 timed_writable [] e = tt
 timed_writable (s ∷ steps) e =
     let parts = both_true (is_timed s) (list_all is_timed steps) e in
-    let here = both_true (nat_le s.moment 9999999999999999999) (is_step s.step) parts.0 in
-    let number = reads_as_it s.moment (in_range s.moment here.0) in
+    let here = both_true (is_moment s.moment) (is_step s.step) parts.0 in
+    let number = reads_as_it s.moment (leb-true s.moment largest here.0) in
     (((number.0, λ is. number_valued s.moment number.1), λ bad. absurd (cc (bad)), λ bad. absurd (cc (bad))), (((refl, λ bad. absurd (cc (bad))), λ bad. absurd (cc (bad)), λ bad. absurd (cc (bad))), (names_writable (s.step.action ∷ s.step.objects) here.1, timed_writable steps parts.1)))
 
 plan_writable : (plan : PlanValue) → is_plan plan ≡ true → AreWritable (plan_trees plan)
@@ -207,8 +206,8 @@ timed_written : (steps : List TimedValue) → list_all is_timed steps ≡ true �
 timed_written [] e = tt
 timed_written (s ∷ steps) e =
     let parts = both_true (is_timed s) (list_all is_timed steps) e in
-    let here = both_true (nat_le s.moment 9999999999999999999) (is_step s.step) parts.0 in
-    let number = reads_as_it s.moment (in_range s.moment here.0) in (
+    let here = both_true (is_moment s.moment) (is_step s.step) parts.0 in
+    let number = reads_as_it s.moment (leb-true s.moment largest here.0) in (
       (number.0, λ is. number_valued s.moment number.1),
       refl,
       (
@@ -255,35 +254,24 @@ plan_reads_back plan good short =
     }
 
 -- a plan that a text spells is one of the values
-names_are_good : (names : List (List ℕ)) (ts : Trees) → AreNamed names ts → list_all is_name names ≡ true
-names_are_good [] ts named = refl
-names_are_good (name ∷ names) no_trees bad = absurd bad
-names_are_good (name ∷ names) (tree (leaf w) ts) (first, rest) = and_from (is_name name) (list_all is_name names) first.0 (names_are_good names ts rest)
-names_are_good (name ∷ names) (tree (node us) ts) (bad, rest) = absurd bad.1
-
 step_is_good : (step : StepValue) (t : Tree) → IsStep step t → is_step step ≡ true
 step_is_good step (leaf w) bad = absurd bad
-step_is_good step (node ts) is = names_are_good (step.action ∷ step.objects) ts is
+step_is_good step (node ts) is = each_good is_name SpellsName (λ name t spelled. spelled.0) (step.action ∷ step.objects) (list_of ts) is
 
-plain_are_good : (steps : List StepValue) (ts : List Tree) → ArePlain steps ts → list_all is_step steps ≡ true
-plain_are_good [] ts are = refl
-plain_are_good (step ∷ steps) [] bad = absurd bad
-plain_are_good (step ∷ steps) (t ∷ ts) (first, rest) = and_from (is_step step) (list_all is_step steps) (step_is_good step t first) (plain_are_good steps ts rest)
-
-moment_is_good : (m : ℕ) (t : Tree) → SpellsNumber m t → nat_le m 9999999999999999999 ≡ true
+moment_is_good : (m : ℕ) (t : Tree) → SpellsNumber m t → is_moment m ≡ true
 moment_is_good m (leaf w) (is, value) = value_in_range w.text m value
 moment_is_good m (node ts) bad = absurd bad
 
 timed_are_good : (steps : List TimedValue) (ts : List Tree) → AreTimed steps ts → list_all is_timed steps ≡ true
 timed_are_good [] ts are = refl
 timed_are_good (s ∷ steps) (number ∷ colon ∷ t ∷ ts) (first, rest) =
-    and_from (is_timed s) (list_all is_timed steps) (and_from (nat_le s.moment 9999999999999999999) (is_step s.step) (moment_is_good s.moment number first.0) (step_is_good s.step t first.2)) (timed_are_good steps ts rest)
+    and_from (is_timed s) (list_all is_timed steps) (and_from (is_moment s.moment) (is_step s.step) (moment_is_good s.moment number first.0) (step_is_good s.step t first.2)) (timed_are_good steps ts rest)
 timed_are_good (s ∷ steps) [] bad = absurd bad
 timed_are_good (s ∷ steps) (number ∷ []) bad = absurd bad
 timed_are_good (s ∷ steps) (number ∷ colon ∷ []) bad = absurd bad
 
 spelled_is_good : (plan : PlanValue) (ts : List Tree) → AreSteps plan ts → is_plan plan ≡ true
-spelled_is_good (plain steps) ts are = plain_are_good steps ts are
+spelled_is_good (plain steps) ts are = each_good is_step IsStep step_is_good steps ts are
 spelled_is_good (timed steps) ts are = and_from (nat_lt 0 (length steps)) (list_all is_timed steps) (grind (arith, nat_tests, are.0)) (timed_are_good steps ts are.1)
 
 pub one_canonical_plan : (plan other : PlanValue) (text more : List ℕ) → SpellsPlan plan text → SpellsPlan other more → length (plan_text plan) ≤ 16777216 → length (plan_text other) ≤ 16777216

@@ -3,6 +3,7 @@
 ghost use Rattle.std.specs.Prelude.{◌≡◌, ◌<◌, ◌≤◌, ℕ, OnOk, OnErr, length, take};
 ghost use Rattle.std.specs.Io.KnownBytes.{Appends};
 ghost use Rattle.pddl_text.specs.Device.{AppendsBeginning, HasFailed};
+ghost use Rattle.pddl_text.specs.Number.{largest};
 ghost use Rattle.pddl_text.specs.NumberText.{padded, trimmed, pointed, number_text};
 ghost use Rattle.pddl_layout.specs.Printing.{Prints};
 
@@ -59,7 +60,7 @@ fn put_decimals<W: Sink>(out: &mut W, billionths: u64) -> Result<(), WriteFault>
 /// Writes a number: its whole part, and its decimals without zeros at the end.
 pub fn put_number<W: Sink>(out: &mut W, number: Fixed) -> Result<(), WriteFault>
     ensures printed { Prints (W.contents out.old) (W.contents out.new) (W.failures out.old) (W.failures out.new) (number_text number) result }
-    ensures in_range { number ≤ 9999999999999999999 }
+    ensures in_range { number ≤ largest }
 {
     let billionths = number.billionths();
     let mut buffer = Buffer::new();

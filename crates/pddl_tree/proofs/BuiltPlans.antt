@@ -5,6 +5,7 @@ use Rattle.std.specs.List.{list_all}
 use Rattle.std.proofs.lemmas.Bool.Decides.{nat_tests}
 use Rattle.std.proofs.lemmas.List.{append-nil, length-append, length-drop, length-map, length-take-le, take-append-drop, drop-append-le, drop_all}
 use Rattle.std.proofs.lemmas.List.Folds.{drop_split, list_all-append}
+use Rattle.pddl_text.specs.Number.{largest}
 use Rattle.pddl_text.proofs.Tests.{both_true}
 use Rattle.pddl_tree.specs.Names.{is_name, name_of, folded}
 use Rattle.pddl_tree.specs.Cuts.{cut, last_end, Rises}
@@ -124,7 +125,7 @@ module _ (names : List (List ℕ)) (ends moments : List ℕ) (held : AreStepsIn 
     pub plain_ended : record { moments = moments; steps = cut names 0 longer; names = drop (last_end 0 longer) names } ≡ ended view
     plain_ended = rw (steps_more, none_behind) refl
 
-    module _ (moment : ℕ) (in_range : moment ≤ 9999999999999999999) (as_long : length moments ≡ length (cut names 0 ends)) (times : List ℕ) (times_are : times ≡ moments ++ moment ∷ []) where
+    module _ (moment : ℕ) (in_range : moment ≤ largest) (as_long : length moments ≡ length (cut names 0 ends)) (times : List ℕ) (times_are : times ≡ moments ++ moment ∷ []) where
       is_in_range : IsTrue (is_moment moment)
       is_in_range = grind (arith, nat_tests, in_range)
 

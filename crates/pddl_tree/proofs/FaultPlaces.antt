@@ -48,13 +48,13 @@ fault_inside text (faults.Text fault) at stands e = text_inside fault text at st
 fault_inside text (faults.Step span near) at stands e =
     let f = stands.0.fault in
     let same : span.start ≡ at = cc (e) in
-    subst (IsInside text) same (next_inside text f.kind f.before f.after stands.0.items span stands.0.has f.reached f.next)
+    subst (IsInside text) same (next_inside text f.kind f.before f.after stands.0.items span stands.0.has f.reached f.holds.2)
 fault_inside text (faults.Mixed span) at stands e =
     let f = stands.fault in
-    let next = follows_next (other_kind f.kind) span f.after f.follows in
+    let next = follows_next (other_kind f.kind) span f.after f.holds.1 in
     let same : next.0.start ≡ at = next.2 ∙ (cc (e)) in
     subst (IsInside text) same (next_inside text f.kind f.before f.after stands.items next.0 stands.has f.reached next.1)
 fault_inside text (faults.Duration span) at stands e =
     let f = stands.fault in
     let same : span.start ≡ at = cc (e) in
-    subst (IsInside text) same (next_inside text f.kind f.before f.after stands.items span stands.has f.reached (bracket_next span f.after f.bracket))
+    subst (IsInside text) same (next_inside text f.kind f.before f.after stands.items span stands.has f.reached (bracket_next span f.after f.holds.2))

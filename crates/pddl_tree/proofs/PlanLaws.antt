@@ -8,15 +8,15 @@ use Rattle.pddl_text.specs.declared.token.TokenKind.TheVariants.{Name, Number, C
 use Rattle.pddl_text.specs.declared.token.Span.{Span}
 use Rattle.pddl_text.specs.Number.{value_of}
 use Rattle.pddl_text.specs.Spelling.{PlacedWord}
-use Rattle.pddl_text.specs.Trees.{tree, Placed, placed_leaf, placed_node, PlacedList, no_placed, placed_tree, erased, all_erased}
+use Rattle.pddl_text.specs.Trees.{list_of, Placed, placed_leaf, placed_node, PlacedList, no_placed, placed_tree, erased, all_erased}
 use Rattle.pddl_text.proofs.Tests.{both_true}
 use Rattle.pddl_tree.specs.declared.fault.ReadFault.{ReadFault}
 use Rattle.pddl_tree.specs.declared.fault.ReadFault.TheVariants as faults
 use Rattle.pddl_tree.specs.Names.{folded, is_name}
-use Rattle.pddl_tree.specs.Plans.{StepValue, TimedValue, PlanValue, plain, timed, AreNamed, IsStep, IsColon, ArePlain, IsTimed, AreTimed, AreSteps, at_moments as with_moments}
+use Rattle.pddl_tree.specs.Plans.{StepValue, TimedValue, PlanValue, plain, timed, IsStep, IsColon, IsTimed, AreTimed, AreSteps, at_moments as with_moments}
 use Rattle.pddl_tree.specs.PlanFaults.{StepKind, alone, at_moments, other_kind, span_of, Follows, NoneFollows, IsNext, IsNextBracket, IsReached, IsMixed, IsDuration, IsNoStep}
 use Rattle.pddl_tree.specs.PlanReading.{name_by, name_at, both, names_at, step_of, placed_items, step_at, moment_by, moment_at, colon_by, is_colon, timed_of, timed_by, timed_at, bracket_by, is_bracket, no_step, timed_span, plain_fault, timed_fault, is_behind, where_some, plain_from, timed_from, plan_at, plan_behind}
-use Rattle.pddl_tree.specs.Words.{SpellsName, SpellsNumber}
+use Rattle.pddl_tree.specs.Words.{SpellsName, SpellsNumber, Each}
 use Rattle.pddl_tree.proofs.PlanSteps.{plain_some, plain_none, timed_some, timed_none}
 
 -- ---- what a computed answer says of its parts
@@ -57,14 +57,14 @@ name_complete : (item : Placed) (name : List ℕ) → SpellsName name (erased it
 name_complete (placed_leaf w) name (good, (is, folds)) = named_complete w.kind w.text name good is folds
 name_complete (placed_node span items) name bad = absurd bad.1
 
-names_sound : (items : PlacedList) (names : List (List ℕ)) → names_at (placed_items items) ≡ Some names → AreNamed names (all_erased items)
+names_sound : (items : PlacedList) (names : List (List ℕ)) → names_at (placed_items items) ≡ Some names → Each SpellsName names (list_of (all_erased items))
 names_sound no_placed [] e = tt
 names_sound no_placed (name ∷ names) e = absurd (cc)
 names_sound (placed_tree item items) names e =
     let parts = both_some (name_at item) (names_at (placed_items items)) names e in
-    subst (λ ns. AreNamed ns (tree (erased item) (all_erased items))) parts.4 (name_sound item parts.0 parts.2, names_sound items parts.1 parts.3)
+    subst (λ ns. Each SpellsName ns (erased item ∷ list_of (all_erased items))) parts.4 (name_sound item parts.0 parts.2, names_sound items parts.1 parts.3)
 
-names_complete : (items : PlacedList) (names : List (List ℕ)) → AreNamed names (all_erased items) → names_at (placed_items items) ≡ Some names
+names_complete : (items : PlacedList) (names : List (List ℕ)) → Each SpellsName names (list_of (all_erased items)) → names_at (placed_items items) ≡ Some names
 names_complete no_placed [] named = refl
 names_complete no_placed (name ∷ names) bad = absurd bad
 names_complete (placed_tree item items) [] bad = absurd bad
@@ -73,12 +73,12 @@ names_complete (placed_tree item items) (name ∷ names) (first, rest) =
 
 -- ---- steps
 
-step_by : (items : PlacedList) (step : StepValue) (o : Option (List (List ℕ))) → names_at (placed_items items) ≡ o → step_of o ≡ Some step → AreNamed (step.action ∷ step.objects) (all_erased items)
+step_by : (items : PlacedList) (step : StepValue) (o : Option (List (List ℕ))) → names_at (placed_items items) ≡ o → step_of o ≡ Some step → Each SpellsName (step.action ∷ step.objects) (list_of (all_erased items))
 step_by items step None names e = absurd (cc (e))
 step_by items step (Some []) names e = absurd (cc (e))
 step_by items step (Some (action ∷ objects)) names e =
     let is : record { action = action; objects = objects } ≡ step = cc (e) in
-    subst (λ s. AreNamed (s.action ∷ s.objects) (all_erased items)) is (names_sound items (action ∷ objects) names)
+    subst (λ s. Each SpellsName (s.action ∷ s.objects) (list_of (all_erased items))) is (names_sound items (action ∷ objects) names)
 
 step_sound : (item : Placed) (step : StepValue) → step_at item ≡ Some step → IsStep step (erased item)
 step_sound (placed_leaf w) step e = absurd (cc)
@@ -163,7 +163,7 @@ bracket_complete (placed_node s children) items span bad = absurd bad
 
 -- ---- plain steps
 
-plain_through : (steps found : List StepValue) (before after : List Placed) → ArePlain steps (map erased before) → plain_from found (before ++ after) ≡ plain_from (found ++ steps) after
+plain_through : (steps found : List StepValue) (before after : List Placed) → Each IsStep steps (map erased before) → plain_from found (before ++ after) ≡ plain_from (found ++ steps) after
 plain_through [] found [] after are = ap (λ f. plain_from f after) (sym (append-nil found))
 plain_through [] found (item ∷ before) after bad = absurd bad
 plain_through (step ∷ steps) found [] after bad = absurd bad
@@ -178,7 +178,7 @@ pub record PlainStop (found : List StepValue) (items : List Placed) (fault : Rea
   pub item : Placed
   pub after : List Placed
   pub items_are : items ≡ before ++ item ∷ after
-  pub are_plain : ArePlain steps (map erased before)
+  pub are_plain : Each IsStep steps (map erased before)
   pub no_plain : None ≡ step_at item
   pub fault_is : fault ≡ plain_fault (is_behind (found ++ steps)) (item ∷ after)
 
@@ -195,7 +195,7 @@ stop_later found item items step fault e stop = record {
 }
 
 abbrev PlainRead : List StepValue → List Placed → Result PlanValue ReadFault → Type 0
-PlainRead found items (Ok plan) = (steps : List StepValue) × (plan ≡ plain (found ++ steps)) × ArePlain steps (map erased items)
+PlainRead found items (Ok plan) = (steps : List StepValue) × (plan ≡ plain (found ++ steps)) × Each IsStep steps (map erased items)
 PlainRead found items (Err fault) = PlainStop found items fault
 
 read_later : (found : List StepValue) (item : Placed) (items : List Placed) (step : StepValue) (answer : Result PlanValue ReadFault) → step_at item ≡ Some step
@@ -278,7 +278,7 @@ plan_timed : (item : Placed) (items : List Placed) (m : ℕ) → SpellsNumber m 
 plan_timed (placed_leaf w) items m is = refl
 plan_timed (placed_node span children) items m bad = absurd bad
 
-plain_at : (steps : List StepValue) (before after : List Placed) → ArePlain steps (map erased before) → before ≢ [] → plan_at (before ++ after) ≡ plain_from steps after
+plain_at : (steps : List StepValue) (before after : List Placed) → Each IsStep steps (map erased before) → before ≢ [] → plan_at (before ++ after) ≡ plain_from steps after
 plain_at steps [] after are some = absurd (some refl)
 plain_at [] (item ∷ before) after bad some = absurd bad
 plain_at (step ∷ steps) (item ∷ before) after are some = plan_plain item (before ++ after) step are.0 ∙ plain_through (step ∷ steps) [] (item ∷ before) after are
@@ -334,12 +334,12 @@ ItemsStand (faults.Mixed span) items = IsMixed span items
 ItemsStand (faults.Duration span) items = IsDuration span items
 
 -- no step before means no items before, and the other way round
-plain_none_before : (steps : List StepValue) (before : List Placed) → ArePlain steps (map erased before) → is_behind steps ≡ true → before ≢ []
+plain_none_before : (steps : List StepValue) (before : List Placed) → Each IsStep steps (map erased before) → is_behind steps ≡ true → before ≢ []
 plain_none_before [] before are behind = absurd (cc (behind))
 plain_none_before (step ∷ steps) [] bad behind = absurd bad
 plain_none_before (step ∷ steps) (item ∷ before) are behind = λ e. absurd (cc (e))
 
-plain_some_before : (steps : List StepValue) (before : List Placed) → ArePlain steps (map erased before) → before ≢ [] → is_behind steps ≡ true
+plain_some_before : (steps : List StepValue) (before : List Placed) → Each IsStep steps (map erased before) → before ≢ [] → is_behind steps ≡ true
 plain_some_before steps [] are some = absurd (some refl)
 plain_some_before [] (item ∷ before) bad some = absurd bad
 plain_some_before (step ∷ steps) (item ∷ before) are some = refl
@@ -359,9 +359,9 @@ no_step_stands : (kind : StepKind) (before : List Placed) (item : Placed) (after
     → (behind ≡ true → before ≢ []) → (before ≢ [] → behind ≡ true) → ItemsStand (no_step behind item) items
 no_step_stands kind before item after items behind reached none some back =
     cond_both (behind && is_bracket item) (faults.Duration (span_of item)) (faults.Step (span_of item) (span_of item).start) (λ f. ItemsStand f items)
-    (λ is. let parts = both_true behind (is_bracket item) is in record { kind = kind; before = before; after = item ∷ after; reached = reached; some_before = some parts.0; none_follows = none; bracket = bracket_sound item after parts.1 })
+    (λ is. let parts = both_true behind (is_bracket item) is in record { kind = kind; before = before; after = item ∷ after; reached = reached; holds = (some parts.0, none, bracket_sound item after parts.1) })
     (λ other. (
-      record { kind = kind; before = before; after = item ∷ after; reached = reached; none_follows = none; no_duration = λ some_there bracket. absurd (cc (other, back some_there, (bracket_complete item after (span_of item) bracket).0)); next = refl },
+      record { kind = kind; before = before; after = item ∷ after; reached = reached; holds = (none, λ some_there bracket. absurd (cc (other, back some_there, (bracket_complete item after (span_of item) bracket).0)), refl) },
       refl,
     ))
 
@@ -400,8 +400,7 @@ plain_stop_stands span children items fault stop =
       before = stop.before;
       after = stop.item ∷ stop.after;
       reached = record { items_are = stop.items_are; whole = (stop.steps, stop.are_plain) };
-      some_before = some_before s e;
-      follows = timed_follows (stop.item ∷ stop.after) s e;
+      holds = (some_before s e, timed_follows (stop.item ∷ stop.after) s e);
     }
     by_timed None e =
         no_step_stands alone stop.before stop.item stop.after (placed_node span children ∷ items) (is_behind stop.steps) (record { items_are = stop.items_are; whole = (stop.steps, stop.are_plain) })
@@ -424,8 +423,7 @@ timed_stop_stands w items fault stop =
       before = stop.before;
       after = stop.item ∷ stop.after;
       reached = record { items_are = stop.items_are; whole = (stop.steps, stop.are_timed) };
-      some_before = some_before step e;
-      follows = (step, step_sound stop.item step e, refl);
+      holds = (some_before step e, (step, step_sound stop.item step e, refl));
     }
     by_step None e =
         no_step_stands at_moments stop.before stop.item stop.after (placed_leaf w ∷ items) (is_behind stop.steps) (record { items_are = stop.items_are; whole = (stop.steps, stop.are_timed) })
@@ -454,7 +452,7 @@ behind_steps at_moments before item after items reached some no_plain no_timed =
     ∙ ap (λ b. Err (no_step b item)) (timed_some_before steps before reached.whole.1 some)
 
 pub mixed_complete : (span : Span) (items : List Placed) → IsMixed span items → plan_at items ≡ Err (faults.Mixed span)
-mixed_complete span items mixed = by_kind mixed.kind mixed.before mixed.after mixed.reached mixed.some_before mixed.follows
+mixed_complete span items mixed = by_kind mixed.kind mixed.before mixed.after mixed.reached mixed.holds.0 mixed.holds.1
   where
     by_kind : (kind : StepKind) (before after : List Placed) → IsReached kind before after items → before ≢ [] → Follows (other_kind kind) span after → plan_at items ≡ Err (faults.Mixed span)
     by_kind alone before (number ∷ colon ∷ item ∷ after) reached some (s, is, span_is) =
@@ -473,13 +471,13 @@ mixed_complete span items mixed = by_kind mixed.kind mixed.before mixed.after mi
     by_kind at_moments before [] reached some bad = absurd bad
 
 pub duration_complete : (span : Span) (items : List Placed) → IsDuration span items → plan_at items ≡ Err (faults.Duration span)
-duration_complete span items duration = by_after duration.after duration.reached duration.none_follows duration.bracket
+duration_complete span items duration = by_after duration.after duration.reached duration.holds.1 duration.holds.2
   where
     by_after : (after : List Placed) → IsReached duration.kind duration.before after items → NoneFollows after → IsNextBracket span after → plan_at items ≡ Err (faults.Duration span)
     by_after [] reached none bad = absurd bad
     by_after (item ∷ after) reached none bracket =
         let parts = bracket_complete item after span bracket in
-        behind_steps duration.kind duration.before item after items reached duration.some_before (no_plain_first item after none) (no_timed_first (item ∷ after) none)
+        behind_steps duration.kind duration.before item after items reached duration.holds.0 (no_plain_first item after none) (no_timed_first (item ∷ after) none)
         ∙ ap (λ b. Err (cond b (faults.Duration (span_of item)) (faults.Step (span_of item) (span_of item).start))) parts.0 ∙ ap (λ s. Err (faults.Duration s)) (sym parts.1)
 
 stops_at_first : (item : Placed) (items : List Placed) → None ≡ step_at item → None ≡ timed_at (item ∷ items) → plan_at (item ∷ items) ≡ Err (no_step false item)
@@ -492,7 +490,7 @@ bool_by true P yes_case no_case = yes_case refl
 bool_by false P yes_case no_case = no_case refl
 
 pub no_step_complete : (span : Span) (items : List Placed) → IsNoStep span items → plan_at items ≡ Err (faults.Step span span.start)
-no_step_complete span items fault = by_parts fault.before fault.after fault.reached fault.none_follows fault.no_duration fault.next
+no_step_complete span items fault = by_parts fault.before fault.after fault.reached fault.holds.0 fault.holds.1 fault.holds.2
   where
     by_parts : (before after : List Placed) → IsReached fault.kind before after items → NoneFollows after → (before ≢ [] → IsNextBracket span after → ⊥) → IsNext span after → plan_at items ≡ Err (faults.Step span span.start)
     by_parts before [] reached none no_duration bad = absurd bad
@@ -507,13 +505,13 @@ no_step_complete span items fault = by_parts fault.before fault.after fault.reac
 
 -- ---- behind steps
 
-no_items : (items : List Placed) → ArePlain [] (map erased items) → items ≡ []
+no_items : (items : List Placed) → Each IsStep [] (map erased items) → items ≡ []
 no_items [] are = refl
 no_items (item ∷ items) bad = absurd bad
 
 -- the plan of steps and of the items behind them
 pub plan_through : (moments : List ℕ) (steps : List StepValue) (before after : List Placed)
-    → ((moments ≡ []) × ArePlain steps (map erased before)) ⊎ ((length moments ≡ length steps) × (0 < length steps) × AreTimed (with_moments moments steps) (map erased before))
+    → ((moments ≡ []) × Each IsStep steps (map erased before)) ⊎ ((length moments ≡ length steps) × (0 < length steps) × AreTimed (with_moments moments steps) (map erased before))
     → plan_at (before ++ after) ≡ plan_behind moments steps after
 plan_through [] [] before after (inl are) = ap (λ (t : List Placed). plan_at (t ++ after)) (no_items before are.1)
 plan_through [] (step ∷ steps) before after (inl are) = plain_at (step ∷ steps) before after are.1 (plain_none_before (step ∷ steps) before are.1 refl)

@@ -68,7 +68,7 @@ items_stand : (fault : ReadFault) (text : List ℕ) (items : List Placed) → Ha
 items_stand (faults.Text t) text items has bad = absurd bad
 items_stand (faults.Step span near) text items has stands =
     let f = stands.0 in
-    let inside = next_inside text f.kind f.before f.after items span has f.reached f.next in
+    let inside = next_inside text f.kind f.before f.after items span has f.reached f.holds.2 in
     (record { items = items; has = has; fault = f }, omega (arith, stands.1), subst (λ n. n ≤ length text) stands.1 inside.0)
 items_stand (faults.Mixed span) text items has stands = record { items = items; has = has; fault = stands }
 items_stand (faults.Duration span) text items has stands = record { items = items; has = has; fault = stands }

@@ -2,7 +2,8 @@
 use Rattle.std.proofs.Common.{◌≡◌, ◌≢◌, ℕ, Bool, true, false, List, [], ◌∷◌, map, IsTrue, refl, ap, ◌∙◌, subst}
 use Rattle.std.specs.Prelude.{Option, Some, ◌==◌}
 use Rattle.std.proofs.lemmas.Slice.Eq.{bytes_eq-Decides}
-use Rattle.std.proofs.lemmas.Bool.{eqb-true}
+use Rattle.std.proofs.lemmas.Bool.{eqb-true, and_from}
+use Rattle.std.specs.List.{list_all}
 use Rattle.std.specs.Str.{bytes_eq}
 use Rattle.pddl_text.specs.declared.token.TokenKind.{TokenKind}
 use Rattle.pddl_text.specs.declared.token.TokenKind.TheVariants.{Open, Close, Name, Variable, Keyword, Number, Dash, Equal, Colon, Bracket, Compare, Arithmetic}
@@ -172,6 +173,12 @@ dash_complete (leaf w) kind = ap dash_by kind
 dash_complete (node ts) none = absurd none
 
 -- ---- values in turn
+
+-- each value passes a test that all pass that some tree spells
+pub each_good : {A : Type 0} (test : A → Bool) (Spells : A → Tree → Type 0) → ((x : A) (t : Tree) → Spells x t → test x ≡ true) → (xs : List A) (ts : List Tree) → Each Spells xs ts → list_all test xs ≡ true
+each_good test Spells good [] ts each = refl
+each_good test Spells good (x ∷ xs) [] each = absurd each
+each_good test Spells good (x ∷ xs) (t ∷ ts) (here, rest) = and_from (test x) (list_all test xs) (good x t here) (each_good test Spells good xs ts rest)
 
 module _ {A : Type 0} (Spells : A → Tree → Type 0) (read : Tree → Option A) (reads : Reads Spells read) where
   pub each_sound : (ts : List Tree) (xs : List A) → all_of (map read ts) ≡ Some xs → Each Spells xs ts

@@ -16,8 +16,9 @@ use Rattle.pddl_tree.specs.declared.fault.ReadFault.TheVariants as faults
 use Rattle.pddl_tree.specs.declared.plan_words.Place.{Place}
 use Rattle.pddl_tree.specs.declared.plan_words.Place.TheVariants.{Between}
 use Rattle.pddl_tree.specs.Building.{Building, nothing_built, without_names}
-use Rattle.pddl_tree.specs.Plans.{PlanValue, step_of_names, ArePlain, AreTimed, plan_of, built_plan, steps_built, timed_built}
+use Rattle.pddl_tree.specs.Plans.{PlanValue, step_of_names, IsStep, AreTimed, plan_of, built_plan, steps_built, timed_built}
 use Rattle.pddl_tree.specs.PlanTexts.{SpellsPlan, PlanStands}
+use Rattle.pddl_tree.specs.Words.{Each}
 use Rattle.pddl_tree.specs.PlanReading.{plan_at, plan_from, Refuses}
 use Rattle.pddl_tree.specs.StepWords.{AreBuilt, AreStepWords, ReadsTo, HasMoved}
 use Rattle.pddl_tree.proofs.BuiltSteps.{some_timed, plan_is_timed}
@@ -57,7 +58,7 @@ module _ (b : Building) (text : List ℕ) (done kept : List PlacedWord) (read : 
   read_through : (rest : List Placed) → plan_at (read.steps.items ++ rest) ≡ plan_from b rest
   read_through rest = plan_through b.moments (steps_built b) read.steps.items rest (by_kind read.steps.built)
     where
-      by_kind : AreBuilt b read.steps.items → ((b.moments ≡ []) × ArePlain (steps_built b) (map erased read.steps.items)) ⊎ ((length b.moments ≡ length (steps_built b)) × (0 < length (steps_built b)) × AreTimed (timed_built b) (map erased read.steps.items))
+      by_kind : AreBuilt b read.steps.items → ((b.moments ≡ []) × Each IsStep (steps_built b) (map erased read.steps.items)) ⊎ ((length b.moments ≡ length (steps_built b)) × (0 < length (steps_built b)) × AreTimed (timed_built b) (map erased read.steps.items))
       by_kind (inl are) = inl are
       by_kind (inr are) = inr (omega (arith, are.0, length-map b.steps step_of_names), omega (arith, are.1, length-map b.steps step_of_names), are.2)
 

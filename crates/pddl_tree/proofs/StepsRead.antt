@@ -1,18 +1,19 @@
 -- Steps read word by word.
-use Rattle.std.proofs.Common.{◌≡◌, ◌<◌, ◌≤◌, ◌+◌, ℕ, List, [], ◌∷◌, ◌++◌, length, map, take, drop, IsTrue, refl, sym, ap, subst, ◌∙◌, arith, inl, inr}
+use Rattle.std.proofs.Common.{◌≡◌, ◌<◌, ◌≤◌, ◌+◌, ℕ, List, [], ◌∷◌, ◌++◌, length, map, take, drop, refl, sym, ap, subst, ◌∙◌, arith, inl, inr}
 use Rattle.std.specs.Prelude.{◌≢◌, Option, Some, None, IfSome, slice_get}
 use Rattle.std.proofs.lemmas.Option.{get_or_from_slice_get}
 use Rattle.std.proofs.lemmas.List.{append_assoc, map_push, map-append, length-append, take-append-le, take-append-drop, drop-append-le, take_all, take_more, drop_all}
 use Rattle.pddl_text.specs.declared.token.TokenKind.TheVariants.{Open, Close, Name}
 use Rattle.pddl_text.specs.Spelling.{PlacedWord}
-use Rattle.pddl_text.specs.Trees.{Tree, Placed, placed_leaf, placed_node, placed_of, erased, all_erased}
+use Rattle.pddl_text.specs.Trees.{Tree, Placed, placed_leaf, placed_node, placed_of, list_of, erased, all_erased}
 use Rattle.pddl_text.specs.Lists.{span_over, AreItems, none, plain, nested}
 use Rattle.pddl_text.proofs.Nests.{items_append}
 use Rattle.pddl_tree.specs.declared.plan_words.Place.{Place}
 use Rattle.pddl_tree.specs.declared.plan_words.Place.TheVariants.{Between, Moment, Colon, Inside, Lost}
-use Rattle.pddl_tree.specs.Names.{is_name, folded, name_of}
+use Rattle.pddl_tree.specs.Names.{name_of}
 use Rattle.pddl_tree.specs.Building.{Building, ended, ended_at}
-use Rattle.pddl_tree.specs.Plans.{StepValue, TimedValue, step_of_names, AreNamed, IsStep, ArePlain, IsTimed, AreTimed, steps_built, timed_built}
+use Rattle.pddl_tree.specs.Plans.{StepValue, TimedValue, step_of_names, IsStep, IsTimed, AreTimed, steps_built, timed_built}
+use Rattle.pddl_tree.specs.Words.{SpellsName, Each}
 use Rattle.pddl_tree.specs.StepWords.{AreNames, AreBuilt, AreStepWords, ReadsTo, ReadsOn, ReadsWords, HasMoved}
 use Rattle.pddl_tree.proofs.BuiltSteps.{plain_pushed, moment_pushed, moments_pushed}
 use Rattle.pddl_tree.proofs.GotNames.{GotName}
@@ -20,7 +21,7 @@ use Rattle.pddl_tree.proofs.Readers.{name_of_some}
 
 -- ---- names
 
-names_push : (names : List (List ℕ)) (words : List PlacedWord) (name : List ℕ) (w : PlacedWord) → AreNames names words → IsTrue (is_name name) × (w.kind ≡ Name) × (folded w.text ≡ name) → AreNames (names ++ name ∷ []) (words ++ w ∷ [])
+names_push : (names : List (List ℕ)) (words : List PlacedWord) (name : List ℕ) (w : PlacedWord) → AreNames names words → SpellsName name (erased (placed_leaf w)) → AreNames (names ++ name ∷ []) (words ++ w ∷ [])
 names_push [] [] name w named here = (here, tt)
 names_push [] (v ∷ words) name w bad here = absurd bad
 names_push (n ∷ names) [] name w bad here = absurd bad
@@ -30,13 +31,13 @@ names_form : (names : List (List ℕ)) (words : List PlacedWord) → AreNames na
 names_form [] [] named = none
 names_form [] (w ∷ words) bad = absurd bad
 names_form (name ∷ names) [] bad = absurd bad
-names_form (name ∷ names) (w ∷ words) (first, rest) = plain w (λ e. absurd (cc (first.1, e))) (λ e. absurd (cc (first.1, e))) (names_form names words rest)
+names_form (name ∷ names) (w ∷ words) (first, rest) = plain w (λ e. absurd (cc (first.1.0, e))) (λ e. absurd (cc (first.1.0, e))) (names_form names words rest)
 
-names_named : (names : List (List ℕ)) (words : List PlacedWord) → AreNames names words → AreNamed names (all_erased (placed_of (map placed_leaf words)))
+names_named : (names : List (List ℕ)) (words : List PlacedWord) → AreNames names words → Each SpellsName names (list_of (all_erased (placed_of (map placed_leaf words))))
 names_named [] [] named = tt
 names_named [] (w ∷ words) bad = absurd bad
 names_named (name ∷ names) [] bad = absurd bad
-names_named (name ∷ names) (w ∷ words) (first, rest) = ((first.0, (first.1, first.2)), names_named names words rest)
+names_named (name ∷ names) (w ∷ words) (first, rest) = (first, names_named names words rest)
 
 -- ---- the list of a step
 
@@ -62,7 +63,7 @@ pub same_steps : (b new : Building) (words : List PlacedWord) → new.moments �
 same_steps b new words moments steps are = subst (λ (c : Building). AreStepWords c words) (λ i. record { moments = sym moments i; steps = sym steps i; names = new.names })
     (record { items = are.items; form = are.form; built = are.built })
 
-plain_push : (steps : List StepValue) (ts : List Tree) (step : StepValue) (t : Tree) → ArePlain steps ts → IsStep step t → ArePlain (steps ++ step ∷ []) (ts ++ t ∷ [])
+plain_push : (steps : List StepValue) (ts : List Tree) (step : StepValue) (t : Tree) → Each IsStep steps ts → IsStep step t → Each IsStep (steps ++ step ∷ []) (ts ++ t ∷ [])
 plain_push [] [] step t are is = (is, tt)
 plain_push [] (u ∷ ts) step t bad is = absurd bad
 plain_push (s ∷ steps) [] step t bad is = absurd bad
@@ -81,7 +82,7 @@ no_elements [] e = refl
 no_elements (x ∷ xs) e = absurd (omega (arith, e))
 
 -- steps of which none has a moment are plain
-plain_so_far : (b : Building) (items : List Placed) → b.moments ≡ [] → AreBuilt b items → ArePlain (steps_built b) (map erased items)
+plain_so_far : (b : Building) (items : List Placed) → b.moments ≡ [] → AreBuilt b items → Each IsStep (steps_built b) (map erased items)
 plain_so_far b items empty (inl are) = are.1
 plain_so_far b items empty (inr are) = absurd (omega (arith, ap length empty, are.0, are.1))
 
@@ -90,11 +91,11 @@ timed_so_far : (b : Building) (items : List Placed) → length b.moments ≡ len
 timed_so_far b items same (inr are) = are.2
 timed_so_far b items same (inl are) = by_steps b.steps b.moments (omega (arith, ap length are.0, same)) are.0 are.1
   where
-    no_trees : (ts : List Tree) → ArePlain [] ts → AreTimed [] ts
+    no_trees : (ts : List Tree) → Each IsStep [] ts → AreTimed [] ts
     no_trees [] are = tt
     no_trees (t ∷ ts) bad = absurd bad
 
-    by_steps : (steps : List (List (List ℕ))) (moments : List ℕ) → length steps ≡ 0 → moments ≡ [] → ArePlain (map step_of_names steps) (map erased items) → AreTimed (timed_built (record { moments = moments; steps = steps; names = [] })) (map erased items)
+    by_steps : (steps : List (List (List ℕ))) (moments : List ℕ) → length steps ≡ 0 → moments ≡ [] → Each IsStep (map step_of_names steps) (map erased items) → AreTimed (timed_built (record { moments = moments; steps = steps; names = [] })) (map erased items)
     by_steps [] moments e empty are = rw empty (no_trees (map erased items) are)
     by_steps (s ∷ steps) moments e empty are = absurd (omega (arith, e))
 
@@ -114,7 +115,7 @@ module _ (b : Building) (done kept : List PlacedWord) (w : PlacedWord) where
           words_are = ap (λ (t : List PlacedWord). t ++ w ∷ []) inside.words_are ∙ append_assoc inside.front (inside.opening ∷ inside.inner) (w ∷ []);
           is_front = inside.is_front;
           is_opening = inside.is_opening;
-          named = subst (λ (ns : List (List ℕ)). AreNames ns (inside.inner ++ w ∷ [])) (sym got.names) (names_push b.names inside.inner got.name w inside.named (name.0, is, name.1));
+          named = subst (λ (ns : List (List ℕ)). AreNames ns (inside.inner ++ w ∷ [])) (sym got.names) (names_push b.names inside.inner got.name w inside.named (name.0, (is, name.1)));
         };
       }
 
@@ -126,7 +127,7 @@ module _ (b : Building) (done kept : List PlacedWord) (w : PlacedWord) where
       let words : List PlacedWord = inside.opening ∷ (inside.inner ++ w ∷ []) in
       let words_are : kept ++ w ∷ [] ≡ words = ap (λ (t : List PlacedWord). t ++ w ∷ []) (inside.words_are ∙ ap (λ (t : List PlacedWord). t ++ inside.opening ∷ inside.inner) inside.is_front) in
       let form : AreItems 128 (done ++ words) (before.items ++ item ∷ []) = items_append before.form words (item ∷ []) (step_form b.names inside.opening w inside.inner inside.is_opening is inside.named) in
-      let are : ArePlain (steps_built b ++ step_of_names b.names ∷ []) (map erased before.items ++ erased item ∷ []) =
+      let are : Each IsStep (steps_built b ++ step_of_names b.names ∷ []) (map erased before.items ++ erased item ∷ []) =
       plain_push (steps_built b) (map erased before.items) (step_of_names b.names) (erased item) (plain_so_far b before.items empty before.built) (is_step b.names inside.opening w inside.inner inside.is_opening is inside.named some) in
       record {
         steps = record {
@@ -134,7 +135,7 @@ module _ (b : Building) (done kept : List PlacedWord) (w : PlacedWord) where
           form = subst (λ (t : List PlacedWord). AreItems 128 (done ++ t) (before.items ++ item ∷ [])) (sym words_are) form;
           built = inl (
             ap (λ (c : Building). c.moments) new_is ∙ empty,
-            subst (λ (ss : List StepValue). ArePlain ss (map erased (before.items ++ item ∷ []))) (sym (plain_pushed b b new refl new_is)) (subst (ArePlain (steps_built b ++ step_of_names b.names ∷ [])) (sym (map_push erased before.items item)) are),
+            subst (λ (ss : List StepValue). Each IsStep ss (map erased (before.items ++ item ∷ []))) (sym (plain_pushed b b new refl new_is)) (subst (Each IsStep (steps_built b ++ step_of_names b.names ∷ [])) (sym (map_push erased before.items item)) are),
           );
         };
         rest = (ap (λ (c : Building). c.names) new_is, refl);

@@ -1,6 +1,7 @@
 -- A plan in making.
 use Rattle.std.specs.Prelude.{◌≡◌, ◌≤◌, ◌⊎◌, ℕ, Bool, true, false, nat_le, List, [], ◌∷◌, ◌++◌, Option, Some, None, length, IsTrue}
 use Rattle.std.specs.List.{list_all}
+use Rattle.pddl_text.specs.Number.{largest}
 use Rattle.pddl_tree.specs.Names.{is_name}
 use Rattle.pddl_tree.specs.Cuts.{last_end, Rises}
 use Rattle.pddl_tree.specs.NameLists.{AddsName}
@@ -50,7 +51,7 @@ ended_at m b = record { moments = b.moments ++ m ∷ []; steps = b.steps ++ b.na
 
 -- a number in range
 abbrev pub is_moment : ℕ → Bool
-is_moment m = nat_le m 9999999999999999999
+is_moment m = nat_le m largest
 
 -- The steps are the parts of a list of names that end at these places; none has a moment, or each has one.
 pub record AreStepsIn (names : List (List ℕ)) (ends moments : List ℕ) : Type 0 where

@@ -3,7 +3,8 @@ use Rattle.std.specs.Prelude.{◌≡◌, ◌≢◌, List, [], ◌∷◌, ◌++�
 use Rattle.pddl_text.specs.declared.token.TokenKind.TheVariants.{Bracket}
 use Rattle.pddl_text.specs.declared.token.Span.{Span}
 use Rattle.pddl_text.specs.Trees.{Placed, placed_leaf, placed_node, erased}
-use Rattle.pddl_tree.specs.Plans.{StepValue, TimedValue, IsStep, IsTimed, ArePlain, AreTimed}
+use Rattle.pddl_tree.specs.Plans.{StepValue, TimedValue, IsStep, IsTimed, AreTimed}
+use Rattle.pddl_tree.specs.Words.{Each}
 
 -- the two kinds of steps: plain ones, and timed ones
 pub data StepKind : Type 0 where
@@ -22,7 +23,7 @@ span_of (placed_node span items) = span
 
 -- the items are whole steps of one kind
 abbrev pub AreWhole : StepKind → List Placed → Type 0
-AreWhole alone items = (steps : List StepValue) × ArePlain steps (map erased items)
+AreWhole alone items = (steps : List StepValue) × Each IsStep steps (map erased items)
 AreWhole at_moments items = (steps : List TimedValue) × AreTimed steps (map erased items)
 
 -- a step of a kind stands first, at this span
@@ -51,31 +52,22 @@ pub record IsReached (kind : StepKind) (before after items : List Placed) : Type
   pub items_are : items ≡ before ++ after
   pub whole : AreWhole kind before
 
--- behind steps of one kind a step of the other kind follows (own: a file has steps of one kind)
-pub record IsMixed (span : Span) (items : List Placed) : Type 0 where
+-- whole steps of one kind stand first, and this holds of their kind, of them and of the items behind them
+pub record BehindSteps (Holds : StepKind → List Placed → List Placed → Type 0) (items : List Placed) : Type 0 where
   pub kind : StepKind
   pub before : List Placed
   pub after : List Placed
   pub reached : IsReached kind before after items
-  pub some_before : before ≢ []
-  pub follows : Follows (other_kind kind) span after
+  pub holds : Holds kind before after
+
+-- behind steps of one kind a step of the other kind follows (own: a file has steps of one kind)
+abbrev pub IsMixed : Span → List Placed → Type 0
+IsMixed span = BehindSteps (λ kind before after. (before ≢ []) × Follows (other_kind kind) span after)
 
 -- behind a step a bracket follows: the form of a duration, which is refused (own)
-pub record IsDuration (span : Span) (items : List Placed) : Type 0 where
-  pub kind : StepKind
-  pub before : List Placed
-  pub after : List Placed
-  pub reached : IsReached kind before after items
-  pub some_before : before ≢ []
-  pub none_follows : NoneFollows after
-  pub bracket : IsNextBracket span after
+abbrev pub IsDuration : Span → List Placed → Type 0
+IsDuration span = BehindSteps (λ kind before after. (before ≢ []) × NoneFollows after × IsNextBracket span after)
 
 -- something else follows than a step
-pub record IsNoStep (span : Span) (items : List Placed) : Type 0 where
-  pub kind : StepKind
-  pub before : List Placed
-  pub after : List Placed
-  pub reached : IsReached kind before after items
-  pub none_follows : NoneFollows after
-  pub no_duration : before ≢ [] → IsNextBracket span after → ⊥
-  pub next : IsNext span after
+abbrev pub IsNoStep : Span → List Placed → Type 0
+IsNoStep span = BehindSteps (λ kind before after. NoneFollows after × (before ≢ [] → IsNextBracket span after → ⊥) × IsNext span after)

@@ -1,12 +1,12 @@
 -- Plans, and the items that spell them, in the form of VAL's plan files.
-use Rattle.std.specs.Prelude.{◌≡◌, ◌<◌, ℕ, Bool, ◌&&◌, nat_le, nat_lt, List, [], ◌∷◌, length, map, slice_get, Option, None, option_map}
+use Rattle.std.specs.Prelude.{◌≡◌, ◌<◌, ℕ, Bool, ◌&&◌, nat_lt, List, [], ◌∷◌, length, map, slice_get, Option, None, option_map}
 use Rattle.std.specs.List.{list_all}
 use Rattle.pddl_text.specs.declared.token.TokenKind.TheVariants.{Colon}
-use Rattle.pddl_text.specs.Trees.{Tree, leaf, node, Trees, no_trees, tree}
+use Rattle.pddl_text.specs.Trees.{Tree, leaf, node, list_of}
 use Rattle.pddl_tree.specs.declared.plan.Plan.{Plan}
-use Rattle.pddl_tree.specs.Building.{Building}
+use Rattle.pddl_tree.specs.Building.{Building, is_moment}
 use Rattle.pddl_tree.specs.Names.{is_name}
-use Rattle.pddl_tree.specs.Words.{SpellsName, SpellsNumber}
+use Rattle.pddl_tree.specs.Words.{SpellsName, SpellsNumber, Each}
 
 -- a step: an action's name and the names of objects
 pub record StepValue : Type 0 where
@@ -31,7 +31,7 @@ is_step step = is_name step.action && list_all is_name step.objects
 
 -- a moment is a number in range
 abbrev pub is_timed : TimedValue → Bool
-is_timed s = nat_le s.moment 9999999999999999999 && is_step s.step
+is_timed s = is_moment s.moment && is_step s.step
 
 -- a timed plan has a step
 abbrev pub is_plan : PlanValue → Bool
@@ -86,29 +86,15 @@ moment_at (timed steps) n = option_map (λ s. s.moment) (slice_get steps n)
 
 -- ---- which trees spell a plan
 
--- the trees are these names, in turn
-abbrev pub AreNamed : List (List ℕ) → Trees → Type 0
-AreNamed [] no_trees = Unit {0}
-AreNamed (name ∷ names) (tree t ts) = SpellsName name t × AreNamed names ts
-AreNamed [] (tree t ts) = ⊥
-AreNamed (name ∷ names) no_trees = ⊥
-
 -- a step is a list of at least one name (VAL)
 abbrev pub IsStep : StepValue → Tree → Type 0
-IsStep step (node ts) = AreNamed (step.action ∷ step.objects) ts
+IsStep step (node ts) = Each SpellsName (step.action ∷ step.objects) (list_of ts)
 IsStep step (leaf w) = ⊥
 
 -- the tree is a colon
 abbrev pub IsColon : Tree → Type 0
 IsColon (leaf w) = w.kind ≡ Colon
 IsColon (node ts) = ⊥
-
--- the trees are these steps, in turn
-abbrev pub ArePlain : List StepValue → List Tree → Type 0
-ArePlain [] [] = Unit {0}
-ArePlain (step ∷ steps) (t ∷ ts) = IsStep step t × ArePlain steps ts
-ArePlain [] (t ∷ ts) = ⊥
-ArePlain (step ∷ steps) [] = ⊥
 
 -- a timed step is a number, a colon and a step (VAL)
 abbrev pub IsTimed : TimedValue → Tree → Tree → Tree → Type 0
@@ -122,5 +108,5 @@ AreTimed _ _ = ⊥
 
 -- the trees are the plan's steps, in file order (VAL); all are of one kind, and a timed plan has a step (own)
 abbrev pub AreSteps : PlanValue → List Tree → Type 0
-AreSteps (plain steps) ts = ArePlain steps ts
+AreSteps (plain steps) ts = Each IsStep steps ts
 AreSteps (timed steps) ts = (0 < length steps) × AreTimed steps ts

@@ -1,24 +1,21 @@
 -- Steps read word by word. No public contract names these.
-use Rattle.std.specs.Prelude.{◌≡◌, ◌<◌, ◌⊎◌, ℕ, List, [], ◌∷◌, ◌++◌, Option, Some, None, length, map, take, drop, IsTrue}
-use Rattle.pddl_text.specs.declared.token.TokenKind.TheVariants.{Open, Name, Number, Colon as ColonSign}
+use Rattle.std.specs.Prelude.{◌≡◌, ◌<◌, ◌⊎◌, ℕ, List, [], ◌∷◌, ◌++◌, Option, Some, None, length, map, take, drop}
+use Rattle.pddl_text.specs.declared.token.TokenKind.TheVariants.{Open, Number, Colon as ColonSign}
 use Rattle.pddl_text.specs.Spelling.{PlacedWord}
 use Rattle.pddl_text.specs.Number.{value_of}
-use Rattle.pddl_text.specs.Trees.{Placed, erased}
+use Rattle.pddl_text.specs.Trees.{Placed, placed_leaf, erased}
 use Rattle.pddl_text.specs.Lists.{AreItems, deepest}
 use Rattle.pddl_tree.specs.declared.plan_words.Place.{Place}
 use Rattle.pddl_tree.specs.declared.plan_words.Place.TheVariants.{Between, Moment, Colon, Inside, Lost}
-use Rattle.pddl_tree.specs.Names.{is_name, folded}
 use Rattle.pddl_tree.specs.Building.{Building}
-use Rattle.pddl_tree.specs.Plans.{ArePlain, AreTimed, steps_built, timed_built}
+use Rattle.pddl_tree.specs.Plans.{IsStep, AreTimed, steps_built, timed_built}
+use Rattle.pddl_tree.specs.Words.{SpellsName, Each}
 
 -- ---- the step that is not ended
 
 -- the words are these names
 abbrev pub AreNames : List (List ℕ) → List PlacedWord → Type 0
-AreNames [] [] = Unit {0}
-AreNames (name ∷ names) (w ∷ words) = (IsTrue (is_name name) × (w.kind ≡ Name) × (folded w.text ≡ name)) × AreNames names words
-AreNames [] (w ∷ words) = ⊥
-AreNames (name ∷ names) [] = ⊥
+AreNames names words = Each SpellsName names (map (λ w. erased (placed_leaf w)) words)
 
 -- the words are a moment
 pub record IsMoment (moment : ℕ) (words : List PlacedWord) : Type 0 where
@@ -63,7 +60,7 @@ IsOpen Lost names words = Unit {0}
 
 -- the items are the steps that are ended, of one kind
 abbrev pub AreBuilt : Building → List Placed → Type 0
-AreBuilt b items = ((b.moments ≡ []) × ArePlain (steps_built b) (map erased items))
+AreBuilt b items = ((b.moments ≡ []) × Each IsStep (steps_built b) (map erased items))
     ⊎ ((length b.moments ≡ length b.steps) × (0 < length b.steps) × AreTimed (timed_built b) (map erased items))
 
 -- the words form items, which are these steps
