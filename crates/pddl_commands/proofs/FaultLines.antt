@@ -8,7 +8,7 @@ use Rattle.std.proofs.lemmas.List.Elements.{All-head, All-tail}
 use Rattle.pddl_text.specs.Bytes.{is_line_byte}
 use Rattle.pddl_text.specs.declared.place.Pos.{Pos}
 use Rattle.pddl_text.specs.Positions.{AreLines, IsBehind}
-use Rattle.pddl_commands.specs.Faults.{shown_position}
+use Rattle.pddl_commands.specs.Inner.Faults.{shown_position}
 use Rattle.pddl_commands.specs.Lines.{IsPlaceShown, IsPosition, IsFaultLine}
 
 -- the same line, its pieces under other names

@@ -1,5 +1,5 @@
-pub mod Faults
 pub mod Lines
 pub mod Formats
 pub mod Contents
 pub mod Checks
+pub mod Inner

@@ -6,7 +6,7 @@ ghost use Rattle.pddl_problem.specs.Problems.{problem_view};
 ghost use Rattle.pddl_task.specs.Linked.{faults};
 ghost use Rattle.pddl_faults.specs.Passes.{Verdict};
 ghost use Rattle.pddl_commands.specs.Checks.{good_line, IsDomainJudged, IsProblemJudged, IsDomainChecked, ForProblem};
-ghost use Rattle.pddl_commands.specs.Faults.{IsLinkFaultLine};
+ghost use Rattle.pddl_commands.specs.Inner.Faults.{IsLinkFaultLine};
 
 use crate::fault_names::link_fault_name;
 use crate::formatted::{Formatted, refused_domain, refused_problem};

@@ -2,7 +2,7 @@
 
 ghost use Rattle.std.specs.Prelude.{◌≡◌, ◌++◌, IfSome};
 ghost use Rattle.pddl_faults.specs.Passes.{fault_of};
-ghost use Rattle.pddl_commands.specs.Faults.{whole_name};
+ghost use Rattle.pddl_commands.specs.Inner.Faults.{whole_name};
 ghost use Rattle.pddl_commands.specs.Lines.{text_fault_name, fault_name, file_fault_name, link_fault_text};
 
 use pddl_file::FileFault;

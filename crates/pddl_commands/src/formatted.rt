@@ -11,7 +11,7 @@ ghost use Rattle.pddl_file.specs.Places.{file_place};
 ghost use Rattle.pddl_kind.specs.declared.Kind.{Kind};
 ghost use Rattle.pddl_kind.specs.Kinds.{kind_word};
 ghost use Rattle.pddl_commands.specs.Contents.{IsTooLongLine};
-ghost use Rattle.pddl_commands.specs.Faults.{is_file_memory};
+ghost use Rattle.pddl_commands.specs.Inner.Faults.{is_file_memory};
 ghost use Rattle.pddl_commands.specs.Formats.{IsRefused, IsFormatted};
 ghost use Rattle.pddl_commands.specs.Lines.{file_fault_name, IsFaultLine};
 

@@ -3,7 +3,7 @@
 ghost use Rattle.std.specs.Prelude.{◌≡◌, ◌≤◌, ◌++◌, [], ℕ, List, Option, Some, codes, length, IfOk, OnOk};
 ghost use Rattle.std.specs.Fmt.{decimal};
 ghost use Rattle.pddl_text.specs.LineStarts.{line_starts};
-ghost use Rattle.pddl_commands.specs.Faults.{whole_name, shown_position};
+ghost use Rattle.pddl_commands.specs.Inner.Faults.{whole_name, shown_position};
 ghost use Rattle.pddl_commands.specs.Lines.{IsPosition, IsFaultLine};
 
 use crate::fault_names::FaultName;

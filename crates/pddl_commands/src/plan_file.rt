@@ -6,7 +6,7 @@ ghost use Rattle.pddl_text.specs.Device.{HasFailed};
 ghost use Rattle.pddl_text.specs.LineStarts.{line_starts};
 ghost use Rattle.pddl_tree.specs.PlanTexts.{PlanStands};
 ghost use Rattle.pddl_commands.specs.Contents.{IsPlanOf, IsPlanContent, IsPlanFile, HasCome};
-ghost use Rattle.pddl_commands.specs.Faults.{is_memory};
+ghost use Rattle.pddl_commands.specs.Inner.Faults.{is_memory};
 ghost use Rattle.pddl_commands.specs.Formats.{IsLeft};
 
 use crate::fault_names::fault_name;

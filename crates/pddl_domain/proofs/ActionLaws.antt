@@ -5,19 +5,19 @@ use Rattle.std.specs.List.{flat_map}
 use Rattle.std.specs.Str.{bytes_eq}
 use Rattle.pddl_text.specs.Trees.{Tree, leaf, node}
 use Rattle.pddl_tree.specs.Words.{IsKeyword}
-use Rattle.pddl_tree.specs.TreeReading.{name_at, keyword_by, is_keyword_at}
+use Rattle.pddl_tree.specs.Inner.TreeReading.{name_at, keyword_by, is_keyword_at}
 use Rattle.pddl_tree.proofs.Options.{map_some, bind_some, both_some, test_cases}
 use Rattle.pddl_tree.proofs.Readers.{name_reads, keyword_sound}
 use Rattle.pddl_formula.specs.TypedLists.{TypedValue}
 use Rattle.pddl_formula.specs.Formulas.{FormulaValue, conjunction, no_formulas}
-use Rattle.pddl_formula.specs.Reading.{variables_at, condition_at}
+use Rattle.pddl_formula.specs.Inner.Reading.{variables_at, condition_at}
 use Rattle.pddl_formula.proofs.TypedListLaws.{variables_reads}
 use Rattle.pddl_formula.proofs.FormulaLaws.{condition_reads}
 use Rattle.pddl_effect.specs.Effects.{EffectValue, conjunction as all_effects, no_effects}
-use Rattle.pddl_effect.specs.EffectReading.{whole_effect_at}
+use Rattle.pddl_effect.specs.Inner.EffectReading.{whole_effect_at}
 use Rattle.pddl_effect.proofs.EffectLaws.{whole_effect_reads}
 use Rattle.pddl_domain.specs.Actions.{ActionValue, Field, parameters, precondition, effect, parameters_in, preconditions_in, effects_in, OnlyOr, IsField, AreFields, IsAction}
-use Rattle.pddl_domain.specs.DomainReading.{field_at, fields_at, only_or, assembled, action_of}
+use Rattle.pddl_domain.specs.Inner.DomainReading.{field_at, fields_at, only_or, assembled, action_of}
 
 -- which keyword a tree is, where it is one
 keyword_is : (other word : List ℕ) (t : Tree) → IsKeyword word t → is_keyword_at other t ≡ bytes_eq word other

@@ -3,17 +3,17 @@ use Rattle.std.proofs.Common.{◌≡◌, ℕ, false, List, [], ◌∷◌, refl, 
 use Rattle.std.specs.Prelude.{Option, Some, option_map}
 use Rattle.pddl_text.specs.Trees.{Tree, leaf, node, list_of}
 use Rattle.pddl_tree.specs.Words.{list, SpellsName}
-use Rattle.pddl_tree.specs.TreeReading.{name_at, is_dash}
+use Rattle.pddl_tree.specs.Inner.TreeReading.{name_at, is_dash}
 use Rattle.pddl_tree.proofs.Options.{map_some, bind_some}
 use Rattle.pddl_tree.proofs.TreeLists.{list_of_trees_of, trees_of_list_of}
 use Rattle.pddl_tree.proofs.Readers.{Reads, name_reads}
 use Rattle.pddl_formula.specs.Terms.{IsPredicate}
 use Rattle.pddl_formula.specs.TypedLists.{TypedValue, IsTypeName, IsType, AreTypedVariables}
-use Rattle.pddl_formula.specs.Reading.{predicate_at, type_name_at, type_at, typed_variables}
+use Rattle.pddl_formula.specs.Inner.Reading.{predicate_at, type_name_at, type_at, typed_variables}
 use Rattle.pddl_formula.proofs.TermLaws.{predicate_reads}
 use Rattle.pddl_formula.proofs.TypedListLaws.{Readable, type_name_reads, type_reads, list_sound, list_complete, variables_sound, variables_complete}
 use Rattle.pddl_domain.specs.Declarations.{TypeValue, Signature, FunctionValue, AreTypes, IsPredicateSignature, IsFunctionSignature, number, AreFunctions}
-use Rattle.pddl_domain.specs.DomainReading.{signature_of, predicate_of_list, predicate_signature_at, function_of_list, function_signature_at, types_of, functions_of}
+use Rattle.pddl_domain.specs.Inner.DomainReading.{signature_of, predicate_of_list, predicate_signature_at, function_of_list, function_signature_at, types_of, functions_of}
 
 -- ---- signatures
 

@@ -8,11 +8,11 @@ use Rattle.pddl_text.proofs.TextItems.{one_items}
 use Rattle.pddl_sections.proofs.FileLaws.{one_file}
 use Rattle.pddl_file.specs.declared.fault.FileFault.{FileFault}
 use Rattle.pddl_file.specs.declared.fault.FileFault.TheVariants as faults
-use Rattle.pddl_file.specs.FileReading.{RefusesFile}
+use Rattle.pddl_file.specs.Inner.FileReading.{RefusesFile}
 use Rattle.pddl_file.proofs.FileTexts as texts
 use Rattle.pddl_domain.specs.Domains.{DomainValue, domain_rules, AreDomain, SpellsDomain, DomainStands}
-use Rattle.pddl_domain.specs.DomainReading.{domain_readers, domain_of}
-use Rattle.pddl_domain.specs.Sections.{domain_answer, AnswersDomain}
+use Rattle.pddl_domain.specs.Inner.DomainReading.{domain_readers, domain_of}
+use Rattle.pddl_domain.specs.Inner.Sections.{domain_answer, AnswersDomain}
 use Rattle.pddl_domain.proofs.PartLaws.{domain_law}
 
 -- ---- one domain

@@ -12,16 +12,16 @@ use Rattle.pddl_tree.specs.ItemTrees.{item_tree, item_trees}
 use Rattle.pddl_tree.proofs.TreeLists.{list_of_trees_of}
 use Rattle.pddl_tree.proofs.Options.{map_some}
 use Rattle.pddl_sections.specs.Files.{IsOpened}
-use Rattle.pddl_sections.specs.Answers.{right}
-use Rattle.pddl_sections.specs.Verdicts.{Verdict, turn, verdict}
+use Rattle.pddl_sections.specs.Inner.Answers.{right}
+use Rattle.pddl_sections.specs.Inner.Verdicts.{Verdict, turn, verdict}
 use Rattle.pddl_file.specs.declared.keyword.SectionKeyword.{SectionKeyword}
 use Rattle.pddl_file.specs.declared.keyword.Seen.{Seen}
 use Rattle.pddl_file.specs.declared.mark.Mark.{Mark}
 use Rattle.pddl_file.proofs.SectionTurns.{section_goes, sections_end, sections_on, file_right}
-use Rattle.pddl_file.specs.WordReading.{head_key, key_at, has_seen, with_seen}
+use Rattle.pddl_file.specs.Inner.WordReading.{head_key, key_at, has_seen, with_seen}
 use Rattle.pddl_domain.specs.Domains.{DomainValue, Part, requirements, types, constants, predicates, functions, action, requirements_in, types_in, constants_in, predicates_in, functions_in, actions_in}
-use Rattle.pddl_domain.specs.DomainReading.{content_at, part_of, part_at, domain_readers, domain_of}
-use Rattle.pddl_domain.specs.Sections.{domain_verdict, AnswersDomain, with_part, with_parts, AddsPart, AddsParts}
+use Rattle.pddl_domain.specs.Inner.DomainReading.{content_at, part_of, part_at, domain_readers, domain_of}
+use Rattle.pddl_domain.specs.Inner.Sections.{domain_verdict, AnswersDomain, with_part, with_parts, AddsPart, AddsParts}
 
 -- ---- one section
 

@@ -3,23 +3,23 @@ use Rattle.std.proofs.Common.{◌≡◌, List, [], ◌∷◌, map, refl, sym, ap
 use Rattle.std.specs.Prelude.{Option, Some, None, option_map}
 use Rattle.pddl_text.specs.Trees.{Tree, leaf, node, list_of}
 use Rattle.pddl_tree.specs.Words.{list}
-use Rattle.pddl_tree.specs.TreeReading.{all_of}
+use Rattle.pddl_tree.specs.Inner.TreeReading.{all_of}
 use Rattle.pddl_tree.proofs.Options.{map_some}
 use Rattle.pddl_tree.proofs.TreeLists.{list_of_trees_of, trees_of_list_of}
 use Rattle.pddl_tree.proofs.Readers.{Reads, each_sound, each_complete}
-use Rattle.pddl_formula.specs.Reading.{typed_names}
+use Rattle.pddl_formula.specs.Inner.Reading.{typed_names}
 use Rattle.pddl_formula.proofs.TypedListLaws.{names_sound, names_complete}
 use Rattle.pddl_sections.proofs.SectionLaws.{Lawful}
 use Rattle.pddl_file.specs.declared.keyword.SectionKeyword.{SectionKeyword}
 use Rattle.pddl_file.specs.declared.keyword.SectionKeyword.TheVariants as keys
 use Rattle.pddl_file.specs.Keywords.{IsHeaded}
 use Rattle.pddl_file.specs.Flags.{IsFlag}
-use Rattle.pddl_file.specs.WordReading.{flag_at, head_key}
+use Rattle.pddl_file.specs.Inner.WordReading.{flag_at, head_key}
 use Rattle.pddl_file.proofs.KeywordLaws.{flag_reads, head_key_sound, head_key_complete, key_reads, unseen, noted, stays, notes}
 use Rattle.pddl_file.proofs.MarkLaws.{mark_reads}
 use Rattle.pddl_domain.specs.Declarations.{IsPredicateSignature}
 use Rattle.pddl_domain.specs.Domains.{Part, requirements, types, constants, predicates, functions, action, part_key, IsContent, IsPart, domain_rules}
-use Rattle.pddl_domain.specs.DomainReading.{predicate_signature_at, types_of, functions_of, action_of, content_at, part_of, part_at, domain_readers}
+use Rattle.pddl_domain.specs.Inner.DomainReading.{predicate_signature_at, types_of, functions_of, action_of, content_at, part_of, part_at, domain_readers}
 use Rattle.pddl_domain.proofs.DeclarationLaws.{predicate_signature_reads, types_sound, types_complete, functions_sound, functions_complete}
 use Rattle.pddl_domain.proofs.ActionLaws.{action_sound, action_complete}
 

@@ -7,14 +7,14 @@ use Rattle.std.specs.Option.{option_zip}
 use Rattle.pddl_text.specs.declared.item.Item.{Item}
 use Rattle.pddl_text.specs.Trees.{Tree}
 use Rattle.pddl_tree.specs.ItemTrees.{item_tree, item_trees}
-use Rattle.pddl_tree.specs.PlanReading.{both}
-use Rattle.pddl_tree.specs.TreeReading.{name_at}
+use Rattle.pddl_tree.specs.Inner.PlanReading.{both}
+use Rattle.pddl_tree.specs.Inner.TreeReading.{name_at}
 use Rattle.pddl_formula.specs.TypedLists.{TypedValue}
 use Rattle.pddl_formula.specs.Formulas.{FormulaValue, conjunction, no_formulas}
 use Rattle.pddl_effect.specs.Effects.{EffectValue, conjunction as all_effects, no_effects}
 use Rattle.pddl_domain.specs.Actions.{ActionValue, Field, parameters, precondition, effect, parameters_in, preconditions_in, effects_in}
-use Rattle.pddl_domain.specs.DomainReading.{field_at, fields_at, only_or, assembled, action_of}
-use Rattle.pddl_domain.specs.Slots.{SlotValues, no_slots, after_field, slots_from, given_or, action_by}
+use Rattle.pddl_domain.specs.Inner.DomainReading.{field_at, fields_at, only_or, assembled, action_of}
+use Rattle.pddl_domain.specs.Inner.Slots.{SlotValues, no_slots, after_field, slots_from, given_or, action_by}
 
 -- ---- all fields together
 

@@ -6,11 +6,11 @@ ghost use Rattle.pddl_tree.specs.ItemTrees.{item_tree, item_trees};
 ghost use Rattle.pddl_formula.specs.TypedLists.{typed_view};
 ghost use Rattle.pddl_formula.specs.Formulas.{conjunction, no_formulas, formula_view};
 ghost use Rattle.pddl_effect.specs.Effects.{conjunction as all_effects, no_effects, effect_view};
-ghost use Rattle.pddl_formula.specs.Reading.{variables_at, condition_at};
-ghost use Rattle.pddl_effect.specs.EffectReading.{whole_effect_at};
+ghost use Rattle.pddl_formula.specs.Inner.Reading.{variables_at, condition_at};
+ghost use Rattle.pddl_effect.specs.Inner.EffectReading.{whole_effect_at};
 ghost use Rattle.pddl_domain.specs.Actions.{parameters, precondition, effect, action_view};
-ghost use Rattle.pddl_domain.specs.DomainReading.{field_at, action_of};
-ghost use Rattle.pddl_domain.specs.Slots.{slots_view, no_slots, slots_from, AddsField, given_or, action_by};
+ghost use Rattle.pddl_domain.specs.Inner.DomainReading.{field_at, action_of};
+ghost use Rattle.pddl_domain.specs.Inner.Slots.{slots_view, no_slots, slots_from, AddsField, given_or, action_by};
 
 use crate::domain::Action;
 use pddl_build::{both, fill_found, fill_list, if_right};

@@ -2,11 +2,11 @@
 
 ghost use Rattle.std.specs.Prelude.{◌≡◌, ◌∷◌, ◌++◌, [], IfOk, OnOk, Some, codes, map, option_map};
 ghost use Rattle.pddl_tree.specs.ItemTrees.{item_tree, item_trees};
-ghost use Rattle.pddl_tree.specs.TreeReading.{all_of};
-ghost use Rattle.pddl_formula.specs.Reading.{of_type};
+ghost use Rattle.pddl_tree.specs.Inner.TreeReading.{all_of};
+ghost use Rattle.pddl_formula.specs.Inner.Reading.{of_type};
 ghost use Rattle.pddl_domain.specs.Declarations.{number, type_view, predicate_view, function_view};
-ghost use Rattle.pddl_domain.specs.Signatures.{signature_view};
-ghost use Rattle.pddl_domain.specs.DomainReading.{predicate_of_list, predicate_signature_at, function_of_list, function_signature_at, types_of, functions_of};
+ghost use Rattle.pddl_domain.specs.Inner.Signatures.{signature_view};
+ghost use Rattle.pddl_domain.specs.Inner.DomainReading.{predicate_of_list, predicate_signature_at, function_of_list, function_signature_at, types_of, functions_of};
 
 use crate::domain::{DeclaredFunction, DeclaredPredicate, DeclaredType};
 use pddl_formula::{

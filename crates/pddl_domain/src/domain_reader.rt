@@ -5,11 +5,11 @@ ghost use Rattle.pddl_text.specs.Items.{items_view};
 ghost use Rattle.pddl_text.specs.declared.fault.TextFault.TheVariants.{Memory};
 ghost use Rattle.pddl_file.specs.declared.fault.FileFault.{FileFault};
 ghost use Rattle.pddl_file.specs.declared.fault.FileFault.TheVariants.{Text};
-ghost use Rattle.pddl_file.specs.FileReading.{RefusesSections, RefusesFile};
+ghost use Rattle.pddl_file.specs.Inner.FileReading.{RefusesSections, RefusesFile};
 ghost use Rattle.pddl_file.specs.Places.{file_place};
 ghost use Rattle.pddl_domain.specs.Domains.{DomainValue, domain_view, SpellsDomain, DomainStands};
-ghost use Rattle.pddl_domain.specs.DomainReading.{domain_of};
-ghost use Rattle.pddl_domain.specs.Sections.{domain_verdict, AddsParts, domain_answer, AnswersDomain};
+ghost use Rattle.pddl_domain.specs.Inner.DomainReading.{domain_of};
+ghost use Rattle.pddl_domain.specs.Inner.Sections.{domain_verdict, AddsParts, domain_answer, AnswersDomain};
 
 use crate::domain::Domain;
 use crate::section_reader::add_sections;

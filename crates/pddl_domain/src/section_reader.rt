@@ -3,11 +3,11 @@
 ghost use Rattle.std.specs.Prelude.{◌≡◌, Some, IfOk, IfErr, OnOk};
 ghost use Rattle.pddl_text.specs.Items.{item_view, items_view};
 ghost use Rattle.pddl_tree.specs.ItemTrees.{item_tree, item_trees};
-ghost use Rattle.pddl_sections.specs.Verdicts.{turn};
-ghost use Rattle.pddl_file.specs.FileReading.{StopsAt, RefusesSections};
+ghost use Rattle.pddl_sections.specs.Inner.Verdicts.{turn};
+ghost use Rattle.pddl_file.specs.Inner.FileReading.{StopsAt, RefusesSections};
 ghost use Rattle.pddl_domain.specs.Domains.{domain_view};
-ghost use Rattle.pddl_domain.specs.DomainReading.{content_at, part_of, part_at, domain_readers};
-ghost use Rattle.pddl_domain.specs.Sections.{domain_verdict, Adds, AddsPart, AddsParts};
+ghost use Rattle.pddl_domain.specs.Inner.DomainReading.{content_at, part_of, part_at, domain_readers};
+ghost use Rattle.pddl_domain.specs.Inner.Sections.{domain_verdict, Adds, AddsPart, AddsParts};
 
 use crate::action_reader::action_of;
 use crate::declaration_reader::{declared_functions_of, declared_predicates_of, declared_types_of};

@@ -6,18 +6,18 @@ use Rattle.pddl_text.specs.declared.token.TokenKind.{TokenKind}
 use Rattle.pddl_text.specs.declared.token.TokenKind.TheVariants.{Open, Close, Name, Variable, Keyword, Number, Dash, Equal, Colon, Bracket, Compare, Arithmetic}
 use Rattle.pddl_text.specs.Number.{value_of}
 use Rattle.pddl_text.specs.Trees.{Tree, leaf, node, list_of}
-use Rattle.pddl_tree.specs.PlanReading.{moment_by}
+use Rattle.pddl_tree.specs.Inner.PlanReading.{moment_by}
 use Rattle.pddl_tree.specs.Words.{list, IsWord, SpellsNumber}
-use Rattle.pddl_tree.specs.TreeReading.{name_at, all_of}
+use Rattle.pddl_tree.specs.Inner.TreeReading.{name_at, all_of}
 use Rattle.pddl_tree.proofs.Options.{map_some, bind_some, if_some, unless_some}
 use Rattle.pddl_tree.proofs.TreeLists.{list_of_trees_of, trees_of_list_of}
 use Rattle.pddl_tree.proofs.Readers.{Reads, name_reads, equal_bytes, other_bytes, word_sound, word_complete, each_sound, each_complete}
 use Rattle.pddl_formula.specs.Terms.{TermValue, IsTerm}
-use Rattle.pddl_formula.specs.Reading.{term_at}
+use Rattle.pddl_formula.specs.Inner.Reading.{term_at}
 use Rattle.pddl_formula.proofs.TermLaws.{term_reads}
 use Rattle.pddl_effect.specs.StaticNames.{static_function_of}
 use Rattle.pddl_effect.specs.Effects.{FunctionTermValue, AmountValue, number, function, IsCall, IsFunctionTerm, IsAmount, IsTotalCost, IsIncrease}
-use Rattle.pddl_effect.specs.EffectReading.{call_of_list, call_at, static_term, function_term_at, number_at, amount_of, amount_at, is_cost_list, is_total_cost_at, increase_of}
+use Rattle.pddl_effect.specs.Inner.EffectReading.{call_of_list, call_at, static_term, function_term_at, number_at, amount_of, amount_at, is_cost_list, is_total_cost_at, increase_of}
 
 -- ---- calls
 

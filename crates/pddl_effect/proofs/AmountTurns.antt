@@ -5,12 +5,12 @@ use Rattle.std.specs.Option.{option_zip}
 use Rattle.std.proofs.lemmas.List.{take_all}
 use Rattle.pddl_text.specs.declared.item.Item.{Item}
 use Rattle.pddl_tree.specs.ItemTrees.{item_tree, item_trees}
-use Rattle.pddl_tree.specs.TreeReading.{name_at, all_of}
+use Rattle.pddl_tree.specs.Inner.TreeReading.{name_at, all_of}
 use Rattle.pddl_formula.specs.Terms.{TermValue}
-use Rattle.pddl_formula.specs.Reading.{term_at}
+use Rattle.pddl_formula.specs.Inner.Reading.{term_at}
 use Rattle.pddl_effect.specs.StaticNames.{static_function_of}
 use Rattle.pddl_effect.specs.Effects.{FunctionTermValue}
-use Rattle.pddl_effect.specs.EffectReading.{call_of_list, static_term}
+use Rattle.pddl_effect.specs.Inner.EffectReading.{call_of_list, static_term}
 
 -- a function and its arguments
 abbrev pub term_of_parts : List ℕ × List TermValue → FunctionTermValue

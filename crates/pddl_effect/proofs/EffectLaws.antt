@@ -4,20 +4,20 @@ use Rattle.std.specs.Prelude.{Option, Some, None, option_map}
 use Rattle.pddl_text.specs.Spelling.{Word}
 use Rattle.pddl_text.specs.Trees.{Tree, Trees, leaf, node, no_trees, tree, trees_of, list_of}
 use Rattle.pddl_tree.specs.Words.{list, IsWord}
-use Rattle.pddl_tree.specs.TreeReading.{all_of}
+use Rattle.pddl_tree.specs.Inner.TreeReading.{all_of}
 use Rattle.pddl_tree.proofs.Options.{map_some, bind_some, both_some}
 use Rattle.pddl_tree.proofs.TreeLists.{list_of_trees_of, trees_of_list_of}
 use Rattle.pddl_tree.proofs.Readers.{Reads}
 use Rattle.pddl_formula.specs.declared.head.Head.{Head}
 use Rattle.pddl_formula.specs.declared.head.Head.TheVariants as heads
 use Rattle.pddl_formula.specs.Terms.{IsAtom}
-use Rattle.pddl_formula.specs.Reading.{atom_of, atom_at, formula_at, head_at, word_head, only}
+use Rattle.pddl_formula.specs.Inner.Reading.{atom_of, atom_at, formula_at, head_at, word_head, only}
 use Rattle.pddl_formula.proofs.TermLaws.{atom_reads, atom_of_list_sound, atom_of_complete}
 use Rattle.pddl_formula.proofs.TypedListLaws.{variables_reads}
 use Rattle.pddl_formula.proofs.HeadLaws.{HeadIs, head_sound, head_of_word, head_of_other}
 use Rattle.pddl_formula.proofs.FormulaLaws.{Sound, only_sound, quantified_sound, reads_each, formula_reads}
 use Rattle.pddl_effect.specs.Effects.{EffectValue, conjunction, universal, conditional, addition, deletion, increase, EffectValues, no_effects, effect, effects_of, IsEffect, AreEffects, IsWholeEffect}
-use Rattle.pddl_effect.specs.EffectReading.{increase_of, conditional_of, effect_by, effect_of_list, effect_at, effects_at, whole_effect_of, whole_effect_at}
+use Rattle.pddl_effect.specs.Inner.EffectReading.{increase_of, conditional_of, effect_by, effect_of_list, effect_at, effects_at, whole_effect_of, whole_effect_at}
 use Rattle.pddl_effect.proofs.AmountLaws.{increase_sound, increase_complete}
 
 -- ---- the effect of a list

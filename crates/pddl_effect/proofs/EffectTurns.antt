@@ -19,14 +19,14 @@ use Rattle.pddl_formula.specs.declared.formula.Formula.{Formula}
 use Rattle.pddl_formula.specs.Terms.{atom_view}
 use Rattle.pddl_formula.specs.TypedLists.{typed_view}
 use Rattle.pddl_formula.specs.Formulas.{formula_view}
-use Rattle.pddl_formula.specs.Reading.{atom_of_list, atom_at, head_at, variables_at, formula_at, behind, only, quantified}
+use Rattle.pddl_formula.specs.Inner.Reading.{atom_of_list, atom_at, head_at, variables_at, formula_at, behind, only, quantified}
 use Rattle.pddl_effect.specs.declared.amount.Amount.{Amount}
 use Rattle.pddl_effect.specs.declared.effect.Effect.{Effect}
 use Rattle.pddl_effect.specs.declared.effect.Effect.TheOpen.{Effect-F}
 use Rattle.pddl_effect.specs.declared.effect.Effect.TheVariants.{And, Forall, When, Add, Del, Increase, rolls-And, rolls-Forall, rolls-When, rolls-Add, rolls-Del, rolls-Increase}
 use Rattle.pddl_effect.specs.declared.effect.Effect.TheFolds.{fold-roll-Effect}
 use Rattle.pddl_effect.specs.Effects.{EffectValue, conjunction, universal, conditional, addition, deletion, increase, effects_of, amount_view, effect_step, effect_view}
-use Rattle.pddl_effect.specs.EffectReading.{conditional_of, increase_of, is_total_cost_at, amount_at, effect_by, effect_of_list, effect_at, whole_effect_at}
+use Rattle.pddl_effect.specs.Inner.EffectReading.{conditional_of, increase_of, is_total_cost_at, amount_at, effect_by, effect_of_list, effect_at, whole_effect_at}
 use Rattle.pddl_effect.proofs.EffectLaws.{effect_at_leaf}
 
 -- ---- effects without memory

@@ -13,13 +13,13 @@ use Rattle.pddl_text.specs.Trees.{Tree, leaf, node, list_of}
 use Rattle.pddl_text.proofs.Tests.{both_true}
 use Rattle.pddl_tree.specs.Names.{folded, is_name, is_first_byte, is_later_byte}
 use Rattle.pddl_tree.specs.Words.{list, SpellsName, Each}
-use Rattle.pddl_tree.specs.TreeReading.{is_word_at}
+use Rattle.pddl_tree.specs.Inner.TreeReading.{is_word_at}
 use Rattle.pddl_tree.proofs.Readers.{equal_bytes, other_bytes, word_sound, word_complete}
 use Rattle.pddl_tree.proofs.TreeLists.{list_of_trees_of, trees_of_list_of}
 use Rattle.pddl_formula.specs.Terms.{TermValue, name, variable, IsTerm}
 use Rattle.pddl_effect.specs.Effects.{AmountValue, number, function, IsAmount, IsTotalCost, IsIncrease}
-use Rattle.pddl_effect.specs.EffectReading.{is_cost_list, is_total_cost_at}
-use Rattle.pddl_effect.specs.IncreaseTests.{is_name_text, is_variable_text, is_static_text, is_term_by, is_term_at, is_static_by, is_static_at, is_call_list, is_amount_by, is_amount_at, is_cost_and_amount, is_increase_at}
+use Rattle.pddl_effect.specs.Inner.EffectReading.{is_cost_list, is_total_cost_at}
+use Rattle.pddl_effect.specs.Inner.IncreaseTests.{is_name_text, is_variable_text, is_static_text, is_term_by, is_term_at, is_static_by, is_static_at, is_call_list, is_amount_by, is_amount_at, is_cost_and_amount, is_increase_at}
 use Rattle.pddl_effect.proofs.AmountLaws.{cost_sound, cost_complete}
 
 -- ---- tests

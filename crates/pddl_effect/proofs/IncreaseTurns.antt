@@ -4,9 +4,9 @@ use Rattle.std.specs.Prelude.{Bool, false, ◌&&◌}
 use Rattle.std.proofs.lemmas.List.{take_all}
 use Rattle.pddl_text.specs.declared.item.Item.{Item}
 use Rattle.pddl_tree.specs.ItemTrees.{item_tree, item_trees}
-use Rattle.pddl_tree.specs.TreeReading.{is_word_at}
-use Rattle.pddl_effect.specs.EffectReading.{is_total_cost_at}
-use Rattle.pddl_effect.specs.IncreaseTests.{is_amount_at, is_cost_and_amount, is_increase_at}
+use Rattle.pddl_tree.specs.Inner.TreeReading.{is_word_at}
+use Rattle.pddl_effect.specs.Inner.EffectReading.{is_total_cost_at}
+use Rattle.pddl_effect.specs.Inner.IncreaseTests.{is_amount_at, is_cost_and_amount, is_increase_at}
 
 module _ {A : Type 0} where
   -- the total cost and an amount

@@ -1,4 +1,3 @@
 pub mod StaticNames
 pub mod Effects
-pub mod EffectReading
-pub mod IncreaseTests
+pub mod Inner

@@ -3,12 +3,12 @@
 ghost use Rattle.std.specs.Prelude.{◌≡◌, ℕ, [], IfOk, MatchOption, option_map, option_and_then};
 ghost use Rattle.pddl_build.specs.Results.{map_found, both_of};
 ghost use Rattle.pddl_tree.specs.ItemTrees.{item_tree, item_trees};
-ghost use Rattle.pddl_tree.specs.TreeReading.{name_at};
+ghost use Rattle.pddl_tree.specs.Inner.TreeReading.{name_at};
 ghost use Rattle.pddl_tree.specs.Words.{SpellsNumber};
-ghost use Rattle.pddl_formula.specs.Reading.{term_at};
+ghost use Rattle.pddl_formula.specs.Inner.Reading.{term_at};
 ghost use Rattle.pddl_effect.specs.Effects.{FunctionTermValue, AmountValue, function_term_view, amount_view, IsFunctionTerm, IsAmount};
 ghost use Rattle.pddl_effect.specs.StaticNames.{static_function_of};
-ghost use Rattle.pddl_effect.specs.EffectReading.{call_of_list, static_term, function_term_at, number_at, amount_at};
+ghost use Rattle.pddl_effect.specs.Inner.EffectReading.{call_of_list, static_term, function_term_at, number_at, amount_at};
 
 use crate::amount::{Amount, FunctionTerm, StaticFunction};
 use pddl_build::both;

@@ -3,12 +3,12 @@
 ghost use Rattle.std.specs.Prelude.{◌≡◌, IfOk, MatchOption, map, option_map};
 ghost use Rattle.pddl_text.specs.Trees.{Tree};
 ghost use Rattle.pddl_tree.specs.ItemTrees.{item_tree, item_trees};
-ghost use Rattle.pddl_tree.specs.TreeReading.{all_of};
+ghost use Rattle.pddl_tree.specs.Inner.TreeReading.{all_of};
 ghost use Rattle.pddl_build.specs.Results.{map_found, both_of, Boxes};
-ghost use Rattle.pddl_formula.specs.Reading.{atom_at, behind, only, quantified};
+ghost use Rattle.pddl_formula.specs.Inner.Reading.{atom_at, behind, only, quantified};
 ghost use Rattle.pddl_effect.specs.declared.effect.Effect.TheVariants as cases;
 ghost use Rattle.pddl_effect.specs.Effects.{EffectValue, universal, deletion, increase, effect_view, IsEffect, IsWholeEffect};
-ghost use Rattle.pddl_effect.specs.EffectReading.{increase_of, conditional_of, effect_of_list, effect_at, whole_effect_at};
+ghost use Rattle.pddl_effect.specs.Inner.EffectReading.{increase_of, conditional_of, effect_of_list, effect_at, whole_effect_at};
 
 use crate::amount::Amount;
 use crate::amount_reader::amount_of;

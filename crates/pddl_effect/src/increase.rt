@@ -7,8 +7,8 @@ ghost use Rattle.pddl_tree.specs.Names.{is_first_byte, is_later_byte};
 ghost use Rattle.pddl_tree.specs.Words.{list};
 ghost use Rattle.pddl_tree.specs.ItemTrees.{item_tree, item_trees};
 ghost use Rattle.pddl_effect.specs.Effects.{AmountValue, IsTotalCost, IsIncrease};
-ghost use Rattle.pddl_effect.specs.EffectReading.{is_cost_list, is_total_cost_at};
-ghost use Rattle.pddl_effect.specs.IncreaseTests.{is_name_text, is_variable_text, is_static_text, is_term_at, is_static_at, is_call_list, is_amount_at, is_cost_and_amount, is_increase_at};
+ghost use Rattle.pddl_effect.specs.Inner.EffectReading.{is_cost_list, is_total_cost_at};
+ghost use Rattle.pddl_effect.specs.Inner.IncreaseTests.{is_name_text, is_variable_text, is_static_text, is_term_at, is_static_at, is_call_list, is_amount_at, is_cost_and_amount, is_increase_at};
 
 use pddl_formula::{is_word, is_word_item};
 use pddl_text::{Item, TokenKind, value_of};

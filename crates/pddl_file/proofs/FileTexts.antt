@@ -9,8 +9,8 @@ use Rattle.pddl_text.proofs.TextItems.{one_items}
 use Rattle.pddl_text.proofs.TextFaults.{one_text_fault, no_fault_in_items}
 use Rattle.pddl_sections.specs.Sections.{Rules, AllOf, faulty, unsupported, twice}
 use Rattle.pddl_sections.specs.Files.{FileFault as WhatFault, head, at_section, missing, IsFile, HasFault}
-use Rattle.pddl_sections.specs.Verdicts.{Readers}
-use Rattle.pddl_sections.specs.Answers.{Answer, right, wrong, file_answer}
+use Rattle.pddl_sections.specs.Inner.Verdicts.{Readers}
+use Rattle.pddl_sections.specs.Inner.Answers.{Answer, right, wrong, file_answer}
 use Rattle.pddl_sections.proofs.SectionLaws.{Lawful}
 use Rattle.pddl_sections.proofs.FileLaws.{SaysFile, file_says, file_answered, fault_of_file}
 use Rattle.pddl_file.specs.declared.keyword.SectionKeyword.{SectionKeyword}
@@ -18,7 +18,7 @@ use Rattle.pddl_file.specs.declared.mark.Mark.{Mark}
 use Rattle.pddl_file.specs.declared.fault.FileFault.{FileFault}
 use Rattle.pddl_file.specs.declared.fault.FileFault.TheVariants as faults
 use Rattle.pddl_file.specs.Faults.{HasFileFault, FileStands}
-use Rattle.pddl_file.specs.FileReading.{RefusesFile}
+use Rattle.pddl_file.specs.Inner.FileReading.{RefusesFile}
 
 -- the fault that says what is wrong with items
 abbrev fault_of : WhatFault SectionKeyword Mark → FileFault

@@ -9,11 +9,11 @@ use Rattle.pddl_tree.specs.ItemTrees.{item_tree}
 use Rattle.pddl_tree.specs.PlanFaults.{span_of}
 use Rattle.pddl_sections.specs.Sections.{SectionFault, faulty, unsupported, twice}
 use Rattle.pddl_sections.specs.Files.{IsOpened, HeadFault}
-use Rattle.pddl_sections.specs.Verdicts.{Readers, Turn, stop, go, Verdict, fine, bad, turn, refused, verdict}
-use Rattle.pddl_sections.specs.Answers.{Answer, right, first_missing, missing_answer, sections_answer, opened_answer, file_answer}
+use Rattle.pddl_sections.specs.Inner.Verdicts.{Readers, Turn, stop, go, Verdict, fine, bad, turn, refused, verdict}
+use Rattle.pddl_sections.specs.Inner.Answers.{Answer, right, first_missing, missing_answer, sections_answer, opened_answer, file_answer}
 use Rattle.pddl_sections.proofs.FileLaws.{opened_is}
 use Rattle.pddl_sections.proofs.Turns.{verdict_end, verdict_step, verdict_stop, no_key_turn, twice_turn, unfit_turn, fit_turn}
-use Rattle.pddl_file.specs.FileReading.{IsFaultAt, StopsAt, RefusesSections, RefusesFile}
+use Rattle.pddl_file.specs.Inner.FileReading.{IsFaultAt, StopsAt, RefusesSections, RefusesFile}
 use Rattle.pddl_file.specs.declared.keyword.SectionKeyword.{SectionKeyword}
 use Rattle.pddl_file.specs.declared.mark.Mark.{Mark}
 use Rattle.pddl_file.specs.declared.fault.FileFault.{FileFault}

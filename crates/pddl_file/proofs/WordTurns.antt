@@ -14,17 +14,17 @@ use Rattle.pddl_text.specs.Items.{item_view, items_view}
 use Rattle.pddl_tree.specs.Names.{folded}
 use Rattle.pddl_tree.specs.Words.{list, IsWord}
 use Rattle.pddl_tree.specs.ItemTrees.{item_tree, item_trees}
-use Rattle.pddl_tree.specs.TreeReading.{is_word_at, word_by}
+use Rattle.pddl_tree.specs.Inner.TreeReading.{is_word_at, word_by}
 use Rattle.pddl_tree.proofs.Readers.{word_sound}
 use Rattle.pddl_tree.proofs.TreeLists.{list_of_trees_of, item_tree_list, item_tree_word}
 use Rattle.pddl_effect.specs.Effects.{AmountValue, IsIncrease}
-use Rattle.pddl_effect.specs.EffectReading.{increase_of}
+use Rattle.pddl_effect.specs.Inner.EffectReading.{increase_of}
 use Rattle.pddl_effect.proofs.AmountLaws.{increase_sound}
 use Rattle.pddl_sections.specs.Sections.{lists_in}
-use Rattle.pddl_sections.specs.Verdicts.{mark_or, first_mark}
+use Rattle.pddl_sections.specs.Inner.Verdicts.{mark_or, first_mark}
 use Rattle.pddl_sections.proofs.Turns.{lists_from, mark_list}
 use Rattle.pddl_file.specs.Keywords.{IsHeaded}
-use Rattle.pddl_file.specs.WordReading.{list_key, key_at, plain_mark, is_number_first, unless_increase, name_mark_by, or_else, list_mark, mark_in}
+use Rattle.pddl_file.specs.Inner.WordReading.{list_key, key_at, plain_mark, is_number_first, unless_increase, name_mark_by, or_else, list_mark, mark_in}
 use Rattle.pddl_file.specs.declared.keyword.SectionKeyword.{SectionKeyword}
 use Rattle.pddl_file.specs.declared.mark.Mark.{Mark}
 use Rattle.pddl_file.specs.declared.mark.Mark.TheVariants as marks

@@ -3,5 +3,4 @@ pub mod Flags
 pub mod Marks
 pub mod Faults
 pub mod Places
-pub mod WordReading
-pub mod FileReading
+pub mod Inner

@@ -2,8 +2,8 @@
 
 ghost use Rattle.std.specs.Prelude.{◌≡◌, IfOk, map, option_map};
 ghost use Rattle.pddl_tree.specs.ItemTrees.{item_tree, item_trees};
-ghost use Rattle.pddl_tree.specs.TreeReading.{all_of};
-ghost use Rattle.pddl_file.specs.WordReading.{flag_name, flag_at};
+ghost use Rattle.pddl_tree.specs.Inner.TreeReading.{all_of};
+ghost use Rattle.pddl_file.specs.Inner.WordReading.{flag_name, flag_at};
 
 use pddl_text::{Item, TokenKind};
 use pddl_tree::Name;

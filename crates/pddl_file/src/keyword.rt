@@ -4,7 +4,7 @@ ghost use Rattle.std.specs.Prelude.{◌≡◌, MatchOption};
 ghost use Rattle.pddl_tree.specs.Names.{folded};
 ghost use Rattle.pddl_tree.specs.ItemTrees.{item_tree, item_trees};
 ghost use Rattle.pddl_file.specs.Keywords.{key_text, IsHeaded};
-ghost use Rattle.pddl_file.specs.WordReading.{key_of, head_key, list_key, key_at, nothing_seen, has_seen, with_seen};
+ghost use Rattle.pddl_file.specs.Inner.WordReading.{key_of, head_key, list_key, key_at, nothing_seen, has_seen, with_seen};
 
 use pddl_formula::is_word;
 use pddl_text::{Item, TokenKind};

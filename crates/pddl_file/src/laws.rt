@@ -8,7 +8,7 @@ ghost use Rattle.pddl_file.specs.declared.mark.Mark.{Mark};
 ghost use Rattle.pddl_file.specs.Flags.{IsFlag};
 ghost use Rattle.pddl_file.specs.Keywords.{key_text, IsHeaded};
 ghost use Rattle.pddl_file.specs.Marks.{IsMarked};
-ghost use Rattle.pddl_file.specs.WordReading.{flag_at, head_key, key_at, mark_at};
+ghost use Rattle.pddl_file.specs.Inner.WordReading.{flag_at, head_key, key_at, mark_at};
 
 /// What the reader of flags computes of a tree is the flag that the tree spells, and nothing where it spells none.
 pub fn flags_as_spelled()

@@ -5,9 +5,9 @@ ghost use Rattle.pddl_text.specs.Items.{item_view, items_view};
 ghost use Rattle.pddl_tree.specs.Names.{folded};
 ghost use Rattle.pddl_tree.specs.ItemTrees.{item_trees};
 ghost use Rattle.pddl_sections.specs.Sections.{lists_in};
-ghost use Rattle.pddl_sections.specs.Verdicts.{first_mark};
+ghost use Rattle.pddl_sections.specs.Inner.Verdicts.{first_mark};
 ghost use Rattle.pddl_file.specs.Marks.{mark_word};
-ghost use Rattle.pddl_file.specs.WordReading.{plain_mark, is_number_first, list_mark, mark_in};
+ghost use Rattle.pddl_file.specs.Inner.WordReading.{plain_mark, is_number_first, list_mark, mark_in};
 
 use pddl_effect::is_increase;
 use pddl_formula::{is_word, is_word_item};

@@ -6,10 +6,10 @@ ghost use Rattle.pddl_text.specs.Items.{item_view};
 ghost use Rattle.pddl_tree.specs.ItemTrees.{item_tree};
 ghost use Rattle.pddl_tree.specs.PlanFaults.{span_of};
 ghost use Rattle.pddl_sections.specs.Sections.{lists_in};
-ghost use Rattle.pddl_sections.specs.Verdicts.{first_mark, refusal};
+ghost use Rattle.pddl_sections.specs.Inner.Verdicts.{first_mark, refusal};
 ghost use Rattle.pddl_file.specs.declared.fault.FileFault.TheVariants.{Text};
-ghost use Rattle.pddl_file.specs.WordReading.{key_at, types_key, mark_at};
-ghost use Rattle.pddl_file.specs.FileReading.{IsFaultAt};
+ghost use Rattle.pddl_file.specs.Inner.WordReading.{key_at, types_key, mark_at};
+ghost use Rattle.pddl_file.specs.Inner.FileReading.{IsFaultAt};
 
 use crate::fault::FileFault;
 use crate::keyword::{SectionKeyword, keyword_of};

@@ -22,7 +22,7 @@ use Rattle.pddl_effect.specs.declared.effect.Effect.TheFolds.{fold-roll-Effect}
 use Rattle.pddl_effect.specs.Effects.{EffectValue, increase, amount_view, effect_step, effect_view, effects_of}
 use Rattle.pddl_effect.proofs.EffectTurns as turns
 use Rattle.pddl_file_layout.specs.FormulaValues.{is_formula, are_formulas, is_effect, are_effects}
-use Rattle.pddl_file_layout.specs.Texts.{spaced_by, term_text, atom_text, typed_text, variables_text, formula_text, formulas_text, amount_text, effect_text, effects_text}
+use Rattle.pddl_file_layout.specs.Inner.Texts.{spaced_by, term_text, atom_text, typed_text, variables_text, formula_text, formulas_text, amount_text, effect_text, effects_text}
 
 -- ---- lists of variables
 

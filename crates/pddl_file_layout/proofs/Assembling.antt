@@ -5,7 +5,7 @@ use Rattle.std.specs.List.{flat_map}
 use Rattle.pddl_text.specs.declared.token.Span.{Span}
 use Rattle.pddl_text.specs.Trees.{Tree, Placed, placed_leaf, placed_node, placed_of, erased, all_erased}
 use Rattle.pddl_tree.specs.Words.{list, Each, IsWord}
-use Rattle.pddl_tree.specs.PlanReading.{placed_items}
+use Rattle.pddl_tree.specs.Inner.PlanReading.{placed_items}
 use Rattle.pddl_tree.proofs.TreeLists.{all_erased_list}
 use Rattle.pddl_sections.specs.Sections.{AnyOf, AllOf}
 use Rattle.pddl_sections.specs.Files.{IsTitle, IsOpened}
@@ -14,7 +14,7 @@ use Rattle.pddl_file.specs.declared.keyword.SectionKeyword.{SectionKeyword}
 use Rattle.pddl_file.specs.Keywords.{IsHeaded, IsSingle}
 use Rattle.pddl_file.proofs.KeywordLaws.{list_inj, key_reads}
 use Rattle.pddl_file_layout.specs.FormulaTrees.{name_tree}
-use Rattle.pddl_file_layout.specs.PartLists.{part_list}
+use Rattle.pddl_file_layout.specs.Inner.PartLists.{part_list}
 
 -- ---- lists
 

@@ -17,7 +17,7 @@ use Rattle.pddl_sections.specs.Sections.{AllOf}
 use Rattle.pddl_file_layout.specs.FormulaValues.{is_typed, is_formula, is_effect}
 use Rattle.pddl_file_layout.specs.FormulaTrees.{name_tree, variable_tree, dash, type_tree, typed_trees, variables_tree, formula_tree, effect_tree}
 use Rattle.pddl_file_layout.specs.DomainLayout.{is_declared_type, is_declared_predicate, is_declared_function, is_action, is_domain, flag_tree, section_trees, type_trees, signature_tree, function_trees, declaration_trees, action_tree, domain_tree, section_line, action_text, domain_text}
-use Rattle.pddl_file_layout.specs.DomainPieces.{name_word, keyword_word, section_pieces, action_pieces, end_pieces, domain_pieces}
+use Rattle.pddl_file_layout.specs.Inner.DomainPieces.{name_word, keyword_word, section_pieces, action_pieces, end_pieces, domain_pieces}
 use Rattle.pddl_file_layout.proofs.FormulaTreeLaws.{and_parts}
 use Rattle.pddl_file_layout.proofs.WritableTrees.{all_blank, keyword_writable, section_writable, all_pass, name_formed, keyword_formed, all_writable, all_append, all_of_each, all_of_lists, name_writable, variable_writable, flag_writable, dash_writable, predicate_writable, type_name_writable, type_writable, typed_writable, variables_writable, formula_writable, effect_writable}
 use Rattle.pddl_file_layout.proofs.PiecesOfLines.{map_same, words_append, group_text, group_tokens, group_written, section_text, section_tokens, section_written, end_written}

@@ -17,7 +17,7 @@ use Rattle.pddl_domain.specs.Actions.{ActionValue, parameters, precondition, eff
 use Rattle.pddl_domain.specs.Domains.{DomainValue, Part, requirements, types, constants, predicates, functions, action, requirements_in, types_in, constants_in, predicates_in, functions_in, actions_in, part_key, IsPart, domain_rules, AreDomain}
 use Rattle.pddl_file_layout.specs.FormulaValues.{is_typed, is_formula, is_effect}
 use Rattle.pddl_file_layout.specs.FormulaTrees.{name_tree, variable_tree, dash, type_tree, typed_trees, variables_tree, formula_tree, effect_tree}
-use Rattle.pddl_file_layout.specs.PartLists.{part_list}
+use Rattle.pddl_file_layout.specs.Inner.PartLists.{part_list}
 use Rattle.pddl_file_layout.specs.DomainLayout.{is_declared_type, is_declared_predicate, is_declared_function, is_action, is_domain, keyword_tree, flag_tree, section_trees, type_trees, signature_tree, function_trees, declaration_trees, action_tree, domain_tree}
 use Rattle.pddl_file_layout.proofs.Assembling.{each_append, adds_nothing, adds_its_own, none_add, each_adds, Rising, never_repeats, rising_part, rising_many, opened_as}
 use Rattle.pddl_file_layout.proofs.FormulaTreeLaws.{and_parts, name_folds, spells_name, each_of, spells_predicate, spells_type_name, spells_type, spells_variables, spells_names, spells_variable_list, spells_formula, spells_effect}

@@ -15,7 +15,7 @@ use Rattle.pddl_problem.specs.Problems.{ProblemValue}
 use Rattle.pddl_file_layout.specs.FormulaTrees.{name_tree, variable_tree, number_tree, equal_sign, dash, type_tree, typed_trees, formula_tree}
 use Rattle.pddl_file_layout.specs.DomainLayout.{keyword_tree, flag_tree, section_trees, type_trees, signature_tree, function_trees, section_line, action_text, domain_text}
 use Rattle.pddl_file_layout.specs.ProblemLayout.{ground_tree, init_tree, metric_trees, problem_text}
-use Rattle.pddl_file_layout.specs.Texts.{spaced_by, word_text, type_text, formula_text, section_text, flag_text, declared_type_text, signature_text, function_text, object_text, action_lines, domain_lines, ground_text, init_text, metric_text, problem_lines}
+use Rattle.pddl_file_layout.specs.Inner.Texts.{spaced_by, word_text, type_text, formula_text, section_text, flag_text, declared_type_text, signature_text, function_text, object_text, action_lines, domain_lines, ground_text, init_text, metric_text, problem_lines}
 use Rattle.pddl_file_layout.proofs.TreeTexts.{node_text, spaced_as, list_text, one_text, two_text, name_is, variable_is, type_is, typed_is, variables_is, formula_is, effect_is, number_is}
 
 -- ---- sections

@@ -7,7 +7,7 @@ use Rattle.pddl_text.specs.Pieces.{Piece, blanks, pieces_text, tokens_of, AreWri
 use Rattle.pddl_text.proofs.Written.{pieces_append, written_append, tokens_append, tree_written, tree_tokens}
 use Rattle.pddl_sections.specs.Sections.{AllOf}
 use Rattle.pddl_file_layout.specs.DomainLayout.{section_line}
-use Rattle.pddl_file_layout.specs.DomainPieces.{section_pieces, end_pieces}
+use Rattle.pddl_file_layout.specs.Inner.DomainPieces.{section_pieces, end_pieces}
 use Rattle.pddl_file_layout.proofs.WritableTrees.{all_blank}
 
 -- ---- words of lists

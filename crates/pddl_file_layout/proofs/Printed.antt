@@ -7,8 +7,8 @@ use Rattle.std.proofs.lemmas.List.{take_more}
 use Rattle.std.proofs.lemmas.Grind.{flat_map-append}
 use Rattle.pddl_text.specs.Device.{AppendsBeginning, HasFailed}
 use Rattle.pddl_text.proofs.Known.{appends_more, beginning_of_more, beginning_after}
-use Rattle.pddl_file_layout.specs.Printing.{PutsBy, Puts}
-use Rattle.pddl_file_layout.specs.Texts.{spaced_by}
+use Rattle.pddl_file_layout.specs.Inner.Printing.{PutsBy, Puts}
+use Rattle.pddl_file_layout.specs.Inner.Texts.{spaced_by}
 
 -- nothing written is the empty text
 appends_nothing : (a : Option (List ℕ)) → Appends a a []

@@ -18,7 +18,7 @@ use Rattle.pddl_sections.specs.Sections.{AllOf}
 use Rattle.pddl_file_layout.specs.FormulaTrees.{name_tree, typed_trees}
 use Rattle.pddl_file_layout.specs.DomainLayout.{keyword_tree, flag_tree, section_trees, section_line}
 use Rattle.pddl_file_layout.specs.ProblemLayout.{is_fact, is_ground_function, is_init, is_metric, is_problem, ground_tree, init_tree, metric_trees, problem_sections, problem_tree, problem_text}
-use Rattle.pddl_file_layout.specs.DomainPieces.{name_word, section_pieces, end_pieces, problem_pieces}
+use Rattle.pddl_file_layout.specs.Inner.DomainPieces.{name_word, section_pieces, end_pieces, problem_pieces}
 use Rattle.pddl_file_layout.proofs.FormulaTreeLaws.{and_parts}
 use Rattle.pddl_file_layout.proofs.WritableTrees.{all_blank, all_writable, all_append, all_of_each, name_writable, flag_writable, equal_writable, number_writable, predicate_writable, typed_writable, formula_writable, keyword_writable, section_writable, name_formed}
 use Rattle.pddl_file_layout.proofs.PiecesOfLines.{map_same, group_text, group_tokens, group_written, section_text, section_tokens, section_written, end_written}

@@ -22,7 +22,7 @@ use Rattle.pddl_problem.specs.Inits.{GroundValue, InitValue, holds, fails, value
 use Rattle.pddl_problem.specs.Problems.{ProblemValue, Part, domain, requirements, objects, init, goal, metric, domains_in, requirements_in, objects_in, init_in, goals_in, metrics_in, part_key, IsPart, problem_rules, required, AreProblem}
 use Rattle.pddl_file_layout.specs.FormulaValues.{is_typed, is_formula}
 use Rattle.pddl_file_layout.specs.FormulaTrees.{name_tree, number_tree, equal_sign, typed_trees, formula_tree}
-use Rattle.pddl_file_layout.specs.PartLists.{part_list}
+use Rattle.pddl_file_layout.specs.Inner.PartLists.{part_list}
 use Rattle.pddl_file_layout.specs.DomainLayout.{keyword_tree, flag_tree, section_trees}
 use Rattle.pddl_file_layout.specs.ProblemLayout.{is_fact, is_ground_function, is_init, is_metric, is_problem, ground_tree, init_tree, metric_trees, problem_sections, problem_tree}
 use Rattle.pddl_file_layout.proofs.Assembling.{each_append, adds_nothing, adds_its_own, Rising, never_repeats, rising_part, opened_as}

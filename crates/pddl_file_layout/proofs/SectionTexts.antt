@@ -1,7 +1,7 @@
 -- Sections that have content, and what is said of a whole domain or problem.
 use Rattle.std.proofs.Common.{◌≡◌, ℕ, ◌<◌, List, [], ◌∷◌, ◌++◌, map, length, suc, refl, sym, ap, ◌∙◌, codes, append_assoc, arith}
 use Rattle.std.specs.Prelude.{Bool, true, ◌&&◌}
-use Rattle.pddl_file_layout.specs.Texts.{spaced_by, section_text}
+use Rattle.pddl_file_layout.specs.Inner.Texts.{spaced_by, section_text}
 
 -- a section with content
 filled : {V : Type 0} (opening : List ℕ) (text : V → List ℕ) (vs : List V) → 0 < length vs → opening ++ (spaced_by text vs ++ codes ")\n") ≡ section_text opening text vs

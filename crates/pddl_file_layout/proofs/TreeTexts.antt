@@ -11,7 +11,7 @@ use Rattle.pddl_effect.specs.Effects as effects
 use Rattle.pddl_effect.specs.Effects.{FunctionTermValue, AmountValue, number, function, EffectValue, EffectValues, no_effects, effect, conditional, addition, deletion, increase}
 use Rattle.pddl_text.specs.NumberText.{number_text}
 use Rattle.pddl_file_layout.specs.FormulaTrees.{name_tree, variable_tree, equal_sign, dash, term_tree, atom_tree, type_tree, typed_trees, variables_tree, formula_tree, formula_trees, function_term_tree, amount_tree, effect_tree, effect_trees}
-use Rattle.pddl_file_layout.specs.Texts.{spaced_by, word_text, term_text, atom_text, type_text, typed_text, variables_text, formula_text, formulas_text, function_term_text, amount_text, effect_text, effects_text}
+use Rattle.pddl_file_layout.specs.Inner.Texts.{spaced_by, word_text, term_text, atom_text, type_text, typed_text, variables_text, formula_text, formulas_text, function_term_text, amount_text, effect_text, effects_text}
 
 -- ---- lists
 

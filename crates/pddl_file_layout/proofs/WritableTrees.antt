@@ -25,7 +25,7 @@ use Rattle.pddl_sections.specs.Sections.{AllOf}
 use Rattle.pddl_file_layout.specs.FormulaValues.{is_term, is_atom, is_typed, is_formula, are_formulas, is_function_term, is_amount, is_effect, are_effects}
 use Rattle.pddl_file_layout.specs.FormulaTrees.{name_tree, variable_tree, dash, equal_sign, number_tree, term_tree, atom_tree, type_tree, typed_trees, variables_tree, formula_tree, formula_trees, function_term_tree, amount_tree, effect_tree, effect_trees}
 use Rattle.pddl_file_layout.specs.DomainLayout.{keyword_tree, flag_tree, section_trees}
-use Rattle.pddl_file_layout.specs.DomainPieces.{name_word, keyword_word}
+use Rattle.pddl_file_layout.specs.Inner.DomainPieces.{name_word, keyword_word}
 use Rattle.pddl_file_layout.proofs.FormulaTreeLaws.{and_parts}
 
 -- ---- words

@@ -10,8 +10,8 @@ ghost use Rattle.pddl_domain.specs.Declarations.{Signature, type_view, predicate
 ghost use Rattle.pddl_domain.specs.Actions.{action_view};
 ghost use Rattle.pddl_domain.specs.Domains.{domain_view, SpellsDomain};
 ghost use Rattle.pddl_file_layout.specs.DomainLayout.{is_declared_type, is_declared_predicate, is_declared_function, is_action, is_domain, domain_tree, domain_text};
-ghost use Rattle.pddl_file_layout.specs.Printing.{Puts};
-ghost use Rattle.pddl_file_layout.specs.Texts.{spaced_by, section_text, declared_type_text, signature_text, function_text, action_lines};
+ghost use Rattle.pddl_file_layout.specs.Inner.Printing.{Puts};
+ghost use Rattle.pddl_file_layout.specs.Inner.Texts.{spaced_by, section_text, declared_type_text, signature_text, function_text, action_lines};
 
 use crate::effect::put_effect;
 use crate::formula::{put_formula, put_type, put_typed_list, put_variables};

@@ -4,8 +4,8 @@ ghost use Rattle.std.specs.Prelude.{IsTrue, map};
 ghost use Rattle.std.specs.List.{list_all};
 ghost use Rattle.pddl_effect.specs.Effects.{amount_view, function_term_view, effect_view};
 ghost use Rattle.pddl_file_layout.specs.FormulaValues.{is_function_term, is_amount, is_effect};
-ghost use Rattle.pddl_file_layout.specs.Printing.{Puts};
-ghost use Rattle.pddl_file_layout.specs.Texts.{spaced_by, function_term_text, amount_text, effect_text};
+ghost use Rattle.pddl_file_layout.specs.Inner.Printing.{Puts};
+ghost use Rattle.pddl_file_layout.specs.Inner.Texts.{spaced_by, function_term_text, amount_text, effect_text};
 
 use crate::formula::{put_atom, put_formula, put_terms, put_variables};
 use crate::printing::{put, put_number};

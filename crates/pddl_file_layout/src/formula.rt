@@ -8,8 +8,8 @@ ghost use Rattle.pddl_formula.specs.Terms.{term_view, atom_view};
 ghost use Rattle.pddl_formula.specs.TypedLists.{typed_view};
 ghost use Rattle.pddl_formula.specs.Formulas.{formula_view};
 ghost use Rattle.pddl_file_layout.specs.FormulaValues.{is_term, is_atom, is_typed, is_formula};
-ghost use Rattle.pddl_file_layout.specs.Printing.{Puts};
-ghost use Rattle.pddl_file_layout.specs.Texts.{spaced_by, word_text, term_text, atom_text, type_text, typed_text, variables_text, formula_text};
+ghost use Rattle.pddl_file_layout.specs.Inner.Printing.{Puts};
+ghost use Rattle.pddl_file_layout.specs.Inner.Texts.{spaced_by, word_text, term_text, atom_text, type_text, typed_text, variables_text, formula_text};
 
 use crate::printing::put;
 use pddl_formula::{Atom, Formula, Term, TypeName, TypeNames, Typed};

@@ -5,7 +5,7 @@
 
 ghost use Rattle.std.specs.Prelude.{◌≤◌};
 ghost use Rattle.pddl_text.specs.NumberText.{number_text};
-ghost use Rattle.pddl_file_layout.specs.Printing.{Puts};
+ghost use Rattle.pddl_file_layout.specs.Inner.Printing.{Puts};
 
 use pddl_layout::write_number;
 use pddl_text::{Fixed, Sink, write_text};

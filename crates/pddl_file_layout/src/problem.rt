@@ -9,8 +9,8 @@ ghost use Rattle.pddl_text.specs.Pieces.{IsWithin};
 ghost use Rattle.pddl_problem.specs.Inits.{fact_view, function_view, init_view, direction_word, metric_view};
 ghost use Rattle.pddl_problem.specs.Problems.{problem_view, SpellsProblem};
 ghost use Rattle.pddl_file_layout.specs.ProblemLayout.{is_fact, is_ground_function, is_init, is_metric, is_problem, problem_tree, problem_text};
-ghost use Rattle.pddl_file_layout.specs.Printing.{Puts};
-ghost use Rattle.pddl_file_layout.specs.Texts.{spaced_by, ground_text, init_text, metric_text};
+ghost use Rattle.pddl_file_layout.specs.Inner.Printing.{Puts};
+ghost use Rattle.pddl_file_layout.specs.Inner.Texts.{spaced_by, ground_text, init_text, metric_text};
 
 use crate::formula::{put_formula, put_names};
 use crate::printing::{put, put_number};

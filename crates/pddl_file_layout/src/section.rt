@@ -5,8 +5,8 @@ ghost use Rattle.std.specs.List.{list_all};
 ghost use Rattle.pddl_tree.specs.Names.{is_name};
 ghost use Rattle.pddl_formula.specs.TypedLists.{typed_view};
 ghost use Rattle.pddl_file_layout.specs.FormulaValues.{is_typed};
-ghost use Rattle.pddl_file_layout.specs.Printing.{Puts};
-ghost use Rattle.pddl_file_layout.specs.Texts.{spaced_by, section_text, flag_text, object_text};
+ghost use Rattle.pddl_file_layout.specs.Inner.Printing.{Puts};
+ghost use Rattle.pddl_file_layout.specs.Inner.Texts.{spaced_by, section_text, flag_text, object_text};
 
 use crate::formula::put_typed_list;
 use crate::printing::put;

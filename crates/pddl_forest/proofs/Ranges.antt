@@ -4,7 +4,7 @@ use Rattle.std.proofs.lemmas.Bool.{cases_lt}
 use Rattle.std.specs.Prelude.{Result, Ok, Err, IfOk}
 use Rattle.std.proofs.lemmas.List.{get_or_past}
 use Rattle.pddl_forest.specs.Forests.{parent_of, up, IsUnder, number_at, IsPreorder}
-use Rattle.pddl_forest.specs.Checks.{IsPlaced, AreApart, ArePassed, Passes}
+use Rattle.pddl_forest.specs.Inner.Checks.{IsPlaced, AreApart, ArePassed, Passes}
 
 pub if_ok : {A E : Type 0} (P Q : A → Type 0) (r : Result A E) → ((a : A) → P a → Q a) → IfOk r P → IfOk r Q
 if_ok P Q (Ok a) on h = on a h

@@ -4,7 +4,7 @@ use Rattle.std.specs.Prelude.{◌↔◌, IsTrue, Contains, Option, Some, None, I
 use Rattle.std.proofs.lemmas.List.Elements.{Contains-append_cases}
 use Rattle.pddl_forest.specs.Forests.{parent_of, up, IsUnder, number_at, IsWithin, IsPreorder}
 use Rattle.pddl_forest.specs.Counts.{count, sum_of, AreTopsOf}
-use Rattle.pddl_forest.specs.Roots.{chain_end, IsChain, AreRoots, HasRoot}
+use Rattle.pddl_forest.specs.Inner.Roots.{chain_end, IsChain, AreRoots, HasRoot}
 use Rattle.pddl_forest.proofs.PlaceCounts.{any_default, count_both}
 
 pub both_found : {V E : Type 0} (P Q R : V → Type 0) (r : Result (Option V) E) → ((v : V) → P v → Q v → R v) → IfOk r (λ o. IfSome o P) → IfOk r (λ o. IfSome o Q) → IfOk r (λ o. IfSome o R)

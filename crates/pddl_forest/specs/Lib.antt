@@ -1,4 +1,3 @@
 pub mod Forests
-pub mod Checks
 pub mod Counts
-pub mod Roots
+pub mod Inner

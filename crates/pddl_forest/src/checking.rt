@@ -2,7 +2,7 @@
 
 ghost use Rattle.std.specs.Prelude.{◌≡◌, ◌≢◌, ◌<◌, ◌≤◌, ℕ, true, length, IfOk};
 ghost use Rattle.pddl_forest.specs.Forests.{parent_of, number_at, IsPreorder};
-ghost use Rattle.pddl_forest.specs.Checks.{IsPlaced, AreApart, Raises, Passes};
+ghost use Rattle.pddl_forest.specs.Inner.Checks.{IsPlaced, AreApart, Raises, Passes};
 
 use std::alloc::{AllocError, Allocator};
 

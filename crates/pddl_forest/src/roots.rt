@@ -2,7 +2,7 @@
 
 ghost use Rattle.std.specs.Prelude.{◌≡◌, ◌<◌, ℕ, true, Contains, IfOk, IfSome};
 ghost use Rattle.pddl_forest.specs.Forests.{number_at};
-ghost use Rattle.pddl_forest.specs.Roots.{AreRoots, HasRoot};
+ghost use Rattle.pddl_forest.specs.Inner.Roots.{AreRoots, HasRoot};
 
 use crate::checking::number_at;
 use std::alloc::{AllocError, Allocator};

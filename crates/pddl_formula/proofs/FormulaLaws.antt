@@ -3,14 +3,14 @@ use Rattle.std.proofs.Common.{◌≡◌, ℕ, List, [], ◌∷◌, map, refl, sy
 use Rattle.std.specs.Prelude.{Option, Some, None, option_map}
 use Rattle.pddl_text.specs.Trees.{Tree, Trees, no_trees, tree, leaf, node, trees_of, list_of}
 use Rattle.pddl_tree.specs.Words.{list, IsWord}
-use Rattle.pddl_tree.specs.TreeReading.{all_of}
+use Rattle.pddl_tree.specs.Inner.TreeReading.{all_of}
 use Rattle.pddl_tree.proofs.Options.{map_some, bind_some, both_some}
 use Rattle.pddl_tree.proofs.TreeLists.{list_of_trees_of, trees_of_list_of}
 use Rattle.pddl_tree.proofs.Readers.{Reads}
 use Rattle.pddl_formula.specs.Terms.{IsTerm}
 use Rattle.pddl_formula.specs.TypedLists.{TypedValue, IsVariableList}
 use Rattle.pddl_formula.specs.Formulas.{FormulaValue, FormulaValues, atom, equal, negation, implication, conjunction, disjunction, existential, universal, no_formulas, formula, formulas_of, IsFormula, AreFormulas, IsCondition}
-use Rattle.pddl_formula.specs.Reading.{term_at, atom_of, variables_at, word_head, head_at, only, pair_of, two, quantified, formula_by, formula_of_list, formula_at, formulas_at, condition_of, condition_at}
+use Rattle.pddl_formula.specs.Inner.Reading.{term_at, atom_of, variables_at, word_head, head_at, only, pair_of, two, quantified, formula_by, formula_of_list, formula_at, formulas_at, condition_of, condition_at}
 use Rattle.pddl_formula.specs.declared.head.Head.{Head}
 use Rattle.pddl_formula.specs.declared.head.Head.TheVariants as heads
 use Rattle.pddl_formula.proofs.TermLaws.{term_reads, atom_of_list_sound, atom_of_complete}

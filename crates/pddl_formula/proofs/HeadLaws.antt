@@ -10,7 +10,7 @@ use Rattle.pddl_tree.specs.Names.{folded}
 use Rattle.pddl_tree.specs.Words.{IsWord, IsEqualSign, IsNoneOf}
 use Rattle.pddl_tree.proofs.Readers.{same_bytes, equal_bytes, other_bytes}
 use Rattle.pddl_formula.specs.Reserved.{reserved}
-use Rattle.pddl_formula.specs.Reading.{word_head, head_by, head_at}
+use Rattle.pddl_formula.specs.Inner.Reading.{word_head, head_by, head_at}
 use Rattle.pddl_formula.specs.declared.head.Head.{Head}
 use Rattle.pddl_formula.specs.declared.head.Head.TheVariants as heads
 

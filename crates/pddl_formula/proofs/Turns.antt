@@ -6,11 +6,11 @@ use Rattle.pddl_text.specs.declared.item.Item.{Item}
 use Rattle.pddl_text.specs.Trees.{Tree}
 use Rattle.pddl_tree.specs.Words.{list}
 use Rattle.pddl_tree.specs.ItemTrees.{item_tree, item_trees}
-use Rattle.pddl_tree.specs.PlanReading.{both}
-use Rattle.pddl_tree.specs.TreeReading.{all_of}
+use Rattle.pddl_tree.specs.Inner.PlanReading.{both}
+use Rattle.pddl_tree.specs.Inner.TreeReading.{all_of}
 use Rattle.pddl_tree.proofs.Options.{with_front, front_more}
 use Rattle.pddl_tree.proofs.TreeLists.{list_of_trees_of}
-use Rattle.pddl_formula.specs.Reading.{atom_at, atom_of, atom_of_list, type_at, either_of, variables_at, typed_variables}
+use Rattle.pddl_formula.specs.Inner.Reading.{atom_at, atom_of, atom_of_list, type_at, either_of, variables_at, typed_variables}
 
 -- the items from a place on: the one there, and those behind it
 pub trees_from : {A : Type 0} (xs : List (Item A)) (i : ℕ) (d : Item A) → i < length xs → item_trees (drop i xs) ≡ item_tree (get_or xs i d) ∷ item_trees (drop (i + 1) xs)

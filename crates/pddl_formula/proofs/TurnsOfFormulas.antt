@@ -12,7 +12,7 @@ use Rattle.pddl_tree.proofs.TreeLists.{list_of_trees_of}
 use Rattle.pddl_formula.specs.Terms.{term_view, atom_view}
 use Rattle.pddl_formula.specs.Formulas.{FormulaValue, atom, equal, negation, implication, conjunction, disjunction, existential, universal, formula_step, formula_view, formulas_of}
 use Rattle.pddl_formula.specs.TypedLists.{TypedValue, typed_view}
-use Rattle.pddl_formula.specs.Reading.{term_at, atom_of_list, equality_of, head_at, formula_by, behind, only, two, bound, quantified, variables_at, formula_at, formulas_at, formula_of_list, condition_at}
+use Rattle.pddl_formula.specs.Inner.Reading.{term_at, atom_of_list, equality_of, head_at, formula_by, behind, only, two, bound, quantified, variables_at, formula_at, formulas_at, formula_of_list, condition_at}
 use Rattle.pddl_formula.specs.declared.term.Term.{Term}
 use Rattle.pddl_formula.specs.declared.term.Atom.{Atom}
 use Rattle.pddl_formula.specs.declared.type_names.Typed.{Typed}

@@ -7,9 +7,9 @@ use Rattle.pddl_build.proofs.Parts.{pushed_some, pushed_none}
 use Rattle.pddl_text.specs.declared.item.Item.{Item}
 use Rattle.pddl_text.specs.Trees.{Tree}
 use Rattle.pddl_tree.specs.ItemTrees.{item_tree, item_trees}
-use Rattle.pddl_tree.specs.TreeReading.{is_dash}
+use Rattle.pddl_tree.specs.Inner.TreeReading.{is_dash}
 use Rattle.pddl_formula.specs.TypedLists.{WithType}
-use Rattle.pddl_formula.specs.Reading.{nonempty, of_type, typed_from}
+use Rattle.pddl_formula.specs.Inner.Reading.{nonempty, of_type, typed_from}
 use Rattle.pddl_formula.proofs.Turns.{trees_from, trees_end}
 
 nonempty_some : {X : Type 0} (group : List X) → 0 < length group → nonempty group ≡ Some group

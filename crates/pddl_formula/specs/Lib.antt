@@ -2,5 +2,4 @@ pub mod Reserved
 pub mod Terms
 pub mod TypedLists
 pub mod Formulas
-pub mod Reading
-pub mod Sorts
+pub mod Inner

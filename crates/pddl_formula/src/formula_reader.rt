@@ -2,11 +2,11 @@
 
 ghost use Rattle.std.specs.Prelude.{◌≡◌, IfOk, map, option_map};
 ghost use Rattle.pddl_tree.specs.ItemTrees.{item_tree, item_trees};
-ghost use Rattle.pddl_tree.specs.TreeReading.{all_of};
+ghost use Rattle.pddl_tree.specs.Inner.TreeReading.{all_of};
 ghost use Rattle.pddl_build.specs.Results.{map_found, both_of};
 ghost use Rattle.pddl_formula.specs.declared.formula.Formula.TheVariants as cases;
 ghost use Rattle.pddl_formula.specs.Formulas.{formula_view, bound_view, negation, implication};
-ghost use Rattle.pddl_formula.specs.Reading.{behind, only, two, bound, quantified, equality_of, formula_of_list, formula_at, condition_at};
+ghost use Rattle.pddl_formula.specs.Inner.Reading.{behind, only, two, bound, quantified, equality_of, formula_of_list, formula_at, condition_at};
 
 use crate::formula::Formula;
 use crate::head::{Head, head_of};

@@ -4,7 +4,7 @@ ghost use Rattle.std.specs.Prelude.{◌≡◌};
 ghost use Rattle.std.specs.Str.{bytes_eq};
 ghost use Rattle.pddl_tree.specs.Names.{folded};
 ghost use Rattle.pddl_tree.specs.ItemTrees.{item_tree};
-ghost use Rattle.pddl_formula.specs.Reading.{head_at, word_head};
+ghost use Rattle.pddl_formula.specs.Inner.Reading.{head_at, word_head};
 
 use pddl_text::{Item, TokenKind};
 use std::alloc::Allocator;

@@ -2,13 +2,13 @@
 
 ghost use Rattle.std.specs.Prelude.{◌≡◌, ◌↔◌, ℕ, List, Some, true};
 ghost use Rattle.pddl_text.specs.Trees.{Tree};
-ghost use Rattle.pddl_tree.specs.TreeReading.{name_at, variable_at, is_word_at, is_keyword_at, is_dash};
+ghost use Rattle.pddl_tree.specs.Inner.TreeReading.{name_at, variable_at, is_word_at, is_keyword_at, is_dash};
 ghost use Rattle.pddl_tree.specs.Words.{IsWord, IsKeyword, IsDash, IsEqualSign, SpellsName, SpellsVariable};
 ghost use Rattle.pddl_formula.specs.declared.head.Head.TheVariants as heads;
 ghost use Rattle.pddl_formula.specs.Terms.{TermValue, AtomValue, IsTerm, IsPredicate, IsAtom};
 ghost use Rattle.pddl_formula.specs.TypedLists.{TypedValue, IsTypeName, IsType, AreTypedNames, AreTypedVariables, IsVariableList};
 ghost use Rattle.pddl_formula.specs.Formulas.{FormulaValue, IsFormula, IsCondition};
-ghost use Rattle.pddl_formula.specs.Reading.{term_at, predicate_at, atom_at, type_name_at, type_at, typed_names, typed_variables, variables_at, head_at, word_head, formula_at, condition_at};
+ghost use Rattle.pddl_formula.specs.Inner.Reading.{term_at, predicate_at, atom_at, type_name_at, type_at, typed_names, typed_variables, variables_at, head_at, word_head, formula_at, condition_at};
 
 /// A tree spells at most one formula.
 pub fn one_formula()

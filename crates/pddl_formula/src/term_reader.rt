@@ -4,9 +4,9 @@ ghost use Rattle.std.specs.Prelude.{◌≡◌, ◌++◌, IfOk, map, option_map};
 ghost use Rattle.std.specs.Bool.{then_some};
 ghost use Rattle.pddl_build.specs.Results.{map_found};
 ghost use Rattle.pddl_tree.specs.ItemTrees.{item_tree, item_trees};
-ghost use Rattle.pddl_tree.specs.TreeReading.{name_at, variable_at, variable_name, all_of};
+ghost use Rattle.pddl_tree.specs.Inner.TreeReading.{name_at, variable_at, variable_name, all_of};
 ghost use Rattle.pddl_formula.specs.Terms.{term_view, atom_view};
-ghost use Rattle.pddl_formula.specs.Reading.{term_at, predicate_at, atom_of_list, atom_at};
+ghost use Rattle.pddl_formula.specs.Inner.Reading.{term_at, predicate_at, atom_of_list, atom_at};
 
 use crate::term::{Atom, Predicate, Term};
 use pddl_build::{list_if_right, push_found};

@@ -4,10 +4,10 @@ ghost use Rattle.std.specs.Prelude.{◌≡◌, [], ◌∷◌, ◌++◌, false, I
 ghost use Rattle.std.specs.Bool.{then_some};
 ghost use Rattle.pddl_tree.specs.Names.{folded};
 ghost use Rattle.pddl_tree.specs.ItemTrees.{item_tree, item_trees};
-ghost use Rattle.pddl_tree.specs.TreeReading.{all_of, is_word_at, is_keyword_at, is_dash};
+ghost use Rattle.pddl_tree.specs.Inner.TreeReading.{all_of, is_word_at, is_keyword_at, is_dash};
 ghost use Rattle.pddl_formula.specs.TypedLists.{object, typed_view};
-ghost use Rattle.pddl_formula.specs.Reading.{type_name_at, either_of, type_at, of_type, typed_from, typed_list, typed_names, typed_variables, variables_at};
-ghost use Rattle.pddl_formula.specs.Sorts.{item_at};
+ghost use Rattle.pddl_formula.specs.Inner.Reading.{type_name_at, either_of, type_at, of_type, typed_from, typed_list, typed_names, typed_variables, variables_at};
+ghost use Rattle.pddl_formula.specs.Inner.Sorts.{item_at};
 
 use crate::head::is_word;
 use crate::term_reader::{name_of, variable_of};

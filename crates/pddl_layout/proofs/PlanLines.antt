@@ -7,7 +7,7 @@ use Rattle.std.proofs.lemmas.Option.{slice_get-map, slice_get-get_or, get_or_fro
 use Rattle.pddl_text.specs.NumberText.{number_text}
 use Rattle.pddl_tree.specs.Plans.{StepValue, TimedValue, PlanValue, plain, timed, steps_of, moment_at}
 use Rattle.pddl_layout.specs.PlanLayout.{plain_line, timed_line, plan_text}
-use Rattle.pddl_layout.specs.PlanLines.{moment_text, lines_of, line_at}
+use Rattle.pddl_layout.specs.Inner.PlanLines.{moment_text, lines_of, line_at}
 
 -- a line for each step
 pub as_many : (plan : PlanValue) → length (lines_of plan) ≡ length (steps_of plan)

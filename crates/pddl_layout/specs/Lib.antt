@@ -1,3 +1,3 @@
 pub mod Printing
 pub mod PlanLayout
-pub mod PlanLines
+pub mod Inner

@@ -7,7 +7,7 @@ ghost use Rattle.std.specs.Io.KnownBytes.{Appends};
 ghost use Rattle.pddl_text.specs.Device.{AppendsBeginning, HasFailed};
 ghost use Rattle.pddl_layout.specs.Printing.{Prints};
 ghost use Rattle.pddl_layout.specs.PlanLayout.{spaced, plain_line, plan_text};
-ghost use Rattle.pddl_layout.specs.PlanLines.{moment_text, line_at};
+ghost use Rattle.pddl_layout.specs.Inner.PlanLines.{moment_text, line_at};
 
 use crate::number::put_number;
 use crate::printing::put;

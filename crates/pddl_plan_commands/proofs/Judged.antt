@@ -29,7 +29,7 @@ use Rattle.pddl_valid.specs.NamedClashes.{NamesLeast}
 use Rattle.pddl_commands.specs.declared.outcome.Outcome.{Outcome}
 use Rattle.pddl_plan_commands.specs.Printings.{Printing}
 use Rattle.pddl_plan_commands.specs.PlanChecks.{IsLeastNamed, IsFirstFailure, AreStepsJudged}
-use Rattle.pddl_plan_commands.specs.ShownVerdicts.{failure_of, IsShown, IsVerdictOf}
+use Rattle.pddl_plan_commands.specs.Inner.ShownVerdicts.{failure_of, IsShown, IsVerdictOf}
 use Rattle.pddl_plan_commands.proofs.FirstFailures.{clash_so, clash_gives}
 use Rattle.pddl_plan_commands.proofs.KnownClashes.{clash_known}
 use Rattle.pddl_plan_commands.proofs.SomeHappenings.{some_happenings}

@@ -2,5 +2,4 @@ pub mod PlanLines
 pub mod Printings
 pub mod PlanChecks
 pub mod Runs
-pub mod WantedPrintings
-pub mod ShownVerdicts
+pub mod Inner

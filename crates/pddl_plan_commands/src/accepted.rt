@@ -8,7 +8,7 @@ ghost use Rattle.pddl_link.specs.LinkedTasks.{task_of_files};
 ghost use Rattle.pddl_plan_steps.specs.NumberedSteps.{number_of};
 ghost use Rattle.pddl_serial_plans.specs.NewPlans.{IsAcceptedOf};
 ghost use Rattle.pddl_plan_commands.specs.Printings.{IsSerialText, IsSplitText};
-ghost use Rattle.pddl_plan_commands.specs.WantedPrintings.{printing_of};
+ghost use Rattle.pddl_plan_commands.specs.Inner.WantedPrintings.{printing_of};
 
 use crate::lines::valid_line;
 use crate::wanted::Wanted;

@@ -11,8 +11,8 @@ ghost use Rattle.pddl_plan_steps.specs.NumberedSteps.{number_of};
 ghost use Rattle.pddl_problem.specs.Problems.{problem_view};
 ghost use Rattle.pddl_tree.specs.Plans.{plan_view};
 ghost use Rattle.pddl_plan_commands.specs.PlanChecks.{failure_line, AreStepsJudged, IsJudgedIn, IsPlanJudged};
-ghost use Rattle.pddl_plan_commands.specs.ShownVerdicts.{failure_of, IsShown, IsVerdictOf};
-ghost use Rattle.pddl_plan_commands.specs.WantedPrintings.{printing_of};
+ghost use Rattle.pddl_plan_commands.specs.Inner.ShownVerdicts.{failure_of, IsShown, IsVerdictOf};
+ghost use Rattle.pddl_plan_commands.specs.Inner.WantedPrintings.{printing_of};
 
 use crate::accepted::accepted_text;
 use crate::lines::{clash_line, goal_line, unready_line};

@@ -10,7 +10,7 @@ ghost use Rattle.pddl_commands.specs.Contents.{IsRead};
 ghost use Rattle.pddl_commands.specs.Formats.{IsLeft};
 ghost use Rattle.pddl_commands.specs.Checks.{ForProblem, IsNoDomain};
 ghost use Rattle.pddl_plan_commands.specs.PlanChecks.{IsPlanJudged, ForPlan, IsPlanChecked, IsNoProblem};
-ghost use Rattle.pddl_plan_commands.specs.WantedPrintings.{printing_of};
+ghost use Rattle.pddl_plan_commands.specs.Inner.WantedPrintings.{printing_of};
 
 use crate::judging::judged_plan;
 use crate::wanted::Wanted;

@@ -7,7 +7,7 @@ ghost use Rattle.pddl_commands.specs.declared.outcome.Outcome.{Outcome};
 ghost use Rattle.pddl_commands.specs.Checks.{IsNoDomain};
 ghost use Rattle.pddl_plan_commands.specs.PlanChecks.{IsNoProblem};
 ghost use Rattle.pddl_plan_commands.specs.Runs.{IsRun, IsText, reader, writer};
-ghost use Rattle.pddl_plan_commands.specs.WantedPrintings.{printing_of};
+ghost use Rattle.pddl_plan_commands.specs.Inner.WantedPrintings.{printing_of};
 
 use crate::reading::read_each;
 use crate::wanted::Wanted;

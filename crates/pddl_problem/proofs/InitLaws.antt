@@ -3,23 +3,23 @@ use Rattle.std.proofs.Common.{◌≡◌, ℕ, List, [], ◌∷◌, map, refl, ap
 use Rattle.std.specs.Prelude.{Some, option_map}
 use Rattle.pddl_text.specs.Trees.{Tree, leaf, node, list_of}
 use Rattle.pddl_tree.specs.Words.{list, SpellsName, IsWord, Each}
-use Rattle.pddl_tree.specs.TreeReading.{name_at, is_word_at, all_of}
+use Rattle.pddl_tree.specs.Inner.TreeReading.{name_at, is_word_at, all_of}
 use Rattle.pddl_tree.proofs.Options.{map_some, bind_some, test_cases}
 use Rattle.pddl_tree.proofs.TreeLists.{list_of_trees_of, trees_of_list_of}
 use Rattle.pddl_tree.proofs.Readers.{Reads, name_reads, word_sound, each_sound, each_complete}
 use Rattle.pddl_formula.specs.declared.head.Head.{Head}
 use Rattle.pddl_formula.specs.declared.head.Head.TheVariants as heads
 use Rattle.pddl_formula.specs.Terms.{IsPredicate}
-use Rattle.pddl_formula.specs.Reading.{predicate_at, head_at, only}
+use Rattle.pddl_formula.specs.Inner.Reading.{predicate_at, head_at, only}
 use Rattle.pddl_formula.proofs.TermLaws.{predicate_reads}
 use Rattle.pddl_formula.proofs.HeadLaws.{HeadIs, head_sound, head_of_word, head_of_equal, head_of_other}
 use Rattle.pddl_formula.proofs.FormulaLaws.{only_sound, reads_each}
-use Rattle.pddl_effect.specs.EffectReading.{call_at, number_at}
+use Rattle.pddl_effect.specs.Inner.EffectReading.{call_at, number_at}
 use Rattle.pddl_effect.proofs.AmountLaws.{call_sound, call_complete, number_reads}
 use Rattle.pddl_problem.specs.declared.problem.Direction.{Direction}
 use Rattle.pddl_problem.specs.declared.problem.Direction.TheVariants as directions
 use Rattle.pddl_problem.specs.Inits.{GroundValue, InitValue, holds, fails, value, MetricValue, IsFact, IsGroundFunction, IsInit, direction_word, AreMetric}
-use Rattle.pddl_problem.specs.ProblemReading.{fact_of, fact_of_list, fact_at, ground_call, ground_function_at, value_of, init_by, init_of_list, init_at, direction_at, metric_of}
+use Rattle.pddl_problem.specs.Inner.ProblemReading.{fact_of, fact_of_list, fact_at, ground_call, ground_function_at, value_of, init_by, init_of_list, init_at, direction_at, metric_of}
 
 -- ---- facts
 

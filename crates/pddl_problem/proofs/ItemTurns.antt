@@ -5,20 +5,20 @@ use Rattle.pddl_text.specs.declared.item.Item.{Item}
 use Rattle.pddl_text.specs.Trees.{Tree}
 use Rattle.pddl_tree.specs.Words.{list}
 use Rattle.pddl_tree.specs.ItemTrees.{item_tree, item_trees}
-use Rattle.pddl_tree.specs.TreeReading.{name_at}
+use Rattle.pddl_tree.specs.Inner.TreeReading.{name_at}
 use Rattle.pddl_text.specs.Items.{item_view}
 use Rattle.pddl_tree.proofs.TreeLists.{list_of_trees_of}
 use Rattle.pddl_tree.proofs.Options.{map_some}
-use Rattle.pddl_sections.specs.Verdicts.{turn}
+use Rattle.pddl_sections.specs.Inner.Verdicts.{turn}
 use Rattle.pddl_file.specs.declared.keyword.SectionKeyword.{SectionKeyword}
 use Rattle.pddl_file.specs.declared.keyword.Seen.{Seen}
-use Rattle.pddl_file.specs.WordReading.{head_key, key_at, has_seen}
+use Rattle.pddl_file.specs.Inner.WordReading.{head_key, key_at, has_seen}
 use Rattle.pddl_file.proofs.SectionTurns.{section_goes}
-use Rattle.pddl_formula.specs.Reading.{only}
-use Rattle.pddl_effect.specs.EffectReading.{call_of_list}
-use Rattle.pddl_problem.specs.ProblemReading.{fact_of_list, fact_at, ground_call, ground_function_at, init_of_list, init_at, content_at, part_of, part_at, problem_readers}
+use Rattle.pddl_formula.specs.Inner.Reading.{only}
+use Rattle.pddl_effect.specs.Inner.EffectReading.{call_of_list}
+use Rattle.pddl_problem.specs.Inner.ProblemReading.{fact_of_list, fact_at, ground_call, ground_function_at, init_of_list, init_at, content_at, part_of, part_at, problem_readers}
 use Rattle.pddl_problem.specs.Problems.{Part}
-use Rattle.pddl_problem.specs.Slots.{SlotsValue, fill, FillsPart}
+use Rattle.pddl_problem.specs.Inner.Slots.{SlotsValue, fill, FillsPart}
 
 pub fact_at_list : (ts : List Tree) → fact_at (list ts) ≡ fact_of_list ts
 fact_at_list ts = ap fact_of_list (list_of_trees_of ts)

@@ -3,12 +3,12 @@ use Rattle.std.proofs.Common.{◌≡◌, List, [], ◌∷◌, map, refl, sym, ap
 use Rattle.std.specs.Prelude.{Option, Some, None, option_map}
 use Rattle.pddl_text.specs.Trees.{Tree, leaf, node, list_of}
 use Rattle.pddl_tree.specs.Words.{list, SpellsName}
-use Rattle.pddl_tree.specs.TreeReading.{name_at, all_of}
+use Rattle.pddl_tree.specs.Inner.TreeReading.{name_at, all_of}
 use Rattle.pddl_tree.proofs.Options.{map_some}
 use Rattle.pddl_tree.proofs.TreeLists.{list_of_trees_of, trees_of_list_of}
 use Rattle.pddl_tree.proofs.Readers.{Reads, name_reads, each_sound, each_complete}
 use Rattle.pddl_formula.specs.Formulas.{IsCondition}
-use Rattle.pddl_formula.specs.Reading.{typed_names, condition_at, only}
+use Rattle.pddl_formula.specs.Inner.Reading.{typed_names, condition_at, only}
 use Rattle.pddl_formula.proofs.TypedListLaws.{names_sound, names_complete}
 use Rattle.pddl_formula.proofs.FormulaLaws.{condition_reads, only_sound, reads_each}
 use Rattle.pddl_sections.proofs.SectionLaws.{Lawful}
@@ -16,12 +16,12 @@ use Rattle.pddl_file.specs.declared.keyword.SectionKeyword.{SectionKeyword}
 use Rattle.pddl_file.specs.declared.keyword.SectionKeyword.TheVariants as keys
 use Rattle.pddl_file.specs.Keywords.{IsHeaded}
 use Rattle.pddl_file.specs.Flags.{IsFlag}
-use Rattle.pddl_file.specs.WordReading.{flag_at, head_key}
+use Rattle.pddl_file.specs.Inner.WordReading.{flag_at, head_key}
 use Rattle.pddl_file.proofs.KeywordLaws.{flag_reads, head_key_sound, head_key_complete, key_reads, unseen, noted, stays, notes}
 use Rattle.pddl_file.proofs.MarkLaws.{mark_reads}
 use Rattle.pddl_problem.specs.Inits.{IsInit}
 use Rattle.pddl_problem.specs.Problems.{Part, domain, requirements, objects, init, goal, metric, part_key, IsContent, IsPart, problem_rules}
-use Rattle.pddl_problem.specs.ProblemReading.{init_at, metric_of, content_at, part_of, part_at, problem_readers}
+use Rattle.pddl_problem.specs.Inner.ProblemReading.{init_at, metric_of, content_at, part_of, part_at, problem_readers}
 use Rattle.pddl_problem.proofs.InitLaws.{init_reads, metric_sound, metric_complete}
 
 -- ---- content

@@ -8,21 +8,21 @@ use Rattle.pddl_text.specs.Texts.{HasItems}
 use Rattle.pddl_text.proofs.TextItems.{one_items}
 use Rattle.pddl_sections.specs.Sections.{AllOf}
 use Rattle.pddl_sections.specs.Files.{IsOpened}
-use Rattle.pddl_sections.specs.Verdicts.{verdict}
-use Rattle.pddl_sections.specs.Answers.{Answer, right, first_missing, file_answer}
+use Rattle.pddl_sections.specs.Inner.Verdicts.{verdict}
+use Rattle.pddl_sections.specs.Inner.Answers.{Answer, right, first_missing, file_answer}
 use Rattle.pddl_sections.proofs.FileLaws.{one_file}
 use Rattle.pddl_file.specs.declared.keyword.SectionKeyword.{SectionKeyword}
 use Rattle.pddl_file.specs.declared.mark.Mark.{Mark}
 use Rattle.pddl_file.specs.declared.fault.FileFault.{FileFault}
 use Rattle.pddl_file.specs.declared.fault.FileFault.TheVariants as faults
 use Rattle.pddl_file.specs.Keywords.{IsSingle}
-use Rattle.pddl_file.specs.WordReading.{nothing_seen}
-use Rattle.pddl_file.specs.FileReading.{RefusesFile}
+use Rattle.pddl_file.specs.Inner.WordReading.{nothing_seen}
+use Rattle.pddl_file.specs.Inner.FileReading.{RefusesFile}
 use Rattle.pddl_file.proofs.SectionTurns.{missing_refused, file_right}
 use Rattle.pddl_file.proofs.FileTexts as texts
 use Rattle.pddl_problem.specs.Problems.{ProblemValue, Part, problem_rules, required, AreProblem, SpellsProblem, ProblemStands}
-use Rattle.pddl_problem.specs.ProblemReading.{problem_readers}
-use Rattle.pddl_problem.specs.Slots.{SlotsValue, HoldVerdict, MakesUp, has_slot, SaysMissing}
+use Rattle.pddl_problem.specs.Inner.ProblemReading.{problem_readers}
+use Rattle.pddl_problem.specs.Inner.Slots.{SlotsValue, HoldVerdict, MakesUp, has_slot, SaysMissing}
 use Rattle.pddl_problem.proofs.PartLaws.{problem_law}
 use Rattle.pddl_problem.proofs.SlotLaws.{slot_list, slot_some, missing_same}
 

@@ -9,17 +9,17 @@ use Rattle.pddl_text.specs.Items.{item_view, items_view}
 use Rattle.pddl_text.specs.Trees.{Tree, Placed}
 use Rattle.pddl_tree.specs.ItemTrees.{item_tree}
 use Rattle.pddl_tree.proofs.Options.{test_cases}
-use Rattle.pddl_sections.specs.Verdicts.{Verdict, verdict, go, key_turn, turn}
-use Rattle.pddl_sections.specs.Answers.{first_missing}
+use Rattle.pddl_sections.specs.Inner.Verdicts.{Verdict, verdict, go, key_turn, turn}
+use Rattle.pddl_sections.specs.Inner.Answers.{first_missing}
 use Rattle.pddl_file.specs.declared.keyword.SectionKeyword.{SectionKeyword}
 use Rattle.pddl_file.specs.declared.keyword.Seen.{Seen}
 use Rattle.pddl_file.specs.declared.mark.Mark.{Mark}
-use Rattle.pddl_file.specs.WordReading.{key_at, nothing_seen, has_seen, with_seen}
+use Rattle.pddl_file.specs.Inner.WordReading.{key_at, nothing_seen, has_seen, with_seen}
 use Rattle.pddl_file.proofs.KeywordLaws.{key_reads}
 use Rattle.pddl_file.proofs.SectionTurns.{sections_on, sections_end}
 use Rattle.pddl_problem.specs.Problems.{Part, domain, requirements, objects, init, goal, metric, domains_in, requirements_in, objects_in, init_in, goals_in, metrics_in, part_key, required}
-use Rattle.pddl_problem.specs.ProblemReading.{part_at, problem_readers}
-use Rattle.pddl_problem.specs.Slots.{SlotsValue, no_slots, fill, FillsPart, Slot, Holds, HoldVerdict, or_nothing, has_slot}
+use Rattle.pddl_problem.specs.Inner.ProblemReading.{part_at, problem_readers}
+use Rattle.pddl_problem.specs.Inner.Slots.{SlotsValue, no_slots, fill, FillsPart, Slot, Holds, HoldVerdict, or_nothing, has_slot}
 use Rattle.pddl_problem.proofs.PartLaws.{part_reads}
 
 -- ---- one slot

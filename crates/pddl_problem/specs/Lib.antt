@@ -1,4 +1,3 @@
 pub mod Inits
 pub mod Problems
-pub mod ProblemReading
-pub mod Slots
+pub mod Inner

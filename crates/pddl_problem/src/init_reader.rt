@@ -2,11 +2,11 @@
 
 ghost use Rattle.std.specs.Prelude.{◌≡◌, [], IfOk, map, option_map, codes};
 ghost use Rattle.pddl_tree.specs.ItemTrees.{item_tree, item_trees};
-ghost use Rattle.pddl_tree.specs.TreeReading.{name_at, all_of};
-ghost use Rattle.pddl_formula.specs.Reading.{only};
-ghost use Rattle.pddl_effect.specs.EffectReading.{call_of_list};
+ghost use Rattle.pddl_tree.specs.Inner.TreeReading.{name_at, all_of};
+ghost use Rattle.pddl_formula.specs.Inner.Reading.{only};
+ghost use Rattle.pddl_effect.specs.Inner.EffectReading.{call_of_list};
 ghost use Rattle.pddl_problem.specs.Inits.{holds, fails, fact_view, function_view, init_view, metric_view};
-ghost use Rattle.pddl_problem.specs.ProblemReading.{fact_of_list, fact_at, ground_call, ground_function_at, value_of, init_of_list, init_at, direction_at, metric_of};
+ghost use Rattle.pddl_problem.specs.Inner.ProblemReading.{fact_of_list, fact_at, ground_call, ground_function_at, value_of, init_of_list, init_at, direction_at, metric_of};
 
 use crate::problem::{Direction, Fact, GroundFunction, InitItem, Metric};
 use pddl_effect::number_of;

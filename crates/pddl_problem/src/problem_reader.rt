@@ -3,14 +3,14 @@
 ghost use Rattle.std.specs.Prelude.{◌≡◌, ◌≢◌, ◌≤◌, ℕ, List, Some, None, IfOk, IfErr, MatchResult, length, option_map, codes};
 ghost use Rattle.pddl_text.specs.Items.{items_view};
 ghost use Rattle.pddl_text.specs.declared.fault.TextFault.TheVariants.{Memory};
-ghost use Rattle.pddl_sections.specs.Answers.{first_missing, file_answer};
+ghost use Rattle.pddl_sections.specs.Inner.Answers.{first_missing, file_answer};
 ghost use Rattle.pddl_file.specs.declared.fault.FileFault.{FileFault};
 ghost use Rattle.pddl_file.specs.declared.fault.FileFault.TheVariants.{Text};
-ghost use Rattle.pddl_file.specs.FileReading.{RefusesFile};
+ghost use Rattle.pddl_file.specs.Inner.FileReading.{RefusesFile};
 ghost use Rattle.pddl_file.specs.Places.{file_place};
 ghost use Rattle.pddl_problem.specs.Problems.{ProblemValue, problem_view, required, AreProblem, SpellsProblem, ProblemStands};
-ghost use Rattle.pddl_problem.specs.ProblemReading.{problem_readers};
-ghost use Rattle.pddl_problem.specs.Slots.{slots_view, or_nothing, MakesUp, has_slot, SaysMissing};
+ghost use Rattle.pddl_problem.specs.Inner.ProblemReading.{problem_readers};
+ghost use Rattle.pddl_problem.specs.Inner.Slots.{slots_view, or_nothing, MakesUp, has_slot, SaysMissing};
 
 use crate::problem::Problem;
 use crate::section::Slots;

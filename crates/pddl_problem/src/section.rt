@@ -1,9 +1,9 @@
 //! What the sections of a problem that stood said.
 
 ghost use Rattle.std.specs.Prelude.{◌≡◌};
-ghost use Rattle.pddl_sections.specs.Answers.{first_missing};
+ghost use Rattle.pddl_sections.specs.Inner.Answers.{first_missing};
 ghost use Rattle.pddl_problem.specs.Problems.{required};
-ghost use Rattle.pddl_problem.specs.Slots.{slots_view, no_slots, has_slot};
+ghost use Rattle.pddl_problem.specs.Inner.Slots.{slots_view, no_slots, has_slot};
 
 use crate::problem::{InitItem, Metric};
 use pddl_file::SectionKeyword;

@@ -3,14 +3,14 @@
 ghost use Rattle.std.specs.Prelude.{◌≡◌, [], Some, IfOk, IfErr, OnOk, map, option_map};
 ghost use Rattle.pddl_text.specs.Items.{item_view, items_view};
 ghost use Rattle.pddl_tree.specs.ItemTrees.{item_tree, item_trees};
-ghost use Rattle.pddl_tree.specs.TreeReading.{name_at};
+ghost use Rattle.pddl_tree.specs.Inner.TreeReading.{name_at};
 ghost use Rattle.pddl_formula.specs.Formulas.{formula_view};
-ghost use Rattle.pddl_formula.specs.Reading.{condition_at, only};
-ghost use Rattle.pddl_sections.specs.Verdicts.{turn, verdict};
-ghost use Rattle.pddl_file.specs.WordReading.{nothing_seen};
-ghost use Rattle.pddl_file.specs.FileReading.{StopsAt, RefusesSections};
-ghost use Rattle.pddl_problem.specs.ProblemReading.{content_at, part_of, part_at, problem_readers};
-ghost use Rattle.pddl_problem.specs.Slots.{slots_view, no_slots, Fills, FillsPart, HoldVerdict};
+ghost use Rattle.pddl_formula.specs.Inner.Reading.{condition_at, only};
+ghost use Rattle.pddl_sections.specs.Inner.Verdicts.{turn, verdict};
+ghost use Rattle.pddl_file.specs.Inner.WordReading.{nothing_seen};
+ghost use Rattle.pddl_file.specs.Inner.FileReading.{StopsAt, RefusesSections};
+ghost use Rattle.pddl_problem.specs.Inner.ProblemReading.{content_at, part_of, part_at, problem_readers};
+ghost use Rattle.pddl_problem.specs.Inner.Slots.{slots_view, no_slots, Fills, FillsPart, HoldVerdict};
 
 use crate::init_reader::{inits_of, metric_of};
 use crate::section::Slots;

@@ -5,17 +5,17 @@ use Rattle.std.proofs.lemmas.Bool.{false_from_ne_true}
 use Rattle.pddl_text.specs.declared.token.Span.{Span}
 use Rattle.pddl_text.specs.Trees.{Tree, leaf, node, list_of, Placed, placed_leaf, placed_node, PlacedList, no_placed, placed_tree, placed_of, erased}
 use Rattle.pddl_tree.specs.Words.{list}
-use Rattle.pddl_tree.specs.TreeReading.{is_word_at, name_at}
-use Rattle.pddl_tree.specs.PlanReading.{placed_items}
+use Rattle.pddl_tree.specs.Inner.TreeReading.{is_word_at, name_at}
+use Rattle.pddl_tree.specs.Inner.PlanReading.{placed_items}
 use Rattle.pddl_tree.specs.PlanFaults.{span_of}
 use Rattle.pddl_tree.proofs.TreeLists.{list_of_trees_of, trees_of_list_of}
 use Rattle.pddl_tree.proofs.PlanSteps.{items_back}
 use Rattle.pddl_tree.proofs.Readers.{name_reads, word_sound, word_complete}
 use Rattle.pddl_tree.proofs.Options.{map_some, if_some}
 use Rattle.pddl_sections.specs.Sections.{Rules, AllOf}
-use Rattle.pddl_sections.specs.Verdicts.{Readers, Verdict, fine, bad, verdict}
+use Rattle.pddl_sections.specs.Inner.Verdicts.{Readers, Verdict, fine, bad, verdict}
 use Rattle.pddl_sections.specs.Files.{IsTitle, Opens, Begins, IsOpened, HeadFault, nothing, other, several, FileFault, head, at_section, missing, StandsIn, IsFile, HasFault}
-use Rattle.pddl_sections.specs.Answers.{title_of, title_at, opening_of, opening_at, opened_or, none_behind, opened, Answer, right, wrong, first_missing, missing_answer, sections_answer, opened_answer, file_answer}
+use Rattle.pddl_sections.specs.Inner.Answers.{title_of, title_at, opening_of, opening_at, opened_or, none_behind, opened, Answer, right, wrong, first_missing, missing_answer, sections_answer, opened_answer, file_answer}
 use Rattle.pddl_sections.proofs.SectionLaws.{Lawful, State, Says, answer_says, fits_answered, fault_answered, false_true}
 
 -- ---- the head of a file

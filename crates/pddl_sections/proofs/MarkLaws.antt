@@ -4,7 +4,7 @@ use Rattle.pddl_text.specs.declared.token.Span.{Span}
 use Rattle.pddl_text.specs.Trees.{Tree, Placed, erased}
 use Rattle.pddl_tree.specs.PlanFaults.{span_of}
 use Rattle.pddl_sections.specs.Sections.{Rules, AnyOf, HasMark}
-use Rattle.pddl_sections.specs.Verdicts.{mark_or, first_mark}
+use Rattle.pddl_sections.specs.Inner.Verdicts.{mark_or, first_mark}
 use Rattle.pddl_tree.proofs.Readers.{Reads}
 
 pub none_of : {A : Type 0} (o : Option A) → ((x : A) → o ≡ Some x → ⊥) → o ≡ None

@@ -14,7 +14,7 @@ use Rattle.pddl_tree.specs.PlanFaults.{span_of}
 use Rattle.pddl_tree.proofs.TreeLists.{all_erased_list, items_erased}
 use Rattle.pddl_tree.proofs.PlanSteps.{item_view_list, item_view_word, view_from}
 use Rattle.pddl_sections.specs.Sections.{SectionFault, twice, lists_in, lists_in_all}
-use Rattle.pddl_sections.specs.Verdicts.{Readers, Verdict, fine, bad, stop, go, key_turn, turn, after_turn, refused, verdict, first_mark, mark_or}
+use Rattle.pddl_sections.specs.Inner.Verdicts.{Readers, Verdict, fine, bad, stop, go, key_turn, turn, after_turn, refused, verdict, first_mark, mark_or}
 
 -- ---- the trees of items
 

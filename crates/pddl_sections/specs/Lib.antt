@@ -1,5 +1,4 @@
 pub mod Sections
 pub mod Files
-pub mod Verdicts
-pub mod Answers
 pub mod Openings
+pub mod Inner

@@ -11,7 +11,7 @@ use Rattle.pddl_happenings.specs.Serialisations.{place_of}
 use Rattle.pddl_happenings.specs.Splits.{within_one}
 use Rattle.pddl_serial.proofs.Passes.{all_both}
 use Rattle.pddl_serial.proofs.Placed.{place_is}
-use Rattle.pddl_serial.specs.Places.{is_at_one}
+use Rattle.pddl_serial.specs.Inner.Places.{is_at_one}
 
 -- the happening at a step's place has it
 at_place : (k : ℕ) (hs : List (List ℕ)) → list_any (eqb k) (concat hs) ≡ true → (h : List ℕ) × (rest : List (List ℕ)) × (drop (place_of hs k) hs ≡ h ∷ rest) × (list_any (eqb k) h ≡ true)

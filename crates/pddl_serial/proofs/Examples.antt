@@ -7,7 +7,7 @@ use Rattle.pddl_happenings.specs.Splits.{split_moments}
 use Rattle.pddl_happenings.specs.Steps.{Step}
 use Rattle.pddl_serial.specs.Cuts.{cut, cut_in_order}
 use Rattle.pddl_serial.specs.Orders.{in_order}
-use Rattle.pddl_serial.specs.Places.{is_at_one}
+use Rattle.pddl_serial.specs.Inner.Places.{is_at_one}
 use Rattle.pddl_serial.specs.declared.turns.Order.TheVariants.{File, Reverse}
 
 -- ---- orders: the step 0, and then the steps 1 and 2 at once

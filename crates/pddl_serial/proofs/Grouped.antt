@@ -12,7 +12,7 @@ use Rattle.pddl_happenings.specs.Serialisations.{IsSerialOrder, place_of}
 use Rattle.pddl_happenings.specs.Splits.{IsSplitOf}
 use Rattle.pddl_serial.proofs.AtOne.{IsKnown, all_within, within_all}
 use Rattle.pddl_serial.proofs.Passes.{below_listed}
-use Rattle.pddl_serial.specs.Places.{is_at_one}
+use Rattle.pddl_serial.specs.Inner.Places.{is_at_one}
 
 each_group : {X : Type 0} (items : X → List ℕ) (P : ℕ → Type 0) (gs : List X) → AllByRecursion P (concat (map items gs)) → AllByRecursion (λ g. All P (items g)) gs
 each_group items P [] all = tt

@@ -13,7 +13,7 @@ use Rattle.pddl_happenings.proofs.TimedHappenings.{all_weaker}
 use Rattle.pddl_happenings.proofs.TurnsTaken.{self_listed}
 use Rattle.pddl_happenings.specs.Happenings.{HaveEachOnce, numbers_to}
 use Rattle.pddl_happenings.specs.Serialisations.{InTurn, IsSerialOrder, place_of}
-use Rattle.pddl_serial.specs.Places.{IsOrderBy}
+use Rattle.pddl_serial.specs.Inner.Places.{IsOrderBy}
 
 pub all_both : (P Q R : ℕ → Type 0) → ((k : ℕ) → P k → Q k → R k) → (ks : List ℕ) → AllByRecursion P ks → AllByRecursion Q ks → AllByRecursion R ks
 all_both P Q R f [] one two = tt

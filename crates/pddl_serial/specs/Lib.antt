@@ -1,4 +1,4 @@
 pub mod Orders
 pub mod Cuts
-pub mod Places
 pub mod Replays
+pub mod Inner

@@ -5,7 +5,7 @@ ghost use Rattle.std.specs.List.{list_all, concat};
 ghost use Rattle.pddl_happenings.specs.Happenings.{HaveEachOnce};
 ghost use Rattle.pddl_happenings.specs.Splits.{IsSplitOf};
 ghost use Rattle.pddl_judge.specs.HappeningValues.{groups_of};
-ghost use Rattle.pddl_serial.specs.Places.{is_at_one};
+ghost use Rattle.pddl_serial.specs.Inner.Places.{is_at_one};
 
 use crate::listing::{is_order_by, places_of};
 use pddl_judge::Happening;

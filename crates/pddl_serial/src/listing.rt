@@ -5,7 +5,7 @@ ghost use Rattle.std.specs.List.{list_any};
 ghost use Rattle.pddl_happenings.specs.Happenings.{HaveEachOnce};
 ghost use Rattle.pddl_happenings.specs.Serialisations.{place_of, IsSerialOrder};
 ghost use Rattle.pddl_judge.specs.HappeningValues.{groups_of};
-ghost use Rattle.pddl_serial.specs.Places.{IsOrderBy};
+ghost use Rattle.pddl_serial.specs.Inner.Places.{IsOrderBy};
 
 use pddl_judge::Happening;
 use std::alloc::{AllocError, Allocator};

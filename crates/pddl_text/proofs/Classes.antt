@@ -9,7 +9,7 @@ use Rattle.pddl_text.specs.declared.token.TokenKind.{TokenKind}
 use Rattle.pddl_text.specs.declared.token.TokenKind.TheVariants.{Open, Close, Number, Dash, Equal, Bracket, Arithmetic}
 use Rattle.pddl_text.specs.Words.{IsSpelling, MayFollow}
 use Rattle.pddl_text.specs.Bytes.{is_word_byte}
-use Rattle.pddl_text.specs.ByteClass.{class_of, class_of_mark}
+use Rattle.pddl_text.specs.Inner.ByteClass.{class_of, class_of_mark}
 use Rattle.pddl_text.specs.declared.bytes.ByteClass.{ByteClass}
 use Rattle.pddl_text.specs.declared.bytes.ByteClass.TheVariants.{Blank, Semicolon, Letter, Digit, Question, Colon, Angle, Lone, Other}
 

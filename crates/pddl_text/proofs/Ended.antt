@@ -16,9 +16,9 @@ use Rattle.pddl_text.specs.declared.bytes.ByteClass.TheVariants as classes
 use Rattle.pddl_text.specs.declared.next.Next.{Next}
 use Rattle.pddl_text.specs.declared.next.Next.TheVariants as next
 use Rattle.pddl_text.specs.Bytes.{is_line_byte, is_word_byte, is_inner_byte, begins, begins_decimals}
-use Rattle.pddl_text.specs.ByteClass.{class_of}
-use Rattle.pddl_text.specs.Reading.{number_len, next_comment, next_number, next_by, next_of, Reads}
-use Rattle.pddl_text.specs.Parts.{IsEnded, ReadsOn, Settles}
+use Rattle.pddl_text.specs.Inner.ByteClass.{class_of}
+use Rattle.pddl_text.specs.Inner.Reading.{number_len, next_comment, next_number, next_by, next_of, Reads}
+use Rattle.pddl_text.specs.Inner.Parts.{IsEnded, ReadsOn, Settles}
 use Rattle.pddl_text.proofs.Classes.{Says, class_says}
 use Rattle.pddl_text.proofs.NextReads.{next_reads}
 

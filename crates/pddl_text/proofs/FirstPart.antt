@@ -10,10 +10,10 @@ use Rattle.pddl_text.specs.declared.token.TokenKind.TheVariants.{Open, Close, Na
 use Rattle.pddl_text.specs.declared.bytes.ByteClass.{ByteClass}
 use Rattle.pddl_text.specs.declared.bytes.ByteClass.TheVariants as classes
 use Rattle.pddl_text.specs.Bytes.{is_line_byte, is_word_byte, begins}
-use Rattle.pddl_text.specs.ByteClass.{class_of}
+use Rattle.pddl_text.specs.Inner.ByteClass.{class_of}
 use Rattle.pddl_text.specs.Words.{IsName, IsNumber, IsSpelling, MayFollow}
 use Rattle.pddl_text.specs.Spelling.{Part, gap, word, spelling, IsBlank, IsComment, IsPart}
-use Rattle.pddl_text.specs.Reading.{number_len}
+use Rattle.pddl_text.specs.Inner.Reading.{number_len}
 use Rattle.pddl_text.proofs.Runs.{run_len}
 use Rattle.pddl_text.proofs.Numbers.{number_nonempty, number_begins, number_len_is, ends_number}
 use Rattle.pddl_text.proofs.Classes.{class_of_blank, class_of_letter, class_of_digit, letter_is_word_byte}

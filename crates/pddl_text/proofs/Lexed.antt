@@ -11,7 +11,7 @@ use Rattle.pddl_text.specs.declared.token.TokenKind.{TokenKind}
 use Rattle.pddl_text.specs.Bytes.{is_line_byte, begins}
 use Rattle.pddl_text.specs.Spelling.{PlacedWord, placed, Part, gap, word, spelling, IsOpenComment, IsPart, InTurn, words_from, SpelledUpTo, Spells}
 use Rattle.pddl_text.specs.Faults.{IsLongestNumber, IsFaulty, IsLeftmost, IsValued, AreValued}
-use Rattle.pddl_text.specs.Reading.{IsGapAt, IsWordAt, word_at}
+use Rattle.pddl_text.specs.Inner.Reading.{IsGapAt, IsWordAt, word_at}
 use Rattle.pddl_text.specs.Scanning.{LexedTo}
 use Rattle.pddl_text.proofs.Runs.{run_len}
 use Rattle.pddl_text.proofs.Numbers.{number_begins}

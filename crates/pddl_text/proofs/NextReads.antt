@@ -13,11 +13,11 @@ use Rattle.pddl_text.specs.declared.bytes.ByteClass.{ByteClass}
 use Rattle.pddl_text.specs.declared.bytes.ByteClass.TheVariants as classes
 use Rattle.pddl_text.specs.declared.next.Next.TheVariants as next
 use Rattle.pddl_text.specs.Bytes.{is_line_byte, is_word_byte, begins}
-use Rattle.pddl_text.specs.ByteClass.{class_of}
+use Rattle.pddl_text.specs.Inner.ByteClass.{class_of}
 use Rattle.pddl_text.specs.Words.{IsName, IsNumber, IsSpelling}
 use Rattle.pddl_text.specs.Number.{value_of}
 use Rattle.pddl_text.specs.Faults.{IsStray, IsLongestNumber}
-use Rattle.pddl_text.specs.Reading.{number_len, next_comment, next_number, next_by, next_of, IsWordAt, Reads}
+use Rattle.pddl_text.specs.Inner.Reading.{number_len, next_comment, next_number, next_by, next_of, IsWordAt, Reads}
 use Rattle.pddl_text.proofs.Runs.{run_passes, run_stops}
 use Rattle.pddl_text.proofs.Numbers.{number_begins, number_nonempty, number_len_is, number_at, is_longest}
 use Rattle.pddl_text.proofs.Classes.{class_of_blank, class_of_letter, class_of_digit, letter_is_word_byte, Says, class_says}

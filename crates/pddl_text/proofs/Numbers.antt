@@ -11,7 +11,7 @@ use Rattle.pddl_text.specs.declared.token.TokenKind.TheVariants.{Number}
 use Rattle.pddl_text.specs.Bytes.{is_word_byte, begins, begins_decimals}
 use Rattle.pddl_text.specs.Words.{IsDigits, IsNumber, MayFollow}
 use Rattle.pddl_text.specs.Faults.{IsLongestNumber}
-use Rattle.pddl_text.specs.Reading.{number_len}
+use Rattle.pddl_text.specs.Inner.Reading.{number_len}
 use Rattle.pddl_text.proofs.Runs.{run_len, run_le, run_passes, run_stops}
 use Rattle.pddl_text.proofs.Classes.{digit_is_word_byte}
 

@@ -12,7 +12,7 @@ use Rattle.pddl_text.specs.Words.{IsNumber, IsSpelling, MayFollow}
 use Rattle.pddl_text.specs.Spelling.{Word, Part, gap, word, spelling, IsPart, InTurn}
 use Rattle.pddl_text.specs.Number.{value_of}
 use Rattle.pddl_text.specs.Faults.{IsStray, IsLongestNumber, IsFaulty, IsValued}
-use Rattle.pddl_text.specs.Reading.{number_len}
+use Rattle.pddl_text.specs.Inner.Reading.{number_len}
 use Rattle.pddl_text.proofs.Numbers.{EndsNumber, ends_number, number_nonempty, number_begins, number_len_is, number_len_ge}
 use Rattle.pddl_text.proofs.Classes.{class_of_digit}
 use Rattle.pddl_text.proofs.FirstPart.{first_part, part_by, taken, part_first}

@@ -9,9 +9,9 @@ use Rattle.pddl_text.specs.declared.parts.Progress.{Progress}
 use Rattle.pddl_text.specs.declared.parts.Progress.TheVariants as progress
 use Rattle.pddl_text.specs.Spelling.{PlacedWord, IsOpenComment}
 use Rattle.pddl_text.specs.Faults.{IsStray, IsGlued, IsOutOfRange, IsLeftmost}
-use Rattle.pddl_text.specs.Reading.{Reads, IsGapAt, IsWordAt}
+use Rattle.pddl_text.specs.Inner.Reading.{Reads, IsGapAt, IsWordAt}
 use Rattle.pddl_text.specs.Scanning.{LexedTo}
-use Rattle.pddl_text.specs.Parts.{Settles, ReadsOn, StoppedAt}
+use Rattle.pddl_text.specs.Inner.Parts.{Settles, ReadsOn, StoppedAt}
 use Rattle.pddl_text.proofs.Lexed.{gap_lexed, word_lexed, leftmost_fault}
 use Rattle.pddl_text.proofs.Ended.{settles_drop}
 

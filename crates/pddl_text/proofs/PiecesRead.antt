@@ -11,9 +11,9 @@ use Rattle.pddl_text.specs.declared.parts.Progress.TheVariants as progress
 use Rattle.pddl_text.specs.Bytes.{is_inner_byte, is_line_byte}
 use Rattle.pddl_text.specs.Spelling.{PlacedWord, IsOpenComment, IsComment}
 use Rattle.pddl_text.specs.Faults.{IsStray, IsGlued, IsOutOfRange, IsLeftmost}
-use Rattle.pddl_text.specs.Reading.{IsGapAt}
+use Rattle.pddl_text.specs.Inner.Reading.{IsGapAt}
 use Rattle.pddl_text.specs.Scanning.{LexedTo}
-use Rattle.pddl_text.specs.Parts.{AnswersAt, IsEnded, Settles, StoppedAt}
+use Rattle.pddl_text.specs.Inner.Parts.{AnswersAt, IsEnded, Settles, StoppedAt}
 use Rattle.pddl_text.specs.InPieces.{IsBehindWords, HasRead}
 use Rattle.pddl_text.proofs.Runs.{run_passes}
 use Rattle.pddl_text.proofs.NextReads.{lf_at}

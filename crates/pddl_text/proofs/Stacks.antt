@@ -14,7 +14,7 @@ use Rattle.pddl_text.specs.declared.token.Token.{Token}
 use Rattle.pddl_text.specs.Spelling.{PlacedWord, view}
 use Rattle.pddl_text.specs.Trees.{Placed, placed_node, placed_of}
 use Rattle.pddl_text.specs.Items.{item_step, item_view, items_view}
-use Rattle.pddl_text.specs.Nesting.{Opened, next_nest, opened_view, stack_of, nest_of}
+use Rattle.pddl_text.specs.Inner.Nesting.{Opened, next_nest, opened_view, stack_of, nest_of}
 
 -- a pushed list is the innermost
 pub stack_push : {A : Type 0} (lists : List (OpenList A)) (list : OpenList A) → stack_of (lists ++ list ∷ []) ≡ opened_view list ∷ stack_of lists

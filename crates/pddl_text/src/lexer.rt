@@ -5,7 +5,7 @@ ghost use Rattle.pddl_text.specs.declared.fault.TextFault.TheVariants.{Memory, T
 ghost use Rattle.pddl_text.specs.Spelling.{PlacedWord, Spells, view};
 ghost use Rattle.pddl_text.specs.Spans.{IsSlice, EndsBefore};
 ghost use Rattle.pddl_text.specs.Faults.{AreValued, Stands};
-ghost use Rattle.pddl_text.specs.Reading.{Reads};
+ghost use Rattle.pddl_text.specs.Inner.Reading.{Reads};
 
 use crate::fault::TextFault;
 use crate::next::{Next, next_part};

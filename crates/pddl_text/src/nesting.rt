@@ -7,7 +7,7 @@ ghost use Rattle.pddl_text.specs.Spelling.{PlacedWord, view};
 ghost use Rattle.pddl_text.specs.Trees.{Placed, placed_leaf};
 ghost use Rattle.pddl_text.specs.Items.{items_view};
 ghost use Rattle.pddl_text.specs.Lists.{AreItems, deepest, ListStands};
-ghost use Rattle.pddl_text.specs.Nesting.{nest_of, next_nest, IsRefused};
+ghost use Rattle.pddl_text.specs.Inner.Nesting.{nest_of, next_nest, IsRefused};
 
 use crate::fault::TextFault;
 use crate::item::{Item, OpenList};

@@ -4,7 +4,7 @@ ghost use Rattle.std.specs.Prelude.{◌≡◌, ◌≤◌, ◌+◌, ◌++◌, ◌
 ghost use Rattle.pddl_text.specs.declared.fault.TextFault.TheVariants.{Memory};
 ghost use Rattle.pddl_text.specs.Spelling.{PlacedWord};
 ghost use Rattle.pddl_text.specs.Scanning.{LexedTo};
-ghost use Rattle.pddl_text.specs.Parts.{Settles, StoppedAt};
+ghost use Rattle.pddl_text.specs.Inner.Parts.{Settles, StoppedAt};
 
 use crate::fault::TextFault;
 use crate::lexer::LONGEST;

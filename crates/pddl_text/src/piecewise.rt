@@ -7,7 +7,7 @@ ghost use Rattle.pddl_text.specs.declared.parts.Progress.TheVariants as progress
 ghost use Rattle.pddl_text.specs.declared.fault.TextFault.TheVariants.{Memory, TooLong, AlreadyFailed};
 ghost use Rattle.pddl_text.specs.Spelling.{PlacedWord, Spells};
 ghost use Rattle.pddl_text.specs.Faults.{AreValued, Stands};
-ghost use Rattle.pddl_text.specs.Parts.{IsEnded, AnswersAt};
+ghost use Rattle.pddl_text.specs.Inner.Parts.{IsEnded, AnswersAt};
 ghost use Rattle.pddl_text.specs.InPieces.{HasRead};
 
 use crate::bytes::is_inner_byte;

@@ -1,7 +1,7 @@
 -- Values read one after the other, and what a computed answer says of its parts.
 use Rattle.std.proofs.Common.{◌≡◌, List, [], ◌∷◌, ◌++◌, ap, refl, sym, append_assoc, inl, inr}
 use Rattle.std.specs.Prelude.{Bool, true, false, Option, Some, None, option_map, option_and_then, if◌then◌else◌, ◌⊎◌, Result, Ok, Err, IfOk, MatchOption}
-use Rattle.pddl_tree.specs.PlanReading.{both}
+use Rattle.pddl_tree.specs.Inner.PlanReading.{both}
 
 -- the values so far, and those that are still to come
 abbrev pub with_front : {A : Type 0} → List A → Option (List A) → Option (List A)

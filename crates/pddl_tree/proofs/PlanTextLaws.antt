@@ -11,7 +11,7 @@ use Rattle.pddl_tree.specs.declared.fault.ReadFault.{ReadFault}
 use Rattle.pddl_tree.specs.declared.fault.ReadFault.TheVariants as faults
 use Rattle.pddl_tree.specs.Plans.{PlanValue}
 use Rattle.pddl_tree.specs.PlanTexts.{SpellsPlan, PlanStands, without_near}
-use Rattle.pddl_tree.specs.PlanReading.{plan_at, Refuses}
+use Rattle.pddl_tree.specs.Inner.PlanReading.{plan_at, Refuses}
 use Rattle.pddl_tree.proofs.FaultPlaces.{next_inside}
 use Rattle.pddl_tree.proofs.PlanLaws.{plan_complete, plan_sound, ItemsStand, fault_sound, mixed_complete, duration_complete, no_step_complete}
 

@@ -10,8 +10,8 @@ use Rattle.pddl_text.specs.declared.token.TokenKind.TheVariants.{Open, Close, Na
 use Rattle.pddl_text.specs.Trees.{Tree, leaf, node}
 use Rattle.pddl_tree.specs.Names.{folded, is_name, name_of}
 use Rattle.pddl_tree.specs.Words.{IsWord, IsKeyword, IsDash, SpellsName, SpellsVariable, Each}
-use Rattle.pddl_tree.specs.PlanReading.{name_by}
-use Rattle.pddl_tree.specs.TreeReading.{name_at, variable_name, variable_by, variable_at, word_by, is_word_at, keyword_by, is_keyword_at, dash_by, is_dash, all_of}
+use Rattle.pddl_tree.specs.Inner.PlanReading.{name_by}
+use Rattle.pddl_tree.specs.Inner.TreeReading.{name_at, variable_name, variable_by, variable_at, word_by, is_word_at, keyword_by, is_keyword_at, dash_by, is_dash, all_of}
 use Rattle.pddl_tree.proofs.Options.{if_some, both_some}
 
 -- A reader answers a value exactly where the relation has one, and then that one.

@@ -19,8 +19,8 @@ use Rattle.pddl_tree.specs.Building.{Building, nothing_built, without_names}
 use Rattle.pddl_tree.specs.Plans.{PlanValue, step_of_names, IsStep, AreTimed, plan_of, built_plan, steps_built, timed_built}
 use Rattle.pddl_tree.specs.PlanTexts.{SpellsPlan, PlanStands}
 use Rattle.pddl_tree.specs.Words.{Each}
-use Rattle.pddl_tree.specs.PlanReading.{plan_at, plan_from, Refuses}
-use Rattle.pddl_tree.specs.StepWords.{AreBuilt, AreStepWords, ReadsTo, HasMoved}
+use Rattle.pddl_tree.specs.Inner.PlanReading.{plan_at, plan_from, Refuses}
+use Rattle.pddl_tree.specs.Inner.StepWords.{AreBuilt, AreStepWords, ReadsTo, HasMoved}
 use Rattle.pddl_tree.proofs.BuiltSteps.{some_timed, plan_is_timed}
 use Rattle.pddl_tree.proofs.StepsRead.{same_steps}
 use Rattle.pddl_tree.proofs.PlanLaws.{plan_through}

@@ -5,13 +5,10 @@ pub mod Building
 pub mod Plans
 pub mod Built
 pub mod StepParts
-pub mod StepNames
 pub mod Words
 pub mod ItemTrees
 pub mod Places
 pub mod PlanFaults
 pub mod PlanTexts
-pub mod PlanReading
-pub mod StepWords
 pub mod StandsForPlan
-pub mod TreeReading
+pub mod Inner

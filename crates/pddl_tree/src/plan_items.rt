@@ -4,9 +4,9 @@ ghost use Rattle.std.specs.Prelude.{◌≡◌, ◌<◌, ◌+◌, [], length, IfO
 ghost use Rattle.pddl_text.specs.Items.{item_view, items_view};
 ghost use Rattle.pddl_tree.specs.Building.{nothing_built, AddsWord, AddsNames};
 ghost use Rattle.pddl_tree.specs.Plans.{built_plan, steps_built, timed_built};
-ghost use Rattle.pddl_tree.specs.StepNames.{names_of_step, AddsTimed};
+ghost use Rattle.pddl_tree.specs.Inner.StepNames.{names_of_step, AddsTimed};
 ghost use Rattle.pddl_tree.specs.PlanFaults.{span_of};
-ghost use Rattle.pddl_tree.specs.PlanReading.{name_at, names_at, step_of, step_at, moment_at, is_colon, is_bracket, timed_at, no_step, timed_span, plain_fault, timed_fault, plain_from, timed_from, plan_at, plan_from, Refuses};
+ghost use Rattle.pddl_tree.specs.Inner.PlanReading.{name_at, names_at, step_of, step_at, moment_at, is_colon, is_bracket, timed_at, no_step, timed_span, plain_fault, timed_fault, plain_from, timed_from, plan_at, plan_from, Refuses};
 
 use crate::fault::ReadFault;
 use crate::plan_builder::PlanBuilder;

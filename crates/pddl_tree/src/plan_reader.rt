@@ -10,7 +10,7 @@ ghost use Rattle.pddl_tree.specs.declared.fault.ReadFault.TheVariants.{Text};
 ghost use Rattle.pddl_tree.specs.Plans.{PlanValue, plan_view};
 ghost use Rattle.pddl_tree.specs.PlanTexts.{SpellsPlan, PlanStands, without_near};
 ghost use Rattle.pddl_tree.specs.Places.{fault_place};
-ghost use Rattle.pddl_tree.specs.StepWords.{AreStepWords};
+ghost use Rattle.pddl_tree.specs.Inner.StepWords.{AreStepWords};
 
 use crate::fault::ReadFault;
 use crate::plan::Plan;

@@ -8,7 +8,7 @@ ghost use Rattle.pddl_text.specs.declared.token.TokenKind.TheVariants.{Close};
 ghost use Rattle.pddl_text.specs.Spelling.{PlacedWord, view};
 ghost use Rattle.pddl_tree.specs.Building.{Building};
 ghost use Rattle.pddl_tree.specs.declared.plan_words.Place.TheVariants as places;
-ghost use Rattle.pddl_tree.specs.StepWords.{ReadsTo, ReadsOn, ReadsWords, HasMoved};
+ghost use Rattle.pddl_tree.specs.Inner.StepWords.{ReadsTo, ReadsOn, ReadsWords, HasMoved};
 
 use crate::plan_builder::PlanBuilder;
 use pddl_text::{Fixed, Token, TokenKind, WordList, value_of};

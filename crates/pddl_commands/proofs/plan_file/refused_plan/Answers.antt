@@ -3,7 +3,7 @@ use Rattle.pddl_tree.specs.Places.{fault_place}
 use Rattle.pddl_tree.proofs.FaultPlaces.{fault_inside}
 use Rattle.pddl_kind.specs.Kinds.{kind_word}
 use Rattle.pddl_kind.specs.declared.Kind.TheVariants.{Plan}
-use Rattle.pddl_commands.specs.Faults.{whole_name}
+use Rattle.pddl_commands.specs.Inner.Faults.{whole_name}
 use Rattle.pddl_commands.specs.Lines.{fault_name}
 use Rattle.pddl_commands.proofs.FaultLines.{line_of}
 use Rattle.pddl_commands.proofs.plan_file.refused_plan.Goals as goal

@@ -2,12 +2,12 @@ use Rattle.std.proofs.Common.{◌≡◌, Some, IfOk, refl, ap, ◌∙◌}
 use Rattle.std.specs.Prelude.{option_map}
 use Rattle.std.specs.Option.{option_zip}
 use Rattle.pddl_tree.specs.ItemTrees.{item_tree}
-use Rattle.pddl_tree.specs.TreeReading.{name_at}
+use Rattle.pddl_tree.specs.Inner.TreeReading.{name_at}
 use Rattle.pddl_build.specs.Results.{both_of}
 use Rattle.pddl_build.proofs.Parts.{both_reads}
 use Rattle.pddl_build.proofs.FoundParts.{read_itself}
 use Rattle.pddl_sections.proofs.Heads.{rest_is}
-use Rattle.pddl_domain.specs.Slots.{slots_view, no_slots, slots_from}
+use Rattle.pddl_domain.specs.Inner.Slots.{slots_view, no_slots, slots_from}
 use Rattle.pddl_domain.proofs.SlotLaws.{titled}
 use Rattle.pddl_domain.proofs.action_reader.action_of.Goals as goal
 

@@ -1,5 +1,5 @@
 use Rattle.pddl_sections.proofs.Heads.{rest_is}
-use Rattle.pddl_domain.specs.Slots.{slots_view}
+use Rattle.pddl_domain.specs.Inner.Slots.{slots_view}
 use Rattle.pddl_domain.proofs.SlotLaws.{fields_on, fields_stop, fields_end}
 use Rattle.pddl_domain.proofs.action_reader.add_fields.Goals as goal
 

@@ -1,6 +1,6 @@
 use Rattle.std.proofs.Common.{◌≡◌, length}
 use Rattle.pddl_tree.specs.ItemTrees.{item_trees}
-use Rattle.pddl_domain.specs.Slots.{slots_view, slots_from}
+use Rattle.pddl_domain.specs.Inner.Slots.{slots_view, slots_from}
 use Rattle.pddl_domain.proofs.action_reader.add_fields.Given as goal
 
 -- the fields so far, and the items that are left, give what all items give

@@ -1,6 +1,6 @@
 use Rattle.pddl_tree.specs.ItemTrees.{item_trees}
 use Rattle.pddl_build.proofs.FoundParts.{right_part}
-use Rattle.pddl_domain.specs.Slots.{slots_view, no_slots, slots_from}
+use Rattle.pddl_domain.specs.Inner.Slots.{slots_view, no_slots, slots_from}
 use Rattle.pddl_domain.proofs.action_reader.slots_of.Goals as goal
 
 pub returns : goal.returns

@@ -1,7 +1,7 @@
 use Rattle.std.proofs.Common.{◌≡◌, ◌++◌, map}
-use Rattle.pddl_formula.specs.Reading.{of_type}
+use Rattle.pddl_formula.specs.Inner.Reading.{of_type}
 use Rattle.pddl_domain.specs.Declarations.{function_view}
-use Rattle.pddl_domain.specs.Signatures.{signature_view}
+use Rattle.pddl_domain.specs.Inner.Signatures.{signature_view}
 use Rattle.pddl_domain.proofs.declaration_reader.add_functions.Given as goal
 
 -- the functions so far, with the types of their results, and those that are left

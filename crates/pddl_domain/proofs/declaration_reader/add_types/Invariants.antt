@@ -1,5 +1,5 @@
 use Rattle.std.proofs.Common.{◌≡◌, ◌++◌, map}
-use Rattle.pddl_formula.specs.Reading.{of_type}
+use Rattle.pddl_formula.specs.Inner.Reading.{of_type}
 use Rattle.pddl_domain.specs.Declarations.{type_view}
 use Rattle.pddl_domain.proofs.declaration_reader.add_types.Given as goal
 

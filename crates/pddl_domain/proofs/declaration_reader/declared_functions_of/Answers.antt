@@ -1,12 +1,12 @@
 use Rattle.std.proofs.Common.{◌≡◌, ◌<◌, [], Some, length, map, sym, ap, ◌∙◌, arith}
 use Rattle.std.proofs.lemmas.List.{nil_from_length, length-map, map_push}
 use Rattle.pddl_tree.specs.ItemTrees.{item_tree}
-use Rattle.pddl_tree.specs.TreeReading.{is_dash}
-use Rattle.pddl_formula.specs.Reading.{type_at}
+use Rattle.pddl_tree.specs.Inner.TreeReading.{is_dash}
+use Rattle.pddl_formula.specs.Inner.Reading.{type_at}
 use Rattle.pddl_formula.proofs.TypedTurns.{type_fails, type_done, dash_fails, dash_done, item_fails, item_done, end_fails, end_done}
 use Rattle.pddl_domain.specs.Declarations.{number}
-use Rattle.pddl_domain.specs.Signatures.{signature_view}
-use Rattle.pddl_domain.specs.DomainReading.{function_signature_at}
+use Rattle.pddl_domain.specs.Inner.Signatures.{signature_view}
+use Rattle.pddl_domain.specs.Inner.DomainReading.{function_signature_at}
 use Rattle.pddl_domain.proofs.declaration_reader.declared_functions_of.Goals.{then-after_dash+in_ok-types+in-Some+in_ok-add_functions, else-after_dash+then-is_dash+else-len-eq0, else-after_dash+else-is_dash+in_ok-signature+in-Some-2+in_ok-push}
 use Rattle.pddl_domain.proofs.declaration_reader.declared_functions_of.Goals as goal
 

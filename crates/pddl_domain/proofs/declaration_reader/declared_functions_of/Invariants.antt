@@ -1,9 +1,9 @@
 use Rattle.std.proofs.Common.{◌≡◌, drop, map}
 use Rattle.pddl_tree.specs.ItemTrees.{item_trees}
-use Rattle.pddl_formula.specs.Reading.{type_at, typed_from}
+use Rattle.pddl_formula.specs.Inner.Reading.{type_at, typed_from}
 use Rattle.pddl_domain.specs.Declarations.{number, function_view}
-use Rattle.pddl_domain.specs.Signatures.{signature_view}
-use Rattle.pddl_domain.specs.DomainReading.{function_signature_at, functions_of}
+use Rattle.pddl_domain.specs.Inner.Signatures.{signature_view}
+use Rattle.pddl_domain.specs.Inner.DomainReading.{function_signature_at, functions_of}
 use Rattle.pddl_domain.proofs.declaration_reader.declared_functions_of.Given as goal
 
 -- what was found, the group, and the items that are left, give what all items give

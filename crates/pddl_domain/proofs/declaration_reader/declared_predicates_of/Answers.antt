@@ -3,7 +3,7 @@ use Rattle.std.proofs.lemmas.List.{map_push}
 use Rattle.pddl_tree.specs.ItemTrees.{item_tree}
 use Rattle.pddl_formula.proofs.Turns.{each_on}
 use Rattle.pddl_domain.specs.Declarations.{predicate_view}
-use Rattle.pddl_domain.specs.DomainReading.{predicate_signature_at}
+use Rattle.pddl_domain.specs.Inner.DomainReading.{predicate_signature_at}
 use Rattle.pddl_domain.proofs.declaration_reader.declared_predicates_of.Goals as goal
 
 pub loop-item-preserved : goal.loop-item-preserved

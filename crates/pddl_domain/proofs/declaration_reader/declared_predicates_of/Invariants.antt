@@ -1,9 +1,9 @@
 use Rattle.std.proofs.Common.{◌≡◌, drop, map}
 use Rattle.pddl_tree.specs.ItemTrees.{item_trees}
-use Rattle.pddl_tree.specs.TreeReading.{all_of}
+use Rattle.pddl_tree.specs.Inner.TreeReading.{all_of}
 use Rattle.pddl_tree.proofs.Options.{with_front}
 use Rattle.pddl_domain.specs.Declarations.{predicate_view}
-use Rattle.pddl_domain.specs.DomainReading.{predicate_signature_at}
+use Rattle.pddl_domain.specs.Inner.DomainReading.{predicate_signature_at}
 use Rattle.pddl_domain.proofs.declaration_reader.declared_predicates_of.Given as goal
 
 -- those so far, and those of the items that are left

@@ -1,8 +1,8 @@
 use Rattle.std.proofs.Common.{◌≡◌, ◌<◌, [], Some, length, sym, ap, ◌∙◌, arith, codes}
 use Rattle.std.proofs.lemmas.List.{nil_from_length}
 use Rattle.pddl_tree.specs.ItemTrees.{item_tree}
-use Rattle.pddl_tree.specs.TreeReading.{is_dash}
-use Rattle.pddl_formula.specs.Reading.{type_name_at}
+use Rattle.pddl_tree.specs.Inner.TreeReading.{is_dash}
+use Rattle.pddl_formula.specs.Inner.Reading.{type_name_at}
 use Rattle.pddl_formula.proofs.TypedTurns.{type_fails, type_done, dash_fails, dash_done, item_fails, item_done, end_fails, end_done}
 use Rattle.pddl_domain.proofs.declaration_reader.declared_types_of.Goals.{then-after_dash+in_ok-parent+in-Some+in_ok-add_types, else-after_dash+then-is_dash+else-len-eq0, else-after_dash+else-is_dash+in_ok-name+in-Some-2+in_ok-push}
 use Rattle.pddl_domain.proofs.declaration_reader.declared_types_of.Goals as goal

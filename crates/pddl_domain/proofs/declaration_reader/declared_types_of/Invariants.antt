@@ -1,8 +1,8 @@
 use Rattle.std.proofs.Common.{◌≡◌, drop, map, codes}
 use Rattle.pddl_tree.specs.ItemTrees.{item_trees}
-use Rattle.pddl_formula.specs.Reading.{type_name_at, typed_from}
+use Rattle.pddl_formula.specs.Inner.Reading.{type_name_at, typed_from}
 use Rattle.pddl_domain.specs.Declarations.{type_view}
-use Rattle.pddl_domain.specs.DomainReading.{types_of}
+use Rattle.pddl_domain.specs.Inner.DomainReading.{types_of}
 use Rattle.pddl_domain.proofs.declaration_reader.declared_types_of.Given as goal
 
 -- what was found, the group, and the items that are left, give what all items give

@@ -1,10 +1,10 @@
 use Rattle.std.proofs.Common.{[], codes}
 use Rattle.pddl_text.specs.Items.{items_view}
-use Rattle.pddl_file.specs.FileReading.{RefusesSections, RefusesFile}
+use Rattle.pddl_file.specs.Inner.FileReading.{RefusesSections, RefusesFile}
 use Rattle.pddl_file.proofs.SectionTurns.{head_refused, sections_refused}
 use Rattle.pddl_domain.specs.Domains.{domain_view}
-use Rattle.pddl_domain.specs.DomainReading.{domain_of, domain_readers}
-use Rattle.pddl_domain.specs.Sections.{domain_verdict, domain_answer, AddsParts, AnswersDomain}
+use Rattle.pddl_domain.specs.Inner.DomainReading.{domain_of, domain_readers}
+use Rattle.pddl_domain.specs.Inner.Sections.{domain_verdict, domain_answer, AddsParts, AnswersDomain}
 use Rattle.pddl_domain.proofs.DomainTurns.{answered}
 use Rattle.pddl_domain.proofs.Results.{if_ok, if_err}
 use Rattle.pddl_domain.proofs.domain_reader.domain_at.Goals as goal

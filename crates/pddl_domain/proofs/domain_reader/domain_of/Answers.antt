@@ -2,10 +2,10 @@ use Rattle.std.proofs.Common.{[]}
 use Rattle.pddl_build.proofs.Parts.{made_reads}
 use Rattle.pddl_build.proofs.FoundParts.{made_fails}
 use Rattle.pddl_text.specs.Items.{items_view}
-use Rattle.pddl_file.specs.FileReading.{RefusesSections}
+use Rattle.pddl_file.specs.Inner.FileReading.{RefusesSections}
 use Rattle.pddl_domain.specs.Domains.{domain_view}
-use Rattle.pddl_domain.specs.DomainReading.{domain_of}
-use Rattle.pddl_domain.specs.Sections.{domain_verdict, AddsParts}
+use Rattle.pddl_domain.specs.Inner.DomainReading.{domain_of}
+use Rattle.pddl_domain.specs.Inner.Sections.{domain_verdict, AddsParts}
 use Rattle.pddl_domain.proofs.domain_reader.domain_of.Goals as goal
 
 pub returns-clause-domain : goal.returns-clause-domain

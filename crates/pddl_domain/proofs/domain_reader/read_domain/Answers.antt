@@ -4,9 +4,9 @@ use Rattle.pddl_text.specs.Items.{items_view}
 use Rattle.pddl_text.specs.Texts.{HasItems}
 use Rattle.pddl_text.specs.declared.fault.TextFault.TheVariants.{Memory}
 use Rattle.pddl_file.specs.declared.fault.FileFault.TheVariants.{Text}
-use Rattle.pddl_file.specs.FileReading.{RefusesFile}
+use Rattle.pddl_file.specs.Inner.FileReading.{RefusesFile}
 use Rattle.pddl_domain.specs.Domains.{domain_view, SpellsDomain, DomainStands}
-use Rattle.pddl_domain.specs.Sections.{domain_answer, AnswersDomain}
+use Rattle.pddl_domain.specs.Inner.Sections.{domain_answer, AnswersDomain}
 use Rattle.pddl_domain.proofs.Results.{if_ok, if_err, match_both}
 use Rattle.pddl_domain.proofs.DomainTextLaws.{read_spells, read_only, refused_only, refused_stands}
 use Rattle.pddl_domain.proofs.domain_reader.read_domain.Goals as goal

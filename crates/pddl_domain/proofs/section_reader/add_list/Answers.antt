@@ -2,9 +2,9 @@ use Rattle.std.proofs.Common.{sym, ap, subst, ◌∙◌, Option}
 use Rattle.std.specs.Prelude.{IfOk}
 use Rattle.pddl_tree.specs.ItemTrees.{item_tree}
 use Rattle.pddl_sections.proofs.Heads.{rest_is}
-use Rattle.pddl_file.specs.WordReading.{head_key}
+use Rattle.pddl_file.specs.Inner.WordReading.{head_key}
 use Rattle.pddl_domain.specs.Domains.{Part, domain_view}
-use Rattle.pddl_domain.specs.Sections.{Adds}
+use Rattle.pddl_domain.specs.Inner.Sections.{Adds}
 use Rattle.pddl_domain.proofs.DomainTurns.{keyword_first}
 use Rattle.pddl_domain.proofs.section_reader.add_list.Goals as goal
 

@@ -2,7 +2,7 @@ use Rattle.std.proofs.Common.{sym, ◌∙◌}
 use Rattle.pddl_file.proofs.SectionTurns.{no_key_stops, twice_stops, unfit_stops}
 use Rattle.pddl_tree.specs.ItemTrees.{item_tree}
 use Rattle.pddl_domain.specs.Domains.{domain_view}
-use Rattle.pddl_domain.specs.DomainReading.{part_at, domain_readers}
+use Rattle.pddl_domain.specs.Inner.DomainReading.{part_at, domain_readers}
 use Rattle.pddl_domain.proofs.DomainTurns.{none_added, some_added}
 use Rattle.pddl_domain.proofs.section_reader.add_section.Goals as goal
 

@@ -3,8 +3,8 @@ use Rattle.std.proofs.lemmas.Result.{err_from_is_err_and}
 use Rattle.pddl_text.specs.Items.{items_view}
 use Rattle.pddl_file.proofs.SectionTurns.{sections_stop}
 use Rattle.pddl_domain.specs.Domains.{domain_view}
-use Rattle.pddl_domain.specs.DomainReading.{domain_readers}
-use Rattle.pddl_domain.specs.Sections.{domain_verdict}
+use Rattle.pddl_domain.specs.Inner.DomainReading.{domain_readers}
+use Rattle.pddl_domain.specs.Inner.Sections.{domain_verdict}
 use Rattle.pddl_domain.proofs.DomainTurns.{adds_end, adds_on}
 use Rattle.pddl_domain.proofs.section_reader.add_sections.Goals as goal
 

@@ -1,7 +1,7 @@
 use Rattle.std.proofs.Common.{drop}
 use Rattle.pddl_text.specs.Items.{items_view}
 use Rattle.pddl_domain.specs.Domains.{domain_view}
-use Rattle.pddl_domain.specs.Sections.{domain_verdict}
+use Rattle.pddl_domain.specs.Inner.Sections.{domain_verdict}
 use Rattle.pddl_domain.proofs.DomainTurns.{AddsSoFar}
 use Rattle.pddl_domain.proofs.section_reader.add_sections.Given as goal
 

@@ -1,7 +1,7 @@
 use Rattle.pddl_tree.specs.ItemTrees.{item_tree}
 use Rattle.pddl_tree.proofs.Options.{exact_result}
 use Rattle.pddl_effect.specs.Effects.{amount_view, IsAmount}
-use Rattle.pddl_effect.specs.EffectReading.{amount_at}
+use Rattle.pddl_effect.specs.Inner.EffectReading.{amount_at}
 use Rattle.pddl_effect.proofs.AmountLaws.{amount_reads}
 use Rattle.pddl_effect.proofs.amount_reader.amount_of.Goals as goal
 

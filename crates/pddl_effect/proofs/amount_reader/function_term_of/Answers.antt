@@ -1,7 +1,7 @@
 use Rattle.pddl_tree.specs.ItemTrees.{item_tree}
 use Rattle.pddl_tree.proofs.Options.{exact_result}
 use Rattle.pddl_effect.specs.Effects.{function_term_view, IsFunctionTerm}
-use Rattle.pddl_effect.specs.EffectReading.{function_term_at}
+use Rattle.pddl_effect.specs.Inner.EffectReading.{function_term_at}
 use Rattle.pddl_effect.proofs.AmountLaws.{function_term_reads}
 use Rattle.pddl_effect.proofs.amount_reader.function_term_of.Goals as goal
 

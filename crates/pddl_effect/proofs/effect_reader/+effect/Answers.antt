@@ -12,10 +12,10 @@ use Rattle.pddl_formula.specs.TypedLists.{typed_view}
 use Rattle.pddl_formula.specs.Formulas.{formula_view}
 use Rattle.pddl_formula.proofs.Turns.{each_end}
 use Rattle.pddl_formula.proofs.Fills.{fill_on, fill_stop}
-use Rattle.pddl_formula.specs.Reading.{variables_at, formula_at}
+use Rattle.pddl_formula.specs.Inner.Reading.{variables_at, formula_at}
 use Rattle.pddl_effect.specs.declared.effect.Effect.TheVariants as cases
 use Rattle.pddl_effect.specs.Effects.{conjunction, universal, conditional, addition, effects_of, effect_view}
-use Rattle.pddl_effect.specs.EffectReading.{effect_at}
+use Rattle.pddl_effect.specs.Inner.EffectReading.{effect_at}
 use Rattle.pddl_effect.proofs.EffectLaws.{effect_at_list, effect_at_leaf}
 use Rattle.pddl_effect.proofs.EffectTurns.{view_and, view_forall, view_when, view_add, universal_is, conditional_is, by_head, by_not, by_name, by_increase}
 use Rattle.pddl_effect.proofs.effect_reader.+effect.Goals as goal

@@ -1,10 +1,10 @@
 use Rattle.std.proofs.Common.{◌≡◌, drop, map}
 use Rattle.pddl_tree.specs.ItemTrees.{item_trees}
-use Rattle.pddl_tree.specs.TreeReading.{all_of}
+use Rattle.pddl_tree.specs.Inner.TreeReading.{all_of}
 use Rattle.pddl_tree.proofs.Options.{with_front}
-use Rattle.pddl_formula.specs.Reading.{behind}
+use Rattle.pddl_formula.specs.Inner.Reading.{behind}
 use Rattle.pddl_effect.specs.Effects.{effect_view}
-use Rattle.pddl_effect.specs.EffectReading.{effect_at}
+use Rattle.pddl_effect.specs.Inner.EffectReading.{effect_at}
 use Rattle.pddl_effect.proofs.effect_reader.+effect.Given as goal
 
 -- those so far, and those of the items that are left

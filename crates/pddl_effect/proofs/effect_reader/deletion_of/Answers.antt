@@ -2,7 +2,7 @@ use Rattle.std.proofs.Common.{arith}
 use Rattle.pddl_build.proofs.Parts.{found_reads}
 use Rattle.pddl_tree.specs.ItemTrees.{item_tree}
 use Rattle.pddl_formula.specs.Terms.{atom_view}
-use Rattle.pddl_formula.specs.Reading.{atom_at}
+use Rattle.pddl_formula.specs.Inner.Reading.{atom_at}
 use Rattle.pddl_effect.specs.declared.effect.Effect.TheVariants as cases
 use Rattle.pddl_effect.specs.Effects.{deletion, effect_view}
 use Rattle.pddl_effect.proofs.EffectTurns.{view_del, only_is}

@@ -1,7 +1,7 @@
 use Rattle.pddl_tree.specs.ItemTrees.{item_tree}
 use Rattle.pddl_tree.proofs.Options.{exact_result}
 use Rattle.pddl_effect.specs.Effects.{effect_view, IsEffect}
-use Rattle.pddl_effect.specs.EffectReading.{effect_at}
+use Rattle.pddl_effect.specs.Inner.EffectReading.{effect_at}
 use Rattle.pddl_effect.proofs.EffectLaws.{effect_reads}
 use Rattle.pddl_effect.proofs.effect_reader.effect_of.Goals as goal
 

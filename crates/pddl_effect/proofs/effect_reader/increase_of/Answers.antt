@@ -3,7 +3,7 @@ use Rattle.pddl_build.proofs.Parts.{found_reads}
 use Rattle.pddl_tree.specs.ItemTrees.{item_tree}
 use Rattle.pddl_effect.specs.declared.effect.Effect.TheVariants as cases
 use Rattle.pddl_effect.specs.Effects.{increase, amount_view, effect_view}
-use Rattle.pddl_effect.specs.EffectReading.{amount_at}
+use Rattle.pddl_effect.specs.Inner.EffectReading.{amount_at}
 use Rattle.pddl_effect.proofs.EffectTurns.{view_increase, increase_is}
 use Rattle.pddl_effect.proofs.effect_reader.increase_of.Goals as goal
 

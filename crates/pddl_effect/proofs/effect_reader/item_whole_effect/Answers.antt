@@ -4,7 +4,7 @@ use Rattle.pddl_text.specs.Spelling.{view}
 use Rattle.pddl_text.specs.Trees.{unplaced}
 use Rattle.pddl_tree.specs.ItemTrees.{item_tree, item_trees}
 use Rattle.pddl_tree.proofs.TreeLists.{item_tree_list, item_tree_word}
-use Rattle.pddl_effect.specs.EffectReading.{whole_effect_at, effect_at}
+use Rattle.pddl_effect.specs.Inner.EffectReading.{whole_effect_at, effect_at}
 use Rattle.pddl_effect.proofs.EffectTurns.{whole_effect_at_empty, whole_effect_at_list, whole_effect_at_leaf}
 use Rattle.pddl_effect.proofs.effect_reader.item_whole_effect.Goals as goal
 

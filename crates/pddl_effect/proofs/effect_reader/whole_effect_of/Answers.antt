@@ -1,7 +1,7 @@
 use Rattle.pddl_tree.specs.ItemTrees.{item_tree}
 use Rattle.pddl_tree.proofs.Options.{exact_result}
 use Rattle.pddl_effect.specs.Effects.{effect_view, IsWholeEffect}
-use Rattle.pddl_effect.specs.EffectReading.{whole_effect_at}
+use Rattle.pddl_effect.specs.Inner.EffectReading.{whole_effect_at}
 use Rattle.pddl_effect.proofs.EffectLaws.{whole_effect_reads}
 use Rattle.pddl_effect.proofs.effect_reader.whole_effect_of.Goals as goal
 

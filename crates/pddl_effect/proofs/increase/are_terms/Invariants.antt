@@ -1,7 +1,7 @@
 use Rattle.std.proofs.Common.{◌≡◌, drop}
 use Rattle.std.specs.List.{list_all}
 use Rattle.pddl_tree.specs.ItemTrees.{item_trees}
-use Rattle.pddl_effect.specs.IncreaseTests.{is_term_at}
+use Rattle.pddl_effect.specs.Inner.IncreaseTests.{is_term_at}
 use Rattle.pddl_effect.proofs.increase.are_terms.Given as goal
 
 -- whether those that are left are terms

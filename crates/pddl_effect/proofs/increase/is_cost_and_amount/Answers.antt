@@ -1,6 +1,6 @@
 use Rattle.std.proofs.Common.{true, false, refl, arith}
 use Rattle.pddl_tree.specs.ItemTrees.{item_tree}
-use Rattle.pddl_effect.specs.IncreaseTests.{is_amount_at}
+use Rattle.pddl_effect.specs.Inner.IncreaseTests.{is_amount_at}
 use Rattle.pddl_effect.proofs.IncreaseTurns.{two_tested, too_few, too_many}
 use Rattle.pddl_effect.proofs.increase.is_cost_and_amount.Goals as goal
 

@@ -1,6 +1,6 @@
 use Rattle.std.proofs.Common.{◌-◌, length, take, drop, true, false, refl, arith}
 use Rattle.pddl_tree.specs.ItemTrees.{item_trees}
-use Rattle.pddl_effect.specs.IncreaseTests.{is_cost_and_amount}
+use Rattle.pddl_effect.specs.Inner.IncreaseTests.{is_cost_and_amount}
 use Rattle.pddl_effect.proofs.IncreaseTurns.{head_tested, none_tested}
 use Rattle.pddl_effect.proofs.increase.is_increase_list.Goals as goal
 

@@ -3,9 +3,9 @@ use Rattle.std.specs.Prelude.{flat_map}
 use Rattle.pddl_text.specs.Items.{item_view, items_view}
 use Rattle.pddl_tree.specs.ItemTrees.{item_trees}
 use Rattle.pddl_sections.specs.Sections.{lists_in}
-use Rattle.pddl_sections.specs.Verdicts.{first_mark}
+use Rattle.pddl_sections.specs.Inner.Verdicts.{first_mark}
 use Rattle.pddl_sections.proofs.Turns.{mark_end, mark_here, mark_later}
-use Rattle.pddl_file.specs.WordReading.{list_mark, mark_in}
+use Rattle.pddl_file.specs.Inner.WordReading.{list_mark, mark_in}
 use Rattle.pddl_file.proofs.WordTurns.{list_marked, list_unmarked}
 use Rattle.pddl_file.proofs.mark.+marks.Goals as goal
 

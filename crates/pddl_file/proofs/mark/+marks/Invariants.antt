@@ -2,9 +2,9 @@ use Rattle.std.proofs.Common.{◌≡◌}
 use Rattle.std.specs.Prelude.{flat_map}
 use Rattle.pddl_text.specs.Items.{items_view}
 use Rattle.pddl_sections.specs.Sections.{lists_in}
-use Rattle.pddl_sections.specs.Verdicts.{first_mark}
+use Rattle.pddl_sections.specs.Inner.Verdicts.{first_mark}
 use Rattle.pddl_sections.proofs.Turns.{lists_from}
-use Rattle.pddl_file.specs.WordReading.{mark_in}
+use Rattle.pddl_file.specs.Inner.WordReading.{mark_in}
 use Rattle.pddl_file.proofs.mark.+marks.Given as goal
 
 -- none in the items so far

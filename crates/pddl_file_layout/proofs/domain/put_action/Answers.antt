@@ -1,7 +1,7 @@
 use Rattle.std.proofs.Common.{List, map, ap}
 use Rattle.pddl_formula.specs.declared.type_names.Typed.{Typed}
 use Rattle.pddl_formula.specs.TypedLists.{typed_view}
-use Rattle.pddl_file_layout.specs.Texts.{variables_text}
+use Rattle.pddl_file_layout.specs.Inner.Texts.{variables_text}
 use Rattle.pddl_file_layout.proofs.Printed.{puts_on, puts_as}
 use Rattle.pddl_file_layout.proofs.domain.put_action.Goals as goal
 

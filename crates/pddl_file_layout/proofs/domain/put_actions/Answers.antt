@@ -1,7 +1,7 @@
 use Rattle.std.proofs.Common.{◌<◌, length, arith}
 use Rattle.pddl_domain.specs.Actions.{action_view}
 use Rattle.pddl_file_layout.specs.DomainLayout.{is_action}
-use Rattle.pddl_file_layout.specs.Texts.{action_lines}
+use Rattle.pddl_file_layout.specs.Inner.Texts.{action_lines}
 use Rattle.pddl_file_layout.proofs.Printed.{element_on, passes_on}
 use Rattle.pddl_file_layout.proofs.domain.put_actions.Goals as goal
 

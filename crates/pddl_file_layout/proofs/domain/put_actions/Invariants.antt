@@ -2,8 +2,8 @@ use Rattle.std.proofs.Common.{◌≡◌, true, map, take}
 use Rattle.std.specs.List.{list_all, flat_map}
 use Rattle.pddl_domain.specs.Actions.{action_view}
 use Rattle.pddl_file_layout.specs.DomainLayout.{is_action}
-use Rattle.pddl_file_layout.specs.Texts.{action_lines}
-use Rattle.pddl_file_layout.specs.Printing.{Puts}
+use Rattle.pddl_file_layout.specs.Inner.Texts.{action_lines}
+use Rattle.pddl_file_layout.specs.Inner.Printing.{Puts}
 use Rattle.pddl_file_layout.proofs.domain.put_actions.Given as goal
 
 -- those so far are written

@@ -7,7 +7,7 @@ use Rattle.pddl_domain.specs.Actions.{action_view}
 use Rattle.pddl_domain.specs.Domains.{domain_view}
 use Rattle.pddl_file_layout.specs.FormulaValues.{is_typed}
 use Rattle.pddl_file_layout.specs.DomainLayout.{is_declared_type, is_declared_predicate, is_declared_function, is_action}
-use Rattle.pddl_file_layout.specs.Texts.{section_text, flag_text, declared_type_text, object_text, signature_text, function_text, action_lines}
+use Rattle.pddl_file_layout.specs.Inner.Texts.{section_text, flag_text, declared_type_text, object_text, signature_text, function_text, action_lines}
 use Rattle.pddl_file_layout.proofs.Printed.{puts_on, puts_as}
 use Rattle.pddl_file_layout.proofs.LineTexts.{domain_is}
 use Rattle.pddl_file_layout.proofs.SectionTexts.{all_seven}

@@ -1,7 +1,7 @@
 use Rattle.std.proofs.Common.{List, map, ap, codes}
 use Rattle.pddl_formula.specs.declared.type_names.Typed.{Typed}
 use Rattle.pddl_formula.specs.TypedLists.{typed_view}
-use Rattle.pddl_file_layout.specs.Texts.{spaced_by, typed_text, type_text}
+use Rattle.pddl_file_layout.specs.Inner.Texts.{spaced_by, typed_text, type_text}
 use Rattle.pddl_file_layout.proofs.SectionTexts.{signature_apart}
 use Rattle.pddl_file_layout.proofs.Printed.{puts_on, puts_as}
 use Rattle.pddl_file_layout.proofs.domain.put_function.Goals as goal

@@ -1,7 +1,7 @@
 use Rattle.std.proofs.Common.{◌<◌, length, arith}
 use Rattle.pddl_domain.specs.Declarations.{function_view}
 use Rattle.pddl_file_layout.specs.DomainLayout.{is_declared_function}
-use Rattle.pddl_file_layout.specs.Texts.{function_text}
+use Rattle.pddl_file_layout.specs.Inner.Texts.{function_text}
 use Rattle.pddl_file_layout.proofs.Printed.{spaced_on, passes_on}
 use Rattle.pddl_file_layout.proofs.domain.put_function_list.Goals as goal
 

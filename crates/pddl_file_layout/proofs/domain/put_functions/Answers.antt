@@ -1,6 +1,6 @@
 use Rattle.std.proofs.Common.{codes, arith}
 use Rattle.pddl_domain.specs.Declarations.{function_view}
-use Rattle.pddl_file_layout.specs.Texts.{function_text}
+use Rattle.pddl_file_layout.specs.Inner.Texts.{function_text}
 use Rattle.pddl_file_layout.proofs.SectionTexts.{section_filled}
 use Rattle.pddl_file_layout.proofs.Printed.{puts_on, puts_as}
 use Rattle.pddl_file_layout.proofs.domain.put_functions.Goals as goal

@@ -2,8 +2,8 @@ use Rattle.std.proofs.Common.{◌≡◌, true, map, take}
 use Rattle.std.specs.List.{list_all}
 use Rattle.pddl_domain.specs.Declarations.{predicate_view}
 use Rattle.pddl_file_layout.specs.DomainLayout.{is_declared_predicate}
-use Rattle.pddl_file_layout.specs.Texts.{spaced_by, signature_text}
-use Rattle.pddl_file_layout.specs.Printing.{Puts}
+use Rattle.pddl_file_layout.specs.Inner.Texts.{spaced_by, signature_text}
+use Rattle.pddl_file_layout.specs.Inner.Printing.{Puts}
 use Rattle.pddl_file_layout.proofs.domain.put_predicate_list.Given as goal
 
 -- those so far are written

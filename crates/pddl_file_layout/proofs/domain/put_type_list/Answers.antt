@@ -2,7 +2,7 @@ use Rattle.std.proofs.Common.{◌<◌, length, arith}
 use Rattle.pddl_domain.specs.Declarations.{type_view}
 use Rattle.pddl_formula.specs.Reserved.{is_type_name}
 use Rattle.pddl_file_layout.specs.DomainLayout.{is_declared_type}
-use Rattle.pddl_file_layout.specs.Texts.{declared_type_text}
+use Rattle.pddl_file_layout.specs.Inner.Texts.{declared_type_text}
 use Rattle.pddl_file_layout.proofs.Printed.{puts_on, puts_as, spaced_on, passes_on}
 use Rattle.pddl_file_layout.proofs.SectionTexts.{both}
 use Rattle.pddl_file_layout.proofs.domain.put_type_list.Goals as goal

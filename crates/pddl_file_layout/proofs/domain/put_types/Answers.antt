@@ -1,6 +1,6 @@
 use Rattle.std.proofs.Common.{codes, arith}
 use Rattle.pddl_domain.specs.Declarations.{type_view}
-use Rattle.pddl_file_layout.specs.Texts.{declared_type_text}
+use Rattle.pddl_file_layout.specs.Inner.Texts.{declared_type_text}
 use Rattle.pddl_file_layout.proofs.SectionTexts.{section_filled}
 use Rattle.pddl_file_layout.proofs.Printed.{puts_on, puts_as}
 use Rattle.pddl_file_layout.proofs.domain.put_types.Goals as goal

@@ -2,7 +2,7 @@ use Rattle.std.proofs.Common.{◌<◌, List, length, get_or, refl, ap, subst, �
 use Rattle.pddl_effect.specs.declared.effect.Effect.{Effect}
 use Rattle.pddl_effect.specs.Effects.{effect_view}
 use Rattle.pddl_file_layout.specs.FormulaValues.{is_effect}
-use Rattle.pddl_file_layout.specs.Texts.{effect_text}
+use Rattle.pddl_file_layout.specs.Inner.Texts.{effect_text}
 use Rattle.pddl_file_layout.proofs.Printed.{puts_on, puts_as, spaced_on, passes_on}
 use Rattle.pddl_file_layout.proofs.Arms.{all_text, each_text, when_text, del_text, increase_text, all_good}
 use Rattle.pddl_file_layout.proofs.effect.+effect.Goals as goal

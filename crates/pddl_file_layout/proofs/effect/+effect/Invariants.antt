@@ -2,8 +2,8 @@ use Rattle.std.proofs.Common.{◌≡◌, true, map, take}
 use Rattle.std.specs.List.{list_all}
 use Rattle.pddl_effect.specs.Effects.{effect_view}
 use Rattle.pddl_file_layout.specs.FormulaValues.{is_effect}
-use Rattle.pddl_file_layout.specs.Texts.{spaced_by, effect_text}
-use Rattle.pddl_file_layout.specs.Printing.{Puts}
+use Rattle.pddl_file_layout.specs.Inner.Texts.{spaced_by, effect_text}
+use Rattle.pddl_file_layout.specs.Inner.Printing.{Puts}
 use Rattle.pddl_file_layout.proofs.effect.+effect.Given as goal
 
 -- those so far are written

@@ -1,7 +1,7 @@
 use Rattle.std.proofs.Common.{◌<◌, length, arith}
 use Rattle.pddl_formula.specs.Formulas.{formula_view}
 use Rattle.pddl_file_layout.specs.FormulaValues.{is_formula}
-use Rattle.pddl_file_layout.specs.Texts.{formula_text}
+use Rattle.pddl_file_layout.specs.Inner.Texts.{formula_text}
 use Rattle.pddl_file_layout.proofs.Printed.{puts_on, puts_as, spaced_on, passes_on}
 use Rattle.pddl_file_layout.proofs.Arms.{equal_text, not_text, imply_text, and_text, or_text, exists_text, forall_text, and_good, or_good}
 use Rattle.pddl_file_layout.proofs.formula.+formula.Goals as goal

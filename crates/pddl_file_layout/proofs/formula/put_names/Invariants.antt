@@ -1,8 +1,8 @@
 use Rattle.std.proofs.Common.{◌≡◌, true, take}
 use Rattle.std.specs.List.{list_all}
 use Rattle.pddl_tree.specs.Names.{is_name}
-use Rattle.pddl_file_layout.specs.Texts.{spaced_by, word_text}
-use Rattle.pddl_file_layout.specs.Printing.{Puts}
+use Rattle.pddl_file_layout.specs.Inner.Texts.{spaced_by, word_text}
+use Rattle.pddl_file_layout.specs.Inner.Printing.{Puts}
 use Rattle.pddl_file_layout.proofs.formula.put_names.Given as goal
 
 -- those so far are written

@@ -1,7 +1,7 @@
 use Rattle.std.proofs.Common.{◌<◌, length, arith}
 use Rattle.pddl_formula.specs.Terms.{term_view}
 use Rattle.pddl_file_layout.specs.FormulaValues.{is_term}
-use Rattle.pddl_file_layout.specs.Texts.{term_text}
+use Rattle.pddl_file_layout.specs.Inner.Texts.{term_text}
 use Rattle.pddl_file_layout.proofs.Printed.{spaced_on, passes_on}
 use Rattle.pddl_file_layout.proofs.formula.put_terms.Goals as goal
 

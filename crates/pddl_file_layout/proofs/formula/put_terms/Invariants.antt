@@ -2,8 +2,8 @@ use Rattle.std.proofs.Common.{◌≡◌, true, map, take}
 use Rattle.std.specs.List.{list_all}
 use Rattle.pddl_formula.specs.Terms.{term_view}
 use Rattle.pddl_file_layout.specs.FormulaValues.{is_term}
-use Rattle.pddl_file_layout.specs.Texts.{spaced_by, term_text}
-use Rattle.pddl_file_layout.specs.Printing.{Puts}
+use Rattle.pddl_file_layout.specs.Inner.Texts.{spaced_by, term_text}
+use Rattle.pddl_file_layout.specs.Inner.Printing.{Puts}
 use Rattle.pddl_file_layout.proofs.formula.put_terms.Given as goal
 
 -- those so far are written

@@ -1,6 +1,6 @@
 use Rattle.std.proofs.Common.{take}
-use Rattle.pddl_file_layout.specs.Texts.{spaced_by, word_text}
-use Rattle.pddl_file_layout.specs.Printing.{Puts}
+use Rattle.pddl_file_layout.specs.Inner.Texts.{spaced_by, word_text}
+use Rattle.pddl_file_layout.specs.Inner.Printing.{Puts}
 use Rattle.pddl_file_layout.proofs.formula.put_type_names.Given as goal
 
 -- those so far are written

@@ -1,7 +1,7 @@
 use Rattle.std.proofs.Common.{◌<◌, length, arith}
 use Rattle.pddl_formula.specs.TypedLists.{typed_view}
 use Rattle.pddl_file_layout.specs.FormulaValues.{is_typed}
-use Rattle.pddl_file_layout.specs.Texts.{typed_text}
+use Rattle.pddl_file_layout.specs.Inner.Texts.{typed_text}
 use Rattle.pddl_file_layout.proofs.Printed.{spaced_on, passes_on}
 use Rattle.pddl_file_layout.proofs.formula.put_typed_list.Goals as goal
 

@@ -1,7 +1,7 @@
 use Rattle.std.proofs.Common.{◌<◌, length, arith}
 use Rattle.pddl_problem.specs.Inits.{init_view}
 use Rattle.pddl_file_layout.specs.ProblemLayout.{is_init}
-use Rattle.pddl_file_layout.specs.Texts.{init_text}
+use Rattle.pddl_file_layout.specs.Inner.Texts.{init_text}
 use Rattle.pddl_file_layout.proofs.Printed.{spaced_on, passes_on}
 use Rattle.pddl_file_layout.proofs.problem.put_init.Goals as goal
 

@@ -2,8 +2,8 @@ use Rattle.std.proofs.Common.{◌≡◌, true, map, take}
 use Rattle.std.specs.List.{list_all}
 use Rattle.pddl_problem.specs.Inits.{init_view}
 use Rattle.pddl_file_layout.specs.ProblemLayout.{is_init}
-use Rattle.pddl_file_layout.specs.Texts.{spaced_by, init_text}
-use Rattle.pddl_file_layout.specs.Printing.{Puts}
+use Rattle.pddl_file_layout.specs.Inner.Texts.{spaced_by, init_text}
+use Rattle.pddl_file_layout.specs.Inner.Printing.{Puts}
 use Rattle.pddl_file_layout.proofs.problem.put_init.Given as goal
 
 -- those so far are written

@@ -1,7 +1,7 @@
 use Rattle.std.proofs.Common.{sym, ap}
 use Rattle.pddl_problem.specs.declared.problem.InitItem.{InitItem}
 use Rattle.pddl_problem.specs.Inits.{init_view}
-use Rattle.pddl_file_layout.specs.Texts.{init_text}
+use Rattle.pddl_file_layout.specs.Inner.Texts.{init_text}
 use Rattle.pddl_file_layout.proofs.Printed.{puts_on, puts_as}
 use Rattle.pddl_file_layout.proofs.problem.put_init_item.Goals as goal
 

@@ -2,7 +2,7 @@ use Rattle.std.proofs.Common.{sym, ap}
 use Rattle.std.specs.Prelude.{Option, option_map}
 use Rattle.pddl_problem.specs.declared.problem.Metric.{Metric}
 use Rattle.pddl_problem.specs.Inits.{metric_view}
-use Rattle.pddl_file_layout.specs.Texts.{metric_text}
+use Rattle.pddl_file_layout.specs.Inner.Texts.{metric_text}
 use Rattle.pddl_file_layout.proofs.Printed.{puts_on, puts_as}
 use Rattle.pddl_file_layout.proofs.problem.put_metric.Goals as goal
 

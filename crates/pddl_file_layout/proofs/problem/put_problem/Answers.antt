@@ -2,7 +2,7 @@ use Rattle.std.proofs.Common.{map, sym, ap, codes}
 use Rattle.pddl_formula.specs.TypedLists.{typed_view}
 use Rattle.pddl_problem.specs.Inits.{init_view}
 use Rattle.pddl_problem.specs.Problems.{problem_view}
-use Rattle.pddl_file_layout.specs.Texts.{spaced_by, section_text, flag_text, object_text, init_text}
+use Rattle.pddl_file_layout.specs.Inner.Texts.{spaced_by, section_text, flag_text, object_text, init_text}
 use Rattle.pddl_file_layout.proofs.Printed.{puts_on, puts_as}
 use Rattle.pddl_file_layout.proofs.LineTexts.{problem_is}
 use Rattle.pddl_file_layout.proofs.problem.put_problem.Goals as goal

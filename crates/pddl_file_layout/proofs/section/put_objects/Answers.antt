@@ -1,6 +1,6 @@
 use Rattle.std.proofs.Common.{arith}
 use Rattle.pddl_formula.specs.TypedLists.{typed_view}
-use Rattle.pddl_file_layout.specs.Texts.{object_text}
+use Rattle.pddl_file_layout.specs.Inner.Texts.{object_text}
 use Rattle.pddl_file_layout.proofs.SectionTexts.{section_filled}
 use Rattle.pddl_file_layout.proofs.Printed.{puts_on, puts_as}
 use Rattle.pddl_file_layout.proofs.section.put_objects.Goals as goal

@@ -1,5 +1,5 @@
 use Rattle.std.proofs.Common.{codes, arith}
-use Rattle.pddl_file_layout.specs.Texts.{flag_text}
+use Rattle.pddl_file_layout.specs.Inner.Texts.{flag_text}
 use Rattle.pddl_file_layout.proofs.SectionTexts.{words_filled}
 use Rattle.pddl_file_layout.proofs.Printed.{puts_on, puts_as}
 use Rattle.pddl_file_layout.proofs.section.put_requirements.Goals as goal

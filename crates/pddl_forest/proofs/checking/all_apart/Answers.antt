@@ -1,5 +1,5 @@
 use Rattle.std.proofs.Common.{◌∙◌, subst, arith}
-use Rattle.pddl_forest.specs.Checks.{Passes}
+use Rattle.pddl_forest.specs.Inner.Checks.{Passes}
 use Rattle.pddl_forest.proofs.Ranges.{next_passed, next_apart}
 use Rattle.pddl_forest.proofs.checking.all_apart.Goals as goal
 

@@ -1,5 +1,5 @@
 use Rattle.std.proofs.Common.{◌≡◌, length}
-use Rattle.pddl_forest.specs.Checks.{AreApart, ArePassed}
+use Rattle.pddl_forest.specs.Inner.Checks.{AreApart, ArePassed}
 use Rattle.pddl_forest.proofs.checking.all_apart.Given as goal
 
 abbrev pub invariant-loop-number : goal.invariant-loop-number

@@ -1,5 +1,5 @@
 use Rattle.pddl_forest.proofs.Ranges.{next_too}
-use Rattle.pddl_forest.specs.Checks.{IsPlaced}
+use Rattle.pddl_forest.specs.Inner.Checks.{IsPlaced}
 use Rattle.pddl_forest.proofs.checking.all_placed.Goals as goal
 
 pub loop-place-preserved : goal.loop-place-preserved

@@ -1,6 +1,6 @@
 use Rattle.std.proofs.Common.{arith}
 use Rattle.pddl_forest.specs.Forests.{number_at}
-use Rattle.pddl_forest.specs.Roots.{HasRoot}
+use Rattle.pddl_forest.specs.Inner.Roots.{HasRoot}
 use Rattle.pddl_forest.proofs.Ranges.{next_too}
 use Rattle.pddl_forest.proofs.RootSums.{each_listed}
 use Rattle.pddl_forest.proofs.roots.all_have_roots.Goals as goal

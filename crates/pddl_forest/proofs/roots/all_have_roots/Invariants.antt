@@ -1,6 +1,6 @@
 use Rattle.std.proofs.Common.{◌<◌, ℕ}
 use Rattle.pddl_forest.specs.Forests.{number_at}
-use Rattle.pddl_forest.specs.Roots.{HasRoot}
+use Rattle.pddl_forest.specs.Inner.Roots.{HasRoot}
 use Rattle.pddl_forest.proofs.roots.all_have_roots.Given as goal
 
 abbrev pub invariant-loop-step : goal.invariant-loop-step

@@ -1,5 +1,5 @@
 use Rattle.std.proofs.Common.{◌≡◌, ◌≤◌}
-use Rattle.pddl_forest.specs.Roots.{AreRoots, chain_end}
+use Rattle.pddl_forest.specs.Inner.Roots.{AreRoots, chain_end}
 use Rattle.pddl_forest.proofs.roots.in_chain.Given as goal
 
 abbrev pub invariant-loop-number : goal.invariant-loop-number

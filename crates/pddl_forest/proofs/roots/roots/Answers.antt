@@ -1,5 +1,5 @@
 use Rattle.std.proofs.Common.{subst}
-use Rattle.pddl_forest.specs.Roots.{HasRoot}
+use Rattle.pddl_forest.specs.Inner.Roots.{HasRoot}
 use Rattle.pddl_forest.proofs.roots.roots.Goals as goal
 
 pub returns-then-all_have_roots-clause-all : goal.returns-then-all_have_roots-clause-all

@@ -6,7 +6,7 @@ use Rattle.pddl_tree.specs.ItemTrees.{item_tree, item_trees}
 use Rattle.pddl_tree.proofs.TreeLists.{item_tree_list, item_tree_word}
 use Rattle.pddl_formula.specs.Formulas.{formula_view, bound_view, atom, negation, implication, conjunction, disjunction, existential, universal, formulas_of}
 use Rattle.pddl_formula.specs.TypedLists.{typed_view}
-use Rattle.pddl_formula.specs.Reading.{formula_at, variables_at, behind}
+use Rattle.pddl_formula.specs.Inner.Reading.{formula_at, variables_at, behind}
 use Rattle.pddl_formula.specs.Terms.{atom_view}
 use Rattle.pddl_formula.specs.declared.head.Head.TheVariants as heads
 use Rattle.pddl_formula.proofs.Turns.{each_end}

@@ -1,8 +1,8 @@
 use Rattle.std.proofs.Common.{◌≡◌, drop, map}
 use Rattle.pddl_tree.specs.ItemTrees.{item_trees}
-use Rattle.pddl_tree.specs.TreeReading.{all_of}
+use Rattle.pddl_tree.specs.Inner.TreeReading.{all_of}
 use Rattle.pddl_formula.specs.Formulas.{formula_view}
-use Rattle.pddl_formula.specs.Reading.{formula_at, behind}
+use Rattle.pddl_formula.specs.Inner.Reading.{formula_at, behind}
 use Rattle.pddl_tree.proofs.Options.{with_front}
 use Rattle.pddl_formula.proofs.formula_reader.+formula.Given as goal
 

@@ -4,7 +4,7 @@ use Rattle.pddl_text.specs.Spelling.{view}
 use Rattle.pddl_text.specs.Trees.{unplaced}
 use Rattle.pddl_tree.specs.ItemTrees.{item_tree, item_trees}
 use Rattle.pddl_tree.proofs.TreeLists.{item_tree_list, item_tree_word}
-use Rattle.pddl_formula.specs.Reading.{condition_at, formula_at}
+use Rattle.pddl_formula.specs.Inner.Reading.{condition_at, formula_at}
 use Rattle.pddl_formula.proofs.TurnsOfFormulas.{condition_at_list, condition_at_leaf}
 use Rattle.pddl_formula.proofs.formula_reader.condition_of.Goals as goal
 

@@ -4,7 +4,7 @@ use Rattle.pddl_tree.specs.ItemTrees.{item_tree}
 use Rattle.pddl_formula.specs.declared.formula.Formula.TheVariants as cases
 use Rattle.pddl_formula.specs.Terms.{term_view}
 use Rattle.pddl_formula.specs.Formulas.{formula_view, equal}
-use Rattle.pddl_formula.specs.Reading.{term_at}
+use Rattle.pddl_formula.specs.Inner.Reading.{term_at}
 use Rattle.pddl_formula.proofs.TurnsOfFormulas.{view_equal, two_terms}
 use Rattle.pddl_formula.proofs.formula_reader.equality_of.Goals as goal
 

@@ -1,7 +1,7 @@
 use Rattle.std.proofs.Common.{map, arith}
 use Rattle.std.proofs.lemmas.List.{map_push}
 use Rattle.pddl_formula.specs.Terms.{term_view}
-use Rattle.pddl_formula.specs.Reading.{term_at}
+use Rattle.pddl_formula.specs.Inner.Reading.{term_at}
 use Rattle.pddl_formula.proofs.Turns.{each_end}
 use Rattle.pddl_formula.proofs.Fills.{fill_on, fill_stop}
 use Rattle.pddl_formula.proofs.term_reader.add_terms.Goals as goal

@@ -1,7 +1,7 @@
 use Rattle.std.proofs.Common.{map, ap}
 use Rattle.pddl_tree.specs.ItemTrees.{item_trees}
-use Rattle.pddl_tree.specs.TreeReading.{all_of}
-use Rattle.pddl_tree.specs.TreeReading.{name_at}
+use Rattle.pddl_tree.specs.Inner.TreeReading.{all_of}
+use Rattle.pddl_tree.specs.Inner.TreeReading.{name_at}
 use Rattle.pddl_formula.proofs.Fills.{filled}
 use Rattle.pddl_formula.proofs.term_reader.names_of.Goals as goal
 

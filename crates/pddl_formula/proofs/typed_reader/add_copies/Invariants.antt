@@ -1,6 +1,6 @@
 use Rattle.std.proofs.Common.{◌≡◌, ◌++◌, map}
 use Rattle.pddl_formula.specs.TypedLists.{typed_view}
-use Rattle.pddl_formula.specs.Reading.{of_type}
+use Rattle.pddl_formula.specs.Inner.Reading.{of_type}
 use Rattle.pddl_formula.proofs.typed_reader.add_copies.Given as goal
 
 -- the names so far, with their types, and the names that are left

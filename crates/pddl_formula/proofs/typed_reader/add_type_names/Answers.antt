@@ -1,6 +1,6 @@
 use Rattle.std.proofs.Common.{refl, arith}
 use Rattle.pddl_build.proofs.Parts.{plain_reads}
-use Rattle.pddl_formula.specs.Reading.{type_name_at}
+use Rattle.pddl_formula.specs.Inner.Reading.{type_name_at}
 use Rattle.pddl_formula.proofs.Turns.{each_end}
 use Rattle.pddl_formula.proofs.Fills.{fill_on, fill_stop}
 use Rattle.pddl_formula.proofs.typed_reader.add_type_names.Goals as goal

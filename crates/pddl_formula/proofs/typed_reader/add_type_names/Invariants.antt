@@ -1,8 +1,8 @@
 use Rattle.std.proofs.Common.{◌≡◌, drop, map}
 use Rattle.pddl_tree.specs.ItemTrees.{item_trees}
-use Rattle.pddl_tree.specs.TreeReading.{all_of}
+use Rattle.pddl_tree.specs.Inner.TreeReading.{all_of}
 use Rattle.pddl_tree.proofs.Options.{with_front}
-use Rattle.pddl_formula.specs.Reading.{type_name_at}
+use Rattle.pddl_formula.specs.Inner.Reading.{type_name_at}
 use Rattle.pddl_formula.proofs.typed_reader.add_type_names.Given as goal
 
 -- those so far, and those of the items that are left

@@ -1,10 +1,10 @@
 use Rattle.std.proofs.Common.{◌≡◌, ◌<◌, true, false, [], length, map, arith}
 use Rattle.std.proofs.lemmas.List.{nil_from_length}
 use Rattle.pddl_tree.specs.ItemTrees.{item_tree}
-use Rattle.pddl_tree.specs.TreeReading.{is_dash}
+use Rattle.pddl_tree.specs.Inner.TreeReading.{is_dash}
 use Rattle.pddl_formula.specs.TypedLists.{object, typed_view}
-use Rattle.pddl_formula.specs.Reading.{type_at}
-use Rattle.pddl_formula.specs.Sorts.{item_at}
+use Rattle.pddl_formula.specs.Inner.Reading.{type_at}
+use Rattle.pddl_formula.specs.Inner.Sorts.{item_at}
 use Rattle.pddl_formula.proofs.Turns.{there}
 use Rattle.pddl_formula.proofs.TypedTurns.{type_stops, type_adds, dash_fails, dash_done, item_stops, item_adds, end_fails, end_done, added_last}
 use Rattle.pddl_formula.proofs.typed_reader.add_typed_list.Goals.{then-after_dash+in_ok-add_typed+else-not-branch, else-after_dash+then-is_dash+else-len-eq0, else-after_dash+else-is_dash+in_ok-push_found+else-not-branch-2}

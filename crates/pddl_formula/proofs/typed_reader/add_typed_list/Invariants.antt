@@ -1,8 +1,8 @@
 use Rattle.std.proofs.Common.{◌≡◌, drop, map, false}
 use Rattle.pddl_tree.specs.ItemTrees.{item_trees}
 use Rattle.pddl_formula.specs.TypedLists.{object, typed_view}
-use Rattle.pddl_formula.specs.Reading.{type_at, typed_from}
-use Rattle.pddl_formula.specs.Sorts.{item_at}
+use Rattle.pddl_formula.specs.Inner.Reading.{type_at, typed_from}
+use Rattle.pddl_formula.specs.Inner.Sorts.{item_at}
 use Rattle.pddl_formula.proofs.typed_reader.add_typed_list.Given as goal
 
 -- what was found, the group, and the items that are left, give what all items give

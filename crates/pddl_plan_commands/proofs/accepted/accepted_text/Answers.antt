@@ -6,7 +6,7 @@ use Rattle.pddl_judge.specs.HappeningValues.{groups_of}
 use Rattle.pddl_link.specs.LinkedTasks.{task_of_files}
 use Rattle.pddl_plan_steps.specs.NumberedSteps.{number_of}
 use Rattle.pddl_plan_commands.specs.PlanLines.{valid_line}
-use Rattle.pddl_plan_commands.specs.WantedPrintings.{printing_of}
+use Rattle.pddl_plan_commands.specs.Inner.WantedPrintings.{printing_of}
 use Rattle.pddl_plan_commands.proofs.accepted.accepted_text.Goals as goal
 
 pub returns-in-Verdict : goal.returns-in-Verdict

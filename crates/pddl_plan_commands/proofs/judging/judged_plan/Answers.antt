@@ -3,7 +3,7 @@ use Rattle.std.proofs.lemmas.Result.{IfOk-weaker}
 use Rattle.pddl_tree.specs.Plans.{plan_view}
 use Rattle.pddl_link.specs.TaskTables.{task_in}
 use Rattle.pddl_plan_commands.specs.PlanChecks.{IsJudgedIn}
-use Rattle.pddl_plan_commands.specs.WantedPrintings.{printing_of}
+use Rattle.pddl_plan_commands.specs.Inner.WantedPrintings.{printing_of}
 use Rattle.pddl_plan_commands.proofs.judging.judged_plan.Goals as goal
 
 pub returns-in-Ok : goal.returns-in-Ok

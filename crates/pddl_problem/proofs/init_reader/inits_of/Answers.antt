@@ -3,7 +3,7 @@ use Rattle.std.proofs.lemmas.List.{map_push}
 use Rattle.pddl_tree.specs.ItemTrees.{item_tree}
 use Rattle.pddl_formula.proofs.Turns.{each_on}
 use Rattle.pddl_problem.specs.Inits.{init_view}
-use Rattle.pddl_problem.specs.ProblemReading.{init_at}
+use Rattle.pddl_problem.specs.Inner.ProblemReading.{init_at}
 use Rattle.pddl_problem.proofs.init_reader.inits_of.Goals as goal
 
 pub loop-item-preserved : goal.loop-item-preserved

@@ -1,9 +1,9 @@
 use Rattle.std.proofs.Common.{◌≡◌, drop, map}
 use Rattle.pddl_tree.specs.ItemTrees.{item_trees}
-use Rattle.pddl_tree.specs.TreeReading.{all_of}
+use Rattle.pddl_tree.specs.Inner.TreeReading.{all_of}
 use Rattle.pddl_tree.proofs.Options.{with_front}
 use Rattle.pddl_problem.specs.Inits.{init_view}
-use Rattle.pddl_problem.specs.ProblemReading.{init_at}
+use Rattle.pddl_problem.specs.Inner.ProblemReading.{init_at}
 use Rattle.pddl_problem.proofs.init_reader.inits_of.Given as goal
 
 -- those so far, and those of the items that are left

@@ -2,11 +2,11 @@ use Rattle.std.proofs.Common.{codes}
 use Rattle.std.proofs.lemmas.Result.{err_from_is_err_and}
 use Rattle.pddl_text.specs.Items.{items_view}
 use Rattle.pddl_sections.specs.Files.{IsOpened}
-use Rattle.pddl_file.specs.FileReading.{RefusesFile}
+use Rattle.pddl_file.specs.Inner.FileReading.{RefusesFile}
 use Rattle.pddl_file.proofs.SectionTurns.{head_refused, sections_refused}
 use Rattle.pddl_problem.specs.Problems.{problem_view, required, AreProblem}
-use Rattle.pddl_problem.specs.ProblemReading.{problem_readers}
-use Rattle.pddl_problem.specs.Slots.{slots_view, MakesUp, SaysMissing}
+use Rattle.pddl_problem.specs.Inner.ProblemReading.{problem_readers}
+use Rattle.pddl_problem.specs.Inner.Slots.{slots_view, MakesUp, SaysMissing}
 use Rattle.pddl_problem.proofs.Results.{if_ok, if_err}
 use Rattle.pddl_problem.proofs.ProblemTexts.{Answered, made_problem, made_missing}
 use Rattle.pddl_problem.proofs.problem_reader.problem_of.Goals as goal

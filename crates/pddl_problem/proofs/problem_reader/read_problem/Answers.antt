@@ -4,7 +4,7 @@ use Rattle.pddl_text.specs.Items.{items_view}
 use Rattle.pddl_text.specs.Texts.{HasItems}
 use Rattle.pddl_text.specs.declared.fault.TextFault.TheVariants.{Memory}
 use Rattle.pddl_file.specs.declared.fault.FileFault.TheVariants.{Text}
-use Rattle.pddl_file.specs.FileReading.{RefusesFile}
+use Rattle.pddl_file.specs.Inner.FileReading.{RefusesFile}
 use Rattle.pddl_problem.specs.Problems.{problem_view, AreProblem, ProblemStands}
 use Rattle.pddl_problem.proofs.Results.{if_ok, if_err, match_both}
 use Rattle.pddl_problem.proofs.ProblemTexts.{Answered, spells_text, one_problem, refused_stands, refused_only}

@@ -2,7 +2,7 @@ use Rattle.std.proofs.Common.{sym, subst, ◌∙◌, Option}
 use Rattle.std.specs.Prelude.{IfOk}
 use Rattle.pddl_sections.proofs.Heads.{rest_is}
 use Rattle.pddl_problem.specs.Problems.{Part}
-use Rattle.pddl_problem.specs.Slots.{slots_view, Fills}
+use Rattle.pddl_problem.specs.Inner.Slots.{slots_view, Fills}
 use Rattle.pddl_problem.proofs.ItemTurns.{keyword_first}
 use Rattle.pddl_problem.proofs.section_reader.read_list.Goals as goal
 

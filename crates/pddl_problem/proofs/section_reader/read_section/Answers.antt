@@ -1,8 +1,8 @@
 use Rattle.std.proofs.Common.{sym, ◌∙◌}
 use Rattle.pddl_file.proofs.SectionTurns.{no_key_stops, twice_stops, unfit_stops}
 use Rattle.pddl_tree.specs.ItemTrees.{item_tree}
-use Rattle.pddl_problem.specs.ProblemReading.{part_at, problem_readers}
-use Rattle.pddl_problem.specs.Slots.{slots_view}
+use Rattle.pddl_problem.specs.Inner.ProblemReading.{part_at, problem_readers}
+use Rattle.pddl_problem.specs.Inner.Slots.{slots_view}
 use Rattle.pddl_problem.proofs.ItemTurns.{none_filled, some_filled}
 use Rattle.pddl_problem.proofs.section_reader.read_section.Goals as goal
 

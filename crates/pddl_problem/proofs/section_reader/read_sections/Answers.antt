@@ -1,11 +1,11 @@
 use Rattle.std.proofs.Common.{◌<◌, ◌≤◌, [], length, arith}
 use Rattle.std.proofs.lemmas.Result.{err_from_is_err_and}
 use Rattle.pddl_text.specs.Items.{items_view}
-use Rattle.pddl_sections.specs.Verdicts.{verdict}
-use Rattle.pddl_file.specs.WordReading.{nothing_seen}
+use Rattle.pddl_sections.specs.Inner.Verdicts.{verdict}
+use Rattle.pddl_file.specs.Inner.WordReading.{nothing_seen}
 use Rattle.pddl_file.proofs.SectionTurns.{sections_stop}
-use Rattle.pddl_problem.specs.ProblemReading.{problem_readers}
-use Rattle.pddl_problem.specs.Slots.{slots_view}
+use Rattle.pddl_problem.specs.Inner.ProblemReading.{problem_readers}
+use Rattle.pddl_problem.specs.Inner.Slots.{slots_view}
 use Rattle.pddl_problem.proofs.SlotLaws.{so_far_start, so_far_end, so_far_on}
 use Rattle.pddl_problem.proofs.section_reader.read_sections.Goals as goal
 

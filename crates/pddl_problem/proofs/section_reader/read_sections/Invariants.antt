@@ -1,9 +1,9 @@
 use Rattle.std.proofs.Common.{[], drop}
 use Rattle.pddl_text.specs.Items.{items_view}
-use Rattle.pddl_sections.specs.Verdicts.{verdict}
-use Rattle.pddl_file.specs.WordReading.{nothing_seen}
-use Rattle.pddl_problem.specs.ProblemReading.{problem_readers}
-use Rattle.pddl_problem.specs.Slots.{slots_view}
+use Rattle.pddl_sections.specs.Inner.Verdicts.{verdict}
+use Rattle.pddl_file.specs.Inner.WordReading.{nothing_seen}
+use Rattle.pddl_problem.specs.Inner.ProblemReading.{problem_readers}
+use Rattle.pddl_problem.specs.Inner.Slots.{slots_view}
 use Rattle.pddl_problem.proofs.SlotLaws.{SoFar}
 use Rattle.pddl_problem.proofs.section_reader.read_sections.Given as goal
 

@@ -2,11 +2,11 @@ use Rattle.std.proofs.Common.{[]}
 use Rattle.pddl_build.proofs.Parts.{made_reads}
 use Rattle.pddl_build.proofs.FoundParts.{made_fails}
 use Rattle.pddl_text.specs.Items.{items_view}
-use Rattle.pddl_sections.specs.Verdicts.{verdict}
-use Rattle.pddl_file.specs.WordReading.{nothing_seen}
-use Rattle.pddl_file.specs.FileReading.{RefusesSections}
-use Rattle.pddl_problem.specs.ProblemReading.{problem_readers}
-use Rattle.pddl_problem.specs.Slots.{slots_view, HoldVerdict}
+use Rattle.pddl_sections.specs.Inner.Verdicts.{verdict}
+use Rattle.pddl_file.specs.Inner.WordReading.{nothing_seen}
+use Rattle.pddl_file.specs.Inner.FileReading.{RefusesSections}
+use Rattle.pddl_problem.specs.Inner.ProblemReading.{problem_readers}
+use Rattle.pddl_problem.specs.Inner.Slots.{slots_view, HoldVerdict}
 use Rattle.pddl_problem.proofs.section_reader.sections_of.Goals as goal
 
 pub returns-clause-hold : goal.returns-clause-hold

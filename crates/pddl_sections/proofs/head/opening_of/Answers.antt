@@ -1,8 +1,8 @@
 use Rattle.std.proofs.Common.{ap, sym, ◌∙◌}
 use Rattle.std.specs.Prelude.{codes}
 use Rattle.pddl_tree.specs.ItemTrees.{item_tree}
-use Rattle.pddl_tree.specs.TreeReading.{is_word_at}
-use Rattle.pddl_sections.specs.Answers.{title_at}
+use Rattle.pddl_tree.specs.Inner.TreeReading.{is_word_at}
+use Rattle.pddl_sections.specs.Inner.Answers.{title_at}
 use Rattle.pddl_sections.proofs.Heads.{rest_is, no_title, some_title}
 use Rattle.pddl_sections.proofs.head.opening_of.Goals as goal
 

@@ -1,7 +1,7 @@
 use Rattle.std.proofs.Common.{◌≡◌, ℕ, List, ap, sym, subst, ◌∙◌, Option}
 use Rattle.std.specs.Prelude.{IfOk}
 use Rattle.pddl_tree.specs.ItemTrees.{item_tree}
-use Rattle.pddl_tree.specs.TreeReading.{is_word_at, name_at}
+use Rattle.pddl_tree.specs.Inner.TreeReading.{is_word_at, name_at}
 use Rattle.pddl_sections.proofs.Heads.{title_two}
 use Rattle.pddl_sections.proofs.head.title_of.Goals as goal
 

@@ -1,6 +1,6 @@
 use Rattle.std.proofs.Common.{map, get_or, refl, sym, ap, ◌∙◌}
 use Rattle.std.specs.List.{list_all}
-use Rattle.pddl_serial.specs.Places.{is_at_one}
+use Rattle.pddl_serial.specs.Inner.Places.{is_at_one}
 use Rattle.pddl_serial.proofs.Further.{all_more, not_all, all_end}
 use Rattle.pddl_serial.proofs.grouping.all_at_one.Goals as goal
 

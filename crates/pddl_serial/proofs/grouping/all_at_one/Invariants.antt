@@ -1,6 +1,6 @@
 use Rattle.std.proofs.Common.{◌≡◌, get_or, drop, map}
 use Rattle.std.specs.List.{list_all}
-use Rattle.pddl_serial.specs.Places.{is_at_one}
+use Rattle.pddl_serial.specs.Inner.Places.{is_at_one}
 use Rattle.pddl_serial.proofs.grouping.all_at_one.Given as goal
 
 -- what is left passes where the whole does

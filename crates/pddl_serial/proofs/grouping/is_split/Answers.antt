@@ -5,7 +5,7 @@ use Rattle.std.proofs.lemmas.Bool.{true≢false}
 use Rattle.pddl_happenings.specs.Serialisations.{IsSerialOrder}
 use Rattle.pddl_happenings.specs.Splits.{IsSplitOf}
 use Rattle.pddl_judge.specs.HappeningValues.{groups_of}
-use Rattle.pddl_serial.specs.Places.{is_at_one}
+use Rattle.pddl_serial.specs.Inner.Places.{is_at_one}
 use Rattle.pddl_serial.proofs.Grouped.{all_groups_below, at_one_split}
 use Rattle.pddl_serial.proofs.Passes.{serial_by_places}
 use Rattle.pddl_serial.proofs.grouping.is_split.Goals as goal

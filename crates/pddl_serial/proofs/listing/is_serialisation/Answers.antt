@@ -2,7 +2,7 @@ use Rattle.std.proofs.Common.{◌↔◌, length, get_or, IsTrue}
 use Rattle.std.proofs.lemmas.Result.{IfOk-weaker}
 use Rattle.pddl_happenings.specs.Serialisations.{IsSerialOrder}
 use Rattle.pddl_judge.specs.HappeningValues.{groups_of}
-use Rattle.pddl_serial.specs.Places.{IsOrderBy}
+use Rattle.pddl_serial.specs.Inner.Places.{IsOrderBy}
 use Rattle.pddl_serial.proofs.Passes.{serial_by_places}
 use Rattle.pddl_serial.proofs.listing.is_serialisation.Goals as goal
 

@@ -1,7 +1,7 @@
 use Rattle.std.proofs.Common.{rules, ◌≡◌, ◌<◌, ◌≤◌, ℕ, true, false, length, get_or}
 use Rattle.std.proofs.Common.{sym}
 use Rattle.std.proofs.lemmas.Bool.{true≢false}
-use Rattle.pddl_serial.specs.Places.{IsOrderBy}
+use Rattle.pddl_serial.specs.Inner.Places.{IsOrderBy}
 use Rattle.pddl_serial.proofs.Passes.{too_large, seen_before, too_late, never_seen, all_seen}
 use Rattle.pddl_serial.proofs.listing.passes.Goals.{then-k-places-via-then-k-places, then-k-places-via-else-k-places+then-seen-k, then-k-places-via-else-k-places+else-seen-k+then-places-k}
 use Rattle.pddl_serial.proofs.listing.passes.Goals as goal

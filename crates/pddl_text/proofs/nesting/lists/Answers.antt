@@ -1,6 +1,6 @@
 use Rattle.std.proofs.Common.{sym, subst, arith}
 use Rattle.std.proofs.lemmas.Result.{err_from_is_err_and}
-use Rattle.pddl_text.specs.Nesting.{nest_of}
+use Rattle.pddl_text.specs.Inner.Nesting.{nest_of}
 use Rattle.pddl_text.proofs.Nests.{StandsAt, nothing_read, stands_on, refused_stands, refused_only, closed_items, closed_only, open_only, unclosed}
 use Rattle.pddl_text.proofs.Stacks.{view_take, view_split, view_all, none_opened, first_opened}
 use Rattle.pddl_text.proofs.nesting.lists.Goals as goal

@@ -1,8 +1,8 @@
 use Rattle.std.proofs.Common.{◌≡◌, ◌∙◌, ap, subst, drop, take, arith, length-drop, List, ℕ}
 use Rattle.pddl_text.specs.declared.next.Next.{Next}
 use Rattle.pddl_text.specs.declared.next.Next.TheVariants as next
-use Rattle.pddl_text.specs.Parts.{Settles, ReadsOn}
-use Rattle.pddl_text.specs.Reading.{Reads}
+use Rattle.pddl_text.specs.Inner.Parts.{Settles, ReadsOn}
+use Rattle.pddl_text.specs.Inner.Reading.{Reads}
 use Rattle.pddl_text.proofs.PartsRead.{IsAhead, since_gap, since_word_as, since_start, stops_at_end, stops_at_comment, stops_at_stray, stops_at_glued, stops_at_range}
 use Rattle.pddl_text.proofs.parts.read_parts.Goals as goal
 

@@ -1,6 +1,6 @@
 use Rattle.std.proofs.Common.{◌≡◌, ◌+◌, ◌-◌, ◌*◌, [], drop, length}
 use Rattle.pddl_text.specs.Items.{items_view}
-use Rattle.pddl_tree.specs.PlanReading.{timed_from}
+use Rattle.pddl_tree.specs.Inner.PlanReading.{timed_from}
 use Rattle.pddl_tree.specs.Plans.{timed_built}
 use Rattle.pddl_tree.proofs.plan_items.add_timed_steps.Given as goal
 

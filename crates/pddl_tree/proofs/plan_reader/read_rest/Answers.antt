@@ -5,7 +5,7 @@ use Rattle.pddl_text.specs.Items.{items_view}
 use Rattle.pddl_text.specs.Lists.{AreItems, ListStands}
 use Rattle.pddl_tree.specs.Plans.{PlanValue, plan_view}
 use Rattle.pddl_tree.specs.PlanTexts.{SpellsPlan}
-use Rattle.pddl_tree.specs.PlanReading.{plan_from, Refuses}
+use Rattle.pddl_tree.specs.Inner.PlanReading.{plan_from, Refuses}
 use Rattle.pddl_tree.proofs.StepsRead.{no_elements}
 use Rattle.pddl_tree.proofs.RestRead.{IsReadTo, none_left, list_stands, left_read, rest_spells, rest_stands}
 use Rattle.pddl_tree.proofs.plan_reader.read_rest.Goals as goal

@@ -1,7 +1,7 @@
 use Rattle.std.proofs.Common.{◌<◌, ℕ, length, sym, ap, subst, arith}
 use Rattle.std.specs.Prelude.{Contains}
 use Rattle.pddl_forest.specs.Counts.{AreTopsOf}
-use Rattle.pddl_forest.specs.Roots.{AreRoots, HasRoot}
+use Rattle.pddl_forest.specs.Inner.Roots.{AreRoots, HasRoot}
 use Rattle.pddl_forest.proofs.RootSums.{both_found, roots_are_tops}
 use Rattle.pddl_forest.proofs.preorder.Preorder.roots.Goals as goal
 

@@ -3,8 +3,8 @@ use Rattle.std.specs.Prelude.{◌≡◌}
 use Rattle.pddl_text.specs.declared.fault.TextFault.TheVariants.{Memory}
 use Rattle.pddl_sections.specs.Sections.{SectionFault, faulty, unsupported, twice}
 use Rattle.pddl_sections.specs.Files.{head, at_section, missing}
-use Rattle.pddl_sections.specs.Verdicts.{Turn, stop, Verdict, bad}
-use Rattle.pddl_sections.specs.Answers.{Answer, wrong}
+use Rattle.pddl_sections.specs.Inner.Verdicts.{Turn, stop, Verdict, bad}
+use Rattle.pddl_sections.specs.Inner.Answers.{Answer, wrong}
 use Rattle.pddl_file.specs.declared.keyword.SectionKeyword.{SectionKeyword}
 use Rattle.pddl_file.specs.declared.mark.Mark.{Mark}
 use Rattle.pddl_file.specs.declared.fault.FileFault.{FileFault}

@@ -2,14 +2,14 @@
 use Rattle.std.specs.Prelude.{◌≡◌, List, [], ◌∷◌, ◌++◌, Bool, Option, option_map, codes}
 use Rattle.std.specs.Bool.{then_some}
 use Rattle.pddl_text.specs.Trees.{Placed}
-use Rattle.pddl_sections.specs.Verdicts.{Turn, go, Verdict, fine, verdict}
-use Rattle.pddl_sections.specs.Answers.{Answer, right, file_answer}
+use Rattle.pddl_sections.specs.Inner.Verdicts.{Turn, go, Verdict, fine, verdict}
+use Rattle.pddl_sections.specs.Inner.Answers.{Answer, right, file_answer}
 use Rattle.pddl_file.specs.declared.keyword.SectionKeyword.{SectionKeyword}
 use Rattle.pddl_file.specs.declared.keyword.Seen.{Seen}
 use Rattle.pddl_file.specs.declared.mark.Mark.{Mark}
-use Rattle.pddl_file.specs.WordReading.{nothing_seen}
+use Rattle.pddl_file.specs.Inner.WordReading.{nothing_seen}
 use Rattle.pddl_domain.specs.Domains.{DomainValue, Part, requirements, types, constants, predicates, functions, action}
-use Rattle.pddl_domain.specs.DomainReading.{domain_readers, domain_of}
+use Rattle.pddl_domain.specs.Inner.DomainReading.{domain_readers, domain_of}
 
 -- what the sections of a domain say
 abbrev pub domain_verdict : List Placed → Verdict Part SectionKeyword Mark Seen

@@ -1,12 +1,12 @@
 -- The effects that trees spell, computed from the trees: what the readers answer, for the readers above. What it means stands in Effects.
 use Rattle.std.specs.Prelude.{ℕ, List, [], ◌∷◌, map, Bool, false, Option, Some, None, option_map, option_and_then, if◌then◌else◌, codes}
 use Rattle.pddl_text.specs.Trees.{Tree, Trees, leaf, node, no_trees, tree, list_of}
-use Rattle.pddl_tree.specs.PlanReading.{moment_by}
-use Rattle.pddl_tree.specs.TreeReading.{name_at, is_word_at, all_of}
+use Rattle.pddl_tree.specs.Inner.PlanReading.{moment_by}
+use Rattle.pddl_tree.specs.Inner.TreeReading.{name_at, is_word_at, all_of}
 use Rattle.pddl_formula.specs.declared.head.Head.{Head}
 use Rattle.pddl_formula.specs.declared.head.Head.TheVariants as heads
 use Rattle.pddl_formula.specs.Terms.{TermValue}
-use Rattle.pddl_formula.specs.Reading.{term_at, atom_of, atom_at, formula_at, head_at, only, quantified}
+use Rattle.pddl_formula.specs.Inner.Reading.{term_at, atom_of, atom_at, formula_at, head_at, only, quantified}
 use Rattle.pddl_effect.specs.StaticNames.{static_function_of}
 use Rattle.pddl_effect.specs.Effects.{FunctionTermValue, AmountValue, number, function, EffectValue, conjunction, universal, conditional, addition, deletion, increase, no_effects, effects_of}
 

@@ -1,17 +1,17 @@
 -- The sections of a problem, computed from trees. No public contract names these.
 use Rattle.std.specs.Prelude.{ℕ, List, [], ◌∷◌, map, Option, Some, None, option_map, option_and_then, if◌then◌else◌, codes}
 use Rattle.pddl_text.specs.Trees.{Tree, leaf, node, list_of}
-use Rattle.pddl_tree.specs.TreeReading.{name_at, is_word_at, all_of}
+use Rattle.pddl_tree.specs.Inner.TreeReading.{name_at, is_word_at, all_of}
 use Rattle.pddl_formula.specs.declared.head.Head.{Head}
 use Rattle.pddl_formula.specs.declared.head.Head.TheVariants as heads
-use Rattle.pddl_formula.specs.Reading.{predicate_at, typed_names, condition_at, head_at, only}
-use Rattle.pddl_effect.specs.EffectReading.{call_at, number_at}
-use Rattle.pddl_sections.specs.Verdicts.{Readers}
+use Rattle.pddl_formula.specs.Inner.Reading.{predicate_at, typed_names, condition_at, head_at, only}
+use Rattle.pddl_effect.specs.Inner.EffectReading.{call_at, number_at}
+use Rattle.pddl_sections.specs.Inner.Verdicts.{Readers}
 use Rattle.pddl_file.specs.declared.keyword.SectionKeyword.{SectionKeyword}
 use Rattle.pddl_file.specs.declared.keyword.SectionKeyword.TheVariants as keys
 use Rattle.pddl_file.specs.declared.keyword.Seen.{Seen}
 use Rattle.pddl_file.specs.declared.mark.Mark.{Mark}
-use Rattle.pddl_file.specs.WordReading.{flag_at, head_key, key_at, nothing_seen, has_seen, with_seen, mark_at}
+use Rattle.pddl_file.specs.Inner.WordReading.{flag_at, head_key, key_at, nothing_seen, has_seen, with_seen, mark_at}
 use Rattle.pddl_problem.specs.declared.problem.Direction.{Direction}
 use Rattle.pddl_problem.specs.declared.problem.Direction.TheVariants as directions
 use Rattle.pddl_problem.specs.Inits.{GroundValue, InitValue, holds, fails, value, MetricValue}

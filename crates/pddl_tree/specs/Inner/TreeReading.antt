@@ -5,7 +5,7 @@ use Rattle.pddl_text.specs.declared.token.TokenKind.{TokenKind}
 use Rattle.pddl_text.specs.declared.token.TokenKind.TheVariants.{Name, Variable, Keyword, Dash}
 use Rattle.pddl_text.specs.Trees.{Tree, leaf, node}
 use Rattle.pddl_tree.specs.Names.{folded, name_of}
-use Rattle.pddl_tree.specs.PlanReading.{name_by, both}
+use Rattle.pddl_tree.specs.Inner.PlanReading.{name_by, both}
 
 -- the name that a tree is
 abbrev pub name_at : Tree → Option (List ℕ)

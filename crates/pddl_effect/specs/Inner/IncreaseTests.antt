@@ -8,8 +8,8 @@ use Rattle.pddl_text.specs.declared.token.TokenKind.TheVariants.{Name, Variable,
 use Rattle.pddl_text.specs.Number.{value_of}
 use Rattle.pddl_text.specs.Trees.{Tree, leaf, node, list_of}
 use Rattle.pddl_tree.specs.Names.{folded, is_first_byte, is_later_byte}
-use Rattle.pddl_tree.specs.TreeReading.{is_word_at}
-use Rattle.pddl_effect.specs.EffectReading.{is_total_cost_at}
+use Rattle.pddl_tree.specs.Inner.TreeReading.{is_word_at}
+use Rattle.pddl_effect.specs.Inner.EffectReading.{is_total_cost_at}
 
 -- a name, letter case aside
 abbrev pub is_name_text : List ℕ → Bool

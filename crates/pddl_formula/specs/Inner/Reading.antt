@@ -6,7 +6,7 @@ use Rattle.pddl_text.specs.declared.token.TokenKind.{TokenKind}
 use Rattle.pddl_text.specs.declared.token.TokenKind.TheVariants.{Name, Variable, Equal}
 use Rattle.pddl_text.specs.Trees.{Tree, Trees, leaf, node, no_trees, tree, list_of}
 use Rattle.pddl_tree.specs.Names.{folded, name_of}
-use Rattle.pddl_tree.specs.TreeReading.{name_at, variable_name, variable_at, is_word_at, is_dash, all_of}
+use Rattle.pddl_tree.specs.Inner.TreeReading.{name_at, variable_name, variable_at, is_word_at, is_dash, all_of}
 use Rattle.pddl_formula.specs.declared.head.Head.{Head}
 use Rattle.pddl_formula.specs.declared.head.Head.TheVariants as heads
 use Rattle.pddl_formula.specs.Reserved.{predicate_of, type_name_of, type_of}

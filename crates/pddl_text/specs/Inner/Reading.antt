@@ -3,7 +3,7 @@ use Rattle.std.specs.Prelude.{ℕ, ◌+◌, ◌<◌, ◌≤◌, List, [], ◌∷
 use Rattle.std.specs.List.{prefix_len}
 use Rattle.std.specs.Char.{is_ascii_digit, is_ascii_alphabetic}
 use Rattle.pddl_text.specs.Bytes.{is_line_byte, is_word_byte, begins, begins_decimals}
-use Rattle.pddl_text.specs.ByteClass.{class_of}
+use Rattle.pddl_text.specs.Inner.ByteClass.{class_of}
 use Rattle.pddl_text.specs.Number.{value_of}
 use Rattle.pddl_text.specs.declared.bytes.ByteClass.{ByteClass}
 use Rattle.pddl_text.specs.declared.bytes.ByteClass.TheVariants.{Blank, Semicolon, Letter, Digit, Question, Colon, Angle, Lone, Other}

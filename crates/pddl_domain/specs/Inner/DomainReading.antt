@@ -2,18 +2,18 @@
 use Rattle.std.specs.Prelude.{ℕ, List, [], ◌∷◌, map, Option, Some, None, option_map, option_and_then, if◌then◌else◌, codes}
 use Rattle.std.specs.List.{flat_map}
 use Rattle.pddl_text.specs.Trees.{Tree, leaf, node, list_of}
-use Rattle.pddl_tree.specs.PlanReading.{both}
-use Rattle.pddl_tree.specs.TreeReading.{name_at, is_keyword_at, all_of}
+use Rattle.pddl_tree.specs.Inner.PlanReading.{both}
+use Rattle.pddl_tree.specs.Inner.TreeReading.{name_at, is_keyword_at, all_of}
 use Rattle.pddl_formula.specs.Formulas.{conjunction, no_formulas}
-use Rattle.pddl_formula.specs.Reading.{predicate_at, type_name_at, type_at, typed_list, typed_names, typed_variables, variables_at, condition_at}
+use Rattle.pddl_formula.specs.Inner.Reading.{predicate_at, type_name_at, type_at, typed_list, typed_names, typed_variables, variables_at, condition_at}
 use Rattle.pddl_effect.specs.Effects.{conjunction as all_effects, no_effects}
-use Rattle.pddl_effect.specs.EffectReading.{whole_effect_at}
-use Rattle.pddl_sections.specs.Verdicts.{Readers}
+use Rattle.pddl_effect.specs.Inner.EffectReading.{whole_effect_at}
+use Rattle.pddl_sections.specs.Inner.Verdicts.{Readers}
 use Rattle.pddl_file.specs.declared.keyword.SectionKeyword.{SectionKeyword}
 use Rattle.pddl_file.specs.declared.keyword.SectionKeyword.TheVariants as keys
 use Rattle.pddl_file.specs.declared.keyword.Seen.{Seen}
 use Rattle.pddl_file.specs.declared.mark.Mark.{Mark}
-use Rattle.pddl_file.specs.WordReading.{flag_at, head_key, key_at, nothing_seen, has_seen, with_seen, mark_at}
+use Rattle.pddl_file.specs.Inner.WordReading.{flag_at, head_key, key_at, nothing_seen, has_seen, with_seen, mark_at}
 use Rattle.pddl_domain.specs.Declarations.{TypeValue, Signature, FunctionValue, number}
 use Rattle.pddl_domain.specs.Actions.{ActionValue, Field, parameters, precondition, effect, parameters_in, preconditions_in, effects_in}
 use Rattle.pddl_domain.specs.Domains.{DomainValue, Part, requirements, types, constants, predicates, functions, action, requirements_in, types_in, constants_in, predicates_in, functions_in, actions_in}

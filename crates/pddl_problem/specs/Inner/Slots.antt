@@ -4,8 +4,8 @@ use Rattle.std.specs.Bool.{then_some}
 use Rattle.std.specs.List.{flat_map}
 use Rattle.pddl_formula.specs.TypedLists.{TypedValue, typed_view}
 use Rattle.pddl_formula.specs.Formulas.{FormulaValue, formula_view}
-use Rattle.pddl_sections.specs.Verdicts.{Turn, go, Verdict, fine}
-use Rattle.pddl_sections.specs.Answers.{first_missing}
+use Rattle.pddl_sections.specs.Inner.Verdicts.{Turn, go, Verdict, fine}
+use Rattle.pddl_sections.specs.Inner.Answers.{first_missing}
 use Rattle.pddl_file.specs.declared.keyword.SectionKeyword.{SectionKeyword}
 use Rattle.pddl_file.specs.declared.keyword.SectionKeyword.TheVariants as keys
 use Rattle.pddl_file.specs.declared.keyword.Seen.{Seen}

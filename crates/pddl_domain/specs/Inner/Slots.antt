@@ -8,7 +8,7 @@ use Rattle.pddl_formula.specs.Formulas.{FormulaValue, conjunction, no_formulas, 
 use Rattle.pddl_effect.specs.Effects.{EffectValue, conjunction as all_effects, no_effects, effect_view}
 use Rattle.pddl_domain.specs.declared.action_reader.Slots.{Slots}
 use Rattle.pddl_domain.specs.Actions.{ActionValue, Field, parameters, precondition, effect}
-use Rattle.pddl_domain.specs.DomainReading.{field_at}
+use Rattle.pddl_domain.specs.Inner.DomainReading.{field_at}
 
 -- what stood so far, each field at most once
 pub record SlotValues : Type 0 where

@@ -7,7 +7,7 @@ use Rattle.pddl_text.specs.declared.parts.Progress.TheVariants as progress
 use Rattle.pddl_text.specs.Bytes.{is_inner_byte}
 use Rattle.pddl_text.specs.Spelling.{PlacedWord, Spells, IsOpenComment}
 use Rattle.pddl_text.specs.Faults.{AreValued, IsStray, IsGlued, IsOutOfRange, IsLeftmost}
-use Rattle.pddl_text.specs.Reading.{Reads}
+use Rattle.pddl_text.specs.Inner.Reading.{Reads}
 use Rattle.pddl_text.specs.Scanning.{LexedTo}
 
 -- the last byte is a blank, a parenthesis or `;`, so that no word or fault before it goes on behind it

@@ -2,10 +2,10 @@
 use Rattle.std.specs.Prelude.{ℕ, List, [], ◌∷◌, Bool, Option, Some, None, Result, Ok, Err, if◌then◌else◌, option_map, codes}
 use Rattle.pddl_text.specs.declared.token.Span.{Span}
 use Rattle.pddl_text.specs.Trees.{Tree, leaf, node, list_of, Placed, placed_leaf, placed_node, erased}
-use Rattle.pddl_tree.specs.TreeReading.{is_word_at, name_at}
-use Rattle.pddl_tree.specs.PlanReading.{placed_items}
+use Rattle.pddl_tree.specs.Inner.TreeReading.{is_word_at, name_at}
+use Rattle.pddl_tree.specs.Inner.PlanReading.{placed_items}
 use Rattle.pddl_tree.specs.PlanFaults.{span_of}
-use Rattle.pddl_sections.specs.Verdicts.{Readers, Verdict, fine, bad, verdict}
+use Rattle.pddl_sections.specs.Inner.Verdicts.{Readers, Verdict, fine, bad, verdict}
 use Rattle.pddl_sections.specs.Files.{FileFault, head, at_section, missing}
 
 -- the name in `WORD NAME`
