@@ -5,7 +5,7 @@ use Rattle.pddl_text.specs.Trees.{Tree, Placed, erased}
 use Rattle.pddl_tree.specs.Names.{is_name}
 use Rattle.pddl_tree.specs.Words.{list, Each}
 use Rattle.pddl_formula.specs.Reserved.{is_predicate, is_type_name, is_type}
-use Rattle.pddl_formula.specs.TypedLists.{TypedValue, untyped, typed}
+use Rattle.pddl_formula.specs.TypedLists.{TypedValue, untyped}
 use Rattle.pddl_sections.specs.Sections.{Fits}
 use Rattle.pddl_sections.specs.Files.{IsTitle}
 use Rattle.pddl_file.specs.declared.keyword.SectionKeyword.{SectionKeyword}
@@ -16,11 +16,11 @@ use Rattle.pddl_domain.specs.Declarations.{TypeValue, Signature, FunctionValue, 
 use Rattle.pddl_domain.specs.Actions.{ActionValue, parameters, precondition, effect, IsAction}
 use Rattle.pddl_domain.specs.Domains.{DomainValue, Part, requirements, types, constants, predicates, functions, action, requirements_in, types_in, constants_in, predicates_in, functions_in, actions_in, part_key, IsPart, domain_rules, AreDomain}
 use Rattle.pddl_file_layout.specs.FormulaValues.{is_typed, is_formula, is_effect}
-use Rattle.pddl_file_layout.specs.FormulaTrees.{name_tree, variable_tree, dash, type_tree, typed_trees, variables_tree, formula_tree, effect_tree}
+use Rattle.pddl_file_layout.specs.FormulaTrees.{name_tree, variable_tree, type_tree, typed_trees, variables_tree, formula_tree, effect_tree}
 use Rattle.pddl_file_layout.specs.Inner.PartLists.{part_list}
 use Rattle.pddl_file_layout.specs.DomainLayout.{is_declared_type, is_declared_predicate, is_declared_function, is_action, is_domain, keyword_tree, flag_tree, section_trees, type_trees, signature_tree, function_trees, declaration_trees, action_tree, domain_tree}
 use Rattle.pddl_file_layout.proofs.Assembling.{each_append, adds_nothing, adds_its_own, none_add, each_adds, Rising, never_repeats, rising_part, rising_many, opened_as}
-use Rattle.pddl_file_layout.proofs.FormulaTreeLaws.{and_parts, name_folds, spells_name, each_of, spells_predicate, spells_type_name, spells_type, spells_variables, spells_names, spells_variable_list, spells_formula, spells_effect}
+use Rattle.pddl_file_layout.proofs.FormulaTreeLaws.{and_parts, name_folds, spells_name, each_of, spells_predicate, spells_type_name, spells_type, one_typed, spells_variables, spells_names, spells_variable_list, spells_formula, spells_effect}
 
 -- ---- declarations
 
@@ -32,8 +32,7 @@ spells_types [] h = untyped tt
 spells_types (t ∷ ts) h =
     let p = and_parts (is_declared_type t) (list_all is_declared_type ts) h in
     let q = and_parts (is_type_name t.item) (is_type_name t.of) p.0 in
-    typed t [] ts (name_tree t.item ∷ []) dash (name_tree t.of) (type_trees ts) t.of refl refl
-    ((spells_type_name t.item q.0, refl), tt) refl (spells_type_name t.of q.1) (spells_types ts p.1)
+    one_typed t ts (name_tree t.item) (name_tree t.of) (type_trees ts) (spells_type_name t.item q.0) (spells_type_name t.of q.1) (spells_types ts p.1)
 
 spells_declared_predicate : (p : Signature) → is_declared_predicate p ≡ true → IsPredicateSignature p (signature_tree p)
 spells_declared_predicate p h =
@@ -46,9 +45,8 @@ spells_functions (f ∷ fs) h =
     let p = and_parts (is_declared_function f) (list_all is_declared_function fs) h in
     let q = and_parts (is_name f.item.name && list_all is_typed f.item.parameters) (is_type f.of) p.0 in
     let r = and_parts (is_name f.item.name) (list_all is_typed f.item.parameters) q.0 in
-    typed f [] fs (signature_tree f.item ∷ []) dash (type_tree f.of) (function_trees fs) f.of refl refl
-    (((name_tree f.item.name, typed_trees variable_tree f.item.parameters, refl, spells_name f.item.name r.0, spells_variables f.item.parameters r.1), refl), tt)
-    refl (spells_type f.of q.1) (spells_functions fs p.1)
+    one_typed f fs (signature_tree f.item) (type_tree f.of) (function_trees fs)
+    (name_tree f.item.name, typed_trees variable_tree f.item.parameters, refl, spells_name f.item.name r.0, spells_variables f.item.parameters r.1) (spells_type f.of q.1) (spells_functions fs p.1)
 
 -- ---- actions
 

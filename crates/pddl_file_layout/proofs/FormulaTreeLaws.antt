@@ -1,10 +1,12 @@
 -- The canonical tree of a value spells it.
-use Rattle.std.proofs.Common.{◌≡◌, ◌≢◌, ℕ, ◌≤◌, Bool, true, false, ◌&&◌, List, [], ◌∷◌, map, refl, ap₂, codes, arith, inr}
-use Rattle.std.specs.Prelude.{not, nat_le, nat_lt, length}
+use Rattle.std.proofs.Common.{◌≡◌, ◌≢◌, ℕ, Bool, true, false, ◌&&◌, List, [], ◌∷◌, map, refl, ap₂, codes, arith, inr}
+use Rattle.std.specs.Prelude.{not, nat_lt, length}
+use Rattle.std.proofs.lemmas.Bool.{leb-true}
 use Rattle.std.proofs.lemmas.Bool.Decides.{nat_tests}
 use Rattle.std.specs.List.{list_all}
 use Rattle.std.specs.Str.{bytes_eq}
 use Rattle.std.specs.Char.{to_ascii_lowercase}
+use Rattle.pddl_text.specs.Number.{largest}
 use Rattle.pddl_text.specs.Trees.{Tree}
 use Rattle.pddl_text.proofs.NumberTexts.{reads_as_it}
 use Rattle.pddl_tree.specs.Names.{folded, is_first_byte, is_later_byte, is_name}
@@ -12,7 +14,7 @@ use Rattle.pddl_tree.specs.Words.{list, IsWord, SpellsName, SpellsVariable, Each
 use Rattle.pddl_tree.proofs.Readers.{equal_bytes}
 use Rattle.pddl_formula.specs.Reserved.{reserved, is_none_of, is_predicate, is_type_name, is_type}
 use Rattle.pddl_formula.specs.Terms.{TermValue, name, variable, AtomValue, IsTerm, IsPredicate, IsAtom}
-use Rattle.pddl_formula.specs.TypedLists.{TypedValue, IsTypeName, IsType, primitive, either, untyped, typed, AreTypedNames, AreTypedVariables, IsVariableList}
+use Rattle.pddl_formula.specs.TypedLists.{WithType, TypedValue, IsTypeName, IsType, primitive, either, IsTypedList, untyped, typed, object, AreTypedNames, AreTypedVariables, IsVariableList}
 use Rattle.pddl_formula.specs.Formulas.{FormulaValue, atom, equal, negation, implication, conjunction, disjunction, existential, universal, FormulaValues, no_formulas, formula, IsFormula, AreFormulas}
 use Rattle.pddl_formula.proofs.TermLaws.{none_of_sound}
 use Rattle.pddl_effect.specs.StaticNames.{is_static_function}
@@ -98,21 +100,26 @@ spells_type (n ∷ m ∷ ns) h =
 
 -- ---- typed lists
 
-pub spells_variables : (xs : List TypedValue) → list_all is_typed xs ≡ true → AreTypedVariables xs (typed_trees variable_tree xs)
-spells_variables [] h = untyped tt
-spells_variables (x ∷ xs) h =
+-- an item with its type, and a typed list behind it
+pub one_typed : {X T : Type 0} {IsItem : X → Tree → Type 0} {IsTypeOf : T → Tree → Type 0} {default : T} (x : WithType X T) (xs : List (WithType X T)) (item type : Tree) (after : List Tree)
+    → IsItem x.item item → IsTypeOf x.of type → IsTypedList IsItem IsTypeOf default xs after → IsTypedList IsItem IsTypeOf default (x ∷ xs) (item ∷ dash ∷ type ∷ after)
+one_typed x xs item type after is_item is_type more =
+    typed (x ∷ []) xs (item ∷ dash ∷ type ∷ []) after refl refl
+    (record { value = x.of; items = item ∷ []; dash = dash; type = type; trees_are = refl; some = λ none. absurd (cc (none)); each = ((is_item, refl), tt); is_dash = refl; is_type = is_type }) more
+
+spells_typed : (IsItem : List ℕ → Tree → Type 0) (tree : List ℕ → Tree) → ((n : List ℕ) → is_name n ≡ true → IsItem n (tree n))
+    → (xs : List TypedValue) → list_all is_typed xs ≡ true → IsTypedList IsItem IsType object xs (typed_trees tree xs)
+spells_typed IsItem tree spells [] h = untyped tt
+spells_typed IsItem tree spells (x ∷ xs) h =
     let p = and_parts (is_typed x) (list_all is_typed xs) h in
     let q = and_parts (is_name x.item) (is_type x.of) p.0 in
-    typed x [] xs (variable_tree x.item ∷ []) dash (type_tree x.of) (typed_trees variable_tree xs) x.of refl refl
-    ((spells_variable x.item q.0, refl), tt) refl (spells_type x.of q.1) (spells_variables xs p.1)
+    one_typed x xs (tree x.item) (type_tree x.of) (typed_trees tree xs) (spells x.item q.0) (spells_type x.of q.1) (spells_typed IsItem tree spells xs p.1)
+
+pub spells_variables : (xs : List TypedValue) → list_all is_typed xs ≡ true → AreTypedVariables xs (typed_trees variable_tree xs)
+spells_variables = spells_typed SpellsVariable variable_tree spells_variable
 
 pub spells_names : (xs : List TypedValue) → list_all is_typed xs ≡ true → AreTypedNames xs (typed_trees name_tree xs)
-spells_names [] h = untyped tt
-spells_names (x ∷ xs) h =
-    let p = and_parts (is_typed x) (list_all is_typed xs) h in
-    let q = and_parts (is_name x.item) (is_type x.of) p.0 in
-    typed x [] xs (name_tree x.item ∷ []) dash (type_tree x.of) (typed_trees name_tree xs) x.of refl refl
-    ((spells_name x.item q.0, refl), tt) refl (spells_type x.of q.1) (spells_names xs p.1)
+spells_names = spells_typed SpellsName name_tree spells_name
 
 pub spells_variable_list : (xs : List TypedValue) → list_all is_typed xs ≡ true → IsVariableList xs (variables_tree xs)
 spells_variable_list xs h = (typed_trees variable_tree xs, refl, spells_variables xs h)
@@ -152,11 +159,8 @@ spells_function_term f h =
       inr (name_tree f.function, map term_tree f.terms, refl, spells_name f.function q.0, each_of is_term IsTerm term_tree spells_term f.terms p.1),
     )
 
-in_range : (n : ℕ) → nat_le n 9999999999999999999 ≡ true → n ≤ 9999999999999999999
-in_range n h = grind (arith, nat_tests)
-
 spells_amount : (a : AmountValue) → is_amount a ≡ true → IsAmount a (amount_tree a)
-spells_amount (number n) h = (refl, (reads_as_it n (in_range n h)).1)
+spells_amount (number n) h = (refl, (reads_as_it n (leb-true n largest h)).1)
 spells_amount (function f) h = spells_function_term f h
 
 mutual

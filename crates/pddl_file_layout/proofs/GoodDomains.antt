@@ -5,6 +5,7 @@ use Rattle.std.proofs.lemmas.Bool.{and_from}
 use Rattle.pddl_text.specs.Trees.{Tree, leaf, node, Placed, erased}
 use Rattle.pddl_tree.specs.Names.{is_name}
 use Rattle.pddl_tree.specs.Words.{Each}
+use Rattle.pddl_tree.proofs.Readers.{each_good}
 use Rattle.pddl_formula.specs.Reserved.{is_predicate, is_type_name, is_type}
 use Rattle.pddl_formula.specs.TypedLists.{IsTypeName, IsType}
 use Rattle.pddl_formula.specs.Formulas.{conjunction, no_formulas}
@@ -15,7 +16,7 @@ use Rattle.pddl_domain.specs.Actions.{ActionValue, Field, parameters, preconditi
 use Rattle.pddl_domain.specs.Domains.{DomainValue, Part, requirements, types, constants, predicates, functions, action, requirements_in, types_in, constants_in, predicates_in, functions_in, actions_in, IsContent, IsPart, AreDomain}
 use Rattle.pddl_file_layout.specs.FormulaValues.{is_typed, is_formula, is_effect}
 use Rattle.pddl_file_layout.specs.DomainLayout.{is_declared_type, is_declared_predicate, is_declared_function, is_action, is_domain}
-use Rattle.pddl_file_layout.proofs.GoodFormulas.{all_append, each_good, name_good, predicate_good, type_name_good, type_good, list_good, typed_names_good, typed_variables_good, variables_good, condition_good, whole_effect_good}
+use Rattle.pddl_file_layout.proofs.GoodFormulas.{all_append, name_good, predicate_good, type_name_good, type_good, list_good, typed_names_good, typed_variables_good, variables_good, condition_good, whole_effect_good}
 
 -- ---- declarations
 

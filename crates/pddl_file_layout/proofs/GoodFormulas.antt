@@ -5,12 +5,13 @@ use Rattle.std.specs.List.{list_all}
 use Rattle.std.proofs.lemmas.Bool.Decides.{nat_tests}
 use Rattle.std.specs.Str.{bytes_eq}
 use Rattle.std.proofs.lemmas.Bool.{and_from}
+use Rattle.pddl_text.specs.Number.{largest}
 use Rattle.pddl_text.specs.Trees.{Tree, leaf, node}
 use Rattle.pddl_text.proofs.Tests.{both_true}
 use Rattle.pddl_text.proofs.Values.{value_in_range}
 use Rattle.pddl_tree.specs.Names.{is_name}
-use Rattle.pddl_tree.specs.Words.{SpellsName, SpellsVariable, Each, SpellsNumber}
-use Rattle.pddl_tree.proofs.Readers.{other_bytes}
+use Rattle.pddl_tree.specs.Words.{SpellsName, SpellsVariable, SpellsNumber}
+use Rattle.pddl_tree.proofs.Readers.{other_bytes, each_good}
 use Rattle.pddl_formula.specs.Reserved.{reserved, is_none_of, is_predicate, is_type_name, is_type}
 use Rattle.pddl_formula.specs.Terms.{TermValue, name, variable, AtomValue, IsTerm, IsPredicate, IsAtom}
 use Rattle.pddl_formula.specs.TypedLists.{WithType, TypedValue, IsTypeName, IsType, primitive, either, OfType, IsTypedList, untyped, typed, object, IsVariableList}
@@ -27,11 +28,6 @@ pub all_append : {A : Type 0} (test : A → Bool) (xs ys : List A) → list_all 
 all_append test [] ys first second = second
 all_append test (x ∷ xs) ys first second =
     let p = both_true (test x) (list_all test xs) first in and_from (test x) (list_all test (xs ++ ys)) p.0 (all_append test xs ys p.1 second)
-
-pub each_good : {A : Type 0} (test : A → Bool) (Spells : A → Tree → Type 0) → ((x : A) (t : Tree) → Spells x t → test x ≡ true) → (xs : List A) (ts : List Tree) → Each Spells xs ts → list_all test xs ≡ true
-each_good test Spells good [] ts each = refl
-each_good test Spells good (x ∷ xs) [] each = absurd each
-each_good test Spells good (x ∷ xs) (t ∷ ts) (here, rest) = and_from (test x) (list_all test xs) (good x t here) (each_good test Spells good xs ts rest)
 
 -- ---- names, terms, atoms
 
@@ -72,20 +68,11 @@ type_good (either {n = n} {ns = ns} head ts is word each) =
 module _ {X T : Type 0} (IsItem : X → Tree → Type 0) (IsTypeOf : T → Tree → Type 0) (default : T) (test : WithType X T → Bool)
     (good : (x : WithType X T) (t : Tree) → IsItem x.item t → (type : T) → x.of ≡ type → ((u : Tree) × IsTypeOf type u) → test x ≡ true)
     (plain : (x : WithType X T) (t : Tree) → IsItem x.item t → x.of ≡ default → test x ≡ true) where
-  group_good : (type : T) (u : Tree) → IsTypeOf type u → (xs : List (WithType X T)) (ts : List Tree) → Each (OfType IsItem type) xs ts → list_all test xs ≡ true
-  group_good type u typed_so [] ts each = refl
-  group_good type u typed_so (x ∷ xs) [] each = absurd each
-  group_good type u typed_so (x ∷ xs) (t ∷ ts) ((is, of), rest) = and_from (test x) (list_all test xs) (good x t is type of (u, typed_so)) (group_good type u typed_so xs ts rest)
-
-  plain_good : (xs : List (WithType X T)) (ts : List Tree) → Each (OfType IsItem default) xs ts → list_all test xs ≡ true
-  plain_good [] ts each = refl
-  plain_good (x ∷ xs) [] each = absurd each
-  plain_good (x ∷ xs) (t ∷ ts) ((is, of), rest) = and_from (test x) (list_all test xs) (plain x t is of) (plain_good xs ts rest)
-
   pub list_good : {xs : List (WithType X T)} {ts : List Tree} → IsTypedList IsItem IsTypeOf default xs ts → list_all test xs ≡ true
-  list_good {xs = xs} {ts = ts} (untyped each) = plain_good xs ts each
-  list_good (typed x xs ys items dash type after value is spelled each d s more) =
-      subst (λ zs. list_all test zs ≡ true) (sym is) (all_append test (x ∷ xs) ys (group_good value type s (x ∷ xs) items each) (list_good more))
+  list_good {xs = xs} {ts = ts} (untyped each) = each_good test (OfType IsItem default) (λ x t spelled. plain x t spelled.0 spelled.1) xs ts each
+  list_good (typed group ys ts after is trees_are g more) =
+      let all = each_good test (OfType IsItem g.value) (λ x t spelled. good x t spelled.0 g.value spelled.1 (g.type, g.is_type)) group g.items g.each in
+      subst (λ zs. list_all test zs ≡ true) (sym is) (all_append test group ys all (list_good more))
 
 module _ (IsItem : List ℕ → Tree → Type 0) (named : (n : List ℕ) (t : Tree) → IsItem n t → is_name n ≡ true) where
   pub typed_good : (xs : List TypedValue) (ts : List Tree) → IsTypedList IsItem IsType object xs ts → list_all is_typed xs ≡ true
@@ -127,7 +114,7 @@ condition_good f t (inr (is, empty)) = ap is_formula empty
 
 -- ---- effects
 
-pub number_good : (n : ℕ) (t : Tree) → SpellsNumber n t → nat_le n 9999999999999999999 ≡ true
+pub number_good : (n : ℕ) (t : Tree) → SpellsNumber n t → nat_le n largest ≡ true
 number_good n (leaf w) (kind, value) = value_in_range w.text n value
 number_good n (node ts) none = absurd none
 

@@ -3,16 +3,18 @@ use Rattle.std.proofs.Common.{◌≡◌, Bool, true, false, ◌&&◌, List, [], 
 use Rattle.std.specs.Prelude.{nat_le, Option, Some, None, option_to_list}
 use Rattle.std.specs.List.{flat_map, list_all}
 use Rattle.std.proofs.lemmas.Bool.{and_from}
+use Rattle.pddl_text.specs.Number.{largest}
 use Rattle.pddl_text.specs.Trees.{Tree, Placed, erased}
 use Rattle.pddl_tree.specs.Names.{is_name}
 use Rattle.pddl_tree.specs.Words.{SpellsName, Each}
+use Rattle.pddl_tree.proofs.Readers.{each_good}
 use Rattle.pddl_formula.specs.Reserved.{is_predicate}
 use Rattle.pddl_file.specs.Flags.{IsFlag}
 use Rattle.pddl_problem.specs.Inits.{GroundValue, InitValue, holds, fails, value, MetricValue, IsFact, IsGroundFunction, IsInit}
 use Rattle.pddl_problem.specs.Problems.{ProblemValue, Part, domain, requirements, objects, init, goal, metric, domains_in, requirements_in, objects_in, init_in, goals_in, metrics_in, IsContent, IsPart, AreProblem}
 use Rattle.pddl_file_layout.specs.FormulaValues.{is_typed, is_formula}
 use Rattle.pddl_file_layout.specs.ProblemLayout.{is_fact, is_ground_function, is_init, is_metric, is_problem}
-use Rattle.pddl_file_layout.proofs.GoodFormulas.{all_append, each_good, name_good, predicate_good, typed_names_good, number_good, condition_good}
+use Rattle.pddl_file_layout.proofs.GoodFormulas.{all_append, name_good, predicate_good, typed_names_good, number_good, condition_good}
 use Rattle.pddl_file_layout.proofs.GoodDomains.{flag_good}
 
 -- ---- items of `:init`
@@ -30,7 +32,7 @@ init_good : (x : InitValue) (t : Tree) → IsInit x t → is_init x ≡ true
 init_good (holds f) t is = fact_good f t is
 init_good (fails f) t (head, x, is, word, fact) = fact_good f x fact
 init_good (value f n) t (head, g, x, is, sign, ground, number) =
-    and_from (is_ground_function f) (nat_le n 9999999999999999999) (ground_good f g ground) (number_good n x number)
+    and_from (is_ground_function f) (nat_le n largest) (ground_good f g ground) (number_good n x number)
 
 -- ---- sections
 

@@ -2,6 +2,7 @@
 use Rattle.std.proofs.Common.{◌≡◌, ℕ, ◌≤◌, true, List, [], ◌∷◌, ◌++◌, length, map, refl, sym, ap, ◌∙◌, subst, codes, append-nil}
 use Rattle.std.specs.Prelude.{nat_le, Option, Some, None}
 use Rattle.std.specs.List.{list_all}
+use Rattle.pddl_text.specs.Number.{largest}
 use Rattle.pddl_text.specs.Spelling.{Word}
 use Rattle.pddl_text.specs.Trees.{Tree, Placed, no_trees, tree, trees_of}
 use Rattle.pddl_text.specs.Pieces.{pieces_text, tokens_of, AreWritten, opening_word, closing_word, tree_words, trees_words, IsWritable, IsWithin}
@@ -56,7 +57,7 @@ init_writable : (x : InitValue) → is_init x ≡ true → IsWritable (init_tree
 init_writable (holds f) h = fact_writable f h
 init_writable (fails f) h = (name_writable (codes "not") refl, (fact_writable f h, tt))
 init_writable (value f n) h =
-    let p = and_parts (is_ground_function f) (nat_le n 9999999999999999999) h in (equal_writable, (ground_writable f p.0, (number_writable n p.1, tt)))
+    let p = and_parts (is_ground_function f) (nat_le n largest) h in (equal_writable, (ground_writable f p.0, (number_writable n p.1, tt)))
 
 direction_writable : (d : Direction) → IsWritable (name_tree (direction_word d))
 direction_writable directions.Minimize = name_writable (codes "minimize") refl

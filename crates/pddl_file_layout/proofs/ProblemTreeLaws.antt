@@ -1,8 +1,9 @@
 -- The canonical tree of a problem spells it.
-use Rattle.std.proofs.Common.{◌≡◌, ℕ, ◌≤◌, true, ◌&&◌, List, [], ◌∷◌, ◌++◌, map, refl, sym, ap, ◌∙◌, subst, codes, inl, inr, append-nil, arith}
+use Rattle.std.proofs.Common.{◌≡◌, ℕ, true, ◌&&◌, List, [], ◌∷◌, ◌++◌, map, refl, sym, ap, ◌∙◌, subst, codes, inl, inr, append-nil, arith}
 use Rattle.std.specs.Prelude.{nat_le, Option, Some, None, option_to_list}
 use Rattle.std.specs.List.{flat_map, list_all}
-use Rattle.std.proofs.lemmas.Bool.Decides.{nat_tests}
+use Rattle.std.proofs.lemmas.Bool.{leb-true}
+use Rattle.pddl_text.specs.Number.{largest}
 use Rattle.pddl_text.specs.Trees.{Tree, Placed, erased}
 use Rattle.pddl_text.proofs.NumberTexts.{reads_as_it}
 use Rattle.pddl_tree.specs.Names.{is_name}
@@ -41,15 +42,12 @@ spells_ground f h =
     let p = and_parts (is_name f.name) (list_all is_name f.objects) h in
     inr (name_tree f.name, map name_tree f.objects, refl, spells_name f.name p.0, each_of is_name SpellsName name_tree spells_name f.objects p.1)
 
-in_range : (n : ℕ) → nat_le n 9999999999999999999 ≡ true → n ≤ 9999999999999999999
-in_range n h = grind (arith, nat_tests)
-
 spells_init : (x : InitValue) → is_init x ≡ true → IsInit x (init_tree x)
 spells_init (holds f) h = spells_fact f h
 spells_init (fails f) h = (name_tree (codes "not"), ground_tree f, refl, (refl, refl), spells_fact f h)
 spells_init (value f n) h =
-    let p = and_parts (is_ground_function f) (nat_le n 9999999999999999999) h in
-    (equal_sign, ground_tree f, number_tree n, refl, refl, spells_ground f p.0, (refl, (reads_as_it n (in_range n p.1)).1))
+    let p = and_parts (is_ground_function f) (nat_le n largest) h in
+    (equal_sign, ground_tree f, number_tree n, refl, refl, spells_ground f p.0, (refl, (reads_as_it n (leb-true n largest p.1)).1))
 
 direction_spelled : (d : Direction) → IsWord (direction_word d) (name_tree (direction_word d))
 direction_spelled directions.Minimize = (refl, refl)

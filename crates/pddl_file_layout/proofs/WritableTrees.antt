@@ -1,14 +1,15 @@
 -- Canonical trees can be written: their words are spelled as their kinds say.
-use Rattle.std.proofs.Common.{◌≡◌, ℕ, ◌≤◌, Bool, true, List, [], ◌∷◌, ◌++◌, map, refl, sym, subst, codes, arith}
+use Rattle.std.proofs.Common.{◌≡◌, ℕ, Bool, true, List, [], ◌∷◌, ◌++◌, map, refl, sym, subst, codes, arith}
 use Rattle.std.specs.Prelude.{not, nat_le, nat_lt, length, Some, IsSome}
 use Rattle.std.specs.List.{AllPass, flat_map, list_all}
 use Rattle.std.specs.Char.{is_ascii_whitespace, is_ascii_alphabetic}
 use Rattle.std.specs.Str.{bytes_eq}
+use Rattle.std.proofs.lemmas.Bool.{leb-true}
 use Rattle.std.proofs.lemmas.Bool.Decides.{nat_tests}
 use Rattle.std.proofs.lemmas.List.Elements.{All-nil, All-cons}
 use Rattle.pddl_text.specs.Bytes.{is_word_byte}
 use Rattle.pddl_text.specs.Words.{IsName}
-use Rattle.pddl_text.specs.Number.{value_of}
+use Rattle.pddl_text.specs.Number.{largest, value_of}
 use Rattle.pddl_text.specs.NumberText.{number_text}
 use Rattle.pddl_text.specs.Trees.{Tree, trees_of}
 use Rattle.pddl_text.specs.Pieces.{IsWellFormed, IsWritable, AreWritable}
@@ -89,15 +90,12 @@ dash_writable = ((refl, λ bad. absurd (cc (bad))), λ bad. absurd (cc (bad)), �
 pub equal_writable : IsWritable equal_sign
 equal_writable = ((refl, λ bad. absurd (cc (bad))), λ bad. absurd (cc (bad)), λ bad. absurd (cc (bad)))
 
-in_range : (n : ℕ) → nat_le n 9999999999999999999 ≡ true → n ≤ 9999999999999999999
-in_range n h = grind (arith, nat_tests)
-
 valued : (n : ℕ) → value_of (number_text n) ≡ Some n → IsSome (value_of (number_text n))
 valued n e = subst (λ o. IsSome o) (sym e) refl
 
-pub number_writable : (n : ℕ) → nat_le n 9999999999999999999 ≡ true → IsWritable (number_tree n)
+pub number_writable : (n : ℕ) → nat_le n largest ≡ true → IsWritable (number_tree n)
 number_writable n h =
-    let reads = reads_as_it n (in_range n h) in
+    let reads = reads_as_it n (leb-true n largest h) in
     ((reads.0, λ is. valued n reads.1), λ bad. absurd (cc (bad)), λ bad. absurd (cc (bad)))
 
 -- ---- terms, types, typed lists

@@ -2,6 +2,7 @@
 -- text spells is one of them.
 use Rattle.std.specs.Prelude.{Bool, true, ◌&&◌, nat_le}
 use Rattle.std.specs.List.{list_all}
+use Rattle.pddl_text.specs.Number.{largest}
 use Rattle.pddl_tree.specs.Names.{is_name}
 use Rattle.pddl_formula.specs.Reserved.{is_predicate, is_type}
 use Rattle.pddl_formula.specs.Terms.{TermValue, name, variable, AtomValue}
@@ -46,7 +47,7 @@ is_function_term f = is_static_function f.function && list_all is_term f.terms
 
 -- a number in range, or a function of terms
 abbrev pub is_amount : AmountValue → Bool
-is_amount (number n) = nat_le n 9999999999999999999
+is_amount (number n) = nat_le n largest
 is_amount (function f) = is_function_term f
 
 -- all of an effect is such

@@ -1,6 +1,7 @@
 -- The canonical trees and the canonical text of a problem (own).
 use Rattle.std.specs.Prelude.{ℕ, List, [], ◌∷◌, ◌++◌, map, Bool, true, ◌&&◌, nat_le, Option, Some, None, codes}
 use Rattle.std.specs.List.{flat_map, list_all}
+use Rattle.pddl_text.specs.Number.{largest}
 use Rattle.pddl_text.specs.Trees.{Tree}
 use Rattle.pddl_tree.specs.Names.{is_name}
 use Rattle.pddl_tree.specs.Words.{list}
@@ -25,7 +26,7 @@ is_ground_function f = is_name f.name && list_all is_name f.objects
 abbrev pub is_init : InitValue → Bool
 is_init (holds f) = is_fact f
 is_init (fails f) = is_fact f
-is_init (value f n) = is_ground_function f && nat_le n 9999999999999999999
+is_init (value f n) = is_ground_function f && nat_le n largest
 
 -- a metric, where there is one
 abbrev pub is_metric : Option MetricValue → Bool

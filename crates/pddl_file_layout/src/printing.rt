@@ -4,6 +4,7 @@
 //! and whoever began looks at it once, at the end.
 
 ghost use Rattle.std.specs.Prelude.{◌≤◌};
+ghost use Rattle.pddl_text.specs.Number.{largest};
 ghost use Rattle.pddl_text.specs.NumberText.{number_text};
 ghost use Rattle.pddl_file_layout.specs.Inner.Printing.{Puts};
 
@@ -22,7 +23,7 @@ pub fn put<W: Sink>(out: &mut W, failed: &mut bool, piece: &[u8])
 /// Writes a number.
 pub fn put_number<W: Sink>(out: &mut W, failed: &mut bool, number: Fixed)
     ensures printed { Puts (W.contents out.old) (W.contents out.new) (W.failures out.old) (W.failures out.new) failed.old failed.new (number_text number) }
-    ensures in_range { number ≤ 9999999999999999999 }
+    ensures in_range { number ≤ largest }
 {
     // says that the number is in range
     let _billionths = number.billionths();
