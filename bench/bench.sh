@@ -3,7 +3,7 @@
 # plain, timed, and with many comments; domains of many actions; problems of many objects and facts. Then seconds and peak
 # memory of `format` on plans of many short steps and of many long ones, beside those of plain Rust; of `domain` and `problem` on
 # files that link, beside those of `format`, which reads and prints them; of `plan` on valid plans, beside those of the same work
-# in plain Rust; and of `plan` alone on actions that quantify over very many variables, and of `serial` beside `plan`. Each
+# in plain Rust; and of `plan` alone on actions that quantify over very many variables, and of `serial` beside `plan`. Among those that link are files with an `either` of all of many types. Each
 # figure is that of the best of five runs. Wants GNU time, Python 3 and rustc.
 here=$(cd "$(dirname "$0")" && pwd) || exit 1
 "$here/../pddlcheck" --help >/dev/null || exit 1
@@ -78,6 +78,12 @@ for count in 60000 240000; do
     python3 "$here/files.py" parameters 1 >"$folder/domain" || exit 1
     python3 "$here/files.py" variables "$count" >"$folder/file" || exit 1
     printf '%-24s %8d  %s   %s\n' "problem, $count variables" "$(wc -c <"$folder/file")" \
+        "$(seconds "$program" format problem "$folder/file")" "$(seconds "$program" problem "$folder/domain" "$folder/file")"
+done
+for count in 5000 20000; do
+    python3 "$here/files.py" eithers "$count" >"$folder/domain" || exit 1
+    python3 "$here/files.py" facts "$count" >"$folder/file" || exit 1
+    printf '%-24s %8d  %s   %s\n' "problem, $count types" "$(cat "$folder/domain" "$folder/file" | wc -c)" \
         "$(seconds "$program" format problem "$folder/file")" "$(seconds "$program" problem "$folder/domain" "$folder/file")"
 done
 

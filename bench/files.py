@@ -5,11 +5,12 @@ A plan has steps with three objects each: plain, timed, or with a comment before
 actions; a problem has many objects and a long `:init`.
 
 Usage: files.py plain|timed|comments|domain|problem MIB
-       files.py actions|items|parameters|variables|short|long N
+       files.py actions|items|parameters|variables|eithers|facts|seen|short|long N
 
 The second form makes a domain with so many actions, or a problem of it with so many items in `:init` and two objects for each five of them: these link.
 So do a domain with an action of so many parameters, and a problem of it whose goal quantifies over so many variables of a type with one object, beside
-twice as many others; each variable is spoken of once. Or it makes a plan of so many steps, each with two objects of few letters, or with eight of many.
+twice as many others; each variable is spoken of once. So do a domain of so many types with a slot and a parameter of an `either` of them all, a problem of it with an object
+of each and three facts for each, and a valid plan of a step for each. Or it makes a plan of so many steps, each with two objects of few letters, or with eight of many.
 """
 import itertools
 import random
@@ -125,6 +126,22 @@ def many_variables(count):
             f"  (:goal (forall ({numbered('?v#', count)} - lone) (and {numbered('(seen ?v#)', count)}))))\n")
 
 
+def many_types(count):
+    either = f"(either {numbered('t#', count)})"
+    return (f"(define (domain eithers)\n  (:types {numbered('t#', count)})\n  (:predicates (open ?x - {either}) (near ?x ?y - {either}))\n  (:action see\n    :parameters (?x - {either})\n"
+            "    :precondition (open ?x)\n    :effect (not (open ?x))))\n")
+
+
+def many_facts(count):
+    objects = "\n".join(f"    o{number} - t{number}" for number in range(count))
+    facts = "".join(f"    (open o{number}) (near o{number} o0) (near o{number} o{number * 7 % count})\n" for number in range(count))
+    return f"(define (problem eithers-1)\n  (:domain eithers)\n  (:objects\n{objects})\n  (:init\n{facts})\n  (:goal (near o0 o0)))\n"
+
+
+def many_seen(count):
+    return "".join(f"(see o{number})\n" for number in range(count))
+
+
 def short_plan(steps):
     return "".join(f"(go a{number % 97} b{number % 89})\n" for number in range(steps))
 
@@ -139,6 +156,9 @@ COUNTED = {
     "items": linked_problem,
     "parameters": many_parameters,
     "variables": many_variables,
+    "eithers": many_types,
+    "facts": many_facts,
+    "seen": many_seen,
     "short": short_plan,
     "long": long_plan,
 }
