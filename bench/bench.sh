@@ -3,8 +3,9 @@
 # plain, timed, and with many comments; domains of many actions; problems of many objects and facts. Then seconds and peak
 # memory of `format` on plans of many short steps and of many long ones, beside those of plain Rust; of `domain` and `problem` on
 # files that link, beside those of `format`, which reads and prints them; of `plan` on valid plans, beside those of the same work
-# in plain Rust; and of `plan` alone on actions that quantify over very many variables, and of `serial` beside `plan`. Among those that link are files with an `either` of all of many types. Each
-# figure is that of the best of five runs. Wants GNU time, Python 3 and rustc.
+# in plain Rust; and of `plan` alone on actions that quantify over very many variables, and of `serial` beside `plan`. Among
+# those that link are files with an `either` of all of many types. Each figure is that of the best of five runs. Wants GNU time,
+# Python 3 and rustc.
 here=$(cd "$(dirname "$0")" && pwd) || exit 1
 "$here/../pddlcheck" --help >/dev/null || exit 1
 program=$here/../crates/pddlcheck/out/pddlcheck
