@@ -29,12 +29,12 @@ fn moments(rt: HostRuntime) -> Result<(), Fail> {
 
 #[test]
 fn plans(rt: HostRuntime) -> Result<(), Fail> {
-    all_hold(&rt, rows::PLANS, 39)
+    all_hold(&rt, rows::PLANS, 40)
 }
 
 #[test]
 fn refused_plans(rt: HostRuntime) -> Result<(), Fail> {
-    all_hold(&rt, rows::REFUSED_PLANS, 20)
+    all_hold(&rt, rows::REFUSED_PLANS, 21)
 }
 
 #[test]

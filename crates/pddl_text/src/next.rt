@@ -81,7 +81,7 @@ fn begins_with_word_byte(text: &[u8]) -> bool
 }
 
 /// How long the longest number at the front is.
-#[tactic(auto, unfolding(crate::specs::Reading::number_len))]
+#[tactic(auto, unfolding(crate::specs::Inner::Reading::number_len))]
 fn number_len(text: &[u8]) -> usize
     ensures value { result ≡ number_len text.now }
     ensures in_range { result ≤ length text.now }
@@ -101,7 +101,7 @@ pub fn line_len(text: &[u8]) -> usize
     text.iter().take_while(|b| is_line_byte(**b)).count()
 }
 
-#[tactic(auto, unfolding(crate::specs::Reading::next_comment))]
+#[tactic(auto, unfolding(crate::specs::Inner::Reading::next_comment))]
 fn next_comment(text: &[u8]) -> Next
     ensures { result ≡ next_comment text.now }
 {
@@ -113,7 +113,7 @@ fn next_comment(text: &[u8]) -> Next
     }
 }
 
-#[tactic(auto, unfolding(crate::specs::Reading::next_number))]
+#[tactic(auto, unfolding(crate::specs::Inner::Reading::next_number))]
 fn next_number(text: &[u8]) -> Next
     ensures { result ≡ next_number text.now }
 {
@@ -128,7 +128,7 @@ fn next_number(text: &[u8]) -> Next
     }
 }
 
-#[tactic(auto, unfolding(crate::specs::Reading::next_by, crate::specs::Reading::next_of))]
+#[tactic(auto, unfolding(crate::specs::Inner::Reading::next_by, crate::specs::Inner::Reading::next_of))]
 fn scan(text: &[u8]) -> Next
     ensures { result ≡ next_of text.now }
 {

@@ -32,6 +32,18 @@ file
 | valid: 2 steps in 2 happenings, total-cost 7
 good plan
 
+row an object of a type below one of a parameter's either of many types
+part (define (domain d) (:types u - t7
+series 20  t#0
+part ) (:predicates (p ?x)) (:action see :parameters (?x - (either
+series 20  t#0
+file )) :effect (p ?x)))
+file (define (problem p) (:domain d) (:objects a - u) (:init) (:goal (p a)))
+file (see a)
+file
+| valid: 1 steps in 1 happenings, total-cost 0
+good plan
+
 row two steps at one moment
 growths 40
 copy lamps

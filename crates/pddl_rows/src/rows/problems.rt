@@ -362,6 +362,33 @@ file ) (:goal (and)))
 | good: problem p
 once good problem
 
+row a variable of an either of many types that is spoken of very often
+part (define (domain d) (:types
+series 100  t#0
+part ) (:predicates (p ?x - (either
+series 100  t#0
+file ))))
+part (define (problem p) (:domain d) (:init) (:goal (forall (?v - (either
+series 100  t#0
+part )) (and
+times 20000  (p ?v)
+file ))))
+| good: problem p
+once good problem
+
+row a variable of an either of many types that does not fit a slot of another
+growths 20
+part (define (domain d) (:types
+series 20  t#0
+part  u) (:predicates (p ?x - (either
+series 20  t#0
+file ))))
+part (define (problem p) (:domain d) (:init) (:goal (forall (?v - (either
+series 19  t#0
+file  u)) (p ?v))))
+| link: fault 28 ArgumentType p
+refused problem
+
 row an object that does not fit a slot of an either of many types
 growths 20
 part (define (domain d) (:types
