@@ -40,7 +40,6 @@ series 20  t#0
 file )) :effect (p ?x)))
 file (define (problem p) (:domain d) (:objects a - u) (:init) (:goal (p a)))
 file (see a)
-file
 | valid: 1 steps in 1 happenings, total-cost 0
 good plan
 

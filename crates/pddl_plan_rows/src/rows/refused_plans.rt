@@ -58,14 +58,12 @@ file
 refused plan
 
 row an object that does not fit a parameter of an either of many types
-growths 20
 part (define (domain d) (:types
 series 20  t#0
 part  u) (:predicates (p ?x)) (:action see :parameters (?x - (either
 series 20  t#0
 file )) :effect (p ?x)))
 file (define (problem p) (:domain d) (:objects a - t7 b - u) (:init) (:goal (p a)))
-file
 | (see a)
 | (see b)
 file
