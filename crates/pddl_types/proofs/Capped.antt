@@ -52,6 +52,10 @@ within r n is = omega (arith, is)
 pub one_more : (r s n : ℕ) → r ≡ capped (1 + s) → s ≡ capped n → r ≡ capped (1 + n)
 one_more r s n h k = omega arith
 
+-- one more than the sum of two capped sizes
+pub both_more : (r t a b m n : ℕ) → r ≡ capped (1 + t) → t ≡ capped (a + b) → a ≡ capped m → b ≡ capped n → r ≡ capped (1 + (m + n))
+both_more r t a b m n h k i j = omega arith
+
 pub quantified : (count : List Name → ℕ) (xs : List TypedValue) (r b n : ℕ) → r ≡ capped (quantifier_size count xs b) → b ≡ capped n → r ≡ capped (quantifier_size count xs n)
 quantified count xs r b n h k = h ∙ ap (λ m. capped (quantifier_size count xs m)) k ∙ capped_quantifier count xs n
 

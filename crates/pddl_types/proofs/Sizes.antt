@@ -4,15 +4,40 @@ use Rattle.pddl_formula.specs.TypedLists.{typed_view}
 use Rattle.pddl_formula.specs.Formulas.{FormulaValue, formula_view, formulas_of}
 use Rattle.pddl_formula.specs.declared.type_names.Typed.{Typed}
 use Rattle.pddl_formula.specs.declared.formula.Formula.{Formula}
-use Rattle.pddl_formula.specs.declared.formula.Formula.TheVariants.{And, Or, Exists, Forall}
-use Rattle.pddl_formula.proofs.TurnsOfFormulas.{view_and, view_or, view_exists, view_forall}
+use Rattle.pddl_formula.specs.declared.term.Atom.{Atom}
+use Rattle.pddl_formula.specs.declared.term.Term.{Term}
+use Rattle.pddl_formula.specs.declared.formula.Formula.TheVariants as cases
+use Rattle.pddl_formula.specs.declared.formula.Formula.TheVariants.{Not, Imply, And, Or, Exists, Forall}
+use Rattle.pddl_formula.proofs.TurnsOfFormulas.{view_atom, view_equal, view_not, view_imply, view_and, view_or, view_exists, view_forall}
 use Rattle.pddl_task.specs.Names.{Name}
 use Rattle.pddl_task.specs.GroundSize.{capped, quantifier_size, formula_size, formulas_size}
-use Rattle.pddl_types.proofs.Capped.{one_more, quantified}
+use Rattle.pddl_types.proofs.Capped.{one_more, both_more, quantified}
 
 -- the size of a formula by its view
 at_view : {A : Type 0} (count : List Name → ℕ) (f g : Formula A) (v : FormulaValue) → f ≡ g → formula_view g ≡ v → capped (formula_size count v) ≡ capped (formula_size count (formula_view f))
 at_view count f g v is view = sym (ap (λ h. capped (formula_size count (formula_view h))) is ∙ ap (λ w. capped (formula_size count w)) view)
+
+pub size_of_atom : {A : Type 0} (count : List Name → ℕ) (f : Formula A) (a : Atom A) → f ≡ cases.Atom a → 1 ≡ capped (formula_size count (formula_view f))
+size_of_atom count f a is = at_view count f (cases.Atom a) _ is (view_atom a)
+
+pub size_of_equal : {A : Type 0} (count : List Name → ℕ) (f : Formula A) (x y : Term A) → f ≡ cases.Equal x y → 1 ≡ capped (formula_size count (formula_view f))
+size_of_equal count f x y is = at_view count f (cases.Equal x y) _ is (view_equal x y)
+
+pub size_of_not : {A : Type 0} (count : List Name → ℕ) (f : Formula A) (inner : Box (Formula A) A) (k : Formula A) (r s : ℕ)
+    → f ≡ Not inner → k ≡ inner.value → r ≡ capped (1 + s) → s ≡ capped (formula_size count (formula_view k)) → r ≡ capped (formula_size count (formula_view f))
+size_of_not count f inner k r s is same total part =
+    one_more r s (formula_size count (formula_view k)) total part
+    ∙ ap (λ i. capped (1 + formula_size count (formula_view i))) same
+    ∙ at_view count f (Not inner) _ is (view_not inner)
+
+pub size_of_imply : {A : Type 0} (count : List Name → ℕ) (f : Formula A) (first second : Box (Formula A) A) (k l : Formula A) (r t a b : ℕ)
+    → f ≡ Imply first second → k ≡ first.value → l ≡ second.value → r ≡ capped (1 + t) → t ≡ capped (a + b)
+    → a ≡ capped (formula_size count (formula_view k)) → b ≡ capped (formula_size count (formula_view l)) → r ≡ capped (formula_size count (formula_view f))
+size_of_imply count f first second k l r t a b is front back total parts one other =
+    both_more r t a b (formula_size count (formula_view k)) (formula_size count (formula_view l)) total parts one other
+    ∙ ap (λ i. capped (1 + (formula_size count (formula_view i) + formula_size count (formula_view l)))) front
+    ∙ ap (λ i. capped (1 + (formula_size count (formula_view first.value) + formula_size count (formula_view i)))) back
+    ∙ at_view count f (Imply first second) _ is (view_imply first second)
 
 pub size_of_and : {A : Type 0} (count : List Name → ℕ) (f : Formula A) (parts : Vec (Formula A) A) (items : List (Formula A)) (r s : ℕ)
     → f ≡ And parts → items ≡ parts.items → r ≡ capped (1 + s) → s ≡ capped (formulas_size count (formulas_of (map formula_view items))) → r ≡ capped (formula_size count (formula_view f))

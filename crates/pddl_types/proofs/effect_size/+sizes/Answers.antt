@@ -5,7 +5,7 @@ use Rattle.pddl_effect.specs.Effects.{effect_view, effects_of}
 use Rattle.pddl_task.specs.GroundSize.{capped, effect_size, effects_size}
 use Rattle.pddl_types.proofs.Capped.{within, one_added, all_added}
 use Rattle.pddl_faults.proofs.ViewTurns.{effects-drop}
-use Rattle.pddl_types.proofs.EffectSizes.{size_of_all, size_of_each}
+use Rattle.pddl_types.proofs.EffectSizes.{size_of_all, size_of_each, size_of_when, size_of_add, size_of_del, size_of_increase}
 use Rattle.pddl_types.proofs.effect_size.+sizes.Goals as goal
 
 pub effect_ground_size-returns-in-And : goal.effect_ground_size-returns-in-And
@@ -16,6 +16,20 @@ pub effect_ground_size-returns-in-Forall : goal.effect_ground_size-returns-in-Fo
 effect_ground_size-returns-in-Forall g t c =
     size_of_each (g.C.FittingCount.count c.args.counts.now) c.args.effect.now c.in-Forall.variables c.in-Forall.inner c.deref.result.now _ c.effect_ground_size.result c.in-Forall.is c.deref.ensures.value
     c.quantifier_size.ensures (c.effect_ground_size.ensures ∙ ap (λ e. capped (effect_size (g.C.FittingCount.count c.args.counts.now) (effect_view e))) c.deref-in-Forall.ensures)
+
+pub effect_ground_size-returns-in-When : goal.effect_ground_size-returns-in-When
+effect_ground_size-returns-in-When g t c =
+    size_of_when (g.C.FittingCount.count c.args.counts.now) c.args.effect.now c.in-When.condition c.in-When.inner c.deref-in-When.result.now _ c.sum-in-When.result
+    c.ground_size-condition.result c.effect_ground_size-inner.result c.in-When.is c.deref-in-When.ensures c.sum-in-When-2.ensures c.sum-in-When.ensures c.ground_size-condition.ensures c.effect_ground_size-inner.ensures
+
+pub effect_ground_size-returns-in-Add : goal.effect_ground_size-returns-in-Add
+effect_ground_size-returns-in-Add g t c = size_of_add (g.C.FittingCount.count c.args.counts.now) c.args.effect.now _ c.in-Add.is
+
+pub effect_ground_size-returns-in-Del : goal.effect_ground_size-returns-in-Del
+effect_ground_size-returns-in-Del g t c = size_of_del (g.C.FittingCount.count c.args.counts.now) c.args.effect.now _ c.in-Del.is
+
+pub effect_ground_size-returns-in-Increase : goal.effect_ground_size-returns-in-Increase
+effect_ground_size-returns-in-Increase g t c = size_of_increase (g.C.FittingCount.count c.args.counts.now) c.args.effect.now _ c.in-Increase.is
 
 pub effect_ground_sizes-loop-effect-preserved : goal.effect_ground_sizes-loop-effect-preserved
 effect_ground_sizes-loop-effect-preserved g t c =

@@ -4,8 +4,23 @@ use Rattle.pddl_formula.specs.Formulas.{formula_view, formulas_of}
 use Rattle.pddl_task.specs.GroundSize.{capped, formula_size, formulas_size}
 use Rattle.pddl_types.proofs.Capped.{within, one_added, all_added}
 use Rattle.pddl_faults.proofs.ViewTurns.{formulas-drop}
-use Rattle.pddl_types.proofs.Sizes.{size_of_and, size_of_or, size_of_exists, size_of_forall}
+use Rattle.pddl_types.proofs.Sizes.{size_of_atom, size_of_equal, size_of_not, size_of_imply, size_of_and, size_of_or, size_of_exists, size_of_forall}
 use Rattle.pddl_types.proofs.size.+sizes.Goals as goal
+
+pub ground_size-returns-in-Atom : goal.ground_size-returns-in-Atom
+ground_size-returns-in-Atom g t c = size_of_atom (g.C.FittingCount.count c.args.counts.now) c.args.formula.now _ c.in-Atom.is
+
+pub ground_size-returns-in-Equal : goal.ground_size-returns-in-Equal
+ground_size-returns-in-Equal g t c = size_of_equal (g.C.FittingCount.count c.args.counts.now) c.args.formula.now _ _ c.in-Equal.is
+
+pub ground_size-returns-in-Not : goal.ground_size-returns-in-Not
+ground_size-returns-in-Not g t c =
+    size_of_not (g.C.FittingCount.count c.args.counts.now) c.args.formula.now c.in-Not.inner c.deref.result.now _ c.ground_size.result c.in-Not.is c.deref.ensures c.sum.ensures c.ground_size.ensures
+
+pub ground_size-returns-in-Imply : goal.ground_size-returns-in-Imply
+ground_size-returns-in-Imply g t c =
+    size_of_imply (g.C.FittingCount.count c.args.counts.now) c.args.formula.now c.in-Imply.first c.in-Imply.second c.deref-in-Imply.result.now c.deref-in-Imply-2.result.now _ c.sum-in-Imply.result
+    c.ground_size-first.result c.ground_size-second.result c.in-Imply.is c.deref-in-Imply.ensures c.deref-in-Imply-2.ensures c.sum-in-Imply-2.ensures c.sum-in-Imply.ensures c.ground_size-first.ensures c.ground_size-second.ensures
 
 pub ground_size-returns-in-And : goal.ground_size-returns-in-And
 ground_size-returns-in-And g t c =
