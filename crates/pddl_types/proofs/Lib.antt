@@ -1,3 +1,4 @@
+mod ListTests
 pub mod BelowRoot
 pub mod Capped
 pub mod CyclicTypes
