@@ -1,3 +1,4 @@
+pub mod BothMade
 pub mod Numbers
 pub mod NameNumbers
 pub mod NamedActions

@@ -1,12 +1,26 @@
 -- Tables that a plan's steps are looked up in hold what linked files declare (own).
-use Rattle.std.specs.Prelude.{◌≡◌}
+use Rattle.std.specs.Prelude.{◌≡◌, Result, Ok, Err}
 use Rattle.pddl_task.specs.Linked.{IsLinked}
+use Rattle.pddl_task.specs.Tasks.{TaskValue}
 use Rattle.pddl_state.specs.Atoms.{AtomValue}
 use Rattle.pddl_link.specs.LinkedTasks.{files_of, task_of_files}
+use Rattle.pddl_tables.specs.declared.lookups.TaskLookups.{TaskLookups}
+use Rattle.pddl_tables.specs.declared.prices.TaskPrices.{TaskPrices}
 use Rattle.pddl_tables.specs.Lookups.{task_in, price_in}
 use Rattle.pddl_tables.specs.Prices.{price_at}
 use Rattle.pddl_plan_link.specs.StepTables.{AreActionsOf}
 use Rattle.pddl_plan_link.specs.declared.tables.PlanTables.{PlanTables}
+
+-- two values, where both were made
+abbrev pub both_made : {T U E : Type 0} → Result T E → Result U E → Result (T × U) E
+both_made (Ok x) (Ok y) = Ok (x, y)
+both_made (Ok x) (Err e) = Err e
+both_made (Err e) second = Err e
+
+-- tables hold a task and its costs
+pub record AreCostTables {A B C : Type 0} (task : TaskValue) (l : TaskLookups A B C) (p : TaskPrices C) : Type 0 where
+  pub lookups : task_in l ≡ task
+  pub prices : (call : AtomValue) → price_in p call ≡ price_at task call
 
 pub record ArePlanTables {A B C : Type 0} (tables : PlanTables A B C) : Type 0 where
   pub linked : IsLinked (files_of tables.task.now).domain (files_of tables.task.now).problem

@@ -1,7 +1,8 @@
 //! What a plan's steps are looked up in.
 
 ghost use Rattle.std.specs.Prelude.{◌≡◌, IfOk};
-ghost use Rattle.pddl_plan_link.specs.PlanTables.{ArePlanTables};
+ghost use Rattle.pddl_link.specs.LinkedTasks.{task_of_files};
+ghost use Rattle.pddl_plan_link.specs.PlanTables.{both_made, AreCostTables, ArePlanTables};
 
 use crate::action_table::{Actions, actions_by_name};
 use pddl_link::{SlotTops, Task};
@@ -19,6 +20,32 @@ pub(crate) struct PlanTables<'t, 'm, 'a, 'c, A: Allocator, B: Allocator, C: Allo
     pub prices: TaskPrices<'c, C>,
 }
 
+/// Two values, or what kept the first of them that was not made from being made.
+fn both_made<T: Drop, U: Drop>(
+    first: Result<T, AllocError>,
+    second: Result<U, AllocError>,
+) -> Result<(T, U), AllocError>
+    ensures { result ≡ both_made first second }
+{
+    let first = first?;
+    let second = second?;
+    Ok((first, second))
+}
+
+/// What costs are looked up in.
+///
+/// Fails where memory for it is refused.
+fn cost_tables<'t, 'm, 'a, 'c, A: Allocator, B: Allocator, C: Allocator>(
+    alloc: &'c C,
+    task: &'t Task<'m, 'a, A, B>,
+) -> Result<(TaskLookups<'t, 'm, 'a, 'c, A, B, C>, TaskPrices<'c, C>), AllocError>
+    ensures { IfOk result (λ tables. AreCostTables (task_of_files task.now) tables.0 tables.1) }
+{
+    let lookups = task_lookups(alloc, task)?;
+    let prices = task_prices(alloc, &lookups);
+    both_made(Ok(lookups), prices)
+}
+
 /// A task with its tables.
 ///
 /// Fails where memory for one of them is refused.
@@ -30,16 +57,17 @@ pub(crate) fn plan_tables<'t, 'm, 'a, 'c, A: Allocator, B: Allocator, C: Allocat
     ensures tables { IfOk result (λ tables. ArePlanTables tables) }
 {
     let domain = task.domain();
-    let actions = actions_by_name(alloc, task, &domain.actions)?;
-    let tops = task.action_tops(alloc)?;
-    let lookups = task_lookups(alloc, task)?;
-    let prices = task_prices(alloc, &lookups)?;
+    let actions = actions_by_name(alloc, task, &domain.actions);
+    let tops = task.action_tops(alloc);
+    let steps = both_made(actions, tops);
+    let costs = cost_tables(alloc, task);
+    let (steps, costs) = both_made(steps, costs)?;
     Ok(PlanTables {
         alloc,
         task,
-        actions,
-        tops,
-        lookups,
-        prices,
+        actions: steps.0,
+        tops: steps.1,
+        lookups: costs.0,
+        prices: costs.1,
     })
 }
