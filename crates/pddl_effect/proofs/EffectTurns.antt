@@ -1,8 +1,7 @@
 -- What effects of lists are, and what effects look like without memory.
-use Rattle.std.proofs.Common.{◌≡◌, ◌-◌, ◌≤◌, ◌<◌, List, [], ◌∷◌, map, length, get_or, take, drop, Vec, Box, refl, sym, ap, ap₂, ◌∙◌, arith}
+use Rattle.std.proofs.Common.{◌≡◌, ◌≤◌, ◌<◌, List, [], ◌∷◌, map, length, get_or, Vec, Box, refl, sym, ap, ap₂, ◌∙◌, arith}
 use Rattle.std.specs.Prelude.{Bool, Option, Some, None, option_map, option_and_then, if◌then◌else◌}
 use Rattle.std.specs.Option.{option_zip}
-use Rattle.std.proofs.lemmas.List.{take_all}
 use Rattle.pddl_text.specs.declared.token.Span.{Span}
 use Rattle.pddl_text.specs.declared.item.Item.{Item}
 use Rattle.pddl_text.specs.declared.item.Item.TheVariants.{List as Group}
@@ -12,21 +11,22 @@ use Rattle.pddl_tree.specs.Words.{list}
 use Rattle.pddl_tree.specs.ItemTrees.{item_tree, item_trees}
 use Rattle.pddl_tree.proofs.TreeLists.{item_tree_list}
 use Rattle.pddl_formula.specs.declared.head.Head.{Head}
-use Rattle.pddl_formula.specs.declared.head.Head.TheVariants as heads
 use Rattle.pddl_formula.specs.declared.type_names.Typed.{Typed}
 use Rattle.pddl_formula.specs.declared.term.Atom.{Atom}
 use Rattle.pddl_formula.specs.declared.formula.Formula.{Formula}
 use Rattle.pddl_formula.specs.Terms.{atom_view}
 use Rattle.pddl_formula.specs.TypedLists.{typed_view}
 use Rattle.pddl_formula.specs.Formulas.{formula_view}
-use Rattle.pddl_formula.specs.Inner.Reading.{atom_of_list, atom_at, head_at, variables_at, formula_at, behind, only, quantified}
+use Rattle.pddl_formula.specs.Inner.Reading.{atom_at, head_at, behind, only}
 use Rattle.pddl_effect.specs.declared.amount.Amount.{Amount}
 use Rattle.pddl_effect.specs.declared.effect.Effect.{Effect}
 use Rattle.pddl_effect.specs.declared.effect.Effect.TheOpen.{Effect-F}
 use Rattle.pddl_effect.specs.declared.effect.Effect.TheVariants.{And, Forall, When, Add, Del, Increase, rolls-And, rolls-Forall, rolls-When, rolls-Add, rolls-Del, rolls-Increase}
 use Rattle.pddl_effect.specs.declared.effect.Effect.TheFolds.{fold-roll-Effect}
+use Rattle.pddl_effect.specs.declared.effect_reader.Scope.{Scope}
+use Rattle.pddl_effect.specs.declared.effect_reader.Scope.TheVariants as scopes
 use Rattle.pddl_effect.specs.Effects.{EffectValue, conjunction, universal, conditional, addition, deletion, increase, effects_of, amount_view, effect_step, effect_view}
-use Rattle.pddl_effect.specs.Inner.EffectReading.{conditional_of, increase_of, is_total_cost_at, amount_at, effect_by, effect_of_list, effect_at, whole_effect_at}
+use Rattle.pddl_effect.specs.Inner.EffectReading.{scoped_of, scoped_by, increase_of, is_total_cost_at, amount_at, effect_by, effect_of_list, effect_at, whole_effect_at}
 use Rattle.pddl_effect.proofs.EffectLaws.{effect_at_leaf}
 
 -- ---- effects without memory
@@ -73,24 +73,6 @@ module _ {A : Type 0} where
   by_head [] h k some first is = absurd (omega (arith, some))
   by_head (x ∷ xs) h k some first is = rw (is, first) refl
 
-  pub by_name : (xs : List (Item A)) (h : Item A) → 0 < length xs → h ≡ get_or xs 0 h → heads.Name ≡ head_at (item_tree h)
-      → effect_of_list (item_trees xs) (map effect_at (item_trees xs)) ≡ option_map addition (atom_of_list (item_trees xs))
-  by_name [] h some first is = absurd (omega (arith, some))
-  by_name (x ∷ xs) h some first is = by_head (x ∷ xs) h heads.Name some first is ∙ ap (λ (i : Item A). option_map addition (atom_of_list (item_tree i ∷ item_trees xs))) first
-
-  -- the trees behind the head, as a call takes them
-  rest_is : (xs : List (Item A)) → behind (item_trees xs) ≡ item_trees (take (length xs - 1) (drop 1 xs))
-  rest_is [] = refl
-  rest_is (x ∷ xs) = ap item_trees (sym (take_all (length (x ∷ xs) - 1) xs (omega arith)))
-
-  pub by_not : (xs : List (Item A)) (h : Item A) → 0 < length xs → h ≡ get_or xs 0 h → heads.Not ≡ head_at (item_tree h)
-      → effect_of_list (item_trees xs) (map effect_at (item_trees xs)) ≡ option_map deletion (only (map atom_at (item_trees (take (length xs - 1) (drop 1 xs)))))
-  by_not xs h some first is = by_head xs h heads.Not some first is ∙ ap (λ ts. option_map deletion (only (map atom_at ts))) (rest_is xs)
-
-  pub by_increase : (xs : List (Item A)) (h : Item A) → 0 < length xs → h ≡ get_or xs 0 h → heads.Increase ≡ head_at (item_tree h)
-      → effect_of_list (item_trees xs) (map effect_at (item_trees xs)) ≡ option_map increase (increase_of (item_trees (take (length xs - 1) (drop 1 xs))))
-  by_increase xs h some first is = by_head xs h heads.Increase some first is ∙ ap (λ ts. option_map increase (increase_of ts)) (rest_is xs)
-
 -- ---- lists of one and of two
 
 pub only_is : {A : Type 0} (xs : List (Item A)) (x : Item A) → 1 ≤ length xs → length xs < 2 → x ≡ get_or xs 0 x
@@ -117,7 +99,7 @@ three {A} (a ∷ b ∷ c ∷ []) x y low high first second = (a, sym (ap₂ (λ 
 three (a ∷ b ∷ c ∷ d ∷ xs) x y low high first second = absurd (omega (arith, high))
 
 -- two values, and what is made of them
-made_of_two : {X Y Z : Type 0} (make : X → Y → Z) (o : Option X) (p : Option Y)
+pub made_of_two : {X Y Z : Type 0} (make : X → Y → Z) (o : Option X) (p : Option Y)
     → option_and_then (λ x. option_map (make x) p) o ≡ option_map (λ q. make q.0 q.1) (option_zip o p)
 made_of_two make None p = refl
 made_of_two make (Some x) None = refl
@@ -127,10 +109,7 @@ module _ {A : Type 0} (xs : List (Item A)) (x y : Item A) (low : 3 ≤ length xs
   items_are : (h : Item A) × (xs ≡ h ∷ x ∷ y ∷ [])
   items_are = three xs x y low high first second
 
-  -- variables, and an effect
-  pub universal_is : quantified universal (behind (item_trees xs)) (behind (map effect_at (item_trees xs))) ≡ option_map (λ p. universal p.0 p.1) (option_zip (variables_at (item_tree x)) (effect_at (item_tree y)))
-  universal_is = rw items_are.1 (made_of_two universal (variables_at (item_tree x)) (effect_at (item_tree y)))
-
-  -- a condition, and an effect
-  pub conditional_is : conditional_of (behind (item_trees xs)) (behind (map effect_at (item_trees xs))) ≡ option_map (λ p. conditional p.0 p.1) (option_zip (formula_at (item_tree x)) (effect_at (item_tree y)))
-  conditional_is = rw items_are.1 (made_of_two conditional (formula_at (item_tree x)) (effect_at (item_tree y)))
+  -- what the effect stands under, and the effect
+  pub scoped_is : (s : Scope) → scoped_of s (behind (item_trees xs)) (behind (map effect_at (item_trees xs))) ≡ scoped_by s (item_tree x) (effect_at (item_tree y))
+  scoped_is scopes.Variables = rw items_are.1 refl
+  scoped_is scopes.Condition = rw items_are.1 refl

@@ -1,25 +1,33 @@
 //! Effects read from items.
 
-ghost use Rattle.std.specs.Prelude.{◌≡◌, IfOk, MatchOption, map, option_map};
+ghost use Rattle.std.specs.Prelude.{◌≡◌, [], Option, Some, IfOk, MatchOption, map, option_map};
 ghost use Rattle.pddl_text.specs.Trees.{Tree};
 ghost use Rattle.pddl_tree.specs.ItemTrees.{item_tree, item_trees};
 ghost use Rattle.pddl_tree.specs.Inner.TreeReading.{all_of};
-ghost use Rattle.pddl_build.specs.Results.{map_found, both_of, Boxes};
-ghost use Rattle.pddl_formula.specs.Inner.Reading.{atom_at, behind, only, quantified};
+ghost use Rattle.pddl_build.specs.Results.{map_found, both_of};
+ghost use Rattle.pddl_formula.specs.Inner.Reading.{atom_at, behind, only};
 ghost use Rattle.pddl_effect.specs.declared.effect.Effect.TheVariants as cases;
-ghost use Rattle.pddl_effect.specs.Effects.{EffectValue, universal, deletion, increase, effect_view, IsEffect, IsWholeEffect};
-ghost use Rattle.pddl_effect.specs.Inner.EffectReading.{increase_of, conditional_of, effect_of_list, effect_at, whole_effect_at};
+ghost use Rattle.pddl_effect.specs.Effects.{EffectValue, deletion, increase, effect_view, IsEffect, IsWholeEffect};
+ghost use Rattle.pddl_effect.specs.Inner.EffectReading.{increase_of, plain_of, scoped_by, scoped_of, effect_of_list, effect_at, whole_effect_at};
+ghost use Rattle.pddl_effect.specs.Inner.Filling.{Pushed};
 
 use crate::amount::Amount;
 use crate::amount_reader::amount_of;
 use crate::effect::Effect;
 use crate::increase::is_total_cost;
-use pddl_build::{both, boxed, push_found};
+use pddl_build::{both, boxed, list_if_right, push_found};
 use pddl_formula::{
     Atom, Formula, Head, Typed, atom_of, atom_of_list, formula_of, head_of, variables_of,
 };
 use pddl_text::Item;
 use std::alloc::{AllocError, Allocator};
+
+/// What an effect stands under.
+#[derive(Clone, Copy)]
+enum Scope {
+    Variables,
+    Condition,
+}
 
 /// The effect that an item spells, or `None` where it spells none (Kovacs, `<effect>` with `:conditional-effects` and
 /// `:action-costs`; that effects nest freely, and that reserved words name no predicate, is own).
@@ -93,17 +101,14 @@ fn list_effect<'a, B: Allocator>(
 ) -> Result<Option<Effect<&'a B>>, AllocError>
     ensures { IfOk result (λ found. option_map effect_view found ≡ effect_of_list (item_trees items.now) (map effect_at (item_trees items.now))) }
 {
-    match items {
-        [] => Ok(None),
-        [head, rest @ ..] => match head_of(head) {
-            Head::And => conjunction(effects_of(alloc, items)),
-            Head::Forall => universal_of(alloc, items),
-            Head::When => conditional_of(alloc, items),
-            Head::Not => deletion_of(alloc, rest),
-            Head::Name => addition(atom_of_list(alloc, items)),
-            Head::Increase => increase_of(alloc, rest),
-            Head::Or | Head::Imply | Head::Exists | Head::Equal | Head::Nothing => Ok(None),
-        },
+    let [head, ..] = items else {
+        return Ok(None);
+    };
+    match head_of(head) {
+        Head::And => conjunction(effects_of(alloc, items)),
+        Head::Forall => scoped_of(alloc, Scope::Variables, items),
+        Head::When => scoped_of(alloc, Scope::Condition, items),
+        head => plain_of(alloc, head, items),
     }
 }
 
@@ -115,41 +120,101 @@ fn effects_of<'a, B: Allocator>(
 ) -> Result<Option<Vec<Effect<&'a B>, &'a B>>, AllocError>
     ensures { IfOk result (λ found. option_map (λ v. map effect_view v.items) found ≡ all_of (behind (map effect_at (item_trees items.now)))) }
 {
-    let mut effects = Vec::with_capacity(alloc, items.len())?;
+    let mut effects = no_effects(alloc, items.len());
     for index in 1..items.len() {
-        if !push_found(&mut effects, item_effect(alloc, &items[index]))? {
-            return Ok(None);
+        if !matches!(effects, Ok(Some(_))) {
+            break;
         }
+        effects = push_effect(effects, item_effect(alloc, &items[index]));
     }
-    Ok(Some(effects))
+    effects
 }
 
+/// The effect of a list of three: its head, what the effect behind stands under, and that effect.
 #[cycle(effect)]
-fn universal_of<'a, B: Allocator>(
+fn scoped_of<'a, B: Allocator>(
     alloc: &'a B,
+    scope: Scope,
     items: &[Item<'_, &'a B>],
 ) -> Result<Option<Effect<&'a B>>, AllocError>
-    ensures { IfOk result (λ found. option_map effect_view found ≡ quantified universal (behind (item_trees items.now)) (behind (map effect_at (item_trees items.now)))) }
+    ensures { IfOk result (λ found. option_map effect_view found ≡ scoped_of scope (behind (item_trees items.now)) (behind (map effect_at (item_trees items.now)))) }
 {
-    let [_, variables, body] = items else {
+    let [_, item, body] = items else {
         return Ok(None);
     };
-    let body = in_box(alloc, item_effect(alloc, body));
-    universal(variables_of(alloc, variables), body)
+    scoped(alloc, scope, item, item_effect(alloc, body))
 }
 
-#[cycle(effect)]
-fn conditional_of<'a, B: Allocator>(
+/// An empty list with room for so many effects.
+fn no_effects<'a, B: Allocator>(
     alloc: &'a B,
-    items: &[Item<'_, &'a B>],
-) -> Result<Option<Effect<&'a B>>, AllocError>
-    ensures { IfOk result (λ found. option_map effect_view found ≡ conditional_of (behind (item_trees items.now)) (behind (map effect_at (item_trees items.now)))) }
+    capacity: usize,
+) -> Result<Option<Vec<Effect<&'a B>, &'a B>>, AllocError>
+    ensures { IfOk result (λ found. option_map (λ v. v.items) found ≡ Some []) }
 {
-    let [_, condition, body] = items else {
+    Ok(Some(Vec::with_capacity(alloc, capacity)?))
+}
+
+/// The effects with one behind them, or `None` where one of them is missing.
+///
+/// Fails as the effects failed, or else as the one did, and where memory for the list is refused.
+fn push_effect<'a, B: Allocator>(
+    effects: Result<Option<Vec<Effect<&'a B>, &'a B>>, AllocError>,
+    effect: Result<Option<Effect<&'a B>>, AllocError>,
+) -> Result<Option<Vec<Effect<&'a B>, &'a B>>, AllocError>
+    ensures { Pushed effects.entry effect.entry result }
+{
+    pushed(effects, effect)
+}
+
+/// The list with the value behind it, or `None` where one of them is missing.
+///
+/// Fails as the list failed, or else as the value did, and where memory for the list is refused.
+fn pushed<T: Drop, A: Allocator>(
+    list: Result<Option<Vec<T, A>>, AllocError>,
+    value: Result<Option<T>, AllocError>,
+) -> Result<Option<Vec<T, A>>, AllocError>
+    ensures { Pushed list value result }
+{
+    let Some(mut list) = list? else {
         return Ok(None);
     };
-    let body = in_box(alloc, item_effect(alloc, body));
-    conditional(formula_of(alloc, condition), body)
+    let right = push_found(&mut list, value);
+    list_if_right(list, right)
+}
+
+/// The effect under what this item spells.
+fn scoped<'a, B: Allocator>(
+    alloc: &'a B,
+    scope: Scope,
+    item: &Item<'_, &'a B>,
+    body: Result<Option<Effect<&'a B>>, AllocError>,
+) -> Result<Option<Effect<&'a B>>, AllocError>
+    ensures { (e : Option EffectValue) → IfOk body.entry (λ found. option_map effect_view found ≡ e) → IfOk result (λ found. option_map effect_view found ≡ scoped_by scope (item_tree item.now) e) }
+{
+    match scope {
+        Scope::Variables => universal(variables_of(alloc, item), boxed(alloc, body)),
+        Scope::Condition => conditional(formula_of(alloc, item), boxed(alloc, body)),
+    }
+}
+
+/// The effect of a list of these items that holds no effect, with this head.
+fn plain_of<'a, B: Allocator>(
+    alloc: &'a B,
+    head: Head,
+    items: &[Item<'_, &'a B>],
+) -> Result<Option<Effect<&'a B>>, AllocError>
+    ensures { IfOk result (λ found. option_map effect_view found ≡ plain_of head (item_trees items.now)) }
+{
+    let [_, rest @ ..] = items else {
+        return Ok(None);
+    };
+    match head {
+        Head::Not => deletion_of(alloc, rest),
+        Head::Name => addition(atom_of_list(alloc, items)),
+        Head::Increase => increase_of(alloc, rest),
+        _ => Ok(None),
+    }
 }
 
 /// The deletion of the one atom that these items spell.
@@ -179,16 +244,6 @@ fn increase_of<'a, B: Allocator>(
         return Ok(None);
     }
     increase(amount_of(alloc, amount))
-}
-
-/// An effect in a box, if it was read.
-fn in_box<'a, B: Allocator>(
-    alloc: &'a B,
-    effect: Result<Option<Effect<&'a B>>, AllocError>,
-) -> Result<Option<Box<Effect<&'a B>, &'a B>>, AllocError>
-    ensures { Boxes effect.entry result }
-{
-    boxed(alloc, effect)
 }
 
 fn conjunction<A: Allocator>(

@@ -6,7 +6,9 @@ use Rattle.pddl_tree.specs.Inner.TreeReading.{name_at, is_word_at, all_of}
 use Rattle.pddl_formula.specs.declared.head.Head.{Head}
 use Rattle.pddl_formula.specs.declared.head.Head.TheVariants as heads
 use Rattle.pddl_formula.specs.Terms.{TermValue}
-use Rattle.pddl_formula.specs.Inner.Reading.{term_at, atom_of, atom_at, formula_at, head_at, only, quantified}
+use Rattle.pddl_formula.specs.Inner.Reading.{term_at, atom_of, atom_at, variables_at, formula_at, head_at, only, quantified}
+use Rattle.pddl_effect.specs.declared.effect_reader.Scope.{Scope}
+use Rattle.pddl_effect.specs.declared.effect_reader.Scope.TheVariants as scopes
 use Rattle.pddl_effect.specs.StaticNames.{static_function_of}
 use Rattle.pddl_effect.specs.Effects.{FunctionTermValue, AmountValue, number, function, EffectValue, conjunction, universal, conditional, addition, deletion, increase, no_effects, effects_of}
 
@@ -67,19 +69,33 @@ conditional_of [] os = None
 conditional_of (c ∷ ts) [] = None
 conditional_of (c ∷ ts) (o ∷ os) = option_and_then (λ f. option_map (conditional f) (only os)) (formula_at c)
 
+-- an effect under what stands in front of it
+abbrev pub scoped_of : Scope → List Tree → List (Option EffectValue) → Option EffectValue
+scoped_of scopes.Variables ts os = quantified universal ts os
+scoped_of scopes.Condition ts os = conditional_of ts os
+
+-- the same of the tree in front, and the effect
+abbrev pub scoped_by : Scope → Tree → Option EffectValue → Option EffectValue
+scoped_by scopes.Variables t e = option_and_then (λ xs. option_map (universal xs) e) (variables_at t)
+scoped_by scopes.Condition t e = option_and_then (λ f. option_map (conditional f) e) (formula_at t)
+
+-- the effect of a list that holds no effect, with this head and these trees behind it
+abbrev pub plain_by : Head → Tree → List Tree → Option EffectValue
+plain_by heads.Not head ts = option_map deletion (only (map atom_at ts))
+plain_by heads.Increase head ts = option_map increase (increase_of ts)
+plain_by heads.Name head ts = option_map addition (atom_of head ts)
+plain_by _ head ts = None
+
+abbrev pub plain_of : Head → List Tree → Option EffectValue
+plain_of kind [] = None
+plain_of kind (head ∷ ts) = plain_by kind head ts
+
 -- the effect of a list with this head, these trees behind it, and their effects
 abbrev pub effect_by : Head → Tree → List Tree → List (Option EffectValue) → Option EffectValue
 effect_by heads.And head ts os = option_map (λ es. conjunction (effects_of es)) (all_of os)
-effect_by heads.Or head ts os = None
-effect_by heads.Not head ts os = option_map deletion (only (map atom_at ts))
-effect_by heads.Imply head ts os = None
-effect_by heads.Exists head ts os = None
 effect_by heads.Forall head ts os = quantified universal ts os
 effect_by heads.When head ts os = conditional_of ts os
-effect_by heads.Increase head ts os = option_map increase (increase_of ts)
-effect_by heads.Name head ts os = option_map addition (atom_of head ts)
-effect_by heads.Equal head ts os = None
-effect_by heads.Nothing head ts os = None
+effect_by kind head ts os = plain_by kind head ts
 
 -- the effect of a list of trees, beside the effect of each
 abbrev pub effect_of_list : List Tree → List (Option EffectValue) → Option EffectValue
