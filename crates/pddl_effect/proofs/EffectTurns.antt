@@ -1,7 +1,6 @@
 -- What effects of lists are, and what effects look like without memory.
 use Rattle.std.proofs.Common.{◌≡◌, ◌≤◌, ◌<◌, List, [], ◌∷◌, map, length, get_or, Vec, Box, refl, sym, ap, ap₂, ◌∙◌, arith}
-use Rattle.std.specs.Prelude.{Bool, Option, Some, None, option_map, option_and_then, if◌then◌else◌}
-use Rattle.std.specs.Option.{option_zip}
+use Rattle.std.specs.Prelude.{Bool, Some, None, if◌then◌else◌}
 use Rattle.pddl_text.specs.declared.token.Span.{Span}
 use Rattle.pddl_text.specs.declared.item.Item.{Item}
 use Rattle.pddl_text.specs.declared.item.Item.TheVariants.{List as Group}
@@ -97,13 +96,6 @@ three (a ∷ []) x y low high first second = absurd (omega (arith, low))
 three (a ∷ b ∷ []) x y low high first second = absurd (omega (arith, low))
 three {A} (a ∷ b ∷ c ∷ []) x y low high first second = (a, sym (ap₂ (λ (i j : Item A). a ∷ i ∷ j ∷ []) first second))
 three (a ∷ b ∷ c ∷ d ∷ xs) x y low high first second = absurd (omega (arith, high))
-
--- two values, and what is made of them
-pub made_of_two : {X Y Z : Type 0} (make : X → Y → Z) (o : Option X) (p : Option Y)
-    → option_and_then (λ x. option_map (make x) p) o ≡ option_map (λ q. make q.0 q.1) (option_zip o p)
-made_of_two make None p = refl
-made_of_two make (Some x) None = refl
-made_of_two make (Some x) (Some y) = refl
 
 module _ {A : Type 0} (xs : List (Item A)) (x y : Item A) (low : 3 ≤ length xs) (high : length xs < 4) (first : x ≡ get_or xs 1 x) (second : y ≡ get_or xs 2 y) where
   items_are : (h : Item A) × (xs ≡ h ∷ x ∷ y ∷ [])

@@ -9,7 +9,7 @@ ghost use Rattle.pddl_formula.specs.Inner.Reading.{atom_at, behind, only};
 ghost use Rattle.pddl_effect.specs.declared.effect.Effect.TheVariants as cases;
 ghost use Rattle.pddl_effect.specs.Effects.{EffectValue, deletion, increase, effect_view, IsEffect, IsWholeEffect};
 ghost use Rattle.pddl_effect.specs.Inner.EffectReading.{increase_of, plain_of, scoped_by, scoped_of, effect_of_list, effect_at, whole_effect_at};
-ghost use Rattle.pddl_effect.specs.Inner.Filling.{Pushed};
+ghost use Rattle.pddl_formula.specs.Inner.Filling.{Pushed};
 
 use crate::amount::Amount;
 use crate::amount_reader::amount_of;
@@ -157,7 +157,7 @@ fn no_effects<'a, B: Allocator>(
 
 /// The effects with one behind them, or `None` where one of them is missing.
 ///
-/// Fails as the effects failed, or else as the one did, and where memory for the list is refused.
+/// Fails as the effects failed; where there are some, as the one behind them did, and where memory for the list is refused.
 fn push_effect<'a, B: Allocator>(
     effects: Result<Option<Vec<Effect<&'a B>, &'a B>>, AllocError>,
     effect: Result<Option<Effect<&'a B>>, AllocError>,
@@ -169,7 +169,7 @@ fn push_effect<'a, B: Allocator>(
 
 /// The list with the value behind it, or `None` where one of them is missing.
 ///
-/// Fails as the list failed, or else as the value did, and where memory for the list is refused.
+/// Fails as the list failed; where there is one, as the value did, and where memory for the list is refused.
 fn pushed<T: Drop, A: Allocator>(
     list: Result<Option<Vec<T, A>>, AllocError>,
     value: Result<Option<T>, AllocError>,

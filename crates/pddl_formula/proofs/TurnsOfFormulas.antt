@@ -12,7 +12,7 @@ use Rattle.pddl_tree.proofs.TreeLists.{list_of_trees_of}
 use Rattle.pddl_formula.specs.Terms.{term_view, atom_view}
 use Rattle.pddl_formula.specs.Formulas.{FormulaValue, atom, equal, negation, implication, conjunction, disjunction, existential, universal, formula_step, formula_view, formulas_of}
 use Rattle.pddl_formula.specs.TypedLists.{TypedValue, typed_view}
-use Rattle.pddl_formula.specs.Inner.Reading.{term_at, atom_of_list, equality_of, head_at, formula_by, behind, only, two, bound, quantified, variables_at, formula_at, formulas_at, formula_of_list, condition_at}
+use Rattle.pddl_formula.specs.Inner.Reading.{term_at, atom_of_list, equality_of, head_at, formula_by, behind, only, two, quantified, variables_at, formula_at, formulas_at, formula_of_list, condition_at}
 use Rattle.pddl_formula.specs.declared.term.Term.{Term}
 use Rattle.pddl_formula.specs.declared.term.Atom.{Atom}
 use Rattle.pddl_formula.specs.declared.type_names.Typed.{Typed}
@@ -113,23 +113,12 @@ two_terms (a ∷ []) x y low high first second = absurd (omega (arith, low))
 two_terms {A} (a ∷ b ∷ []) x y low high first second = rw (first, second) (two_zip (term_at (item_tree a)) (term_at (item_tree b)))
 two_terms (a ∷ b ∷ c ∷ xs) x y low high first second = absurd (omega (arith, high))
 
-bound_zip : (o : Option (List TypedValue)) (p : Option FormulaValue) → option_and_then (λ xs. option_map (bound xs) p) o ≡ option_zip o p
-bound_zip None p = refl
-bound_zip (Some xs) None = refl
-bound_zip (Some xs) (Some f) = refl
-
-bound_made : (make : List TypedValue → FormulaValue → FormulaValue) (o : Option (List TypedValue)) (p : Option FormulaValue)
-    → option_map (λ b. make b.0 b.1) (option_and_then (λ xs. option_map (bound xs) p) o) ≡ option_and_then (λ xs. option_map (make xs) p) o
-bound_made make None p = refl
-bound_made make (Some xs) None = refl
-bound_made make (Some xs) (Some f) = refl
-
--- what is made of variables and the formula that they are bound in
-pub quantified_made : (make : List TypedValue → FormulaValue → FormulaValue) (ts : List Tree) (os : List (Option FormulaValue))
-    → option_map (λ b. make b.0 b.1) (quantified bound ts os) ≡ quantified make ts os
-quantified_made make [] os = refl
-quantified_made make (vs ∷ ts) [] = refl
-quantified_made make (vs ∷ ts) (o ∷ os) = bound_made make (variables_at vs) (only os)
+-- two values, and what is made of them
+pub made_of_two : {X Y Z : Type 0} (make : X → Y → Z) (o : Option X) (p : Option Y)
+    → option_and_then (λ x. option_map (make x) p) o ≡ option_map (λ q. make q.0 q.1) (option_zip o p)
+made_of_two make None p = refl
+made_of_two make (Some x) None = refl
+made_of_two make (Some x) (Some y) = refl
 
 three : {A : Type 0} (xs : List (Item A)) (x y : Item A) → 3 ≤ length xs → length xs < 4 → x ≡ get_or xs 1 x → y ≡ get_or xs 2 y
     → (h : Item A) × (xs ≡ h ∷ x ∷ y ∷ [])
@@ -146,5 +135,6 @@ module _ {A : Type 0} (xs : List (Item A)) (x y : Item A) (low : 3 ≤ length xs
   pub two_is : two (behind (map formula_at (item_trees xs))) ≡ option_zip (formula_at (item_tree x)) (formula_at (item_tree y))
   two_is = rw items_are.1 (two_zip (formula_at (item_tree x)) (formula_at (item_tree y)))
 
-  pub bound_is : quantified bound (behind (item_trees xs)) (behind (map formula_at (item_trees xs))) ≡ option_zip (variables_at (item_tree x)) (formula_at (item_tree y))
-  bound_is = rw items_are.1 (bound_zip (variables_at (item_tree x)) (formula_at (item_tree y)))
+  pub quantified_is : (make : List TypedValue → FormulaValue → FormulaValue) → quantified make (behind (item_trees xs)) (behind (map formula_at (item_trees xs)))
+      ≡ option_map (λ b. make b.0 b.1) (option_zip (variables_at (item_tree x)) (formula_at (item_tree y)))
+  quantified_is make = rw items_are.1 (made_of_two make (variables_at (item_tree x)) (formula_at (item_tree y)))

@@ -1,12 +1,14 @@
 //! Formulas read from items.
 
-ghost use Rattle.std.specs.Prelude.{◌≡◌, IfOk, map, option_map};
+ghost use Rattle.std.specs.Prelude.{◌≡◌, [], Option, Some, IfOk, map, option_map};
+ghost use Rattle.std.specs.Option.{option_zip};
 ghost use Rattle.pddl_tree.specs.ItemTrees.{item_tree, item_trees};
 ghost use Rattle.pddl_tree.specs.Inner.TreeReading.{all_of};
 ghost use Rattle.pddl_build.specs.Results.{map_found, both_of};
 ghost use Rattle.pddl_formula.specs.declared.formula.Formula.TheVariants as cases;
-ghost use Rattle.pddl_formula.specs.Formulas.{formula_view, bound_view, negation, implication};
-ghost use Rattle.pddl_formula.specs.Inner.Reading.{behind, only, two, bound, quantified, equality_of, formula_of_list, formula_at, condition_at};
+ghost use Rattle.pddl_formula.specs.Formulas.{FormulaValue, formula_view, negation, implication};
+ghost use Rattle.pddl_formula.specs.Inner.Filling.{Pushed};
+ghost use Rattle.pddl_formula.specs.Inner.Reading.{variables_at, behind, only, two, quantified, quantifying, equality_of, formula_of_list, formula_at, condition_at};
 
 use crate::formula::Formula;
 use crate::head::{Head, head_of};
@@ -14,9 +16,16 @@ use crate::term::{Atom, Term};
 use crate::term_reader::{atom_of_list, term_of};
 use crate::type_names::Typed;
 use crate::typed_reader::variables_of;
-use pddl_build::{both, both_in_boxes, boxed, push_found};
+use pddl_build::{both, both_in_boxes, boxed, list_if_right, push_found};
 use pddl_text::Item;
 use std::alloc::{AllocError, Allocator};
+
+/// How variables are bound.
+#[derive(Clone, Copy)]
+enum Quantifier {
+    Exists,
+    Forall,
+}
 
 /// Variables, and the formula that they are bound in.
 type Bound<A> = (Vec<Typed<A>, A>, Box<Formula<A>, A>);
@@ -53,8 +62,8 @@ fn list_formula_of<'a, B: Allocator>(
             Head::Or => disjunction(formulas_of(alloc, items)),
             Head::Not => negation_of(alloc, items),
             Head::Imply => implication_of(alloc, items),
-            Head::Exists => existential(bound_of(alloc, items)),
-            Head::Forall => universal(bound_of(alloc, items)),
+            Head::Exists => quantified_of(alloc, Quantifier::Exists, items),
+            Head::Forall => quantified_of(alloc, Quantifier::Forall, items),
             Head::Name => atomic(atom_of_list(alloc, items)),
             Head::Equal => equality_of(alloc, rest),
             Head::When | Head::Increase | Head::Nothing => Ok(None),
@@ -70,13 +79,14 @@ fn formulas_of<'a, B: Allocator>(
 ) -> Result<Option<Vec<Formula<&'a B>, &'a B>>, AllocError>
     ensures { IfOk result (λ formulas. option_map (λ v. map formula_view v.items) formulas ≡ all_of (behind (map formula_at (item_trees items.now)))) }
 {
-    let mut formulas = Vec::with_capacity(alloc, items.len())?;
+    let mut formulas = no_formulas(alloc, items.len());
     for index in 1..items.len() {
-        if !push_found(&mut formulas, formula_of(alloc, &items[index]))? {
-            return Ok(None);
+        if !matches!(formulas, Ok(Some(_))) {
+            break;
         }
+        formulas = push_formula(formulas, formula_of(alloc, &items[index]));
     }
-    Ok(Some(formulas))
+    formulas
 }
 
 #[cycle(formula)]
@@ -89,7 +99,7 @@ fn negation_of<'a, B: Allocator>(
     let [_, item] = items else {
         return Ok(None);
     };
-    negation(boxed(alloc, formula_of(alloc, item)))
+    negated(alloc, formula_of(alloc, item))
 }
 
 #[cycle(formula)]
@@ -102,22 +112,97 @@ fn implication_of<'a, B: Allocator>(
     let [_, left, right] = items else {
         return Ok(None);
     };
-    implication(both_in_boxes(alloc, formula_of(alloc, left), formula_of(alloc, right)))
+    implied(alloc, formula_of(alloc, left), formula_of(alloc, right))
 }
 
-/// The variables behind the head of a list, and the formula that they are bound in.
+/// The formula of a list of three: its head, variables, and the formula that they are bound in.
 #[cycle(formula)]
-fn bound_of<'a, B: Allocator>(
+fn quantified_of<'a, B: Allocator>(
     alloc: &'a B,
+    quantifier: Quantifier,
     items: &[Item<'_, &'a B>],
-) -> Result<Option<Bound<&'a B>>, AllocError>
-    ensures { IfOk result (λ found. option_map bound_view found ≡ quantified bound (behind (item_trees items.now)) (behind (map formula_at (item_trees items.now)))) }
+) -> Result<Option<Formula<&'a B>>, AllocError>
+    ensures { IfOk result (λ formula. option_map formula_view formula ≡ quantified (quantifying quantifier) (behind (item_trees items.now)) (behind (map formula_at (item_trees items.now)))) }
 {
     let [_, variables, body] = items else {
         return Ok(None);
     };
-    let body = boxed(alloc, formula_of(alloc, body));
-    bind(variables_of(alloc, variables), body)
+    quantified(alloc, quantifier, variables, formula_of(alloc, body))
+}
+
+/// An empty list with room for so many formulas.
+fn no_formulas<'a, B: Allocator>(
+    alloc: &'a B,
+    capacity: usize,
+) -> Result<Option<Vec<Formula<&'a B>, &'a B>>, AllocError>
+    ensures { IfOk result (λ found. option_map (λ v. v.items) found ≡ Some []) }
+{
+    Ok(Some(Vec::with_capacity(alloc, capacity)?))
+}
+
+/// The formulas with one behind them, or `None` where one of them is missing.
+///
+/// Fails as the formulas failed; where there are some, as the one behind them did, and where memory for the list is refused.
+fn push_formula<'a, B: Allocator>(
+    formulas: Result<Option<Vec<Formula<&'a B>, &'a B>>, AllocError>,
+    formula: Result<Option<Formula<&'a B>>, AllocError>,
+) -> Result<Option<Vec<Formula<&'a B>, &'a B>>, AllocError>
+    ensures { Pushed formulas.entry formula.entry result }
+{
+    pushed(formulas, formula)
+}
+
+/// The list with the value behind it, or `None` where one of them is missing.
+///
+/// Fails as the list failed; where there is one, as the value did, and where memory for the list is refused.
+fn pushed<T: Drop, A: Allocator>(
+    list: Result<Option<Vec<T, A>>, AllocError>,
+    value: Result<Option<T>, AllocError>,
+) -> Result<Option<Vec<T, A>>, AllocError>
+    ensures { Pushed list value result }
+{
+    let Some(mut list) = list? else {
+        return Ok(None);
+    };
+    let right = push_found(&mut list, value);
+    list_if_right(list, right)
+}
+
+fn negated<'a, B: Allocator>(
+    alloc: &'a B,
+    formula: Result<Option<Formula<&'a B>>, AllocError>,
+) -> Result<Option<Formula<&'a B>>, AllocError>
+    ensures { (f : Option FormulaValue) → IfOk formula.entry (λ found. option_map formula_view found ≡ f) → IfOk result (λ found. option_map formula_view found ≡ option_map negation f) }
+{
+    negation(boxed(alloc, formula))
+}
+
+fn implied<'a, B: Allocator>(
+    alloc: &'a B,
+    left: Result<Option<Formula<&'a B>>, AllocError>,
+    right: Result<Option<Formula<&'a B>>, AllocError>,
+) -> Result<Option<Formula<&'a B>>, AllocError>
+    ensures { (f g : Option FormulaValue) → IfOk left.entry (λ found. option_map formula_view found ≡ f) → IfOk right.entry (λ found. option_map formula_view found ≡ g)
+        → IfOk result (λ found. option_map formula_view found ≡ option_map (λ p. implication p.0 p.1) (option_zip f g)) }
+{
+    implication(both_in_boxes(alloc, left, right))
+}
+
+/// The formula of the variables that this item spells, and of the formula that they are bound in.
+fn quantified<'a, B: Allocator>(
+    alloc: &'a B,
+    quantifier: Quantifier,
+    variables: &Item<'_, &'a B>,
+    body: Result<Option<Formula<&'a B>>, AllocError>,
+) -> Result<Option<Formula<&'a B>>, AllocError>
+    ensures { (f : Option FormulaValue) → IfOk body.entry (λ found. option_map formula_view found ≡ f)
+        → IfOk result (λ found. option_map formula_view found ≡ option_map (λ b. quantifying quantifier b.0 b.1) (option_zip (variables_at (item_tree variables.now)) f)) }
+{
+    let bound = bind(variables_of(alloc, variables), boxed(alloc, body));
+    match quantifier {
+        Quantifier::Exists => existential(bound),
+        Quantifier::Forall => universal(bound),
+    }
 }
 
 /// Variables, and the formula that they are bound in, if both were read.

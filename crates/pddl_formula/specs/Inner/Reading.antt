@@ -7,6 +7,8 @@ use Rattle.pddl_text.specs.declared.token.TokenKind.TheVariants.{Name, Variable,
 use Rattle.pddl_text.specs.Trees.{Tree, Trees, leaf, node, no_trees, tree, list_of}
 use Rattle.pddl_tree.specs.Names.{folded, name_of}
 use Rattle.pddl_tree.specs.Inner.TreeReading.{name_at, variable_name, variable_at, is_word_at, is_dash, all_of}
+use Rattle.pddl_formula.specs.declared.formula_reader.Quantifier.{Quantifier}
+use Rattle.pddl_formula.specs.declared.formula_reader.Quantifier.TheVariants as quantifiers
 use Rattle.pddl_formula.specs.declared.head.Head.{Head}
 use Rattle.pddl_formula.specs.declared.head.Head.TheVariants as heads
 use Rattle.pddl_formula.specs.Reserved.{predicate_of, type_name_of, type_of}
@@ -134,15 +136,16 @@ two (o ∷ []) = None
 two (o ∷ p ∷ []) = pair_of o p
 two (o ∷ p ∷ q ∷ os) = None
 
--- variables, and what they are bound in
-abbrev pub bound : {F : Type 0} → List TypedValue → F → List TypedValue × F
-bound xs f = (xs, f)
-
 -- typed variables in parentheses, and the one value behind them
 abbrev pub quantified : {F G : Type 0} → (List TypedValue → F → G) → List Tree → List (Option F) → Option G
 quantified make [] os = None
 quantified make (vs ∷ ts) [] = None
 quantified make (vs ∷ ts) (o ∷ os) = option_and_then (λ xs. option_map (make xs) (only os)) (variables_at vs)
+
+-- what a quantifier makes of variables and a formula
+abbrev pub quantifying : Quantifier → List TypedValue → FormulaValue → FormulaValue
+quantifying quantifiers.Exists xs f = existential xs f
+quantifying quantifiers.Forall xs f = universal xs f
 
 abbrev pub equality_of : List Tree → Option FormulaValue
 equality_of ts = option_map (λ p. equal p.0 p.1) (two (map term_at ts))

@@ -10,7 +10,7 @@ use Rattle.pddl_effect.specs.Effects.{conjunction, effects_of, effect_view}
 use Rattle.pddl_effect.specs.Inner.EffectReading.{effect_at}
 use Rattle.pddl_effect.proofs.EffectLaws.{effect_at_list, effect_at_leaf}
 use Rattle.pddl_effect.proofs.EffectTurns.{view_and, scoped_is, by_head}
-use Rattle.pddl_effect.proofs.Filling.{fill_next, fill_end}
+use Rattle.pddl_formula.proofs.Fills.{fill_next, fill_end}
 use Rattle.pddl_effect.proofs.effect_reader.+effect.Goals as goal
 
 pub item_effect-returns-in-List : goal.item_effect-returns-in-List

@@ -1,9 +1,9 @@
-use Rattle.std.proofs.Common.{◌≡◌, drop, map}
-use Rattle.std.specs.Prelude.{IfOk, option_and_then}
+use Rattle.std.proofs.Common.{map}
+use Rattle.std.specs.Prelude.{IfOk}
 use Rattle.pddl_tree.specs.ItemTrees.{item_trees}
 use Rattle.pddl_tree.specs.Inner.TreeReading.{all_of}
-use Rattle.pddl_tree.proofs.Options.{with_front}
 use Rattle.pddl_formula.specs.Inner.Reading.{behind}
+use Rattle.pddl_formula.proofs.Fills.{SoFar}
 use Rattle.pddl_effect.specs.Effects.{effect_view}
 use Rattle.pddl_effect.specs.Inner.EffectReading.{effect_at}
 use Rattle.pddl_effect.proofs.effect_reader.+effect.Given as goal
@@ -11,5 +11,4 @@ use Rattle.pddl_effect.proofs.effect_reader.+effect.Given as goal
 -- those so far, if there are any, and those of the items that are left
 abbrev pub invariant-effects_of-loop-index : goal.invariant-effects_of-loop-index
 invariant-effects_of-loop-index g l =
-    IfOk l.effects (λ found. option_and_then (λ v. with_front (map effect_view v.items) (all_of (map effect_at (item_trees (drop l.index l.items))))) found
-    ≡ all_of (behind (map effect_at (item_trees l.items))))
+    IfOk l.effects (SoFar effect_view effect_at l.items (all_of (behind (map effect_at (item_trees l.items)))) l.index)

@@ -5,9 +5,10 @@ use Rattle.pddl_tree.specs.ItemTrees.{item_tree}
 use Rattle.pddl_formula.specs.TypedLists.{typed_view}
 use Rattle.pddl_formula.specs.Formulas.{formula_view}
 use Rattle.pddl_formula.specs.Inner.Reading.{variables_at, formula_at}
+use Rattle.pddl_formula.proofs.TurnsOfFormulas.{made_of_two}
 use Rattle.pddl_effect.specs.declared.effect.Effect.TheVariants as cases
 use Rattle.pddl_effect.specs.Effects.{universal, conditional, effect_view}
-use Rattle.pddl_effect.proofs.EffectTurns.{view_forall, view_when, made_of_two}
+use Rattle.pddl_effect.proofs.EffectTurns.{view_forall, view_when}
 use Rattle.pddl_effect.proofs.effect_reader.scoped.Goals as goal
 
 pub returns-in-Variables : goal.returns-in-Variables

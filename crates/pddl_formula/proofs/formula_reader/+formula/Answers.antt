@@ -1,19 +1,16 @@
 use Rattle.std.proofs.Common.{map, sym, ◌∙◌, refl, arith}
-use Rattle.std.proofs.lemmas.List.{map_push}
 use Rattle.pddl_text.specs.Spelling.{view}
 use Rattle.pddl_text.specs.Trees.{unplaced}
 use Rattle.pddl_tree.specs.ItemTrees.{item_tree, item_trees}
 use Rattle.pddl_tree.proofs.TreeLists.{item_tree_list, item_tree_word}
-use Rattle.pddl_formula.specs.Formulas.{formula_view, bound_view, atom, negation, implication, conjunction, disjunction, existential, universal, formulas_of}
-use Rattle.pddl_formula.specs.TypedLists.{typed_view}
-use Rattle.pddl_formula.specs.Inner.Reading.{formula_at, variables_at, behind}
+use Rattle.pddl_formula.specs.Formulas.{formula_view, atom, conjunction, disjunction, formulas_of}
+use Rattle.pddl_formula.specs.Inner.Reading.{formula_at, quantifying}
 use Rattle.pddl_formula.specs.Terms.{atom_view}
 use Rattle.pddl_formula.specs.declared.head.Head.TheVariants as heads
-use Rattle.pddl_formula.proofs.Turns.{each_end}
-use Rattle.pddl_formula.proofs.Fills.{fill_on, fill_stop}
-use Rattle.pddl_build.proofs.Parts.{found_reads, both_reads, boxed_reads, both_in_boxes_reads}
+use Rattle.pddl_formula.proofs.Fills.{fill_next, fill_end}
+use Rattle.pddl_build.proofs.Parts.{found_reads}
 use Rattle.pddl_formula.specs.declared.formula.Formula.TheVariants as cases
-use Rattle.pddl_formula.proofs.TurnsOfFormulas.{formula_at_list, formula_at_leaf, view_atom, view_not, view_imply, view_and, view_or, view_exists, view_forall, only_is, two_is, bound_is, quantified_made, by_head, by_name, by_equal}
+use Rattle.pddl_formula.proofs.TurnsOfFormulas.{formula_at_list, formula_at_leaf, view_atom, view_and, view_or, only_is, two_is, quantified_is, by_head, by_name, by_equal}
 use Rattle.pddl_formula.proofs.formula_reader.+formula.Goals as goal
 
 pub formula_of-returns-in-List : goal.formula_of-returns-in-List
@@ -24,47 +21,35 @@ pub formula_of-returns-in-Word : goal.formula_of-returns-in-Word
 formula_of-returns-in-Word g t c =
     rw (c.in-Word.is, item_tree_word _ c.in-Word.field-0, formula_at_leaf (unplaced (view c.in-Word.field-0))) refl
 
-pub formulas_of-returns-then-not-branch : goal.formulas_of-returns-then-not-branch
-formulas_of-returns-then-not-branch g t c =
-    let l = c.loop-index in
-    fill_stop (map formula_view) formula_view (map_push formula_view) formula_at c.args.items.now l.index c.index-items-index.result (omega arith) c.index-items-index.is
-    l.formulas.items c.push_found.new.list.items _ l.invariant c.formula_of.result c.formula_of.ensures (rw c.if-not-branch.true at c.in_ok-push_found.ensures)
-
 pub formulas_of-loop-index-preserved : goal.formulas_of-loop-index-preserved
 formulas_of-loop-index-preserved g t c =
     let l = c.loop-index in
-    fill_on (map formula_view) formula_view (map_push formula_view) formula_at c.args.items.now l.index c.index-items-index.result (omega arith) c.index-items-index.is
-    l.formulas.items c.push_found.new.list.items _ l.invariant c.formula_of.result c.formula_of.ensures (rw c.if-not-branch.false at c.in_ok-push_found.ensures)
+    fill_next formula_view formula_at c.args.items.now _ l.index c.index-items-index.result (omega arith) c.index-items-index.is l.formulas c.formula_of.result c.push_formula-formulas.result
+    l.invariant c.formula_of.ensures c.push_formula-formulas.ensures
 
-pub formulas_of-returns : goal.formulas_of-returns
-formulas_of-returns g t c =
+pub formulas_of-returns-after-loop-index : goal.formulas_of-returns-after-loop-index
+formulas_of-returns-after-loop-index g t c =
     let l = c.loop-index in
-    each_end formula_at c.args.items.now l.index (map formula_view l.formulas.items) _ (omega arith) l.invariant
+    fill_end formula_view formula_at c.args.items.now _ l.index (omega arith) l.formulas l.invariant
 
 pub negation_of-returns : goal.negation_of-returns
 negation_of-returns g t c =
     let item = c.item-item.result in
-    rw (only_is c.args.items.now item (omega arith) (omega arith) c.item-item.is)
-    (found_reads cases.Not formula_view (λ b. formula_view b.value) negation view_not c.boxed.result c.negation.result (formula_at (item_tree item)) c.negation.ensures
-    (boxed_reads formula_view c.formula_of.result c.boxed.result (formula_at (item_tree item)) c.formula_of.ensures c.boxed.ensures))
+    rw (only_is c.args.items.now item (omega arith) (omega arith) c.item-item.is) (c.negated.ensures (formula_at (item_tree item)) c.formula_of.ensures)
 
 pub implication_of-returns : goal.implication_of-returns
 implication_of-returns g t c =
     let left = c.left-item.result in
     let right = c.right-item.result in
     rw (two_is c.args.items.now left right (omega arith) (omega arith) c.left-item.is c.right-item.is)
-    (found_reads (λ p. cases.Imply p.0 p.1) formula_view (λ p. (formula_view p.0.value, formula_view p.1.value)) (λ p. implication p.0 p.1) (λ p. view_imply p.0 p.1)
-    c.both_in_boxes.result c.implication.result _ c.implication.ensures
-    (both_in_boxes_reads formula_view formula_view c.formula_of.result c.formula_of-2.result c.both_in_boxes.result (formula_at (item_tree left)) (formula_at (item_tree right))
-    c.formula_of.ensures c.formula_of-2.ensures c.both_in_boxes.ensures))
+    (c.implied.ensures (formula_at (item_tree left)) (formula_at (item_tree right)) c.formula_of.ensures c.formula_of-2.ensures)
 
-pub bound_of-returns : goal.bound_of-returns
-bound_of-returns g t c =
+pub quantified_of-returns : goal.quantified_of-returns
+quantified_of-returns g t c =
     let variables = c.variables-item.result in
     let body = c.body-item.result in
-    rw (bound_is c.args.items.now variables body (omega arith) (omega arith) c.variables-item.is c.body-item.is)
-    (both_reads (λ v. map typed_view v.items) (λ b. formula_view b.value) c.variables_of.result c.boxed-body.result c.bind.result (variables_at (item_tree variables)) (formula_at (item_tree body))
-    c.variables_of.ensures (boxed_reads formula_view c.formula_of.result c.boxed-body.result (formula_at (item_tree body)) c.formula_of.ensures c.boxed-body.ensures) c.bind.ensures)
+    rw (quantified_is c.args.items.now variables body (omega arith) (omega arith) c.variables-item.is c.body-item.is (quantifying c.args.quantifier))
+    (c.quantified.ensures (formula_at (item_tree body)) c.formula_of.ensures)
 
 pub list_formula_of-returns-in-And : goal.list_formula_of-returns-in-And
 list_formula_of-returns-in-And g t c =
@@ -78,19 +63,11 @@ list_formula_of-returns-in-Or g t c =
 
 pub list_formula_of-returns-in-Exists : goal.list_formula_of-returns-in-Exists
 list_formula_of-returns-in-Exists g t c =
-    rw (
-      by_head c.args.items.now c.head-item.result heads.Exists (omega arith) c.head-item.is (sym c.in-Exists.is ∙ c.head_of.ensures),
-      ← quantified_made existential (behind (item_trees c.args.items.now)) (behind (map formula_at (item_trees c.args.items.now))),
-    )
-    (found_reads (λ p. cases.Exists p.0 p.1) formula_view bound_view (λ b. existential b.0 b.1) (λ p. view_exists p.0 p.1) c.bound_of.result c.existential.result _ c.existential.ensures c.bound_of.ensures)
+    rw (by_head c.args.items.now c.head-item.result heads.Exists (omega arith) c.head-item.is (sym c.in-Exists.is ∙ c.head_of.ensures)) c.quantified_of.ensures
 
 pub list_formula_of-returns-in-Forall : goal.list_formula_of-returns-in-Forall
 list_formula_of-returns-in-Forall g t c =
-    rw (
-      by_head c.args.items.now c.head-item.result heads.Forall (omega arith) c.head-item.is (sym c.in-Forall.is ∙ c.head_of.ensures),
-      ← quantified_made universal (behind (item_trees c.args.items.now)) (behind (map formula_at (item_trees c.args.items.now))),
-    )
-    (found_reads (λ p. cases.Forall p.0 p.1) formula_view bound_view (λ b. universal b.0 b.1) (λ p. view_forall p.0 p.1) c.bound_of-in-Forall.result c.universal.result _ c.universal.ensures c.bound_of-in-Forall.ensures)
+    rw (by_head c.args.items.now c.head-item.result heads.Forall (omega arith) c.head-item.is (sym c.in-Forall.is ∙ c.head_of.ensures)) c.quantified_of-in-Forall.ensures
 
 pub list_formula_of-returns-in-Name : goal.list_formula_of-returns-in-Name
 list_formula_of-returns-in-Name g t c =
