@@ -1,5 +1,5 @@
 -- What is made of parts that may be missing or refused.
-use Rattle.std.specs.Prelude.{◌≡◌, List, ◌++◌, Bool, true, false, Option, Some, None, Result, Ok, Err, Box, IfOk, if◌then◌else◌, option_map, option_to_list}
+use Rattle.std.specs.Prelude.{◌≡◌, List, ◌++◌, Bool, true, false, Option, Some, None, Result, Ok, Err, Box, IfOk, if◌then◌else◌, option_map, option_to_list, [], ◌∷◌, Vec}
 use Rattle.std.specs.Option.{option_zip}
 
 -- the value, where what was done with it went right
@@ -38,3 +38,11 @@ PushesFound old (Ok (Some x)) new (Ok found) = (new ≡ old ++ option_to_list (S
 PushesFound old (Ok (Some x)) new (Err e) = new ≡ old
 PushesFound old (Ok None) new result = (new ≡ old) × (result ≡ Ok false)
 PushesFound old (Err e) new result = (new ≡ old) × (result ≡ Err e)
+
+-- the list with the value behind it, or none where one of them is missing, unless memory was refused
+abbrev pub Pushed : {T A E : Type 0} → Result (Option (Vec T A)) E → Result (Option T) E → Result (Option (Vec T A)) E → Type 0
+Pushed (Ok (Some xs)) (Ok (Some x)) result = IfOk result (λ found. option_map (λ v. v.items) found ≡ Some (xs.items ++ x ∷ []))
+Pushed (Ok (Some xs)) (Ok None) result = result ≡ Ok None
+Pushed (Ok (Some xs)) (Err e) result = result ≡ Err e
+Pushed (Ok None) value result = result ≡ Ok None
+Pushed (Err e) value result = result ≡ Err e

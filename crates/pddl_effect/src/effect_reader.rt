@@ -4,18 +4,17 @@ ghost use Rattle.std.specs.Prelude.{◌≡◌, [], Option, Some, IfOk, MatchOpti
 ghost use Rattle.pddl_text.specs.Trees.{Tree};
 ghost use Rattle.pddl_tree.specs.ItemTrees.{item_tree, item_trees};
 ghost use Rattle.pddl_tree.specs.Inner.TreeReading.{all_of};
-ghost use Rattle.pddl_build.specs.Results.{map_found, both_of};
+ghost use Rattle.pddl_build.specs.Results.{map_found, both_of, Pushed};
 ghost use Rattle.pddl_formula.specs.Inner.Reading.{atom_at, behind, only};
 ghost use Rattle.pddl_effect.specs.declared.effect.Effect.TheVariants as cases;
 ghost use Rattle.pddl_effect.specs.Effects.{EffectValue, deletion, increase, effect_view, IsEffect, IsWholeEffect};
 ghost use Rattle.pddl_effect.specs.Inner.EffectReading.{increase_of, plain_of, scoped_by, scoped_of, effect_of_list, effect_at, whole_effect_at};
-ghost use Rattle.pddl_formula.specs.Inner.Filling.{Pushed};
 
 use crate::amount::Amount;
 use crate::amount_reader::amount_of;
 use crate::effect::Effect;
 use crate::increase::is_total_cost;
-use pddl_build::{both, boxed, list_if_right, push_found};
+use pddl_build::{both, boxed, pushed};
 use pddl_formula::{
     Atom, Formula, Head, Typed, atom_of, atom_of_list, formula_of, head_of, variables_of,
 };
@@ -165,22 +164,6 @@ fn push_effect<'a, B: Allocator>(
     ensures { Pushed effects.entry effect.entry result }
 {
     pushed(effects, effect)
-}
-
-/// The list with the value behind it, or `None` where one of them is missing.
-///
-/// Fails as the list failed; where there is one, as the value did, and where memory for the list is refused.
-fn pushed<T: Drop, A: Allocator>(
-    list: Result<Option<Vec<T, A>>, AllocError>,
-    value: Result<Option<T>, AllocError>,
-) -> Result<Option<Vec<T, A>>, AllocError>
-    ensures { Pushed list value result }
-{
-    let Some(mut list) = list? else {
-        return Ok(None);
-    };
-    let right = push_found(&mut list, value);
-    list_if_right(list, right)
 }
 
 /// The effect under what this item spells.

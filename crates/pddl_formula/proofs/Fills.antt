@@ -3,14 +3,13 @@ use Rattle.std.proofs.Common.{◌≡◌, ℕ, ◌+◌, ◌<◌, ◌≤◌, Bool,
 use Rattle.std.specs.Prelude.{Option, Some, None, Result, Ok, Err, IfOk, option_map, option_and_then}
 use Rattle.std.proofs.lemmas.List.{map_push}
 use Rattle.std.specs.Bool.{then_some}
-use Rattle.pddl_build.specs.Results.{right_of, PushesFound}
+use Rattle.pddl_build.specs.Results.{right_of, PushesFound, Pushed}
 use Rattle.pddl_build.proofs.Parts.{pushed_some, pushed_none}
 use Rattle.pddl_text.specs.declared.item.Item.{Item}
 use Rattle.pddl_text.specs.Trees.{Tree}
 use Rattle.pddl_tree.specs.ItemTrees.{item_tree, item_trees}
 use Rattle.pddl_tree.specs.Inner.TreeReading.{all_of}
 use Rattle.pddl_tree.proofs.Options.{with_front, front_none}
-use Rattle.pddl_formula.specs.Inner.Filling.{Pushed}
 use Rattle.pddl_formula.proofs.Turns.{each_on, each_stop, each_end}
 
 -- the list, seen as one of X, is filled with the value of the item at this place

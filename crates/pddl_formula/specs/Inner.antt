@@ -1,4 +1,3 @@
 -- What the code and the proofs go by: second forms of what stands beside this folder, and how values are held.
-pub mod Filling
 pub mod Reading
 pub mod Sorts

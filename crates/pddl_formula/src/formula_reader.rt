@@ -4,10 +4,9 @@ ghost use Rattle.std.specs.Prelude.{◌≡◌, [], Option, Some, IfOk, map, opti
 ghost use Rattle.std.specs.Option.{option_zip};
 ghost use Rattle.pddl_tree.specs.ItemTrees.{item_tree, item_trees};
 ghost use Rattle.pddl_tree.specs.Inner.TreeReading.{all_of};
-ghost use Rattle.pddl_build.specs.Results.{map_found, both_of};
+ghost use Rattle.pddl_build.specs.Results.{map_found, both_of, Pushed};
 ghost use Rattle.pddl_formula.specs.declared.formula.Formula.TheVariants as cases;
 ghost use Rattle.pddl_formula.specs.Formulas.{FormulaValue, formula_view, negation, implication};
-ghost use Rattle.pddl_formula.specs.Inner.Filling.{Pushed};
 ghost use Rattle.pddl_formula.specs.Inner.Reading.{variables_at, behind, only, two, quantified, quantifying, equality_of, formula_of_list, formula_at, condition_at};
 
 use crate::formula::Formula;
@@ -16,7 +15,7 @@ use crate::term::{Atom, Term};
 use crate::term_reader::{atom_of_list, term_of};
 use crate::type_names::Typed;
 use crate::typed_reader::variables_of;
-use pddl_build::{both, both_in_boxes, boxed, list_if_right, push_found};
+use pddl_build::{both, both_in_boxes, boxed, pushed};
 use pddl_text::Item;
 use std::alloc::{AllocError, Allocator};
 
@@ -150,22 +149,6 @@ fn push_formula<'a, B: Allocator>(
     ensures { Pushed formulas.entry formula.entry result }
 {
     pushed(formulas, formula)
-}
-
-/// The list with the value behind it, or `None` where one of them is missing.
-///
-/// Fails as the list failed; where there is one, as the value did, and where memory for the list is refused.
-fn pushed<T: Drop, A: Allocator>(
-    list: Result<Option<Vec<T, A>>, AllocError>,
-    value: Result<Option<T>, AllocError>,
-) -> Result<Option<Vec<T, A>>, AllocError>
-    ensures { Pushed list value result }
-{
-    let Some(mut list) = list? else {
-        return Ok(None);
-    };
-    let right = push_found(&mut list, value);
-    list_if_right(list, right)
 }
 
 fn negated<'a, B: Allocator>(
