@@ -1,4 +1,5 @@
 pub mod LastTypes
+pub mod Parts
 pub mod Scopes
 pub mod Grounds
 pub mod Claims

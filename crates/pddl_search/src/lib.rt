@@ -6,6 +6,7 @@
 mod fractions;
 mod ground;
 mod init;
+mod part;
 mod passes;
 mod repeated;
 mod repeats;
@@ -16,6 +17,7 @@ mod variables;
 pub use fractions::Fractions;
 pub use ground::Ground;
 pub use init::{Values, contradictions, cost_values};
+pub use part::{LentTerm, Part, Terms};
 pub use passes::{domain_name, metric, object_fluents, object_types, objects_have_one_type};
 pub use repeated::RepeatedVariables;
 pub use repeats::{function_twice, predicate_twice, type_twice};

@@ -1,11 +1,9 @@
 //! The search for variables that stand twice in one list.
 
+use crate::part::Part;
 use crate::repeats::name_twice;
 use crate::search::{Scope, Search};
 use pddl_faults::LinkFault;
-use pddl_formula::{Term, Typed};
-use pddl_text::Fixed;
-use pddl_tree::Name;
 use std::alloc::Allocator;
 
 /// Looks for variables that stand twice in one list.
@@ -21,58 +19,10 @@ impl<'a, A: Allocator, B: Allocator> Search<A, B> for RepeatedVariables<'a, B> {
 
     ghost words = { λ search place. repeated_at place };
 
-    fn says<'d>(
-        &self,
-        _predicate: &'d [u8],
-        _terms: &'d [Term<A>],
-        _scope: &Scope<A, B>,
-    ) -> Result<(), LinkFault<'d>> {
-        Ok(())
-    }
-
-    fn calls<'d>(
-        &self,
-        _function: &'d [u8],
-        _terms: &'d [Term<A>],
-        _scope: &Scope<A, B>,
-    ) -> Result<(), LinkFault<'d>> {
-        Ok(())
-    }
-
-    fn equates<'d>(
-        &self,
-        _first: &'d Term<A>,
-        _second: &'d Term<A>,
-        _scope: &Scope<A, B>,
-    ) -> Result<(), LinkFault<'d>> {
-        Ok(())
-    }
-
-    fn binds<'d>(
-        &self,
-        variables: &'d [Typed<A>],
-        _scope: &Scope<A, B>,
-    ) -> Result<(), LinkFault<'d>> {
-        name_twice(self.alloc, variables)
-    }
-
-    fn counts<'d>(&self, _function: &'d [u8], _amount: Fixed) -> Result<(), LinkFault<'d>> {
-        Ok(())
-    }
-
-    fn says_ground<'d>(
-        &self,
-        _predicate: &'d [u8],
-        _objects: &'d [Name<A>],
-    ) -> Result<(), LinkFault<'d>> {
-        Ok(())
-    }
-
-    fn calls_ground<'d>(
-        &self,
-        _function: &'d [u8],
-        _objects: &'d [Name<A>],
-    ) -> Result<(), LinkFault<'d>> {
-        Ok(())
+    fn look<'d>(&self, part: &Part<'d, A>, _scope: &Scope<A, B>) -> Result<(), LinkFault<'d>> {
+        match part {
+            Part::Binds(variables) => name_twice(self.alloc, *variables),
+            _ => Ok(()),
+        }
     }
 }

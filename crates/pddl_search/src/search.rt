@@ -1,23 +1,23 @@
 //! One walk over formulas, effects and actions, for each fault that is looked for in places.
 
-ghost use Rattle.std.specs.Prelude.{◌≡◌, ◌++◌, List, [], map, IfOk};
+ghost use Rattle.std.specs.Prelude.{◌≡◌, ◌++◌, map, IfOk};
 ghost use Rattle.std.specs.List.{flat_map};
-ghost use Rattle.pddl_formula.specs.Terms.{term_view, name};
-ghost use Rattle.pddl_formula.specs.TypedLists.{TypedValue, typed_view};
+ghost use Rattle.pddl_formula.specs.Terms.{term_view, atom_view};
+ghost use Rattle.pddl_formula.specs.TypedLists.{typed_view};
 ghost use Rattle.pddl_formula.specs.Formulas.{formula_view, formulas_of};
 ghost use Rattle.pddl_effect.specs.Effects.{amount_view, effect_view, effects_of};
 ghost use Rattle.pddl_domain.specs.Actions.{action_view};
-ghost use Rattle.pddl_task.specs.Places.{at, says, calls, equates, binds, counts, binding, action_places};
+ghost use Rattle.pddl_task.specs.Places.{at, says, calls, binds, binding, action_places};
 ghost use Rattle.pddl_faults.specs.Passes.{Passes};
+ghost use Rattle.pddl_search.specs.Parts.{part_in};
 ghost use Rattle.pddl_search.specs.Scopes.{bound_of, words_in, words_in_all, effect_words, effects_words, increase_words};
 
+use crate::part::{Part, Terms};
 use crate::variables::Variables;
 use pddl_domain::Action;
 use pddl_effect::{Amount, Effect};
 use pddl_faults::LinkFault;
-use pddl_formula::{Formula, Term, Typed};
-use pddl_text::Fixed;
-use pddl_tree::Name;
+use pddl_formula::{Atom, Formula, Term, Typed};
 use std::alloc::Allocator;
 
 /// The variables in scope, a list for each quantifier, the innermost first.
@@ -27,7 +27,7 @@ pub enum Scope<'s, 'd, 'a, A: Allocator, B: Allocator> {
     Inside(&'s Variables<'d, 'a, A, B>, &'s Scope<'s, 'd, 'a, A, B>),
 }
 
-/// A search for one fault, part by part. Tables of variables in scope take their memory from `B`.
+/// A search for one fault, place by place. Tables of variables in scope take their memory from `B`.
 pub trait Search<A: Allocator, B: Allocator> {
     ghost use Rattle.std.specs.Prelude.{List, ℕ};
     ghost use Rattle.pddl_task.specs.Places.{Place};
@@ -36,56 +36,34 @@ pub trait Search<A: Allocator, B: Allocator> {
 
     ghost words: { Self → Place → List (List ℕ) };
 
-    /// Looks at a predicate of terms.
-    fn says<'d>(
-        &self,
-        predicate: &'d [u8],
-        terms: &'d [Term<A>],
-        scope: &Scope<A, B>,
-    ) -> Result<(), LinkFault<'d>>
-        ensures { Passes number (words self.now (at (bound_of scope.now) (says (record { predicate = predicate.now; terms = map term_view terms.now })))) result };
+    /// Looks at what stands at a place.
+    fn look<'d>(&self, part: &Part<'d, A>, scope: &Scope<A, B>) -> Result<(), LinkFault<'d>>
+        ensures { Passes number (words self.now (at (bound_of scope.now) (part_in part.now))) result };
+}
 
-    /// Looks at a function of terms.
-    fn calls<'d>(
-        &self,
-        function: &'d [u8],
-        terms: &'d [Term<A>],
-        scope: &Scope<A, B>,
-    ) -> Result<(), LinkFault<'d>>
-        ensures { Passes number (words self.now (at (bound_of scope.now) (calls (record { function = function.now; terms = map term_view terms.now })))) result };
+/// Searches an atom.
+fn search_atom<'d, 's, 'a, A: Allocator, B: Allocator, S: Search<A, B>>(
+    search: &S,
+    atom: &'d Atom<A>,
+    scope: &'s Scope<'s, 'd, 'a, A, B>,
+) -> Result<(), LinkFault<'d>>
+    ensures { Passes S.number (S.words search.now (at (bound_of scope.now) (says (atom_view atom.now)))) result }
+{
+    let part = Part::Says(atom.predicate.as_bytes(), Terms::Any(&atom.terms));
+    search.look(&part, &*scope)
+}
 
-    /// Looks at an equality.
-    fn equates<'d>(
-        &self,
-        first: &'d Term<A>,
-        second: &'d Term<A>,
-        scope: &Scope<A, B>,
-    ) -> Result<(), LinkFault<'d>>
-        ensures { Passes number (words self.now (at (bound_of scope.now) (equates (term_view first.now) (term_view second.now)))) result };
-
-    /// Looks at the variables of a quantifier, or at parameters.
-    fn binds<'d>(&self, variables: &'d [Typed<A>], scope: &Scope<A, B>) -> Result<(), LinkFault<'d>>
-        ensures { Passes number (words self.now (at (bound_of scope.now) (binds (map typed_view variables.now)))) result };
-
-    /// Looks at a number for a function, whatever is bound.
-    fn counts<'d>(&self, function: &'d [u8], amount: Fixed) -> Result<(), LinkFault<'d>>
-        ensures { (bound : List TypedValue) → Passes number (words self.now (at bound (counts function.now amount))) result };
-
-    /// Looks at a predicate of objects, in `:init`.
-    fn says_ground<'d>(
-        &self,
-        predicate: &'d [u8],
-        objects: &'d [Name<A>],
-    ) -> Result<(), LinkFault<'d>>
-        ensures { Passes number (words self.now (at [] (says (record { predicate = predicate.now; terms = map name objects.now })))) result };
-
-    /// Looks at a function of objects, in `:init`.
-    fn calls_ground<'d>(
-        &self,
-        function: &'d [u8],
-        objects: &'d [Name<A>],
-    ) -> Result<(), LinkFault<'d>>
-        ensures { Passes number (words self.now (at [] (calls (record { function = function.now; terms = map name objects.now })))) result };
+/// Searches a function of terms.
+pub fn search_call<'d, 's, 'a, A: Allocator, B: Allocator, S: Search<A, B>>(
+    search: &S,
+    function: &'d [u8],
+    terms: &'d [Term<A>],
+    scope: &'s Scope<'s, 'd, 'a, A, B>,
+) -> Result<(), LinkFault<'d>>
+    ensures { Passes S.number (S.words search.now (at (bound_of scope.now) (calls (record { function = function.now; terms = map term_view terms.now })))) result }
+{
+    let part = Part::Calls(function, Terms::Any(terms));
+    search.look(&part, &*scope)
 }
 
 /// Searches the variables of a quantifier, or parameters, and answers them as they are looked up.
@@ -98,7 +76,8 @@ fn search_variables<'d, 's, 'a, A: Allocator, B: Allocator, S: Search<A, B>>(
     ensures passes { Passes S.number (S.words search.now (at (bound_of scope.now) (binds (map typed_view variables.now)))) result }
     ensures bound { IfOk result (λ bound. bound ≡ map typed_view variables.now) }
 {
-    search.binds(variables, &*scope)?;
+    let part = Part::Binds(variables);
+    search.look(&part, &*scope)?;
     Ok(Variables::of(alloc, variables)?)
 }
 
@@ -113,8 +92,11 @@ pub fn search_formula<'d, 's, 'a, A: Allocator, B: Allocator, S: Search<A, B>>(
     ensures { Passes S.number (words_in (S.words search.now) (formula_view formula.now) (bound_of scope.now)) result }
 {
     match formula {
-        Formula::Atom(atom) => search.says(atom.predicate.as_bytes(), &atom.terms, &*scope),
-        Formula::Equal(first, second) => search.equates(first, second, &*scope),
+        Formula::Atom(atom) => search_atom(search, atom, &*scope),
+        Formula::Equal(first, second) => {
+            let part = Part::Equates(first, second);
+            search.look(&part, &*scope)
+        }
         Formula::Not(inner) => search_formula(alloc, search, inner, &*scope),
         Formula::Imply(first, second) => {
             search_formula(alloc, search, first, &*scope)?;
@@ -172,10 +154,15 @@ fn search_increase<'d, 's, 'a, A: Allocator, B: Allocator, S: Search<A, B>>(
 ) -> Result<(), LinkFault<'d>>
     ensures { Passes S.number (increase_words (S.words search.now) (amount_view amount.now) (bound_of scope.now)) result }
 {
-    search.calls(b"total-cost".as_slice(), &[], &*scope)?;
+    search_call(search, b"total-cost".as_slice(), &[], &*scope)?;
     match amount {
-        Amount::Number(number) => search.counts(b"total-cost".as_slice(), *number),
-        Amount::Function(call) => search.calls(call.function.as_bytes(), &call.terms, &*scope),
+        Amount::Number(number) => {
+            let part = Part::Counts(b"total-cost".as_slice(), *number);
+            search.look(&part, &*scope)
+        }
+        Amount::Function(call) => {
+            search_call(search, call.function.as_bytes(), &call.terms, &*scope)
+        }
     }
 }
 
@@ -198,8 +185,8 @@ pub fn search_effect<'d, 's, 'a, A: Allocator, B: Allocator, S: Search<A, B>>(
             search_formula(alloc, search, condition, &*scope)?;
             search_effect(alloc, search, inner, &*scope)
         }
-        Effect::Add(atom) => search.says(atom.predicate.as_bytes(), &atom.terms, &*scope),
-        Effect::Del(atom) => search.says(atom.predicate.as_bytes(), &atom.terms, &*scope),
+        Effect::Add(atom) => search_atom(search, atom, &*scope),
+        Effect::Del(atom) => search_atom(search, atom, &*scope),
         Effect::Increase(amount) => search_increase(search, amount, &*scope),
     }
 }

@@ -1,8 +1,0 @@
-use Rattle.std.proofs.Common.{[], subst}
-use Rattle.pddl_task.specs.Names.{repeated}
-use Rattle.pddl_faults.specs.Passes.{Passes}
-use Rattle.pddl_search.proofs.SeenNames.{names_of_variables}
-use Rattle.pddl_search.proofs.repeated.RepeatedVariablesSearch.binds.Goals as goal
-
-pub returns : goal.returns
-returns g c = subst (λ ns. Passes 24 (repeated [] ns) c.name_twice.result) (names_of_variables c.args.variables.now) c.name_twice.ensures
