@@ -1,9 +1,10 @@
 -- Terms and their slots, in turn.
-use Rattle.std.proofs.Common.{◌≡◌, ℕ, ◌+◌, ◌<◌, ◌≤◌, Bool, false, not, ◌||◌, List, [], ◌∷◌, map, length, get_or, drop, min, Option, Some, None, refl, ap, sym, ◌∙◌, bytes_eq, arith, add-one, drop-cons, ◌⊎◌, inl, inr}
+use Rattle.std.proofs.Common.{◌≡◌, ℕ, suc, ◌+◌, ◌<◌, ◌≤◌, Bool, false, not, ◌||◌, List, [], ◌∷◌, ◌++◌, map, length, get_or, drop, min, Option, Some, None, refl, ap, sym, ◌∙◌, bytes_eq, arith, add-one, drop-cons, ◌⊎◌, inl, inr}
 use Rattle.std.proofs.lemmas.List.{drop_all}
 use Rattle.std.proofs.lemmas.Bool.{cases_lt}
 use Rattle.std.specs.Prelude.{find, option_map}
 use Rattle.std.specs.Borrow.{Bor}
+use Rattle.std.specs.List.{flat_map}
 use Rattle.std.specs.Map.{lookup}
 use Rattle.pddl_formula.specs.Terms.{TermValue}
 use Rattle.pddl_formula.specs.TypedLists.{TypedValue, typed_view}
@@ -53,26 +54,29 @@ no_slots s b (t ∷ ts) = refl
 which : (m n i : ℕ) → min m n ≤ i → (m ≤ i) ⊎ (n ≤ i)
 which m n i h = elim (cases_lt i m) as (λ _. (m ≤ i) ⊎ (n ≤ i)) [ inl k ↦ inr (omega (arith, h, k)) | inr k ↦ inl k ]
 
-slots_front : {X Y : Type 0} (s : Setting) (b : List TypedValue) (v : X → TermValue) (w : Y → TypedValue) (xs : List X) (ys : List Y) (i : ℕ) (x : X) (y : Y)
-    → i < length xs → i < length ys
-    → some_misfit s b (map v (drop i xs)) (map w (drop i ys)) ≡ is_misfit s.pairs (typed_term s b (v (get_or xs i x))) (w (get_or ys i y)) || some_misfit s b (map v (drop (i + 1) xs)) (map w (drop (i + 1) ys))
-slots_front s b v w xs ys i x y h k = rw (add-one, drop-cons xs i x h, drop-cons ys i y k) refl
+module _ {Y : Type 0} (s : Setting) (b : List TypedValue) (view : Y → TypedValue) (ts : List TermValue) (ys : List Y) (i : ℕ) where
+  slots_front : (t : TermValue) (y : Y) → i < length ts → i < length ys
+      → some_misfit s b (drop i ts) (map view (drop i ys)) ≡ is_misfit s.pairs (typed_term s b (get_or ts i t)) (view (get_or ys i y)) || some_misfit s b (drop (i + 1) ts) (map view (drop (i + 1) ys))
+  slots_front t y h k = rw (add-one, drop-cons ts i t h, drop-cons ys i y k) refl
 
--- a term with its slot is in turn, and then those that are left
-pub slots_left : {X Y : Type 0} (s : Setting) (b : List TypedValue) (v : X → TermValue) (w : Y → TypedValue) (xs : List X) (ys : List Y) (i : ℕ) (x : X) (y : Y) (r : Bool)
-    → i < min (length xs) (length ys) → x ≡ get_or xs i x → y ≡ get_or ys i y → r ≡ is_misfit s.pairs (typed_term s b (v x)) (w y)
-    → some_misfit s b (map v (drop i xs)) (map w (drop i ys)) ≡ r || some_misfit s b (map v (drop (i + 1) xs)) (map w (drop (i + 1) ys))
-slots_left s b v w xs ys i x y r h at slot is =
-    let rest = some_misfit s b (map v (drop (i + 1) xs)) (map w (drop (i + 1) ys)) in
-    slots_front s b v w xs ys i x y (omega (arith, h)) (omega (arith, h))
-    ∙ ap (λ z. is_misfit s.pairs (typed_term s b (v z)) (w (get_or ys i y)) || rest) (sym at)
-    ∙ ap (λ z. is_misfit s.pairs (typed_term s b (v x)) (w z) || rest) (sym slot)
-    ∙ ap (λ c. c || rest) (sym is)
+  -- a term with its slot is in turn, and then those that are left
+  pub slots_left : (t : TermValue) (y : Y) (r : Bool) → i < min (length ts) (length ys) → t ≡ get_or ts i t → y ≡ get_or ys i y → r ≡ is_misfit s.pairs (typed_term s b t) (view y)
+      → some_misfit s b (drop i ts) (map view (drop i ys)) ≡ r || some_misfit s b (drop (i + 1) ts) (map view (drop (i + 1) ys))
+  slots_left t y r h at slot is =
+      let rest = some_misfit s b (drop (i + 1) ts) (map view (drop (i + 1) ys)) in
+      slots_front t y (omega (arith, h)) (omega (arith, h))
+      ∙ ap (λ z. is_misfit s.pairs (typed_term s b z) (view (get_or ys i y)) || rest) (sym at)
+      ∙ ap (λ z. is_misfit s.pairs (typed_term s b t) (view z) || rest) (sym slot)
+      ∙ ap (λ c. c || rest) (sym is)
 
--- none is left
-pub slots_end : {X Y : Type 0} (s : Setting) (b : List TypedValue) (v : X → TermValue) (w : Y → TypedValue) (xs : List X) (ys : List Y) (i : ℕ)
-    → min (length xs) (length ys) ≤ i → some_misfit s b (map v (drop i xs)) (map w (drop i ys)) ≡ false
-slots_end s b v w xs ys i h = elim (which (length xs) (length ys) i h) as (λ _. some_misfit s b (map v (drop i xs)) (map w (drop i ys)) ≡ false) [
-  | inl k ↦ ap (λ zs. some_misfit s b (map v zs) (map w (drop i ys))) (drop_all i xs k)
-  | inr k ↦ ap (λ zs. some_misfit s b (map v (drop i xs)) (map w zs)) (drop_all i ys k) ∙ no_slots s b (map v (drop i xs))
-]
+  -- none is left
+  pub slots_end : min (length ts) (length ys) ≤ i → some_misfit s b (drop i ts) (map view (drop i ys)) ≡ false
+  slots_end h = elim (which (length ts) (length ys) i h) as (λ _. some_misfit s b (drop i ts) (map view (drop i ys)) ≡ false) [
+    | inl k ↦ ap (λ zs. some_misfit s b zs (map view (drop i ys))) (drop_all i ts k)
+    | inr k ↦ ap (λ zs. some_misfit s b (drop i ts) (map view zs)) (drop_all i ys k) ∙ no_slots s b (drop i ts)
+  ]
+
+-- what is left of terms: the first, and the rest
+pub terms_left : (word : TermValue → List Name) (ts : List TermValue) (i : ℕ) (t : TermValue) → i < length ts → t ≡ get_or ts i t
+    → flat_map word (drop i ts) ≡ word t ++ flat_map word (drop (i + 1) ts)
+terms_left word ts i t h is = rw (add-one, drop-cons ts i t h) (ap (λ u. word u ++ flat_map word (drop (suc i) ts)) (sym is))

@@ -4,47 +4,39 @@ use Rattle.std.specs.Prelude.{is_some, find, option_map}
 use Rattle.std.specs.Borrow.{Bor}
 use Rattle.std.specs.List.{flat_map}
 use Rattle.std.specs.Map.{lookup}
-use Rattle.std.proofs.lemmas.List.{drop_all, length-map}
+use Rattle.std.proofs.Math.ListN.{get_or-map}
+use Rattle.std.proofs.lemmas.List.{drop_all, drop-map, length-map}
 use Rattle.pddl_formula.specs.Terms.{name}
 use Rattle.pddl_formula.specs.TypedLists.{TypedValue, typed_view}
 use Rattle.pddl_formula.specs.declared.type_names.Typed.{Typed}
-use Rattle.pddl_domain.specs.Declarations.{TypeValue, Signature}
+use Rattle.pddl_domain.specs.Declarations.{Signature}
 use Rattle.pddl_problem.specs.declared.problem.Fact.{Fact}
 use Rattle.pddl_problem.specs.declared.problem.GroundFunction.{GroundFunction}
 use Rattle.pddl_problem.specs.declared.problem.InitItem.{InitItem}
 use Rattle.pddl_problem.specs.declared.problem.InitItem.TheVariants.{Holds, Fails, Value}
 use Rattle.pddl_problem.specs.Inits.{GroundValue, fact_view, function_view, init_view}
-use Rattle.pddl_task.specs.Names.{Name, is_in, is_named, item_of, word_if}
+use Rattle.pddl_task.specs.Names.{Name, is_named, word_if}
 use Rattle.pddl_task.specs.Types.{fits}
 use Rattle.pddl_task.specs.Places.{Place, at, says, calls, counts, ground_atom, ground_call, init_places}
 use Rattle.pddl_task.specs.Settings.{Setting}
-use Rattle.pddl_task.specs.Faults.{Use, unknown_term, is_misfit, unknown_at, arity_at, misfit_at}
-use Rattle.pddl_types.specs.KnownNames.{signature_in, object_in}
+use Rattle.pddl_task.specs.Faults.{Use, primitives_of, unknown_term, some_misfit, unknown_at, arity_at, misfit_at}
+use Rattle.pddl_types.specs.KnownNames.{signature_in}
 use Rattle.pddl_names.specs.SoundInits.{IsSoundObject, AreSoundObjects, IsSoundUse, AreSoundPlaces}
+use Rattle.pddl_search.proofs.BoundTypes.{is_bound}
 use Rattle.pddl_search.proofs.FileWalks.{places_left}
-use Rattle.pddl_types.proofs.Lookups.{is_symbol, is_item, object_found, takes_found, words_left}
-use Rattle.pddl_types.proofs.CountedObjects.{Object}
+use Rattle.pddl_types.proofs.Lookups.{is_symbol, takes_found, words_left}
 use Rattle.pddl_names.proofs.Slots.{misfit_is, has_found, slots_left, slots_end}
 
 -- ---- objects and their slots
 
-known_found : {A : Type 0} (es : List (Object A)) (n : Name) (listed : Bor (Typed A)) → Some listed ≡ lookup (λ k. bytes_eq n k.now) es
-    → word_if (not (is_in (map item_of (map object_in es)) n)) n ≡ []
-known_found es n listed found = ap (λ b. word_if (not b) n) (sym (is_item es n) ∙ ap is_some (sym found))
-
-fitting_found : {A : Type 0} (ps : List TypeValue) (es : List (Object A)) (n : Name) (listed : Bor (Typed A)) (slot : TypedValue) → Some listed ≡ lookup (λ k. bytes_eq n k.now) es
-    → fits ps listed.now.types slot.of ≡ true → is_misfit ps (find (is_named n) (map object_in es)) slot ≡ false
-fitting_found {A} ps es n listed slot found fit =
-    sym (misfit_is ps (find (is_named n) (map object_in es)) (Some listed.now.types) slot (ap (option_map (λ (t : Bor (Typed A)). t.now.types)) found ∙ sym (object_found es n))) ∙ ap not fit
-
--- an object that is looked up, and fits
-pub object_sound : {A : Type 0} (s : Setting) (es : List (Object A)) (n m : Name) (listed : Bor (Typed A)) (slot : TypedValue) → map object_in es ≡ s.objects → n ≡ m
-    → Some listed ≡ lookup (λ k. bytes_eq n k.now) es → fits s.pairs listed.now.types slot.of ≡ true → IsSoundObject s m slot
-object_sound s es n m listed slot held named found fit = record {
-  known = ap (λ os. word_if (not (is_in (map item_of os) m)) m) (sym held) ∙ ap (λ k. word_if (not (is_in (map item_of (map object_in es)) k)) k) (sym named) ∙ known_found es n listed found;
-  fitting = ap (λ os. is_misfit s.pairs (find (is_named m) os) slot) (sym held) ∙ ap (λ k. is_misfit s.pairs (find (is_named k) (map object_in es)) slot) (sym named)
-      ∙ fitting_found s.pairs es n listed slot found fit;
-}
+-- an object whose type is found, and fits
+pub object_sound : (s : Setting) (n m : Name) (types : Bor (List Name)) (slot : TypedValue) → n ≡ m → Some types.now ≡ option_map primitives_of (find (is_named n) s.objects)
+    → fits s.pairs types.now slot.of ≡ true → IsSoundObject s m slot
+object_sound s n m types slot named found fit =
+    subst (λ k. IsSoundObject s k slot) named (record {
+      known = ap (λ b. word_if (not b) n) (sym (is_bound (Some types) s.objects n found));
+      fitting = sym (misfit_is s.pairs (find (is_named n) s.objects) (Some types.now) slot found) ∙ ap not fit;
+    })
 
 module _ {Y : Type 0} (s : Setting) (view : Y → TypedValue) (ns : List Name) (ys : List Y) (i : ℕ) (same : length ns ≡ length ys) where
   -- the next object, and those behind it
@@ -52,14 +44,16 @@ module _ {Y : Type 0} (s : Setting) (view : Y → TypedValue) (ns : List Name) (
       → AreSoundObjects s (drop (i + 1) ns) (map view (drop (i + 1) ys)) → AreSoundObjects s (drop i ns) (map view (drop i ys))
   objects_more n y low at slot one rest = record {
     known = words_left (unknown_term s []) name ns i n low at ∙ ap (λ ws. ws ++ flat_map (unknown_term s []) (map name (drop (i + 1) ns))) one.known ∙ rest.known;
-    fitting = slots_left s [] name view ns ys i n y false (omega (arith, low, same)) at slot (sym one.fitting) ∙ rest.fitting;
+    fitting = ap (λ ts. some_misfit s [] ts (map view (drop i ys))) (sym (drop-map name i ns))
+        ∙ slots_left s [] view (map name ns) ys i (name n) y false (omega (arith, low, same, length-map ns name)) (ap name at ∙ sym (get_or-map name ns i n)) slot (sym one.fitting)
+        ∙ ap (λ ts. some_misfit s [] ts (map view (drop (i + 1) ys))) (drop-map name (i + 1) ns) ∙ rest.fitting;
   }
 
   -- none is left
   pub objects_end : length ns ≤ i → AreSoundObjects s (drop i ns) (map view (drop i ys))
   objects_end past = record {
     known = ap (λ (xs : List Name). flat_map (unknown_term s []) (map name xs)) (drop_all i ns past);
-    fitting = slots_end s [] name view ns ys i (omega (arith, past));
+    fitting = ap (λ ts. some_misfit s [] ts (map view (drop i ys))) (sym (drop-map name i ns)) ∙ slots_end s [] view (map name ns) ys i (omega (arith, past, length-map ns name));
   }
 
 -- ---- predicates and functions

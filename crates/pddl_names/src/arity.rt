@@ -9,10 +9,8 @@ ghost use Rattle.pddl_types.specs.KnownNames.{signature_in};
 
 use indexmap::IndexMap;
 use pddl_faults::{Hashed, LinkFault};
-use pddl_formula::{Term, Typed};
-use pddl_search::{Scope, Search};
-use pddl_text::Fixed;
-use pddl_tree::Name;
+use pddl_formula::Typed;
+use pddl_search::{Part, Scope, Search};
 use pddl_types::{Known, takes_others};
 use std::alloc::Allocator;
 
@@ -46,58 +44,11 @@ impl<'k, 't, 'm, 'a, A: Allocator, B: Allocator> Search<A, B>
 
     ghost words = { λ search place. arity_at (setting_of search.known.now) place };
 
-    fn says<'d>(
-        &self,
-        predicate: &'d [u8],
-        terms: &'d [Term<A>],
-        _scope: &Scope<A, B>,
-    ) -> Result<(), LinkFault<'d>> {
-        check(self.known.predicates, predicate, terms.len())
-    }
-
-    fn calls<'d>(
-        &self,
-        function: &'d [u8],
-        terms: &'d [Term<A>],
-        _scope: &Scope<A, B>,
-    ) -> Result<(), LinkFault<'d>> {
-        check(self.known.functions, function, terms.len())
-    }
-
-    fn equates<'d>(
-        &self,
-        _first: &'d Term<A>,
-        _second: &'d Term<A>,
-        _scope: &Scope<A, B>,
-    ) -> Result<(), LinkFault<'d>> {
-        Ok(())
-    }
-
-    fn binds<'d>(
-        &self,
-        _variables: &'d [Typed<A>],
-        _scope: &Scope<A, B>,
-    ) -> Result<(), LinkFault<'d>> {
-        Ok(())
-    }
-
-    fn counts<'d>(&self, _function: &'d [u8], _amount: Fixed) -> Result<(), LinkFault<'d>> {
-        Ok(())
-    }
-
-    fn says_ground<'d>(
-        &self,
-        predicate: &'d [u8],
-        objects: &'d [Name<A>],
-    ) -> Result<(), LinkFault<'d>> {
-        check(self.known.predicates, predicate, objects.len())
-    }
-
-    fn calls_ground<'d>(
-        &self,
-        function: &'d [u8],
-        objects: &'d [Name<A>],
-    ) -> Result<(), LinkFault<'d>> {
-        check(self.known.functions, function, objects.len())
+    fn look<'d>(&self, part: &Part<'d, A>, _scope: &Scope<A, B>) -> Result<(), LinkFault<'d>> {
+        match part {
+            Part::Says(predicate, terms) => check(self.known.predicates, *predicate, terms.len()),
+            Part::Calls(function, terms) => check(self.known.functions, *function, terms.len()),
+            _ => Ok(()),
+        }
     }
 }

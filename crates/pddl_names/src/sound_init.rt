@@ -9,6 +9,7 @@ ghost use Rattle.pddl_task.specs.Places.{init_places};
 ghost use Rattle.pddl_types.specs.KnownNames.{signature_in, setting_of};
 ghost use Rattle.pddl_names.specs.SoundInits.{IsSoundObject, AreSoundObjects, IsSoundUse, AreSoundPlaces};
 
+use crate::misfits::object_type;
 use pddl_formula::Typed;
 use pddl_problem::InitItem;
 use pddl_tree::Name;
@@ -24,8 +25,8 @@ fn is_sound_object<'t, 'm, 'a, A: Allocator, B: Allocator>(
 ) -> bool
     ensures { result ≡ true → IsSoundObject (setting_of known.now) object.now (typed_view slot.now) }
 {
-    match known.objects.get(object.as_bytes()) {
-        Some(listed) => known.types.fits_by(&listed.types, &slot.types, tops),
+    match object_type(known, object.as_bytes()) {
+        Some(types) => known.types.fits_by(types, &slot.types, tops),
         None => false,
     }
 }

@@ -1,10 +1,7 @@
 //! The search for types that are not known.
 
 use pddl_faults::LinkFault;
-use pddl_formula::{Term, Typed};
-use pddl_search::{Scope, Search};
-use pddl_text::Fixed;
-use pddl_tree::Name;
+use pddl_search::{Part, Scope, Search};
 use pddl_types::Types;
 use std::alloc::Allocator;
 
@@ -25,58 +22,10 @@ impl<'t, 'm, 'a, A: Allocator, B: Allocator> Search<A, B> for UnknownTypes<'t, '
 
     ghost words = { λ search place. filter (λ t. not (is_in (types_of search.types.now) t)) (flat_map primitives_of (variables_at place)) };
 
-    fn says<'d>(
-        &self,
-        _predicate: &'d [u8],
-        _terms: &'d [Term<A>],
-        _scope: &Scope<A, B>,
-    ) -> Result<(), LinkFault<'d>> {
-        Ok(())
-    }
-
-    fn calls<'d>(
-        &self,
-        _function: &'d [u8],
-        _terms: &'d [Term<A>],
-        _scope: &Scope<A, B>,
-    ) -> Result<(), LinkFault<'d>> {
-        Ok(())
-    }
-
-    fn equates<'d>(
-        &self,
-        _first: &'d Term<A>,
-        _second: &'d Term<A>,
-        _scope: &Scope<A, B>,
-    ) -> Result<(), LinkFault<'d>> {
-        Ok(())
-    }
-
-    fn binds<'d>(
-        &self,
-        variables: &'d [Typed<A>],
-        _scope: &Scope<A, B>,
-    ) -> Result<(), LinkFault<'d>> {
-        self.types.known(variables)
-    }
-
-    fn counts<'d>(&self, _function: &'d [u8], _amount: Fixed) -> Result<(), LinkFault<'d>> {
-        Ok(())
-    }
-
-    fn says_ground<'d>(
-        &self,
-        _predicate: &'d [u8],
-        _objects: &'d [Name<A>],
-    ) -> Result<(), LinkFault<'d>> {
-        Ok(())
-    }
-
-    fn calls_ground<'d>(
-        &self,
-        _function: &'d [u8],
-        _objects: &'d [Name<A>],
-    ) -> Result<(), LinkFault<'d>> {
-        Ok(())
+    fn look<'d>(&self, part: &Part<'d, A>, _scope: &Scope<A, B>) -> Result<(), LinkFault<'d>> {
+        match part {
+            Part::Binds(variables) => self.types.known(*variables),
+            _ => Ok(()),
+        }
     }
 }
