@@ -1,20 +1,19 @@
 //! The search for names that are not declared, and variables that nothing binds.
 
-ghost use Rattle.std.specs.Prelude.{[], ◌∷◌, ◌++◌, not};
+ghost use Rattle.std.specs.Prelude.{◌++◌, map, not};
 ghost use Rattle.std.specs.List.{flat_map};
-ghost use Rattle.pddl_formula.specs.Terms.{term_view};
-ghost use Rattle.pddl_task.specs.Names.{word_if};
+ghost use Rattle.pddl_task.specs.Names.{is_in, word_if};
+ghost use Rattle.pddl_task.specs.Settings.{symbol_of};
 ghost use Rattle.pddl_task.specs.Faults.{unknown_term};
 ghost use Rattle.pddl_faults.specs.Passes.{Passes};
 ghost use Rattle.pddl_search.specs.Parts.{term_in, terms_in};
 ghost use Rattle.pddl_search.specs.Scopes.{bound_of};
-ghost use Rattle.pddl_types.specs.KnownNames.{setting_of};
+ghost use Rattle.pddl_types.specs.KnownNames.{signature_in, setting_of};
 
 use crate::bound::is_bound;
 use pddl_faults::LinkFault;
-use pddl_formula::Term;
 use pddl_search::{LentTerm, Part, Scope, Search, Terms};
-use pddl_types::{Known, is_declared, is_object};
+use pddl_types::{Known, Signatures, is_declared, is_object};
 use std::alloc::Allocator;
 
 /// Looks for names that are not known.
@@ -66,30 +65,15 @@ fn check_terms<'t, 'm, 'a, 'd, A: Allocator, B: Allocator>(
 /// A predicate or a function is declared, and its terms are known.
 fn check_use<'t, 'm, 'a, 'd, A: Allocator, B: Allocator>(
     known: &Known<'t, 'm, 'a, A, B>,
-    is_declared: bool,
+    declared: &Signatures<'m, 'a, A, B>,
     symbol: &'d [u8],
     terms: &Terms<'d, A>,
     scope: &Scope<A, B>,
 ) -> Result<(), LinkFault<'d>>
-    ensures { Passes 26 (word_if (not is_declared) symbol.now ++ flat_map (unknown_term (setting_of known.now) (bound_of scope.now)) (terms_in terms.now)) result }
+    ensures { Passes 26 (word_if (not (is_in (map symbol_of (map signature_in declared.now.entries)) symbol.now)) symbol.now ++ flat_map (unknown_term (setting_of known.now) (bound_of scope.now)) (terms_in terms.now)) result }
 {
-    check(is_declared, symbol)?;
+    check(is_declared(declared, symbol), symbol)?;
     check_terms(known, terms, scope)
-}
-
-/// Both terms of an equality are known.
-fn check_both<'t, 'm, 'a, 'd, A: Allocator, B: Allocator>(
-    known: &Known<'t, 'm, 'a, A, B>,
-    first: &'d Term<A>,
-    second: &'d Term<A>,
-    scope: &Scope<A, B>,
-) -> Result<(), LinkFault<'d>>
-    ensures { Passes 26 (flat_map (unknown_term (setting_of known.now) (bound_of scope.now)) (term_view first.now ∷ term_view second.now ∷ [])) result }
-{
-    let first = LentTerm::of(first);
-    let second = LentTerm::of(second);
-    check_term(known, &first, scope)?;
-    check_term(known, &second, scope)
 }
 
 impl<'k, 't, 'm, 'a, A: Allocator, B: Allocator> Search<A, B>
@@ -105,14 +89,17 @@ impl<'k, 't, 'm, 'a, A: Allocator, B: Allocator> Search<A, B>
         let known = self.known;
         match part {
             Part::Says(predicate, terms) => {
-                let is_declared = is_declared(known.predicates, *predicate);
-                check_use(known, is_declared, *predicate, terms, scope)
+                check_use(known, known.predicates, *predicate, terms, scope)
             }
             Part::Calls(function, terms) => {
-                let is_declared = is_declared(known.functions, *function);
-                check_use(known, is_declared, *function, terms, scope)
+                check_use(known, known.functions, *function, terms, scope)
             }
-            Part::Equates(first, second) => check_both(known, *first, *second, scope),
+            Part::Equates(first, second) => {
+                let first = LentTerm::of(*first);
+                check_term(known, &first, scope)?;
+                let second = LentTerm::of(*second);
+                check_term(known, &second, scope)
+            }
             _ => Ok(()),
         }
     }

@@ -1,7 +1,7 @@
 //! What stands at a place, as a search looks at it.
 
 ghost use Rattle.std.specs.Prelude.{◌≡◌, ◌<◌, length, get_or};
-ghost use Rattle.pddl_formula.specs.Terms.{TermValue, term_view};
+ghost use Rattle.pddl_formula.specs.Terms.{term_view};
 ghost use Rattle.pddl_search.specs.Parts.{term_in, terms_in};
 
 use pddl_formula::{Term, Typed};
@@ -63,7 +63,7 @@ impl<'d, A: Allocator> Terms<'d, A> {
     /// The term of a number from 0.
     pub fn at(&self, number: usize) -> LentTerm<'d>
         requires { number < length (terms_in self.now) }
-        ensures { (t : TermValue) → term_in result ≡ get_or (terms_in self.now) number t }
+        ensures { term_in result ≡ get_or (terms_in self.now) number (term_in result) }
     {
         match self {
             Terms::Any(terms) => {

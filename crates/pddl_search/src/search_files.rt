@@ -3,9 +3,9 @@
 ghost use Rattle.std.specs.Prelude.{◌≡◌, [], ◌++◌, map, option_map};
 ghost use Rattle.std.specs.List.{flat_map};
 ghost use Rattle.pddl_domain.specs.Domains.{domain_view};
-ghost use Rattle.pddl_problem.specs.Inits.{fact_view, init_view, metric_view};
+ghost use Rattle.pddl_problem.specs.Inits.{init_view, metric_view};
 ghost use Rattle.pddl_problem.specs.Problems.{problem_view};
-ghost use Rattle.pddl_task.specs.Places.{at, says, ground_atom, init_places, metric_places, domain_places, problem_places};
+ghost use Rattle.pddl_task.specs.Places.{init_places, metric_places, domain_places, problem_places};
 ghost use Rattle.pddl_faults.specs.Passes.{Passes};
 ghost use Rattle.pddl_search.specs.Scopes.{bound_of, words_in};
 
@@ -14,7 +14,7 @@ use crate::passes::is_taken;
 use crate::search::{Scope, Search, search_action, search_call, search_formula};
 use pddl_domain::Domain;
 use pddl_faults::LinkFault;
-use pddl_problem::{Fact, InitItem, Metric, Problem};
+use pddl_problem::{InitItem, Metric, Problem};
 use std::alloc::Allocator;
 
 /// Searches a domain: its actions in turn.
@@ -31,18 +31,6 @@ pub fn search_domain<'d, 'a, A: Allocator, B: Allocator, S: Search<A, B>>(
     Ok(())
 }
 
-/// Searches a fact of `:init`.
-fn search_fact<'p, 's, 'a, A: Allocator, B: Allocator, S: Search<A, B>>(
-    search: &S,
-    fact: &'p Fact<A>,
-    scope: &'s Scope<'s, 'p, 'a, A, B>,
-) -> Result<(), LinkFault<'p>>
-    ensures { Passes S.number (S.words search.now (at (bound_of scope.now) (says (ground_atom (fact_view fact.now))))) result }
-{
-    let part = Part::Says(fact.predicate.as_bytes(), Terms::Objects(&fact.objects));
-    search.look(&part, &*scope)
-}
-
 /// Searches an item of `:init`; a literal that fails is looked at like one that holds.
 fn search_item<'p, 's, 'a, A: Allocator, B: Allocator, S: Search<A, B>>(
     search: &S,
@@ -53,8 +41,10 @@ fn search_item<'p, 's, 'a, A: Allocator, B: Allocator, S: Search<A, B>>(
     ensures { Passes S.number (flat_map (S.words search.now) (init_places (init_view item.now))) result }
 {
     match item {
-        InitItem::Holds(fact) => search_fact(search, fact, &*outside),
-        InitItem::Fails(fact) => search_fact(search, fact, &*outside),
+        InitItem::Holds(fact) | InitItem::Fails(fact) => {
+            let says = Part::Says(fact.predicate.as_bytes(), Terms::Objects(&fact.objects));
+            search.look(&says, &*outside)
+        }
         InitItem::Value(call, amount) => {
             let function = call.function.as_bytes();
             let calls = Part::Calls(function, Terms::Objects(&call.objects));

@@ -1,4 +1,4 @@
-use Rattle.std.proofs.Common.{◌∙◌, ap, sym, not, Some, None}
+use Rattle.std.proofs.Common.{◌∙◌, ap, sym, not, Some}
 use Rattle.std.specs.Option.{option_copied}
 use Rattle.pddl_formula.specs.TypedLists.{typed_view}
 use Rattle.pddl_task.specs.Types.{pairs}
@@ -8,6 +8,3 @@ use Rattle.pddl_names.proofs.misfits.is_type_misfit.Goals as goal
 pub returns-in-Some : goal.returns-in-Some
 returns-in-Some g c = λ x is.
     ap not c.fits_by.ensures ∙ misfit_is (pairs c.args.known.now.types.now) x (Some c.in-Some.types.now) (typed_view c.args.slot.now) (sym (ap option_copied c.in-Some.is) ∙ is)
-
-pub returns-in-None : goal.returns-in-None
-returns-in-None g c = λ x is. misfit_is (pairs c.args.known.now.types.now) x None (typed_view c.args.slot.now) (sym (ap option_copied c.in-None.is) ∙ is)

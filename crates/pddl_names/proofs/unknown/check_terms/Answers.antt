@@ -1,4 +1,4 @@
-use Rattle.std.proofs.Common.{◌<◌, ◌++◌, ◌+◌, drop, length, ap, sym, ◌∙◌, arith}
+use Rattle.std.proofs.Common.{◌<◌, ◌+◌, drop, length, sym, ◌∙◌, arith}
 use Rattle.std.specs.List.{flat_map}
 use Rattle.std.proofs.lemmas.Result.{err_from_is_err_and}
 use Rattle.pddl_task.specs.Faults.{unknown_term}
@@ -16,12 +16,4 @@ returns-in_err-check_term g c =
     let low : c.loop-i.i < length all = omega (arith, c.len-i-end.ensures) in
     let p = err_from_is_err_and c.from_residual.result c.from_residual.ensures.1 in
     rw (p.1, p.2) (pass_front 26 (word (term_in c.at-term.result)) (flat_map word (drop (c.loop-i.i + 1) all)) (flat_map word all) c.in_err-check_term.field-0.0
-    (sym c.loop-i.invariant ∙ terms_left word all c.loop-i.i (term_in c.at-term.result) low (c.at-term.ensures (term_in c.at-term.result))) c.in_err-check_term.ensures)
-
-pub loop-i-preserved : goal.loop-i-preserved
-loop-i-preserved g c =
-    let word = unknown_term (setting_of c.args.known.now) (bound_of c.args.scope.now) in
-    let all = terms_in c.args.terms.now in
-    let low : c.loop-i.i < length all = omega (arith, c.len-i-end.ensures) in
-    ap (λ ws. ws ++ flat_map word (drop (c.loop-i.i + 1) all)) (sym c.in_ok-check_term.ensures)
-    ∙ sym (terms_left word all c.loop-i.i (term_in c.at-term.result) low (c.at-term.ensures (term_in c.at-term.result))) ∙ c.loop-i.invariant
+    (sym c.loop-i.invariant ∙ terms_left word all c.loop-i.i (term_in c.at-term.result) low c.at-term.ensures) c.in_err-check_term.ensures)
