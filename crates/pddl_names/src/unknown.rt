@@ -1,7 +1,8 @@
 //! The search for names that are not declared, and variables that nothing binds.
 
-ghost use Rattle.std.specs.Prelude.{◌++◌, map, not};
+ghost use Rattle.std.specs.Prelude.{[], ◌∷◌, ◌++◌, map, not};
 ghost use Rattle.std.specs.List.{flat_map};
+ghost use Rattle.pddl_formula.specs.Terms.{term_view};
 ghost use Rattle.pddl_task.specs.Names.{is_in, word_if};
 ghost use Rattle.pddl_task.specs.Settings.{symbol_of};
 ghost use Rattle.pddl_task.specs.Faults.{unknown_term};
@@ -12,6 +13,7 @@ ghost use Rattle.pddl_types.specs.KnownNames.{signature_in, setting_of};
 
 use crate::bound::is_bound;
 use pddl_faults::LinkFault;
+use pddl_formula::Term;
 use pddl_search::{LentTerm, Part, Scope, Search, Terms};
 use pddl_types::{Known, Signatures, is_declared, is_object};
 use std::alloc::Allocator;
@@ -76,6 +78,21 @@ fn check_use<'t, 'm, 'a, 'd, A: Allocator, B: Allocator>(
     check_terms(known, terms, scope)
 }
 
+/// Both terms of an equality are known.
+fn check_both<'t, 'm, 'a, 'd, A: Allocator, B: Allocator>(
+    known: &Known<'t, 'm, 'a, A, B>,
+    first: &'d Term<A>,
+    second: &'d Term<A>,
+    scope: &Scope<A, B>,
+) -> Result<(), LinkFault<'d>>
+    ensures { Passes 26 (flat_map (unknown_term (setting_of known.now) (bound_of scope.now)) (term_view first.now ∷ term_view second.now ∷ [])) result }
+{
+    let first = LentTerm::of(first);
+    let second = LentTerm::of(second);
+    check_term(known, &first, scope)?;
+    check_term(known, &second, scope)
+}
+
 impl<'k, 't, 'm, 'a, A: Allocator, B: Allocator> Search<A, B>
     for UnknownNames<'k, 't, 'm, 'a, A, B> {
     ghost use Rattle.pddl_task.specs.Faults.{unknown_at};
@@ -94,12 +111,7 @@ impl<'k, 't, 'm, 'a, A: Allocator, B: Allocator> Search<A, B>
             Part::Calls(function, terms) => {
                 check_use(known, known.functions, *function, terms, scope)
             }
-            Part::Equates(first, second) => {
-                let first = LentTerm::of(*first);
-                check_term(known, &first, scope)?;
-                let second = LentTerm::of(*second);
-                check_term(known, &second, scope)
-            }
+            Part::Equates(first, second) => check_both(known, *first, *second, scope),
             _ => Ok(()),
         }
     }
