@@ -80,6 +80,6 @@ size_more count xs i x size product next body low high is so_far times more =
     let lt : k < length xs = omega (arith, low, high) in
     let back : k + 1 ≡ i = omega (arith, low) in
     let front : map typed_view (drop k xs) ≡ typed_view x ∷ map typed_view (drop i xs) =
-        views_drop typed_view xs k x lt is ∙ ap (λ n. typed_view x ∷ map typed_view (drop n xs)) back in
+    views_drop typed_view xs k x lt is ∙ ap (λ n. typed_view x ∷ map typed_view (drop n xs)) back in
     one_more next product (count x.types * rest) more (times ∙ ap (λ (y : Typed _). capped (count y.types * size)) (sym is) ∙ ap (λ n. capped (count x.types * n)) so_far ∙ capped_product (count x.types) rest)
     ∙ sym (ap (λ ys. capped (quantifier_size count ys body)) front)

@@ -20,7 +20,7 @@ returns-clause-tables g c =
     let sized = named_action (task_count task) in
     let named = first_of_both c.actions_by_name-actions.result c.action_tops-tops.result (λ t. map named_in t.entries ≡ map sized (map action_view c.deref.result.now)) c.actions_by_name-actions.ensures in
     let actions = first_made c.both_made-steps.result c.cost_tables-costs.result (c.in_ok-steps.steps, c.in_ok-steps.costs) (λ z. map named_in z.0.entries ≡ map sized (map action_view c.deref.result.now)) c.in_ok-steps.ensures
-        (subst (λ r. IfOk r (λ z. map named_in z.0.entries ≡ map sized (map action_view c.deref.result.now))) (sym c.both_made-steps.ensures) named) in
+    (subst (λ r. IfOk r (λ z. map named_in z.0.entries ≡ map sized (map action_view c.deref.result.now))) (sym c.both_made-steps.ensures) named) in
     let costs = second_made c.both_made-steps.result c.cost_tables-costs.result (c.in_ok-steps.steps, c.in_ok-steps.costs) (λ z. AreCostTables task z.0 z.1) c.in_ok-steps.ensures c.cost_tables-costs.ensures in
     record {
       linked = c.domain-domain.ensures.linked;
