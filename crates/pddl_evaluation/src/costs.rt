@@ -1,6 +1,6 @@
 //! What changes cost.
 
-ghost use Rattle.std.specs.Prelude.{◌≡◌, ◌≤◌, IfOk};
+ghost use Rattle.std.specs.Prelude.{◌≡◌, ◌≤◌, ◌∷◌, IfOk, sum_by};
 ghost use Rattle.pddl_compiled.specs.CompiledMeaning.{spent, spent_in};
 ghost use Rattle.pddl_compiled.specs.Views.{change_view, changes_view, frame_view};
 ghost use Rattle.pddl_evaluation.specs.Costs.{increases_of, increases_in, most_increases, IsWithin};
@@ -40,18 +40,13 @@ pub fn spent<'f, A: Allocator, B: Allocator, S: AtomStore<B>, P: Prices<B>>(
     ensures within { IfOk result (λ n. IsWithin (increases_of (change_view change.now)) n) }
 {
     match change {
-        Change::And(parts) => Ok(spent_by_all(parts, &*frame, atom, prices, store, state)?),
+        Change::And(parts) => spent_by_all(parts, &*frame, atom, prices, store, state),
         Change::Forall(range, inner) => {
-            let mut total = 0u128;
-            for object in range {
-                let bound = Frame::Bound(*object, &*frame);
-                total += spent(inner, &bound, atom, prices, store, state)?;
-            }
-            Ok(total)
+            spent_by_each(range, inner, &*frame, atom, prices, store, state)
         }
         Change::When(condition, inner) => {
             if is_true(condition, &*frame, atom, store, state)? {
-                Ok(spent(inner, &*frame, atom, prices, store, state)?)
+                spent(inner, &*frame, atom, prices, store, state)
             } else {
                 Ok(0)
             }
@@ -84,6 +79,30 @@ fn spent_by_all<'f, A: Allocator, B: Allocator, S: AtomStore<B>, P: Prices<B>>(
     let mut total = 0u128;
     for change in changes {
         total += spent(change, &*frame, atom, prices, store, state)?;
+    }
+    Ok(total)
+}
+
+/// What a change costs for each object of a range together.
+#[cycle(costs)]
+fn spent_by_each<'f, A: Allocator, B: Allocator, S: AtomStore<B>, P: Prices<B>>(
+    range: &'f [usize],
+    change: &'f Change<A>,
+    frame: &'f Frame<'f>,
+    atom: &mut Atom<B>,
+    prices: &P,
+    store: &S,
+    state: &S::Set,
+) -> Result<u128, AllocError>
+    requires own { S.owns store.now state.now }
+    requires few { sum_by (λ o. increases_of (change_view change.now)) range.now ≤ most_increases }
+    ensures spent { IfOk result (λ n. n ≡ sum_by (λ o. spent (P.price prices.now) (S.content store.now state.now) (change_view change.now) (o ∷ frame_view frame.now)) range.now) }
+    ensures within { IfOk result (λ n. IsWithin (sum_by (λ o. increases_of (change_view change.now)) range.now) n) }
+{
+    let mut total = 0u128;
+    for object in range {
+        let bound = Frame::Bound(*object, &*frame);
+        total += spent(change, &bound, atom, prices, store, state)?;
     }
     Ok(total)
 }

@@ -5,6 +5,7 @@
 #![tactic(auto)]
 
 mod costs;
+mod filled;
 mod fires;
 mod reads;
 mod truth;

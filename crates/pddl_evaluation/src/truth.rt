@@ -1,10 +1,12 @@
 //! Truth of conditions.
 
-ghost use Rattle.std.specs.Prelude.{◌≡◌, IfOk};
+ghost use Rattle.std.specs.Prelude.{◌≡◌, ◌∷◌, IfOk};
+ghost use Rattle.std.specs.List.{list_any, list_all};
 ghost use Rattle.pddl_compiled.specs.Views.{condition_view, conditions_view, frame_view};
 ghost use Rattle.pddl_compiled.specs.CompiledMeaning.{is_true, are_true, is_some_true};
 
-use pddl_compiled::{Condition, Frame, fill, object_in};
+use crate::filled::has_filled;
+use pddl_compiled::{Condition, Frame, object_in};
 use pddl_state::{Atom, AtomStore};
 use std::alloc::{AllocError, Allocator};
 
@@ -23,15 +25,14 @@ pub fn is_true<'f, A: Allocator, B: Allocator, S: AtomStore<B>>(
     match condition {
         Condition::Known(answer) => Ok(*answer),
         Condition::Atom(predicate, places) => {
-            fill(atom, *predicate, places, &*frame)?;
-            Ok(store.has(set, atom))
+            has_filled(atom, *predicate, places, &*frame, store, set)
         }
         Condition::Equal(left, right) => {
             Ok(object_in(&*frame, *left) == object_in(&*frame, *right))
         }
         Condition::Not(inner) => Ok(!is_true(inner, &*frame, atom, store, set)?),
-        Condition::And(parts) => Ok(are_true(parts, &*frame, atom, store, set)?),
-        Condition::Or(parts) => Ok(is_some_true(parts, &*frame, atom, store, set)?),
+        Condition::And(parts) => are_true(parts, &*frame, atom, store, set),
+        Condition::Or(parts) => is_some_true(parts, &*frame, atom, store, set),
         Condition::Imply(left, right) => {
             if is_true(left, &*frame, atom, store, set)? {
                 is_true(right, &*frame, atom, store, set)
@@ -40,23 +41,9 @@ pub fn is_true<'f, A: Allocator, B: Allocator, S: AtomStore<B>>(
             }
         }
         Condition::Exists(range, inner) => {
-            for object in range {
-                let bound = Frame::Bound(*object, &*frame);
-                if is_true(inner, &bound, atom, store, set)? {
-                    return Ok(true);
-                }
-            }
-            Ok(false)
+            is_true_of_some(range, inner, &*frame, atom, store, set)
         }
-        Condition::Forall(range, inner) => {
-            for object in range {
-                let bound = Frame::Bound(*object, &*frame);
-                if !is_true(inner, &bound, atom, store, set)? {
-                    return Ok(false);
-                }
-            }
-            Ok(true)
-        }
+        Condition::Forall(range, inner) => is_true_of_all(range, inner, &*frame, atom, store, set),
     }
 }
 
@@ -96,4 +83,48 @@ fn is_some_true<'f, A: Allocator, B: Allocator, S: AtomStore<B>>(
         }
     }
     Ok(false)
+}
+
+/// Whether a condition is true of some object of a range.
+#[cycle(holds)]
+fn is_true_of_some<'f, A: Allocator, B: Allocator, S: AtomStore<B>>(
+    range: &'f [usize],
+    condition: &'f Condition<A>,
+    frame: &'f Frame<'f>,
+    atom: &mut Atom<B>,
+    store: &S,
+    set: &S::Set,
+) -> Result<bool, AllocError>
+    requires { S.owns store.now set.now }
+    ensures { IfOk result (λ yes. yes ≡ list_any (λ o. is_true (S.content store.now set.now) (condition_view condition.now) (o ∷ frame_view frame.now)) range.now) }
+{
+    for object in range {
+        let bound = Frame::Bound(*object, &*frame);
+        if is_true(condition, &bound, atom, store, set)? {
+            return Ok(true);
+        }
+    }
+    Ok(false)
+}
+
+/// Whether it is true of each.
+#[cycle(holds)]
+fn is_true_of_all<'f, A: Allocator, B: Allocator, S: AtomStore<B>>(
+    range: &'f [usize],
+    condition: &'f Condition<A>,
+    frame: &'f Frame<'f>,
+    atom: &mut Atom<B>,
+    store: &S,
+    set: &S::Set,
+) -> Result<bool, AllocError>
+    requires { S.owns store.now set.now }
+    ensures { IfOk result (λ yes. yes ≡ list_all (λ o. is_true (S.content store.now set.now) (condition_view condition.now) (o ∷ frame_view frame.now)) range.now) }
+{
+    for object in range {
+        let bound = Frame::Bound(*object, &*frame);
+        if !is_true(condition, &bound, atom, store, set)? {
+            return Ok(false);
+        }
+    }
+    Ok(true)
 }

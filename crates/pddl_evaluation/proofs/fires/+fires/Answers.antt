@@ -1,24 +1,11 @@
-use Rattle.std.proofs.Common.{◌||◌, ap, sym, ◌∙◌, refl}
-use Rattle.pddl_state.specs.Atoms.{atom_eq}
+use Rattle.std.proofs.Common.{◌≡◌, ◌||◌, ap, subst, sym, ◌∙◌, refl}
+use Rattle.std.specs.Prelude.{OnOk}
+use Rattle.pddl_state.specs.Atoms.{AtomValue, atom_eq}
 use Rattle.pddl_compiled.specs.Views.{change_view, changes_view, frame_view}
 use Rattle.pddl_evaluation.specs.Fires.{added, all_added, deleted, all_deleted}
 use Rattle.pddl_evaluation.proofs.Views.{view-Both, view-Each}
 use Rattle.pddl_evaluation.proofs.More.{one_more}
 use Rattle.pddl_evaluation.proofs.fires.+fires.Goals as goal
-
-pub add_fired-loop-object-init : goal.add_fired-loop-object-init
-add_fired-loop-object-init g t c =
-    let content = g.S.AtomStore.content in
-    let s = content c.args.store.now c.args.state.now in
-    let seen = view-Each c.args.change.now c.in-Forall.range c.in-Forall.inner c.deref-object-items.result.now c.in-Forall.is c.deref-object-items.ensures.value in
-    record {
-      adds_own = c.requires.adds_own;
-      dels_own = c.requires.dels_own;
-      others_own = λ u h. h;
-      others = λ u h. refl;
-      added_rest = λ x. ap (λ v. added s v (atom_eq x) (frame_view c.args.frame.now) || content c.args.store.now c.args.adds.now x) seen;
-      deleted_rest = λ x. ap (λ v. deleted s v (atom_eq x) (frame_view c.args.frame.now) || content c.args.store.now c.args.dels.now x) seen;
-    }
 
 pub add_all_fired-loop-change-preserved : goal.add_all_fired-loop-change-preserved
 add_all_fired-loop-change-preserved g t c =
@@ -36,10 +23,26 @@ add_all_fired-loop-change-preserved g t c =
       deleted_rest = λ x. old.deleted_rest x ∙ one_more (λ cs. all_deleted s (changes_view cs) (atom_eq x) (frame_view c.args.frame.now)) (λ k. deleted s (change_view k) (atom_eq x) (frame_view c.args.frame.now)) (λ y ys. refl) c.args.changes.now c.loop-change.change-index c.change-item.result (content c.loop-change.store c.loop-change.dels x) (content c.add_fired.new.store c.add_fired.new.dels x) c.loop-change-test.true c.change-item.is (put.deleted x ∙ ap (λ r. deleted r (change_view c.change-item.result) (atom_eq x) (frame_view c.args.frame.now) || content c.loop-change.store c.loop-change.dels x) same);
     }
 
-pub add_fired-returns-in_ok-add_all_fired-in-And-clause-added : goal.add_fired-returns-in_ok-add_all_fired-in-And-clause-added
-add_fired-returns-in_ok-add_all_fired-in-And-clause-added g t c x =
-    c.in_ok-add_all_fired-in-And.ensures.added x ∙ ap (λ v. added (g.S.AtomStore.content c.args.store.now c.args.state.now) v (atom_eq x) (frame_view c.args.frame.now) || g.S.AtomStore.content c.args.store.now c.args.adds.now x) (sym (view-Both c.args.change.now c.in-And.parts c.deref.result.now c.in-And.is c.deref.ensures.value))
+pub add_fired-returns-in-And-clause-added : goal.add_fired-returns-in-And-clause-added
+add_fired-returns-in-And-clause-added g t c =
+    let content = g.S.AtomStore.content in
+    let seen = view-Both c.args.change.now c.in-And.parts c.deref.result.now c.in-And.is c.deref.ensures.value in
+    subst (λ v. OnOk c.add_all_fired.result ((x : AtomValue) → content c.add_all_fired.new.store c.add_all_fired.new.adds x ≡ (added (content c.args.store.now c.args.state.now) v (atom_eq x) (frame_view c.args.frame.now) || content c.args.store.now c.args.adds.now x))) (sym seen) c.add_all_fired.ensures.added
 
-pub add_fired-returns-in_ok-add_all_fired-in-And-clause-deleted : goal.add_fired-returns-in_ok-add_all_fired-in-And-clause-deleted
-add_fired-returns-in_ok-add_all_fired-in-And-clause-deleted g t c x =
-    c.in_ok-add_all_fired-in-And.ensures.deleted x ∙ ap (λ v. deleted (g.S.AtomStore.content c.args.store.now c.args.state.now) v (atom_eq x) (frame_view c.args.frame.now) || g.S.AtomStore.content c.args.store.now c.args.dels.now x) (sym (view-Both c.args.change.now c.in-And.parts c.deref.result.now c.in-And.is c.deref.ensures.value))
+pub add_fired-returns-in-And-clause-deleted : goal.add_fired-returns-in-And-clause-deleted
+add_fired-returns-in-And-clause-deleted g t c =
+    let content = g.S.AtomStore.content in
+    let seen = view-Both c.args.change.now c.in-And.parts c.deref.result.now c.in-And.is c.deref.ensures.value in
+    subst (λ v. OnOk c.add_all_fired.result ((x : AtomValue) → content c.add_all_fired.new.store c.add_all_fired.new.dels x ≡ (deleted (content c.args.store.now c.args.state.now) v (atom_eq x) (frame_view c.args.frame.now) || content c.args.store.now c.args.dels.now x))) (sym seen) c.add_all_fired.ensures.deleted
+
+pub add_fired-returns-in-Forall-clause-added : goal.add_fired-returns-in-Forall-clause-added
+add_fired-returns-in-Forall-clause-added g t c =
+    let content = g.S.AtomStore.content in
+    let seen = view-Each c.args.change.now c.in-Forall.range c.in-Forall.inner c.deref-in-Forall.result.now c.deref-in-Forall-2.result.now c.in-Forall.is c.deref-in-Forall.ensures.value c.deref-in-Forall-2.ensures in
+    subst (λ v. OnOk c.add_fired_of_each.result ((x : AtomValue) → content c.add_fired_of_each.new.store c.add_fired_of_each.new.adds x ≡ (added (content c.args.store.now c.args.state.now) v (atom_eq x) (frame_view c.args.frame.now) || content c.args.store.now c.args.adds.now x))) (sym seen) c.add_fired_of_each.ensures.added
+
+pub add_fired-returns-in-Forall-clause-deleted : goal.add_fired-returns-in-Forall-clause-deleted
+add_fired-returns-in-Forall-clause-deleted g t c =
+    let content = g.S.AtomStore.content in
+    let seen = view-Each c.args.change.now c.in-Forall.range c.in-Forall.inner c.deref-in-Forall.result.now c.deref-in-Forall-2.result.now c.in-Forall.is c.deref-in-Forall.ensures.value c.deref-in-Forall-2.ensures in
+    subst (λ v. OnOk c.add_fired_of_each.result ((x : AtomValue) → content c.add_fired_of_each.new.store c.add_fired_of_each.new.dels x ≡ (deleted (content c.args.store.now c.args.state.now) v (atom_eq x) (frame_view c.args.frame.now) || content c.args.store.now c.args.dels.now x))) (sym seen) c.add_fired_of_each.ensures.deleted
