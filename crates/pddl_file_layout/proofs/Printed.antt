@@ -1,9 +1,9 @@
 -- Texts printed piece by piece, where a write that failed is remembered.
-use Rattle.std.proofs.Common.{◌≡◌, ℕ, ◌+◌, ◌<◌, List, [], ◌∷◌, ◌++◌, map, length, get_or, take, refl, sym, ap, subst, ◌∙◌, codes, append-nil}
+use Rattle.std.proofs.Common.{◌≡◌, ℕ, ◌+◌, ◌≤◌, ◌<◌, List, [], ◌∷◌, ◌++◌, map, length, get_or, take, refl, sym, ap, subst, ◌∙◌, codes, append-nil}
 use Rattle.std.specs.Prelude.{Bool, true, false, ◌&&◌, Option, Some, None}
 use Rattle.std.specs.List.{flat_map, list_all}
 use Rattle.std.specs.Io.KnownBytes.{Appends}
-use Rattle.std.proofs.lemmas.List.{take_more}
+use Rattle.std.proofs.lemmas.List.{take_more, take_all}
 use Rattle.std.proofs.lemmas.Grind.{flat_map-append}
 use Rattle.pddl_text.specs.Device.{AppendsBeginning, HasFailed}
 use Rattle.pddl_text.proofs.Known.{appends_more, beginning_of_more, beginning_after}
@@ -75,6 +75,19 @@ module _ {X V : Type 0} (view : X → V) where
       → list_all test (map view (take (i + 1) xs)) ≡ true
   passes_on test xs i x lt is so_far here =
       ap (list_all test) (views_more xs i x lt) ∙ passes_push test (map view (take i xs)) (view (get_or xs i x)) so_far (subst (λ (y : X). test (view y) ≡ true) is here)
+
+  -- behind the last element all is written
+  pub whole_on : (text : V → List ℕ) {a b : Option (List ℕ)} {n m : ℕ} {f g : Bool} (xs : List X) (i : ℕ) → length xs ≤ i → Puts a b n m f g (flat_map text (map view (take i xs)))
+      → Puts a b n m f g (flat_map text (map view xs))
+  whole_on text xs i end = puts_as (ap (λ (ys : List X). flat_map text (map view ys)) (take_all i xs end))
+
+  pub spaced_whole : (text : V → List ℕ) {a b : Option (List ℕ)} {n m : ℕ} {f g : Bool} (xs : List X) (i : ℕ) → length xs ≤ i → Puts a b n m f g (spaced_by text (map view (take i xs)))
+      → Puts a b n m f g (spaced_by text (map view xs))
+  spaced_whole text xs i end = whole_on (λ v. codes " " ++ text v) xs i end
+
+  -- and all passes
+  pub whole_passes : (test : V → Bool) (xs : List X) (i : ℕ) → length xs ≤ i → list_all test (map view (take i xs)) ≡ true → list_all test (map view xs) ≡ true
+  whole_passes test xs i end so_far = sym (ap (λ (ys : List X). list_all test (map view ys)) (take_all i xs end)) ∙ so_far
 
 map_same : {X : Type 0} (xs : List X) → map (λ (x : X). x) xs ≡ xs
 map_same [] = refl

@@ -2,7 +2,7 @@ use Rattle.std.proofs.Common.{◌<◌, length, arith}
 use Rattle.pddl_domain.specs.Actions.{action_view}
 use Rattle.pddl_file_layout.specs.DomainLayout.{is_action}
 use Rattle.pddl_file_layout.specs.Inner.Texts.{action_lines}
-use Rattle.pddl_file_layout.proofs.Printed.{element_on, passes_on}
+use Rattle.pddl_file_layout.proofs.Printed.{element_on, passes_on, whole_on, whole_passes}
 use Rattle.pddl_file_layout.proofs.domain.put_actions.Goals as goal
 
 pub loop-action-preserved : goal.loop-action-preserved
@@ -13,3 +13,9 @@ loop-action-preserved g c =
       printed = element_on action_view action_lines c.args.actions.now l.action-index c.action-item.result lt c.action-item.is l.invariant.printed c.put_action.ensures.printed;
       good = passes_on action_view is_action c.args.actions.now l.action-index c.action-item.result lt c.action-item.is l.invariant.good c.put_action.ensures.good;
     }
+
+pub returns-clause-printed : goal.returns-clause-printed
+returns-clause-printed g c = whole_on action_view action_lines c.args.actions.now c.loop-action.action-index c.loop-action-test.false c.loop-action.invariant.printed
+
+pub returns-clause-good : goal.returns-clause-good
+returns-clause-good g c = whole_passes action_view is_action c.args.actions.now c.loop-action.action-index c.loop-action-test.false c.loop-action.invariant.good

@@ -2,7 +2,7 @@ use Rattle.std.proofs.Common.{◌<◌, length, arith}
 use Rattle.pddl_domain.specs.Declarations.{predicate_view}
 use Rattle.pddl_file_layout.specs.DomainLayout.{is_declared_predicate}
 use Rattle.pddl_file_layout.specs.Inner.Texts.{signature_text}
-use Rattle.pddl_file_layout.proofs.Printed.{spaced_on, passes_on}
+use Rattle.pddl_file_layout.proofs.Printed.{spaced_on, passes_on, spaced_whole, whole_passes}
 use Rattle.pddl_file_layout.proofs.domain.put_predicate_list.Goals as goal
 
 pub loop-declared-preserved : goal.loop-declared-preserved
@@ -13,3 +13,9 @@ loop-declared-preserved g c =
       printed = spaced_on predicate_view signature_text c.args.predicates.now l.declared-index c.declared-item.result lt c.declared-item.is l.invariant.printed c.put.ensures c.put_predicate.ensures.printed;
       good = passes_on predicate_view is_declared_predicate c.args.predicates.now l.declared-index c.declared-item.result lt c.declared-item.is l.invariant.good c.put_predicate.ensures.good;
     }
+
+pub returns-clause-printed : goal.returns-clause-printed
+returns-clause-printed g c = spaced_whole predicate_view signature_text c.args.predicates.now c.loop-declared.declared-index c.loop-declared-test.false c.loop-declared.invariant.printed
+
+pub returns-clause-good : goal.returns-clause-good
+returns-clause-good g c = whole_passes predicate_view is_declared_predicate c.args.predicates.now c.loop-declared.declared-index c.loop-declared-test.false c.loop-declared.invariant.good

@@ -3,7 +3,7 @@ use Rattle.pddl_domain.specs.Declarations.{type_view}
 use Rattle.pddl_formula.specs.Reserved.{is_type_name}
 use Rattle.pddl_file_layout.specs.DomainLayout.{is_declared_type}
 use Rattle.pddl_file_layout.specs.Inner.Texts.{declared_type_text}
-use Rattle.pddl_file_layout.proofs.Printed.{puts_on, puts_as, spaced_on, passes_on}
+use Rattle.pddl_file_layout.proofs.Printed.{puts_on, puts_as, spaced_on, passes_on, spaced_whole, whole_passes}
 use Rattle.pddl_file_layout.proofs.SectionTexts.{both}
 use Rattle.pddl_file_layout.proofs.domain.put_type_list.Goals as goal
 
@@ -18,3 +18,9 @@ loop-declared-preserved g c =
       good = passes_on type_view is_declared_type c.args.types.now l.declared-index x lt c.declared-item.is l.invariant.good
           (both (is_type_name x.name) (is_type_name x.parent) c.as_bytes.ensures.type_name c.as_bytes-in-loop-declared.ensures.type_name);
     }
+
+pub returns-clause-printed : goal.returns-clause-printed
+returns-clause-printed g c = spaced_whole type_view declared_type_text c.args.types.now c.loop-declared.declared-index c.loop-declared-test.false c.loop-declared.invariant.printed
+
+pub returns-clause-good : goal.returns-clause-good
+returns-clause-good g c = whole_passes type_view is_declared_type c.args.types.now c.loop-declared.declared-index c.loop-declared-test.false c.loop-declared.invariant.good

@@ -2,7 +2,7 @@ use Rattle.std.proofs.Common.{◌<◌, length, arith}
 use Rattle.pddl_formula.specs.Formulas.{formula_view}
 use Rattle.pddl_file_layout.specs.FormulaValues.{is_formula}
 use Rattle.pddl_file_layout.specs.Inner.Texts.{formula_text}
-use Rattle.pddl_file_layout.proofs.Printed.{puts_on, puts_as, spaced_on, passes_on}
+use Rattle.pddl_file_layout.proofs.Printed.{puts_on, puts_as, spaced_on, passes_on, spaced_whole, whole_passes}
 use Rattle.pddl_file_layout.proofs.Arms.{equal_text, not_text, imply_text, and_text, or_text, exists_text, forall_text, and_good, or_good}
 use Rattle.pddl_file_layout.proofs.formula.+formula.Goals as goal
 
@@ -54,3 +54,9 @@ put_formulas-loop-formula-preserved g t c =
       printed = spaced_on formula_view formula_text c.args.formulas.now l.formula-index c.formula-item.result lt c.formula-item.is l.invariant.printed c.put.ensures c.put_formula.ensures.printed;
       good = passes_on formula_view is_formula c.args.formulas.now l.formula-index c.formula-item.result lt c.formula-item.is l.invariant.good c.put_formula.ensures.good;
     }
+
+pub put_formulas-returns-clause-printed : goal.put_formulas-returns-clause-printed
+put_formulas-returns-clause-printed g t c = spaced_whole formula_view formula_text c.args.formulas.now c.loop-formula.formula-index c.loop-formula-test.false c.loop-formula.invariant.printed
+
+pub put_formulas-returns-clause-good : goal.put_formulas-returns-clause-good
+put_formulas-returns-clause-good g t c = whole_passes formula_view is_formula c.args.formulas.now c.loop-formula.formula-index c.loop-formula-test.false c.loop-formula.invariant.good
