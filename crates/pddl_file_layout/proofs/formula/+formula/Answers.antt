@@ -3,7 +3,7 @@ use Rattle.pddl_formula.specs.Formulas.{formula_view}
 use Rattle.pddl_file_layout.specs.FormulaValues.{is_formula}
 use Rattle.pddl_file_layout.specs.Inner.Texts.{formula_text}
 use Rattle.pddl_file_layout.proofs.Printed.{puts_on, puts_as, spaced_on, passes_on, spaced_whole, whole_passes}
-use Rattle.pddl_file_layout.proofs.Arms.{equal_text, not_text, imply_text, and_text, or_text, exists_text, forall_text, and_good, or_good}
+use Rattle.pddl_file_layout.proofs.Arms.{atom_shown, equal_text, not_text, imply_text, and_text, or_text, exists_text, forall_text, atom_good, equal_good, not_good, imply_good, and_good, or_good, exists_good, forall_good}
 use Rattle.pddl_file_layout.proofs.formula.+formula.Goals as goal
 
 pub put_formula-returns-in-Equal-clause-printed : goal.put_formula-returns-in-Equal-clause-printed
@@ -60,3 +60,30 @@ put_formulas-returns-clause-printed g t c = spaced_whole formula_view formula_te
 
 pub put_formulas-returns-clause-good : goal.put_formulas-returns-clause-good
 put_formulas-returns-clause-good g t c = whole_passes formula_view is_formula c.args.formulas.now c.loop-formula.formula-index c.loop-formula-test.false c.loop-formula.invariant.good
+
+pub put_formula-returns-in-Atom-clause-printed : goal.put_formula-returns-in-Atom-clause-printed
+put_formula-returns-in-Atom-clause-printed g t c = puts_as (atom_shown c.args.formula.now c.in-Atom.atom c.in-Atom.is) c.put_atom.ensures.printed
+
+pub put_formula-returns-in-Atom-clause-good : goal.put_formula-returns-in-Atom-clause-good
+put_formula-returns-in-Atom-clause-good g t c = atom_good c.args.formula.now c.in-Atom.atom c.in-Atom.is c.put_atom.ensures.good
+
+pub put_formula-returns-in-Equal-clause-good : goal.put_formula-returns-in-Equal-clause-good
+put_formula-returns-in-Equal-clause-good g t c = equal_good c.args.formula.now c.in-Equal.left c.in-Equal.right c.in-Equal.is c.put_term.ensures.good c.put_term-in-Equal.ensures.good
+
+pub put_formula-returns-in-Not-clause-good : goal.put_formula-returns-in-Not-clause-good
+put_formula-returns-in-Not-clause-good g t c = not_good c.args.formula.now c.deref.result.now c.in-Not.part c.in-Not.is c.deref.ensures c.put_formula.ensures.good
+
+pub put_formula-returns-in-Imply-clause-good : goal.put_formula-returns-in-Imply-clause-good
+put_formula-returns-in-Imply-clause-good g t c =
+    imply_good c.args.formula.now c.deref-in-Imply.result.now c.deref-in-Imply-2.result.now c.in-Imply.left c.in-Imply.right c.in-Imply.is c.deref-in-Imply.ensures c.deref-in-Imply-2.ensures
+    c.put_formula-in-Imply.ensures.good c.put_formula-in-Imply-2.ensures.good
+
+pub put_formula-returns-in-Exists-clause-good : goal.put_formula-returns-in-Exists-clause-good
+put_formula-returns-in-Exists-clause-good g t c =
+    exists_good c.args.formula.now c.deref-in-Exists-2.result.now c.deref-in-Exists.result.now c.in-Exists.variables c.in-Exists.part c.in-Exists.is c.deref-in-Exists.ensures.value c.deref-in-Exists-2.ensures
+    c.put_variables.ensures.good c.put_formula-in-Exists.ensures.good
+
+pub put_formula-returns-in-Forall-clause-good : goal.put_formula-returns-in-Forall-clause-good
+put_formula-returns-in-Forall-clause-good g t c =
+    forall_good c.args.formula.now c.deref-in-Forall-2.result.now c.deref-in-Forall.result.now c.in-Forall.variables c.in-Forall.part c.in-Forall.is c.deref-in-Forall.ensures.value c.deref-in-Forall-2.ensures
+    c.put_variables-in-Forall.ensures.good c.put_formula-in-Forall.ensures.good
