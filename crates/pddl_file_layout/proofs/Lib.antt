@@ -15,3 +15,4 @@ pub mod LineTexts
 pub mod Printed
 pub mod Arms
 pub mod SectionTexts
+pub mod Depths

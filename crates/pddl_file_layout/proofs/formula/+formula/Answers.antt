@@ -1,9 +1,11 @@
-use Rattle.std.proofs.Common.{◌<◌, length, arith}
+use Rattle.std.proofs.Common.{◌<◌, length, refl, arith}
 use Rattle.pddl_formula.specs.Formulas.{formula_view}
 use Rattle.pddl_file_layout.specs.FormulaValues.{is_formula}
 use Rattle.pddl_file_layout.specs.Inner.Texts.{formula_text}
 use Rattle.pddl_file_layout.proofs.Printed.{puts_on, puts_as, spaced_on, passes_on, spaced_whole, whole_passes}
 use Rattle.pddl_file_layout.proofs.Arms.{atom_shown, equal_text, not_text, imply_text, and_text, or_text, exists_text, forall_text, atom_good, equal_good, not_good, imply_good, and_good, or_good, exists_good, forall_good}
+use Rattle.pddl_formula.proofs.formula.Formula.TheLaws.{the_size}
+use Rattle.pddl_file_layout.proofs.Depths.{under_not, under_imply, under_and, under_or, under_exists, under_forall, among}
 use Rattle.pddl_file_layout.proofs.formula.+formula.Goals as goal
 
 pub put_formula-returns-in-Equal-clause-printed : goal.put_formula-returns-in-Equal-clause-printed
@@ -87,3 +89,27 @@ pub put_formula-returns-in-Forall-clause-good : goal.put_formula-returns-in-Fora
 put_formula-returns-in-Forall-clause-good g t c =
     forall_good c.args.formula.now c.deref-in-Forall-2.result.now c.deref-in-Forall.result.now c.in-Forall.variables c.in-Forall.part c.in-Forall.is c.deref-in-Forall.ensures.value c.deref-in-Forall-2.ensures
     c.put_variables-in-Forall.ensures.good c.put_formula-in-Forall.ensures.good
+
+pub put_formula-put_formula-requires : goal.put_formula-put_formula-requires
+put_formula-put_formula-requires g t c κs within = (omega (arith, under_not g.row.A g.A.Allocator g.A.laws c.args.formula.now c.deref.result.now c.in-Not.part c.in-Not.is c.deref.ensures, c.decreases), within)
+
+pub put_formula-put_formula-requires-in-Imply : goal.put_formula-put_formula-requires-in-Imply
+put_formula-put_formula-requires-in-Imply g t c κs within = (omega (arith, (under_imply g.row.A g.A.Allocator g.A.laws c.args.formula.now c.deref-in-Imply.result.now c.in-Imply.right.value c.in-Imply.left c.in-Imply.right c.in-Imply.is c.deref-in-Imply.ensures refl).0, c.decreases), within)
+
+pub put_formula-put_formula-requires-in-Imply-2 : goal.put_formula-put_formula-requires-in-Imply-2
+put_formula-put_formula-requires-in-Imply-2 g t c κs within = (omega (arith, (under_imply g.row.A g.A.Allocator g.A.laws c.args.formula.now c.deref-in-Imply.result.now c.deref-in-Imply-2.result.now c.in-Imply.left c.in-Imply.right c.in-Imply.is c.deref-in-Imply.ensures c.deref-in-Imply-2.ensures).1, c.decreases), within)
+
+pub put_formula-put_formulas-requires : goal.put_formula-put_formulas-requires
+put_formula-put_formulas-requires g t c κs within = (omega (arith, under_and g.row.A g.A.Allocator g.A.laws c.args.formula.now c.deref-in-And.result.now c.in-And.parts c.in-And.is c.deref-in-And.ensures.value, c.decreases), within)
+
+pub put_formula-put_formulas-requires-in-Or : goal.put_formula-put_formulas-requires-in-Or
+put_formula-put_formulas-requires-in-Or g t c κs within = (omega (arith, under_or g.row.A g.A.Allocator g.A.laws c.args.formula.now c.deref-in-Or.result.now c.in-Or.parts c.in-Or.is c.deref-in-Or.ensures.value, c.decreases), within)
+
+pub put_formula-put_formula-requires-in-Exists : goal.put_formula-put_formula-requires-in-Exists
+put_formula-put_formula-requires-in-Exists g t c κs within = (omega (arith, under_exists g.row.A g.A.Allocator g.A.laws c.args.formula.now c.deref-in-Exists-2.result.now c.in-Exists.variables c.in-Exists.part c.in-Exists.is c.deref-in-Exists-2.ensures, c.decreases), within)
+
+pub put_formula-put_formula-requires-in-Forall : goal.put_formula-put_formula-requires-in-Forall
+put_formula-put_formula-requires-in-Forall g t c κs within = (omega (arith, under_forall g.row.A g.A.Allocator g.A.laws c.args.formula.now c.deref-in-Forall-2.result.now c.in-Forall.variables c.in-Forall.part c.in-Forall.is c.deref-in-Forall-2.ensures, c.decreases), within)
+
+pub put_formulas-put_formula-requires : goal.put_formulas-put_formula-requires
+put_formulas-put_formula-requires g t c κs within = (omega (arith, among (λ f. the_size g.row.A g.A.Allocator g.A.laws f) c.args.formulas.now c.loop-formula.formula-index c.formula-item.result c.loop-formula-test.true c.formula-item.is, c.decreases), within)
