@@ -1,10 +1,13 @@
-use Rattle.std.proofs.Common.{◌<◌, List, length, get_or, refl, ap, subst, ◌∙◌, arith}
+use Rattle.std.proofs.Common.{◌≤◌, ◌<◌, List, length, get_or, refl, ap, subst, ◌∙◌, arith}
+use denote.Param.Weighed.{most}
 use Rattle.pddl_effect.specs.declared.effect.Effect.{Effect}
 use Rattle.pddl_effect.specs.Effects.{effect_view}
 use Rattle.pddl_file_layout.specs.FormulaValues.{is_effect}
 use Rattle.pddl_file_layout.specs.Inner.Texts.{effect_text}
-use Rattle.pddl_file_layout.proofs.Printed.{puts_on, puts_as, spaced_on, passes_on}
+use Rattle.pddl_file_layout.proofs.Printed.{puts_on, puts_as, spaced_on, passes_on, spaced_whole, whole_passes}
 use Rattle.pddl_file_layout.proofs.Arms.{all_text, each_text, when_text, del_text, increase_text, all_good}
+use Rattle.pddl_effect.proofs.effect.Effect.TheLaws.{the_size}
+use Rattle.pddl_file_layout.proofs.Depths.{under_each, under_when, under_all, among}
 use Rattle.pddl_file_layout.proofs.effect.+effect.Goals as goal
 
 pub put_effect-returns-in-And-clause-printed : goal.put_effect-returns-in-And-clause-printed
@@ -44,3 +47,29 @@ put_effects-loop-effect-preserved g t c =
       printed = spaced_on effect_view effect_text c.args.effects.now.items l.effect-index x lt here l.invariant.printed c.put.ensures c.put_effect.ensures.printed;
       good = passes_on effect_view is_effect c.args.effects.now.items l.effect-index x lt here l.invariant.good c.put_effect.ensures.good;
     }
+
+pub put_effect-put_effect-requires : goal.put_effect-put_effect-requires
+put_effect-put_effect-requires g t c κs within = (omega (arith, under_each g.row.A g.A.Allocator g.A.laws c.args.effect.now c.deref-in-Forall.result.now c.in-Forall.variables c.in-Forall.part c.in-Forall.is c.deref-in-Forall.ensures, c.decreases), within)
+
+pub put_effect-put_effect-requires-in-When : goal.put_effect-put_effect-requires-in-When
+put_effect-put_effect-requires-in-When g t c κs within = (omega (arith, under_when g.row.A g.A.Allocator g.A.laws c.args.effect.now c.deref-in-When.result.now c.in-When.condition c.in-When.part c.in-When.is c.deref-in-When.ensures, c.decreases), within)
+
+pub put_effect-put_effects-requires : goal.put_effect-put_effects-requires
+put_effect-put_effects-requires g t c κs within = (omega (arith, under_all g.row.A g.A.Allocator g.A.laws c.args.effect.now c.in-And.parts c.in-And.is, c.decreases), within)
+
+pub put_effects-put_effect-requires : goal.put_effects-put_effect-requires
+put_effects-put_effect-requires g t c κs within =
+    let depth = the_size g.row.A g.A.Allocator g.A.laws in
+    let slice = c.deref-effect-items.result.now in
+    let same = ap (most depth) c.deref-effect-items.ensures.value in
+    (omega (arith, among depth slice c.loop-effect.effect-index c.effect-item.result c.loop-effect-test.true c.effect-item.is, same, c.decreases), within)
+
+pub put_effects-returns-clause-printed : goal.put_effects-returns-clause-printed
+put_effects-returns-clause-printed g t c =
+    let end : length c.args.effects.now.items ≤ c.loop-effect.effect-index = omega (arith, c.loop-effect-test.false, c.deref-effect-items.ensures.len) in
+    spaced_whole effect_view effect_text c.args.effects.now.items c.loop-effect.effect-index end c.loop-effect.invariant.printed
+
+pub put_effects-returns-clause-good : goal.put_effects-returns-clause-good
+put_effects-returns-clause-good g t c =
+    let end : length c.args.effects.now.items ≤ c.loop-effect.effect-index = omega (arith, c.loop-effect-test.false, c.deref-effect-items.ensures.len) in
+    whole_passes effect_view is_effect c.args.effects.now.items c.loop-effect.effect-index end c.loop-effect.invariant.good
