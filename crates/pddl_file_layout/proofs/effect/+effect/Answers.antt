@@ -5,7 +5,7 @@ use Rattle.pddl_effect.specs.Effects.{effect_view}
 use Rattle.pddl_file_layout.specs.FormulaValues.{is_effect}
 use Rattle.pddl_file_layout.specs.Inner.Texts.{effect_text}
 use Rattle.pddl_file_layout.proofs.Printed.{puts_on, puts_as, spaced_on, passes_on, spaced_whole, whole_passes}
-use Rattle.pddl_file_layout.proofs.Arms.{all_text, each_text, when_text, del_text, increase_text, all_good}
+use Rattle.pddl_file_layout.proofs.Arms.{all_text, each_text, when_text, add_text, del_text, increase_text, all_good, each_good, when_good, add_good, del_good, increase_good}
 use Rattle.pddl_effect.proofs.effect.Effect.TheLaws.{the_size}
 use Rattle.pddl_file_layout.proofs.Depths.{under_each, under_when, under_all, among}
 use Rattle.pddl_file_layout.proofs.effect.+effect.Goals as goal
@@ -73,3 +73,22 @@ pub put_effects-returns-clause-good : goal.put_effects-returns-clause-good
 put_effects-returns-clause-good g t c =
     let end : length c.args.effects.now.items ≤ c.loop-effect.effect-index = omega (arith, c.loop-effect-test.false, c.deref-effect-items.ensures.len) in
     whole_passes effect_view is_effect c.args.effects.now.items c.loop-effect.effect-index end c.loop-effect.invariant.good
+
+pub put_effect-returns-in-Add-clause-printed : goal.put_effect-returns-in-Add-clause-printed
+put_effect-returns-in-Add-clause-printed g t c = puts_as (add_text c.args.effect.now c.in-Add.atom c.in-Add.is) c.put_atom.ensures.printed
+
+pub put_effect-returns-in-Add-clause-good : goal.put_effect-returns-in-Add-clause-good
+put_effect-returns-in-Add-clause-good g t c = add_good c.args.effect.now c.in-Add.atom c.in-Add.is c.put_atom.ensures.good
+
+pub put_effect-returns-in-Del-clause-good : goal.put_effect-returns-in-Del-clause-good
+put_effect-returns-in-Del-clause-good g t c = del_good c.args.effect.now c.in-Del.atom c.in-Del.is c.put_atom-in-Del.ensures.good
+
+pub put_effect-returns-in-Increase-clause-good : goal.put_effect-returns-in-Increase-clause-good
+put_effect-returns-in-Increase-clause-good g t c = increase_good c.args.effect.now c.in-Increase.amount c.in-Increase.is c.put_amount.ensures.good
+
+pub put_effect-returns-in-Forall-clause-good : goal.put_effect-returns-in-Forall-clause-good
+put_effect-returns-in-Forall-clause-good g t c =
+    each_good c.args.effect.now c.deref-in-Forall.result.now c.deref.result.now c.in-Forall.variables c.in-Forall.part c.in-Forall.is c.deref.ensures.value c.deref-in-Forall.ensures c.put_variables.ensures.good c.put_effect.ensures.good
+
+pub put_effect-returns-in-When-clause-good : goal.put_effect-returns-in-When-clause-good
+put_effect-returns-in-When-clause-good g t c = when_good c.args.effect.now c.deref-in-When.result.now c.in-When.condition c.in-When.part c.in-When.is c.deref-in-When.ensures c.put_formula.ensures.good c.put_effect-in-When.ensures.good
