@@ -38,11 +38,11 @@ pub variables_cons : {A : Type 0} (xs : List (Typed A)) (x : Typed A) → 0 < le
 variables_cons {A} xs x some is =
     ap (λ (ys : List (Typed A)). codes "(" ++ (typed_text (codes "?") (typed_view x) ++ (spaced_by (typed_text (codes "?")) (map typed_view ys) ++ codes ")"))) (rest_is 1 xs) ∙ whole_text xs x some is
 
-pub no_variables : {A : Type 0} (xs : List (Typed A)) → length xs ≡ 0 → codes "()" ≡ variables_text (map typed_view xs)
+pub no_variables : {A : Type 0} (xs : List (Typed A)) → length xs < 1 → codes "()" ≡ variables_text (map typed_view xs)
 no_variables [] none = refl
 no_variables (x ∷ xs) none = absurd (omega (arith, none))
 
-pub none_good : {A : Type 0} (xs : List (Typed A)) → length xs ≡ 0 → list_all is_typed (map typed_view xs) ≡ true
+pub none_good : {A : Type 0} (xs : List (Typed A)) → length xs < 1 → list_all is_typed (map typed_view xs) ≡ true
 none_good [] none = refl
 none_good (x ∷ xs) none = absurd (omega (arith, none))
 
