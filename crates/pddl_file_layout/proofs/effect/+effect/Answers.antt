@@ -4,7 +4,7 @@ use Rattle.pddl_effect.specs.declared.effect.Effect.{Effect}
 use Rattle.pddl_effect.specs.Effects.{effect_view}
 use Rattle.pddl_file_layout.specs.FormulaValues.{is_effect}
 use Rattle.pddl_file_layout.specs.Inner.Texts.{effect_text}
-use Rattle.pddl_file_layout.proofs.Printed.{puts_on, puts_as, spaced_on, passes_on, spaced_whole, whole_passes}
+use Rattle.pddl_file_layout.proofs.Printed.{puts_nothing, puts_on, puts_as, spaced_on, passes_on, spaced_whole, whole_passes}
 use Rattle.pddl_file_layout.proofs.Arms.{all_text, each_text, when_text, add_text, del_text, increase_text, all_good, each_good, when_good, add_good, del_good, increase_good}
 use Rattle.pddl_effect.proofs.effect.Effect.TheLaws.{the_size}
 use Rattle.pddl_file_layout.proofs.Depths.{under_each, under_when, under_all, among}
@@ -92,3 +92,6 @@ put_effect-returns-in-Forall-clause-good g t c =
 
 pub put_effect-returns-in-When-clause-good : goal.put_effect-returns-in-When-clause-good
 put_effect-returns-in-When-clause-good g t c = when_good c.args.effect.now c.deref-in-When.result.now c.in-When.condition c.in-When.part c.in-When.is c.deref-in-When.ensures c.put_formula.ensures.good c.put_effect-in-When.ensures.good
+
+pub put_effects-loop-effect-init : goal.put_effects-loop-effect-init
+put_effects-loop-effect-init g t c = record { printed = puts_nothing _ _ _; good = refl }

@@ -2,7 +2,7 @@ use Rattle.std.proofs.Common.{◌<◌, length, refl, arith}
 use Rattle.pddl_formula.specs.Formulas.{formula_view}
 use Rattle.pddl_file_layout.specs.FormulaValues.{is_formula}
 use Rattle.pddl_file_layout.specs.Inner.Texts.{formula_text}
-use Rattle.pddl_file_layout.proofs.Printed.{puts_on, puts_as, spaced_on, passes_on, spaced_whole, whole_passes}
+use Rattle.pddl_file_layout.proofs.Printed.{puts_nothing, puts_on, puts_as, spaced_on, passes_on, spaced_whole, whole_passes}
 use Rattle.pddl_file_layout.proofs.Arms.{atom_shown, equal_text, not_text, imply_text, and_text, or_text, exists_text, forall_text, atom_good, equal_good, not_good, imply_good, and_good, or_good, exists_good, forall_good}
 use Rattle.pddl_formula.proofs.formula.Formula.TheLaws.{the_size}
 use Rattle.pddl_file_layout.proofs.Depths.{under_not, under_imply, under_and, under_or, under_exists, under_forall, among}
@@ -113,3 +113,6 @@ put_formula-put_formula-requires-in-Forall g t c κs within = (omega (arith, und
 
 pub put_formulas-put_formula-requires : goal.put_formulas-put_formula-requires
 put_formulas-put_formula-requires g t c κs within = (omega (arith, among (λ f. the_size g.row.A g.A.Allocator g.A.laws f) c.args.formulas.now c.loop-formula.formula-index c.formula-item.result c.loop-formula-test.true c.formula-item.is, c.decreases), within)
+
+pub put_formulas-loop-formula-init : goal.put_formulas-loop-formula-init
+put_formulas-loop-formula-init g t c = record { printed = puts_nothing _ _ _; good = refl }
