@@ -8,7 +8,7 @@ use Rattle.pddl_file_layout.proofs.domain.put_actions.Goals as goal
 pub loop-action-preserved : goal.loop-action-preserved
 loop-action-preserved g c =
     let l = c.loop-action in
-    let lt : l.action-index < length c.args.actions.now = omega arith in
+    let lt = c.loop-action-test.true in
     record {
       printed = element_on action_view action_lines c.args.actions.now l.action-index c.action-item.result lt c.action-item.is l.invariant.printed c.put_action.ensures.printed;
       good = passes_on action_view is_action c.args.actions.now l.action-index c.action-item.result lt c.action-item.is l.invariant.good c.put_action.ensures.good;

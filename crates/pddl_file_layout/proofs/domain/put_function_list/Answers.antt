@@ -8,7 +8,7 @@ use Rattle.pddl_file_layout.proofs.domain.put_function_list.Goals as goal
 pub loop-declared-preserved : goal.loop-declared-preserved
 loop-declared-preserved g c =
     let l = c.loop-declared in
-    let lt : l.declared-index < length c.args.functions.now = omega arith in
+    let lt = c.loop-declared-test.true in
     record {
       printed = spaced_on function_view function_text c.args.functions.now l.declared-index c.declared-item.result lt c.declared-item.is l.invariant.printed c.put.ensures c.put_function.ensures.printed;
       good = passes_on function_view is_declared_function c.args.functions.now l.declared-index c.declared-item.result lt c.declared-item.is l.invariant.good c.put_function.ensures.good;

@@ -8,7 +8,7 @@ use Rattle.pddl_file_layout.proofs.domain.put_predicate_list.Goals as goal
 pub loop-declared-preserved : goal.loop-declared-preserved
 loop-declared-preserved g c =
     let l = c.loop-declared in
-    let lt : l.declared-index < length c.args.predicates.now = omega arith in
+    let lt = c.loop-declared-test.true in
     record {
       printed = spaced_on predicate_view signature_text c.args.predicates.now l.declared-index c.declared-item.result lt c.declared-item.is l.invariant.printed c.put.ensures c.put_predicate.ensures.printed;
       good = passes_on predicate_view is_declared_predicate c.args.predicates.now l.declared-index c.declared-item.result lt c.declared-item.is l.invariant.good c.put_predicate.ensures.good;

@@ -10,7 +10,7 @@ use Rattle.pddl_file_layout.proofs.domain.put_type_list.Goals as goal
 pub loop-declared-preserved : goal.loop-declared-preserved
 loop-declared-preserved g c =
     let l = c.loop-declared in
-    let lt : l.declared-index < length c.args.types.now = omega arith in
+    let lt = c.loop-declared-test.true in
     let x = c.declared-item.result in
     record {
       printed = spaced_on type_view declared_type_text c.args.types.now l.declared-index x lt c.declared-item.is l.invariant.printed c.put.ensures

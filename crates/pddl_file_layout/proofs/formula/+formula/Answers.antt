@@ -51,7 +51,7 @@ put_formula-returns-in-Forall-clause-printed g t c =
 pub put_formulas-loop-formula-preserved : goal.put_formulas-loop-formula-preserved
 put_formulas-loop-formula-preserved g t c =
     let l = c.loop-formula in
-    let lt : l.formula-index < length c.args.formulas.now = omega arith in
+    let lt = c.loop-formula-test.true in
     record {
       printed = spaced_on formula_view formula_text c.args.formulas.now l.formula-index c.formula-item.result lt c.formula-item.is l.invariant.printed c.put.ensures c.put_formula.ensures.printed;
       good = passes_on formula_view is_formula c.args.formulas.now l.formula-index c.formula-item.result lt c.formula-item.is l.invariant.good c.put_formula.ensures.good;

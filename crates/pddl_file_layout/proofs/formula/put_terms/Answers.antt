@@ -8,7 +8,7 @@ use Rattle.pddl_file_layout.proofs.formula.put_terms.Goals as goal
 pub loop-term-preserved : goal.loop-term-preserved
 loop-term-preserved g c =
     let l = c.loop-term in
-    let lt : l.term-index < length c.args.terms.now = omega arith in
+    let lt = c.loop-term-test.true in
     record {
       printed = spaced_on term_view term_text c.args.terms.now l.term-index c.term-item.result lt c.term-item.is l.invariant.printed c.put.ensures c.put_term.ensures.printed;
       good = passes_on term_view is_term c.args.terms.now l.term-index c.term-item.result lt c.term-item.is l.invariant.good c.put_term.ensures.good;

@@ -8,7 +8,7 @@ use Rattle.pddl_file_layout.proofs.problem.put_init.Goals as goal
 pub loop-item-preserved : goal.loop-item-preserved
 loop-item-preserved g c =
     let l = c.loop-item in
-    let lt : l.item-index < length c.args.items.now = omega arith in
+    let lt = c.loop-item-test.true in
     record {
       printed = spaced_on init_view init_text c.args.items.now l.item-index c.item-item.result lt c.item-item.is l.invariant.printed c.put.ensures c.put_init_item.ensures.printed;
       good = passes_on init_view is_init c.args.items.now l.item-index c.item-item.result lt c.item-item.is l.invariant.good c.put_init_item.ensures.good;
