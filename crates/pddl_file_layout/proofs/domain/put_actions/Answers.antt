@@ -1,4 +1,4 @@
-use Rattle.std.proofs.Common.{◌<◌, length, refl, arith}
+use Rattle.std.proofs.Common.{refl}
 use Rattle.pddl_domain.specs.Actions.{action_view}
 use Rattle.pddl_file_layout.specs.DomainLayout.{is_action}
 use Rattle.pddl_file_layout.specs.Inner.Texts.{action_lines}

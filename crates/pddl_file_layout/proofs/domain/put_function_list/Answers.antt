@@ -1,4 +1,3 @@
-use Rattle.std.proofs.Common.{◌<◌, length, arith}
 use Rattle.pddl_domain.specs.Declarations.{function_view}
 use Rattle.pddl_file_layout.specs.DomainLayout.{is_declared_function}
 use Rattle.pddl_file_layout.specs.Inner.Texts.{function_text}

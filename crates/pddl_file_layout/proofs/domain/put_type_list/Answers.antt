@@ -1,4 +1,3 @@
-use Rattle.std.proofs.Common.{◌<◌, length, arith}
 use Rattle.pddl_domain.specs.Declarations.{type_view}
 use Rattle.pddl_formula.specs.Reserved.{is_type_name}
 use Rattle.pddl_file_layout.specs.DomainLayout.{is_declared_type}

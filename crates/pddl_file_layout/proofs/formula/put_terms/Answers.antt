@@ -1,4 +1,3 @@
-use Rattle.std.proofs.Common.{◌<◌, length, arith}
 use Rattle.pddl_formula.specs.Terms.{term_view}
 use Rattle.pddl_file_layout.specs.FormulaValues.{is_term}
 use Rattle.pddl_file_layout.specs.Inner.Texts.{term_text}

@@ -1,4 +1,3 @@
-use Rattle.std.proofs.Common.{◌<◌, length, arith}
 use Rattle.pddl_formula.specs.TypedLists.{typed_view}
 use Rattle.pddl_file_layout.specs.FormulaValues.{is_typed}
 use Rattle.pddl_file_layout.specs.Inner.Texts.{typed_text}

@@ -1,4 +1,3 @@
-use Rattle.std.proofs.Common.{◌<◌, length, arith}
 use Rattle.pddl_problem.specs.Inits.{init_view}
 use Rattle.pddl_file_layout.specs.ProblemLayout.{is_init}
 use Rattle.pddl_file_layout.specs.Inner.Texts.{init_text}
