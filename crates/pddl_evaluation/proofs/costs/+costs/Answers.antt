@@ -1,6 +1,5 @@
-use Rattle.std.proofs.Common.{◌≡◌, ◌∷◌, subst, sym, refl}
+use Rattle.std.proofs.Common.{◌≡◌, subst, sym, refl}
 use Rattle.std.specs.Prelude.{IfOk}
-use Rattle.std.specs.List.{sum_by}
 use Rattle.pddl_compiled.specs.CompiledMeaning.{spent, spent_in}
 use Rattle.pddl_compiled.specs.Views.{change_view, changes_view, frame_view}
 use Rattle.pddl_evaluation.specs.Costs.{increases_of, increases_in, IsWithin}
