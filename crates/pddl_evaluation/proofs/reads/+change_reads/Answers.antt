@@ -1,9 +1,11 @@
-use Rattle.std.proofs.Common.{◌≡◌, ◌||◌, ap, subst, sym, ◌∙◌, refl}
+use Rattle.std.proofs.Common.{arith, ◌≡◌, ◌||◌, ap, subst, sym, ◌∙◌, refl}
 use Rattle.std.specs.Prelude.{OnOk}
 use Rattle.pddl_state.specs.Atoms.{AtomValue, atom_eq}
 use Rattle.pddl_compiled.specs.Views.{condition_view, change_view, changes_view, frame_view}
 use Rattle.pddl_compiled.specs.CompiledMeaning.{some_tested}
 use Rattle.pddl_evaluation.specs.Reads.{tested_by, tested_by_all}
+use Rattle.pddl_compiled.proofs.compiled.Change.TheLaws.{the_size}
+use Rattle.pddl_evaluation.proofs.Depths.{under_all, among}
 use Rattle.pddl_evaluation.proofs.Views.{view-Both, view-When, view-Each}
 use Rattle.pddl_evaluation.proofs.More.{one_more, both_more, on_ok}
 use Rattle.pddl_evaluation.proofs.reads.+change_reads.Goals as goal
@@ -38,3 +40,11 @@ add_change_reads-returns-in_ok-add_reads-in-When-clause-ok g t c =
     on_ok c.add_change_reads.result c.add_change_reads.ensures.ok
     (λ put x. both_more (some_tested (condition_view c.in-When.condition) (atom_eq x) env) (tested_by (change_view c.deref-in-When.result.now) (atom_eq x) env) (content c.args.store.now c.args.into.now x) (content first.store first.into x) (content second.store second.into x) (c.in_ok-add_reads-in-When.ensures.ok x) (put x)
     ∙ ap (λ v. tested_by v (atom_eq x) env || content c.args.store.now c.args.into.now x) (sym seen))
+
+pub add_change_reads-add_changes_reads-requires : goal.add_change_reads-add_changes_reads-requires
+add_change_reads-add_changes_reads-requires g t c κs within =
+    (omega (arith, under_all g.row.A g.A.Allocator g.A.laws c.args.change.now c.deref.result.now c.in-And.parts c.in-And.is c.deref.ensures.value, c.decreases), (within.0, (within.1.0, (within.1.1.0, (within.1.1.1, c.requires)))))
+
+pub add_changes_reads-add_change_reads-requires : goal.add_changes_reads-add_change_reads-requires
+add_changes_reads-add_change_reads-requires g t c κs within =
+    (omega (arith, among (λ e. the_size g.row.A g.A.Allocator g.A.laws e) c.args.changes.now c.loop-change.change-index c.change-item.result c.loop-change-test.true c.change-item.is, c.decreases), (within.0, (within.1.0, (within.1.1.0, (within.1.1.1, c.loop-change.invariant.own)))))

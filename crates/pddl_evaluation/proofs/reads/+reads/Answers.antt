@@ -1,8 +1,10 @@
-use Rattle.std.proofs.Common.{◌≡◌, ◌||◌, ap, subst, sym, ◌∙◌, refl}
+use Rattle.std.proofs.Common.{arith, ◌≡◌, ◌||◌, ap, subst, sym, ◌∙◌, refl}
 use Rattle.std.specs.Prelude.{OnOk}
 use Rattle.pddl_state.specs.Atoms.{AtomValue, atom_eq}
 use Rattle.pddl_compiled.specs.Views.{condition_view, conditions_view, frame_view}
 use Rattle.pddl_compiled.specs.CompiledMeaning.{some_tested, some_tested_in}
+use Rattle.pddl_compiled.proofs.compiled.Condition.TheLaws.{the_size}
+use Rattle.pddl_evaluation.proofs.Depths.{under_and, under_or, among}
 use Rattle.pddl_evaluation.proofs.Views.{view-And, view-Or, view-Imply, view-Exists, view-Forall}
 use Rattle.pddl_evaluation.proofs.More.{one_more, both_more, on_ok}
 use Rattle.pddl_evaluation.proofs.reads.+reads.Goals as goal
@@ -49,3 +51,15 @@ add_reads-returns-in_ok-add_reads-in-Imply-clause-ok g t c =
     on_ok c.add_reads-in-Imply-2.result c.add_reads-in-Imply-2.ensures.ok
     (λ put x. both_more (some_tested (condition_view c.deref-in-Imply.result.now) (atom_eq x) env) (some_tested (condition_view c.deref-in-Imply-2.result.now) (atom_eq x) env) (content c.args.store.now c.args.into.now x) (content first.store first.into x) (content second.store second.into x) (c.in_ok-add_reads-in-Imply.ensures.ok x) (put x)
     ∙ ap (λ v. some_tested v (atom_eq x) env || content c.args.store.now c.args.into.now x) (sym seen))
+
+pub add_reads-add_all_reads-requires : goal.add_reads-add_all_reads-requires
+add_reads-add_all_reads-requires g t c κs within =
+    (omega (arith, under_and g.row.A g.A.Allocator g.A.laws c.args.condition.now c.deref-in-And.result.now c.in-And.parts c.in-And.is c.deref-in-And.ensures.value, c.decreases), (within.0, (within.1.0, (within.1.1.0, (within.1.1.1, c.requires)))))
+
+pub add_reads-add_all_reads-requires-in-Or : goal.add_reads-add_all_reads-requires-in-Or
+add_reads-add_all_reads-requires-in-Or g t c κs within =
+    (omega (arith, under_or g.row.A g.A.Allocator g.A.laws c.args.condition.now c.deref-in-Or.result.now c.in-Or.parts c.in-Or.is c.deref-in-Or.ensures.value, c.decreases), (within.0, (within.1.0, (within.1.1.0, (within.1.1.1, c.requires)))))
+
+pub add_all_reads-add_reads-requires : goal.add_all_reads-add_reads-requires
+add_all_reads-add_reads-requires g t c κs within =
+    (omega (arith, among (λ f. the_size g.row.A g.A.Allocator g.A.laws f) c.args.conditions.now c.loop-condition.condition-index c.condition-item.result c.loop-condition-test.true c.condition-item.is, c.decreases), (within.0, (within.1.0, (within.1.1.0, (within.1.1.1, c.loop-condition.invariant.own)))))
