@@ -4,3 +4,5 @@ pub mod Verdicts
 pub mod PassedParts
 pub mod ViewTurns
 pub mod PutValues
+pub mod BoundTypes
+pub mod FoundFaults

@@ -2,22 +2,13 @@
 use Rattle.std.proofs.Common.{◌≡◌, ℕ, ◌+◌, ◌<◌, ◌≤◌, Bool, true, false, not, cond, List, [], ◌∷◌, map, filter, length, get_or, drop, refl, sym, ap, ◌∙◌, subst, arith, add-one, drop-cons}
 use Rattle.std.specs.Prelude.{Contains, nat_lt}
 use Rattle.std.proofs.lemmas.List.{drop_all}
-use Rattle.pddl_domain.specs.Declarations.{FunctionValue, number}
-use Rattle.pddl_task.specs.Names.{Name, same_names}
-
--- the words of some functions, as of those of a domain
-abbrev pub fluents_in : List FunctionValue → List Name
-fluents_in fs = map (λ f. f.item.name) (filter (λ f. not (same_names f.of number)) fs)
+use Rattle.pddl_task.specs.Names.{Name}
 
 kept_front : {Y : Type 0} (test : Y → Bool) (word : Y → Name) (y : Y) (rest : List Y) (whole : List Name)
     → map word (filter test (y ∷ rest)) ≡ whole → test y ≡ true → Contains whole (word y)
 kept_front test word y rest whole is holds =
     let front : word y ∷ map word (filter test rest) ≡ whole = ap (λ b. map word (cond b (y ∷ filter test rest) (filter test rest))) (sym holds) ∙ is in
     subst (λ ws. Contains ws (word y)) front (0, omega arith, refl)
-
-kept_behind : {Y : Type 0} (test : Y → Bool) (word : Y → Name) (y : Y) (rest : List Y) (whole : List Name)
-    → map word (filter test (y ∷ rest)) ≡ whole → test y ≡ false → map word (filter test rest) ≡ whole
-kept_behind test word y rest whole is fails = ap (λ b. map word (cond b (y ∷ filter test rest) (filter test rest))) (sym fails) ∙ is
 
 front : {X Y : Type 0} (view : X → Y) (xs : List X) (i : ℕ) (x : X) → i < length xs → map view (drop i xs) ≡ view (get_or xs i x) ∷ map view (drop (i + 1) xs)
 front view xs i x h = rw (add-one, drop-cons xs i x) refl
@@ -35,15 +26,6 @@ found_at view test word items xs i x w whole same h at is_word holds is =
     let here : x ≡ get_or xs i x = at ∙ ap (λ (ys : List _). get_or ys i x) same in
     subst (λ v. Contains whole v) (sym is_word)
     (kept_front test word (view x) (map view (drop (i + 1) xs)) whole (sym (ap (λ ys. map word (filter test ys)) (views_drop view xs i x lt here)) ∙ is) holds)
-
--- or it does not, and the walk goes on
-pub passed_at : {X Y : Type 0} (view : X → Y) (test : Y → Bool) (word : Y → Name) (items xs : List X) (i : ℕ) (x : X) (whole : List Name)
-    → items ≡ xs → i < length items → x ≡ get_or items i x → test (view x) ≡ false
-    → map word (filter test (map view (drop i xs))) ≡ whole → map word (filter test (map view (drop (i + 1) xs))) ≡ whole
-passed_at view test word items xs i x whole same h at fails is =
-    let lt : i < length xs = subst (λ (ys : List _). i < length ys) same h in
-    let here : x ≡ get_or xs i x = at ∙ ap (λ (ys : List _). get_or ys i x) same in
-    kept_behind test word (view x) (map view (drop (i + 1) xs)) whole (sym (ap (λ ys. map word (filter test ys)) (views_drop view xs i x lt here)) ∙ is) fails
 
 -- or it has come to the end
 pub none_left : {X Y : Type 0} (view : X → Y) (test : Y → Bool) (word : Y → Name) (items xs : List X) (i : ℕ) (whole : List Name)

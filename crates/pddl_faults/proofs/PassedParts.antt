@@ -17,7 +17,3 @@ pass_front n xs ys whole e is h = subst (λ ws. Passes {T = Unit {0}} n ws (Err 
 -- where the first part has none, the rest decides
 pub pass_back : (n : ℕ) (xs ys whole : List Name) (r : Result (Unit {0}) LinkFault) → whole ≡ xs ++ ys → xs ≡ [] → Passes n ys r → Passes n whole r
 pass_back n xs ys whole r is none h = subst (λ ws. Passes n ws r) (sym (is ∙ ap (λ zs. zs ++ ys) none)) h
-
--- what is looked for in the same words is found as in them
-pub pass_same : (n : ℕ) (xs whole : List Name) (r : Result (Unit {0}) LinkFault) → whole ≡ xs → Passes n xs r → Passes n whole r
-pass_same n xs whole r is h = subst (λ ws. Passes n ws r) (sym is) h

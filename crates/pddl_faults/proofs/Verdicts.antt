@@ -8,8 +8,7 @@ use Rattle.pddl_task.specs.Linked.{Fault, fault, NoneStands, IsLowest}
 use Rattle.pddl_task.proofs.Lists.{and_left, and_right}
 use Rattle.pddl_task.proofs.LowestFault.{lowest_later, none_stand, first_is_lowest}
 use Rattle.pddl_faults.specs.declared.fault.LinkFault.{LinkFault}
-use Rattle.std.specs.Result.{result_and}
-use Rattle.pddl_faults.specs.Passes.{fault_of, Passes, Verdict, Settles}
+use Rattle.pddl_faults.specs.Passes.{fault_of, Passes, Verdict}
 
 -- the faults of a list have numbers from this one on
 abbrev pub From : ℕ → List Fault → Type 0
@@ -44,12 +43,6 @@ pub found_at : (before : List Fault) (n : ℕ) (words : List Name) (after : List
     → Passes {T = Unit {0}} n words (Err e) → Verdict {T = Unit {0}} (before ++ fault n words ∷ after) (Err e)
 found_at before n words after e none from h = some_at before n words after (fault_of e) none from h
 
--- the pass for the last fault that can stand decides
-pub decided_last : (before : List Fault) (n : ℕ) (words : List Name) (after : List Fault) (r : Result (Unit {0}) LinkFault) → NoneStands before → NoneStands after → From n after
-    → Passes n words r → Verdict (before ++ fault n words ∷ after) r
-decided_last before n words after (Ok u) none more from h = none_behind before (fault n words ∷ after) none (h, more)
-decided_last before n words after (Err e) none more from h = some_at before n words after (fault_of e) none from h
-
 lowest_behind : (f : Fault) (fs : List Fault) (m : ℕ) (w : Name) → f.words ≡ [] → IsLowest fs m w → IsLowest (f ∷ fs) m w
 lowest_behind f fs m w none low = lowest_later f fs m w low (λ v c. absurd (none_stand (f ∷ []) f.number v (none, tt) (f, (0, omega arith, refl), refl, c)))
 
@@ -65,22 +58,3 @@ some_after before fs (Some f) none h = lowest_after before fs f.0 f.1 none h
 pub decided_after : {T : Type 0} (before fs : List Fault) (r : Result T LinkFault) → NoneStands before → Verdict fs r → Verdict (before ++ fs) r
 decided_after before fs (Ok u) none h = none_behind before fs none h
 decided_after before fs (Err e) none h = some_after before fs (fault_of e) none h
-
-some_other : (n m : ℕ) (words others : List Name) (o : Option (ℕ × Name)) → words ≡ [] → IfSome o (λ f. (f.0 ≡ n) × Contains words f.1) → IfSome o (λ f. (f.0 ≡ m) × Contains others f.1)
-some_other n m words others None none h = tt
-some_other n m words others (Some f) none h = absurd (none_stand (fault n words ∷ []) n f.1 (none, tt) (fault n words, (0, omega arith, refl), refl, h.1))
-
--- a pass for a fault that does not stand finds nothing
-pub not_found : (n m : ℕ) (words others : List Name) (e : LinkFault) → words ≡ [] → Passes {T = Unit {0}} n words (Err e) → Passes {T = Unit {0}} m others (Err e)
-not_found n m words others e none h = some_other n m words others (fault_of e) none h
-
--- what is answered with a value, once the value passed, settles what the pass does
-pub settled_with : {T U : Type 0} (first all : List Fault) (r : Result U LinkFault) (value : T) → Settles first all r → Settles first all (result_and r (Ok value))
-settled_with first all (Ok u) value h = h
-settled_with first all (Err e) value h = h
-
--- what the last pass of the first faults finds settles them
-pub settled_last : (before : List Fault) (n : ℕ) (words : List Name) (after : List Fault) (r : Result (Unit {0}) LinkFault) → NoneStands before → From n after
-    → Passes n words r → Settles (before ++ fault n words ∷ []) (before ++ fault n words ∷ after) r
-settled_last before n words after (Ok u) none from h = none_behind before (fault n words ∷ []) none (h, tt)
-settled_last before n words after (Err e) none from h = some_at before n words after (fault_of e) none from h

@@ -31,7 +31,3 @@ Passes n words r = MatchResult r (λ _. words ≡ []) (λ e. IfSome (fault_of e)
 -- none of the faults stands, or the lowest of those that do is answered, with one of its words
 abbrev pub Verdict : {T : Type 0} → List Fault → Result T LinkFault → Type 0
 Verdict fs r = MatchResult r (λ _. NoneStands fs) (λ e. IfSome (fault_of e) (λ f. IsLowest fs f.0 f.1))
-
--- none of the first faults stands, or the lowest of all that do is answered, with one of its words
-abbrev pub Settles : {T : Type 0} → List Fault → List Fault → Result T LinkFault → Type 0
-Settles first all r = MatchResult r (λ _. NoneStands first) (λ e. IfSome (fault_of e) (λ f. IsLowest all f.0 f.1))

@@ -1,6 +1,8 @@
 //! Why files are not linked.
 
 ghost use Rattle.std.specs.Prelude.{◌≡◌};
+ghost use Rattle.std.specs.Option.{option_map_or};
+ghost use Rattle.pddl_faults.specs.Passes.{fault_of};
 ghost use Rattle.pddl_faults.specs.declared.fault.LinkFault.TheVariants.{Memory};
 
 use std::alloc::{AllocError, AllocFailed};
@@ -58,6 +60,32 @@ pub enum LinkFault<'d> {
     /// 35: the goal's ground size is over 1,000,000.
     #[error("the goal is too large")]
     GoalTooLarge,
+}
+
+impl<'d> LinkFault<'d> {
+    /// Its number, or 0 where memory was refused.
+    pub fn number(&self) -> u8
+        ensures { result ≡ option_map_or (λ f. f.0) (fault_of self.now) 0 }
+    {
+        match self {
+            LinkFault::Memory => 0,
+            LinkFault::DomainName(_) => 20,
+            LinkFault::TypeTwice(_) => 21,
+            LinkFault::TypeCycle(_) => 22,
+            LinkFault::UnknownType(_) => 23,
+            LinkFault::NameTwice(_) => 24,
+            LinkFault::ObjectTypes(_) => 25,
+            LinkFault::UnknownName(_) => 26,
+            LinkFault::Arity(_) => 27,
+            LinkFault::ArgumentType(_) => 28,
+            LinkFault::InitContradiction(_) => 29,
+            LinkFault::FractionalCost(_) => 30,
+            LinkFault::CostValue(_) => 31,
+            LinkFault::ObjectFluent(_) => 32,
+            LinkFault::Metric => 33,
+            LinkFault::GoalTooLarge => 35,
+        }
+    }
 }
 
 impl<'d> From<AllocError> for LinkFault<'d> {

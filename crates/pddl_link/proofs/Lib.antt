@@ -1,5 +1,4 @@
 pub mod CostValues
-pub mod GoalSizes
 pub mod Settings
-pub mod OkResults
-pub mod FunctionNames
+pub mod Stages
+pub mod OnceNamed

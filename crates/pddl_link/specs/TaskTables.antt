@@ -26,13 +26,18 @@ files d p = record { domain = d; problem = p }
 abbrev pub task_in : Files → TaskValue
 task_in f = task_of f.domain f.problem
 
--- two files are linked, and the tables hold what they declare
-pub record AreTablesOf {A : Type 0} (d : DomainValue) (p : ProblemValue) (types : List TypeValue) (predicates : List (Bor (List ℕ) × Bor (List (Typed A))))
+-- tables hold what two files declare beside types
+pub record HoldBehindTypes {A : Type 0} (d : DomainValue) (p : ProblemValue) (types : List TypeValue) (predicates : List (Bor (List ℕ) × Bor (List (Typed A))))
     (objects : List (Bor (List ℕ) × Bor (Typed A))) (counts : List Row) (values : List (GroundValue × ℕ)) : Type 0 where
-  pub linked : IsLinked d p
-  pub types_are : types ≡ d.types
   pub predicates_are : map signature_in predicates ≡ d.predicates
   pub objects_are : map object_in objects ≡ objects_of d p
   pub objects_named : AreNamed objects
   pub counts_are : AreCountsOf types (map object_in objects) counts
   pub values_are : HoldsValues p.init values
+
+-- two files are linked, and the tables hold what they declare
+pub record AreTablesOf {A : Type 0} (d : DomainValue) (p : ProblemValue) (types : List TypeValue) (predicates : List (Bor (List ℕ) × Bor (List (Typed A))))
+    (objects : List (Bor (List ℕ) × Bor (Typed A))) (counts : List Row) (values : List (GroundValue × ℕ)) : Type 0 where
+  pub linked : IsLinked d p
+  pub types_are : types ≡ d.types
+  pub behind : HoldBehindTypes d p types predicates objects counts values

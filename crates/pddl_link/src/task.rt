@@ -14,14 +14,25 @@ ghost use Rattle.pddl_link.specs.TaskTables.{AreTablesOf};
 
 use pddl_domain::{Action, Domain};
 use pddl_formula::{Formula, TypeNames};
+use pddl_names::Declared;
 use pddl_problem::Problem;
 use pddl_search::{Ground, Values};
 use pddl_tree::Name;
 use pddl_types::{
-    FunctionNumbers, ObjectCounts, Objects, Signatures, SlotTops, TypeCounts, Types,
-    action_ground_size, fitting_objects, ground_size,
+    FunctionNumbers, ObjectCounts, Objects, SlotTops, TypeCounts, Types, action_ground_size,
+    fitting_objects, ground_size,
 };
 use std::alloc::{AllocError, Allocator};
+
+/// What a domain and a problem name, in tables that borrow from them: objects, predicates and functions, how many objects fit each type, and the
+/// values of functions of objects.
+#[derive(Drop)]
+pub(crate) struct Tables<'m, 'a, A: Allocator, B: Allocator> {
+    pub(crate) objects: Objects<'m, 'a, A, B>,
+    pub(crate) declared: Declared<'m, 'a, A, B>,
+    pub(crate) counts: TypeCounts<'m, 'a, B>,
+    pub(crate) values: Values<'m, 'a, A, B>,
+}
 
 /// What a domain and a problem that link say together.
 ///
@@ -32,11 +43,8 @@ pub struct Task<'m, 'a, A: Allocator, B: Allocator> {
     pub(crate) domain: &'m Domain<A>,
     pub(crate) problem: &'m Problem<A>,
     pub(crate) types: Types<'m, 'a, A, B>,
-    pub(crate) predicates: Signatures<'m, 'a, A, B>,
-    pub(crate) objects: Objects<'m, 'a, A, B>,
-    pub(crate) counts: TypeCounts<'m, 'a, B>,
-    pub(crate) values: Values<'m, 'a, A, B>,
-    ghost tables: { AreTablesOf (domain_view domain.now) (problem_view problem.now) types predicates.entries objects.entries counts.entries values.entries },
+    pub(crate) tables: Tables<'m, 'a, A, B>,
+    ghost held: { AreTablesOf (domain_view domain.now) (problem_view problem.now) types tables.declared.predicates.entries tables.objects.entries tables.counts.entries tables.values.entries },
 }
 
 impl<'m, 'a, A: Allocator, B: Allocator> Task<'m, 'a, A, B> {
@@ -79,14 +87,14 @@ impl<'m, 'a, A: Allocator, B: Allocator> Task<'m, 'a, A, B> {
     pub fn object_count(&self) -> usize
         ensures { result ≡ length (task_of_files self.now).objects }
     {
-        self.objects.len()
+        self.tables.objects.len()
     }
 
     /// How many predicates there are.
     pub fn predicate_count(&self) -> usize
         ensures { result ≡ length (task_of_files self.now).predicates }
     {
-        self.predicates.len()
+        self.tables.declared.predicates.len()
     }
 
     /// Its functions by name, in a table that is made anew.
@@ -130,7 +138,7 @@ impl<'m, 'a, A: Allocator, B: Allocator> Task<'m, 'a, A, B> {
         ensures { result ≡ option_map_or (λ o. fits (pairs (task_of_files self.now).types) o.of types.now)
             (slice_get (task_of_files self.now).objects object) false }
     {
-        match self.objects.get_index(object) {
+        match self.tables.objects.get_index(object) {
             Some((_, listed)) => self.types.fits_by(&listed.types, types, tops),
             None => false,
         }
@@ -154,7 +162,7 @@ impl<'m, 'a, A: Allocator, B: Allocator> Task<'m, 'a, A, B> {
     ) -> Result<Vec<usize, &'b C>, AllocError>
         ensures { IfOk result (λ numbers. numbers.items ≡ fitting_numbers (task_of_files self.now) types.now) }
     {
-        fitting_objects(alloc, &self.types, &self.objects, types)
+        fitting_objects(alloc, &self.types, &self.tables.objects, types)
     }
 
     /// The ground size of a formula over the task's objects, or 1,000,001 where it is over 1,000,000.
@@ -163,8 +171,8 @@ impl<'m, 'a, A: Allocator, B: Allocator> Task<'m, 'a, A, B> {
     {
         let counts = ObjectCounts {
             types: &self.types,
-            objects: &self.objects,
-            counts: &self.counts,
+            objects: &self.tables.objects,
+            counts: &self.tables.counts,
         };
         ground_size(&counts, formula)
     }
@@ -175,8 +183,8 @@ impl<'m, 'a, A: Allocator, B: Allocator> Task<'m, 'a, A, B> {
     {
         let counts = ObjectCounts {
             types: &self.types,
-            objects: &self.objects,
-            counts: &self.counts,
+            objects: &self.tables.objects,
+            counts: &self.tables.counts,
         };
         action_ground_size(&counts, action)
     }
@@ -186,7 +194,7 @@ impl<'m, 'a, A: Allocator, B: Allocator> Task<'m, 'a, A, B> {
         ensures { result ≡ cost_of (task_of_files self.now) (record { name = function.now; objects = map (λ o. o.now) objects.now }) }
     {
         let call = Ground::asked(function, objects);
-        match self.values.get(&call) {
+        match self.tables.values.get(&call) {
             Some(billionths) => Some(*billionths / 1_000_000_000),
             None => None,
         }
@@ -206,7 +214,7 @@ impl<'m, 'a, A: Allocator, B: Allocator> Task<'m, 'a, A, B> {
     pub fn object_name(&self, number: usize) -> Option<&Name<A>>
         ensures { option_map (λ name. name.now) result ≡ slice_get (object_names (task_of_files self.now)) number }
     {
-        match self.objects.get_index(number) {
+        match self.tables.objects.get_index(number) {
             Some((_, listed)) => Some(&listed.name),
             None => None,
         }
@@ -216,13 +224,13 @@ impl<'m, 'a, A: Allocator, B: Allocator> Task<'m, 'a, A, B> {
     pub fn object_number(&self, name: &[u8]) -> Option<usize>
         ensures { result ≡ position (bytes_eq name.now) (object_names (task_of_files self.now)) }
     {
-        self.objects.get_index_of(name)
+        self.tables.objects.get_index_of(name)
     }
 
     /// The number of the predicate of a name, or `None` where there is none.
     pub fn predicate_number(&self, name: &[u8]) -> Option<usize>
         ensures { result ≡ position (bytes_eq name.now) (predicate_names (task_of_files self.now)) }
     {
-        self.predicates.get_index_of(name)
+        self.tables.declared.predicates.get_index_of(name)
     }
 }

@@ -1,5 +1,9 @@
-pub mod ActionNames
+pub mod ActionFaults
+pub mod FoundParts
+pub mod GoalSizes
 pub mod ObjectTables
+pub mod RuleParts
+pub mod SeenNames
 pub mod Slots
-pub mod SoundInits
 pub mod UnknownTypes
+pub mod UseFaults

@@ -1,49 +1,58 @@
 -- Terms and their slots, in turn.
-use Rattle.std.proofs.Common.{◌≡◌, ℕ, suc, ◌+◌, ◌<◌, ◌≤◌, Bool, false, not, ◌||◌, List, [], ◌∷◌, ◌++◌, map, length, get_or, drop, min, Option, Some, None, refl, ap, sym, ◌∙◌, bytes_eq, arith, add-one, drop-cons, ◌⊎◌, inl, inr}
+use Rattle.std.proofs.Common.{◌≡◌, ℕ, suc, ◌+◌, ◌<◌, ◌≤◌, Bool, true, false, not, ◌&&◌, ◌||◌, List, [], ◌∷◌, ◌++◌, map, length, get_or, drop, Option, Some, None, refl, ap, sym, ◌∙◌, subst, arith, add-one, drop-cons}
 use Rattle.std.proofs.lemmas.List.{drop_all}
-use Rattle.std.proofs.lemmas.Bool.{cases_lt}
-use Rattle.std.specs.Prelude.{find, option_map}
+use Rattle.std.proofs.lemmas.List.Elements.{Contains-append_left}
+use Rattle.std.proofs.lemmas.Option.{same_Some}
+use Rattle.std.specs.Prelude.{Contains, find, is_some, option_map}
 use Rattle.std.specs.Borrow.{Bor}
 use Rattle.std.specs.List.{flat_map}
-use Rattle.std.specs.Map.{lookup}
-use Rattle.pddl_formula.specs.Terms.{TermValue}
-use Rattle.pddl_formula.specs.TypedLists.{TypedValue, typed_view}
-use Rattle.pddl_formula.specs.declared.type_names.Typed.{Typed}
-use Rattle.pddl_domain.specs.Declarations.{TypeValue, Signature}
-use Rattle.pddl_task.specs.Names.{Name}
+use Rattle.std.specs.Slice.{IsItemAt}
+use Rattle.pddl_formula.specs.Terms.{TermValue, name, variable}
+use Rattle.pddl_formula.specs.TypedLists.{TypedValue}
+use Rattle.pddl_domain.specs.Declarations.{TypeValue}
+use Rattle.pddl_task.specs.Names.{Name, is_in, is_named, item_of, word_if}
 use Rattle.pddl_task.specs.Types.{fits}
 use Rattle.pddl_task.specs.Settings.{Setting}
-use Rattle.pddl_task.specs.Faults.{primitives_of, typed_term, is_misfit, some_misfit, has_misfit}
-use Rattle.pddl_types.specs.KnownNames.{signature_in}
-use Rattle.pddl_types.proofs.Lookups.{signature_found}
+use Rattle.pddl_task.specs.Faults.{typed_term, unknown_term, is_misfit, some_misfit}
+use Rattle.pddl_task.proofs.Lists.{has_first}
+use Rattle.pddl_faults.specs.Parts.{term_name}
+use Rattle.pddl_faults.proofs.PutValues.{found_or}
+use Rattle.pddl_names.specs.Uses.{fit_of}
+
+-- ---- words that stand
+
+no_word : (part : List Name) (known : Bool) (w : Name) → part ≡ word_if (not known) w → known ≡ true → part ≡ []
+no_word part known w is told = is ∙ ap (λ b. word_if (not b) w) told
+
+one_word : (part : List Name) (known : Bool) (w : Name) → part ≡ word_if (not known) w → known ≡ false → Contains part w
+one_word part known w is told = subst (λ ws. Contains ws w) (sym (is ∙ ap (λ b. word_if (not b) w) told)) (has_first w [])
 
 -- ---- a term and its slot
 
--- what does not fit, where there is something of this type
-abbrev pub misfits : List TypeValue → Option (List Name) → List Name → Bool
-misfits ps None slot = false
-misfits ps (Some types) slot = not (fits ps types slot)
+some_named : (xs : List TypedValue) (n : Name) → is_some (find (is_named n) xs) ≡ is_in (map item_of xs) n
+some_named [] n = refl
+some_named (x ∷ xs) n = found_or (is_named n x) x (find (is_named n) xs) ∙ ap (λ b. is_named n x || b) (some_named xs n)
 
-pub misfit_is : (ps : List TypeValue) (x : Option TypedValue) (o : Option (List Name)) (slot : TypedValue) → o ≡ option_map primitives_of x → misfits ps o slot.of ≡ is_misfit ps x slot
-misfit_is ps None o slot is = ap (λ p. misfits ps p slot.of) is
-misfit_is ps (Some x) o slot is = ap (λ p. misfits ps p slot.of) is
+unknown_is : (s : Setting) (b : List TypedValue) (t : TermValue) → unknown_term s b t ≡ word_if (not (is_some (typed_term s b t))) (term_name t)
+unknown_is s b (name n) = ap (λ c. word_if (not c) n) (sym (some_named s.objects n))
+unknown_is s b (variable x) = ap (λ c. word_if (not c) x) (sym (some_named b x))
 
--- ---- what is declared with its terms
+fit_some : (ps : List TypeValue) (x slot : Option TypedValue) → is_some (fit_of ps x slot) ≡ is_some x
+fit_some ps None slot = refl
+fit_some ps (Some x) None = refl
+fit_some ps (Some x) (Some slot) = refl
 
--- some of these terms does not fit, where there are slots
-abbrev pub slots_misfit : Setting → List TypedValue → List TermValue → Option (List TypedValue) → Bool
-slots_misfit s b ts None = false
-slots_misfit s b ts (Some xs) = some_misfit s b ts xs
+unknown_by : (s : Setting) (b : List TypedValue) (t : TermValue) (slot : Option TypedValue) (r : Option Bool) → r ≡ fit_of s.pairs (typed_term s b t) slot
+    → unknown_term s b t ≡ word_if (not (is_some r)) (term_name t)
+unknown_by s b t slot r is = unknown_is s b t ∙ ap (λ c. word_if (not c) (term_name t)) (sym (ap is_some is ∙ fit_some s.pairs (typed_term s b t) slot))
 
-has_is : (s : Setting) (b : List TypedValue) (ts : List TermValue) (g : Option Signature) → has_misfit s b ts g ≡ slots_misfit s b ts (option_map (λ (h : Signature). h.parameters) g)
-has_is s b ts None = refl
-has_is s b ts (Some g) = refl
+slot_fits : (ps : List TypeValue) (x : Option TypedValue) (slot : TypedValue) (f : Bool) → Some f ≡ fit_of ps x (Some slot) → is_misfit ps x slot ≡ not f
+slot_fits ps None slot f h = cc
+slot_fits ps (Some x) slot f h = ap not (sym (same_Some f (fits ps x.of slot.of) h))
 
-pub has_found : {A : Type 0} (s : Setting) (b : List TypedValue) (ts : List TermValue) (es : List (Bor (List ℕ) × Bor (List (Typed A)))) (n : Name) (o : Option (Bor (List (Typed A)))) → o ≡ lookup (λ k. bytes_eq n k.now) es
-    → slots_misfit s b ts (option_map (λ (xs : Bor (List (Typed A))). map typed_view xs.now) o) ≡ has_misfit s b ts (find (λ g. bytes_eq n g.name) (map signature_in es))
-has_found {A} s b ts es n o is =
-    ap (λ q. slots_misfit s b ts (option_map (λ (xs : Bor (List (Typed A))). map typed_view xs.now) q)) is
-    ∙ ap (slots_misfit s b ts) (sym (signature_found es n)) ∙ sym (has_is s b ts (find (λ g. bytes_eq n g.name) (map signature_in es)))
+past_fits : (ps : List TypeValue) (x : Option TypedValue) (f : Bool) → Some f ≡ fit_of ps x None → f ≡ true
+past_fits ps None f h = cc
+past_fits ps (Some x) f h = same_Some f true h
 
 -- ---- terms and slots in turn
 
@@ -51,32 +60,59 @@ no_slots : (s : Setting) (b : List TypedValue) (ts : List TermValue) → some_mi
 no_slots s b [] = refl
 no_slots s b (t ∷ ts) = refl
 
-which : (m n i : ℕ) → min m n ≤ i → (m ≤ i) ⊎ (n ≤ i)
-which m n i h = elim (cases_lt i m) as (λ _. (m ≤ i) ⊎ (n ≤ i)) [ inl k ↦ inr (omega (arith, h, k)) | inr k ↦ inl k ]
+more_fit : (all f next some rest whole : Bool) → some ≡ not f || rest → (not all || some) ≡ whole → next ≡ all && f → (not next || rest) ≡ whole
+more_fit true f next some rest whole step inv is = ap (λ c. not c || rest) is ∙ sym step ∙ inv
+more_fit false f next some rest whole step inv is = ap (λ c. not c || rest) is ∙ inv
 
 module _ {Y : Type 0} (s : Setting) (b : List TypedValue) (view : Y → TypedValue) (ts : List TermValue) (ys : List Y) (i : ℕ) where
   slots_front : (t : TermValue) (y : Y) → i < length ts → i < length ys
       → some_misfit s b (drop i ts) (map view (drop i ys)) ≡ is_misfit s.pairs (typed_term s b (get_or ts i t)) (view (get_or ys i y)) || some_misfit s b (drop (i + 1) ts) (map view (drop (i + 1) ys))
   slots_front t y h k = rw (add-one, drop-cons ts i t h, drop-cons ys i y k) refl
 
-  -- a term with its slot is in turn, and then those that are left
-  pub slots_left : (t : TermValue) (y : Y) (r : Bool) → i < min (length ts) (length ys) → t ≡ get_or ts i t → y ≡ get_or ys i y → r ≡ is_misfit s.pairs (typed_term s b t) (view y)
-      → some_misfit s b (drop i ts) (map view (drop i ys)) ≡ r || some_misfit s b (drop (i + 1) ts) (map view (drop (i + 1) ys))
-  slots_left t y r h at slot is =
+  slots_past : (us : List TermValue) (j : ℕ) → length ys ≤ j → some_misfit s b us (map view (drop j ys)) ≡ false
+  slots_past us j h = ap (λ zs. some_misfit s b us (map view zs)) (drop_all j ys h) ∙ no_slots s b us
+
+  slots_left : (t : TermValue) (slot : Option (Bor Y)) (f : Bool) → i < length ts → t ≡ get_or ts i t → IsItemAt ys i slot → Some f ≡ fit_of s.pairs (typed_term s b t) (option_map (λ y. view y.now) slot)
+      → some_misfit s b (drop i ts) (map view (drop i ys)) ≡ not f || some_misfit s b (drop (i + 1) ts) (map view (drop (i + 1) ys))
+  slots_left t None f h at item is =
       let rest = some_misfit s b (drop (i + 1) ts) (map view (drop (i + 1) ys)) in
-      slots_front t y (omega (arith, h)) (omega (arith, h))
-      ∙ ap (λ z. is_misfit s.pairs (typed_term s b z) (view (get_or ys i y)) || rest) (sym at)
-      ∙ ap (λ z. is_misfit s.pairs (typed_term s b t) (view z) || rest) (sym slot)
-      ∙ ap (λ c. c || rest) (sym is)
+      let past : length ys ≤ i = item.3 in
+      slots_past (drop i ts) i past ∙ sym (slots_past (drop (i + 1) ts) (i + 1) (omega (arith, past)))
+      ∙ ap (λ c. not c || rest) (sym (past_fits s.pairs (typed_term s b t) f is))
+  slots_left t (Some y) f h at item is =
+      let rest = some_misfit s b (drop (i + 1) ts) (map view (drop (i + 1) ys)) in
+      let here : y.now ≡ get_or ys i y.now = item.1 in
+      slots_front t y.now h item.3.0
+      ∙ ap (λ z. is_misfit s.pairs (typed_term s b z) (view (get_or ys i y.now)) || rest) (sym at)
+      ∙ ap (λ z. is_misfit s.pairs (typed_term s b t) (view z) || rest) (sym here)
+      ∙ ap (λ c. c || rest) (slot_fits s.pairs (typed_term s b t) (view y.now) f is)
 
-  -- none is left
-  pub slots_end : min (length ts) (length ys) ≤ i → some_misfit s b (drop i ts) (map view (drop i ys)) ≡ false
-  slots_end h = elim (which (length ts) (length ys) i h) as (λ _. some_misfit s b (drop i ts) (map view (drop i ys)) ≡ false) [
-    | inl k ↦ ap (λ zs. some_misfit s b zs (map view (drop i ys))) (drop_all i ts k)
-    | inr k ↦ ap (λ zs. some_misfit s b (drop i ts) (map view zs)) (drop_all i ys k) ∙ no_slots s b (drop i ts)
-  ]
+  -- a term is in turn with its slot, where there is one: whether all fit so far, with it
+  pub fits_here : (t : TermValue) (slot : Option (Bor Y)) (r : Option Bool) (f all next whole : Bool) → i < length ts → t ≡ get_or ts i t → IsItemAt ys i slot
+      → (not all || some_misfit s b (drop i ts) (map view (drop i ys))) ≡ whole → r ≡ fit_of s.pairs (typed_term s b t) (option_map (λ y. view y.now) slot) → r ≡ Some f → next ≡ all && f
+      → (not next || some_misfit s b (drop (i + 1) ts) (map view (drop (i + 1) ys))) ≡ whole
+  fits_here t slot r f all next whole h at item left is some both =
+      more_fit all f next (some_misfit s b (drop i ts) (map view (drop i ys))) (some_misfit s b (drop (i + 1) ts) (map view (drop (i + 1) ys))) whole
+      (slots_left t slot f h at item (sym some ∙ is)) left both
 
--- what is left of terms: the first, and the rest
-pub terms_left : (word : TermValue → List Name) (ts : List TermValue) (i : ℕ) (t : TermValue) → i < length ts → t ≡ get_or ts i t
-    → flat_map word (drop i ts) ≡ word t ++ flat_map word (drop (i + 1) ts)
-terms_left word ts i t h is = rw (add-one, drop-cons ts i t h) (ap (λ u. word u ++ flat_map word (drop (suc i) ts)) (sym is))
+-- ---- what is not known, in turn
+
+module _ (s : Setting) (b : List TypedValue) (ts : List TermValue) (i : ℕ) (t : TermValue) (slot : Option TypedValue) (r : Option Bool) (whole : List Name) where
+  terms_left : i < length ts → t ≡ get_or ts i t → flat_map (unknown_term s b) (drop i ts) ≡ unknown_term s b t ++ flat_map (unknown_term s b) (drop (i + 1) ts)
+  terms_left h is = rw (add-one, drop-cons ts i t h) (ap (λ u. unknown_term s b u ++ flat_map (unknown_term s b) (drop (suc i) ts)) (sym is))
+
+  -- a term that is in turn is not known
+  pub unknown_here : (n : Name) → i < length ts → t ≡ get_or ts i t → flat_map (unknown_term s b) (drop i ts) ≡ whole
+      → r ≡ fit_of s.pairs (typed_term s b t) slot → r ≡ None → n ≡ term_name t → Contains whole n
+  unknown_here n h at left is none named =
+      let here : Contains (unknown_term s b t) (term_name t) = one_word (unknown_term s b t) (is_some r) (term_name t) (unknown_by s b t slot r is) (ap is_some none) in
+      let front : Contains (unknown_term s b t ++ flat_map (unknown_term s b) (drop (i + 1) ts)) (term_name t) =
+      Contains-append_left (unknown_term s b t) (flat_map (unknown_term s b) (drop (i + 1) ts)) (term_name t) here in
+      subst (λ m. Contains whole m) (sym named) (subst (λ ws. Contains ws (term_name t)) (sym (terms_left h at) ∙ left) front)
+
+  -- it is known, and those that are left decide
+  pub known_here : (f : Bool) → i < length ts → t ≡ get_or ts i t → flat_map (unknown_term s b) (drop i ts) ≡ whole
+      → r ≡ fit_of s.pairs (typed_term s b t) slot → r ≡ Some f → flat_map (unknown_term s b) (drop (i + 1) ts) ≡ whole
+  known_here f h at left is some =
+      let none : unknown_term s b t ≡ [] = no_word (unknown_term s b t) (is_some r) (term_name t) (unknown_by s b t slot r is) (ap is_some some) in
+      sym (ap (λ ws. ws ++ flat_map (unknown_term s b) (drop (i + 1) ts)) none) ∙ sym (terms_left h at) ∙ left

@@ -8,16 +8,14 @@ use Rattle.pddl_formula.specs.declared.type_names.Typed.{Typed}
 use Rattle.pddl_domain.specs.declared.domain.DeclaredPredicate.{DeclaredPredicate}
 use Rattle.pddl_domain.specs.declared.domain.DeclaredFunction.{DeclaredFunction}
 use Rattle.pddl_domain.specs.Declarations.{TypeValue, predicate_view, function_view}
-use Rattle.pddl_domain.specs.declared.domain.Domain.{Domain}
-use Rattle.pddl_domain.specs.Domains.{DomainValue, domain_view}
-use Rattle.pddl_problem.specs.declared.problem.Problem.{Problem}
-use Rattle.pddl_problem.specs.Problems.{ProblemValue, problem_view}
+use Rattle.pddl_domain.specs.Domains.{DomainValue}
+use Rattle.pddl_problem.specs.Problems.{ProblemValue}
 use Rattle.pddl_task.specs.Names.{is_in, item_of}
 use Rattle.pddl_task.specs.Types.{types_of}
 use Rattle.pddl_task.specs.Places.{Place, domain_places, problem_places}
 use Rattle.pddl_task.specs.Settings.{parameters_of, function_signatures}
 use Rattle.pddl_task.specs.Faults.{primitives_of, variables_at, domain_typed, problem_typed}
-use Rattle.pddl_names.specs.Parts.{unknown_among}
+use Rattle.pddl_names.specs.Uses.{unknown_among}
 use Rattle.pddl_faults.proofs.ListPasses.{views_drop}
 
 pub unknown-append : (ts : List TypeValue) (xs ys : List TypedValue) → unknown_among ts (xs ++ ys) ≡ unknown_among ts xs ++ unknown_among ts ys
@@ -70,25 +68,3 @@ functions_left ts xs i d items h at same =
     ap (λ ys. unknown_among ts (flat_map parameters_of (map item_of ys))) (views_drop function_view xs i d h at)
     ∙ unknown-append ts (map typed_view d.parameters.items) rest
     ∙ ap (λ (ps : List (Typed _)). unknown_among ts (map typed_view ps) ++ unknown_among ts rest) (sym same)
-
--- a domain's parts, as its lists are read
-pub unknown-domain-read : {A : Type 0} (ts : List TypeValue) (d : Domain A) (constants : List (Typed A)) (predicates : List (DeclaredPredicate A)) (functions : List (DeclaredFunction A))
-    → constants ≡ d.constants.items → predicates ≡ d.predicates.items → functions ≡ d.functions.items
-    → unknown_among ts (domain_typed (domain_view d)) ≡ unknown_among ts (map typed_view constants) ++ (unknown_among ts (flat_map parameters_of (map predicate_view predicates))
-    ++ (unknown_among ts (flat_map parameters_of (map item_of (map function_view functions))) ++ flat_map (λ pl. unknown_among ts (variables_at pl)) (domain_places (domain_view d))))
-unknown-domain-read ts d constants predicates functions first second third =
-    let places = flat_map (λ pl. unknown_among ts (variables_at pl)) (domain_places (domain_view d)) in
-    unknown-domain ts (domain_view d)
-    ∙ ap (λ (cs : List (Typed _)). unknown_among ts (map typed_view cs) ++ (unknown_among ts (flat_map parameters_of (map predicate_view d.predicates.items))
-    ++ (unknown_among ts (flat_map parameters_of (map item_of (map function_view d.functions.items))) ++ places))) (sym first)
-    ∙ ap (λ (ps : List (DeclaredPredicate _)). unknown_among ts (map typed_view constants) ++ (unknown_among ts (flat_map parameters_of (map predicate_view ps))
-    ++ (unknown_among ts (flat_map parameters_of (map item_of (map function_view d.functions.items))) ++ places))) (sym second)
-    ∙ ap (λ (fs : List (DeclaredFunction _)). unknown_among ts (map typed_view constants) ++ (unknown_among ts (flat_map parameters_of (map predicate_view predicates))
-    ++ (unknown_among ts (flat_map parameters_of (map item_of (map function_view fs))) ++ places))) (sym third)
-
--- a problem's parts, as its objects are read
-pub unknown-problem-read : {A : Type 0} (ts : List TypeValue) (p : Problem A) (objects : List (Typed A)) → objects ≡ p.objects.items
-    → unknown_among ts (problem_typed (problem_view p)) ≡ unknown_among ts (map typed_view objects) ++ flat_map (λ pl. unknown_among ts (variables_at pl)) (problem_places (problem_view p))
-unknown-problem-read ts p objects same =
-    unknown-problem ts (problem_view p)
-    ∙ ap (λ (xs : List (Typed _)). unknown_among ts (map typed_view xs) ++ flat_map (λ pl. unknown_among ts (variables_at pl)) (problem_places (problem_view p))) (sym same)

@@ -1,2 +1,2 @@
-pub mod Parts
-pub mod SoundInits
+pub mod Uses
+pub mod FaultParts

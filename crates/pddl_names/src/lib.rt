@@ -1,19 +1,18 @@
 //! Looks for the faults of linking that are about what names stand for: names that stand twice, are not known, or do not fit.
 #![tactic(auto)]
 
-mod arity;
-mod bound;
-mod declared_types;
-mod misfits;
-mod names;
+mod bindings;
+mod declarations;
+mod declared;
+mod files;
 mod objects;
-mod sound_init;
-mod unknown;
-mod unknown_types;
+mod repeats;
+mod uses;
 
-pub use arity::OtherArities;
-pub use declared_types::{domain_types_known, types_known};
-pub use misfits::Misfits;
-pub use names::{domain_names, problem_names};
-pub use sound_init::is_sound_init;
-pub use unknown::UnknownNames;
+pub use bindings::Bindings;
+pub use declarations::{look_at_domain, look_at_problem};
+pub use declared::Declared;
+pub use files::{look_at_domain_uses, look_at_problem_uses};
+pub use objects::{list_all, list_objects};
+pub use repeats::type_twice;
+pub use uses::Uses;

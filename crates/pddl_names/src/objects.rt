@@ -2,13 +2,18 @@
 
 ghost use Rattle.std.specs.Prelude.{◌≡◌, [], ◌++◌, List, map, OnOk};
 ghost use Rattle.pddl_formula.specs.TypedLists.{TypedValue, typed_view};
+ghost use Rattle.pddl_domain.specs.Domains.{domain_view};
+ghost use Rattle.pddl_problem.specs.Problems.{problem_view};
 ghost use Rattle.pddl_task.specs.Names.{same_names, firsts};
+ghost use Rattle.pddl_task.specs.Settings.{objects_of};
 ghost use Rattle.pddl_task.specs.Faults.{retyped};
 ghost use Rattle.pddl_types.specs.KnownNames.{AreNamed, object_in};
 ghost use Rattle.pddl_faults.specs.Passes.{Passes};
 
+use pddl_domain::Domain;
 use pddl_faults::LinkFault;
 use pddl_formula::{TypeNames, Typed};
+use pddl_problem::Problem;
 use pddl_types::Objects;
 use std::alloc::Allocator;
 
@@ -46,4 +51,19 @@ pub fn list_objects<'m, 'a, A: Allocator, B: Allocator>(
         }
     }
     Ok(())
+}
+
+/// Adds a domain's constants and then a problem's objects to no objects, where no name has two types.
+pub fn list_all<'m, 'a, A: Allocator, B: Allocator>(
+    objects: &mut Objects<'m, 'a, A, B>,
+    domain: &'m Domain<A>,
+    problem: &'m Problem<A>,
+) -> Result<(), LinkFault<'m>>
+    requires { objects.old.entries ≡ [] }
+    ensures passes { Passes 24 (retyped [] (domain_view domain.now).constants ++ retyped (domain_view domain.now).constants (problem_view problem.now).objects) result }
+    ensures objects { OnOk result (map object_in objects.new.entries ≡ objects_of (domain_view domain.now) (problem_view problem.now)) }
+    ensures names { OnOk result (AreNamed objects.new.entries) }
+{
+    list_objects(objects, &domain.constants)?;
+    list_objects(objects, &problem.objects)
 }

@@ -1,20 +1,22 @@
--- The words of the places of domains and problems, part by part.
-use Rattle.std.proofs.Common.{◌≡◌, ℕ, ◌+◌, ◌<◌, List, [], ◌++◌, length, get_or, drop, map, ap, sym, ◌∙◌, subst}
+-- The faults of the places of domains and problems, part by part.
+use Rattle.std.proofs.Common.{◌≡◌, ℕ, ◌+◌, ◌<◌, List, [], ◌++◌, length, get_or, drop, map, ap, sym, ◌∙◌, subst, ◌∷◌, ◌⊎◌, inl, inr}
 use Rattle.std.specs.List.{flat_map}
 use Rattle.std.proofs.lemmas.List.{append_assoc}
 use Rattle.std.proofs.lemmas.List.Concat.{flat_map-append}
 use Rattle.pddl_formula.specs.Terms.{name}
-use Rattle.pddl_problem.specs.declared.problem.GroundFunction.{GroundFunction}
+use Rattle.pddl_formula.specs.TypedLists.{TypedValue}
+use Rattle.pddl_task.proofs.Lists.{append-none}
+use Rattle.pddl_problem.specs.declared.problem.Fact.{Fact}
 use Rattle.pddl_problem.specs.declared.problem.InitItem.{InitItem}
-use Rattle.pddl_problem.specs.declared.problem.InitItem.TheVariants.{Value}
-use Rattle.pddl_problem.specs.Inits.{init_view}
+use Rattle.pddl_problem.specs.declared.problem.InitItem.TheVariants.{Holds, Fails}
+use Rattle.pddl_problem.specs.Inits.{fact_view, init_view}
 use Rattle.pddl_problem.specs.Problems.{ProblemValue}
 use Rattle.pddl_task.specs.Names.{Name}
-use Rattle.pddl_task.specs.Places.{Place, at, calls, counts, places_in, init_places, metric_places, problem_places}
-use Rattle.pddl_search.specs.Scopes.{words_in}
+use Rattle.pddl_task.specs.Places.{Place, at, says, ground_atom, places_in, init_places, metric_places, problem_places}
+use Rattle.pddl_search.specs.Walks.{faults_in}
 use Rattle.pddl_faults.proofs.ListPasses.{views_drop}
 
-module _ {X Y : Type 0} (w : Place → List Name) (view : X → Y) (places : Y → List Place) where
+module _ {X Y F : Type 0} (w : Place → List F) (view : X → Y) (places : Y → List Place) where
   -- what is left of a list: its first, and the rest
   pub places_left : (all xs : List X) (i : ℕ) (x : X) → xs ≡ all → i < length xs → x ≡ get_or xs i x
       → flat_map w (flat_map places (map view (drop i all))) ≡ flat_map w (places (view x)) ++ flat_map w (flat_map places (map view (drop (i + 1) all)))
@@ -24,19 +26,25 @@ module _ {X Y : Type 0} (w : Place → List Name) (view : X → Y) (places : Y �
       ap (λ ys. flat_map w (flat_map places ys)) (views_drop view all i x lt first) ∙ flat_map-append w (places (view x)) (flat_map places (map view (drop (i + 1) all)))
 
 -- a problem: what holds at first, the goal, the metric
-pub words_problem : (w : Place → List Name) (p : ProblemValue)
-    → flat_map w (problem_places p) ≡ flat_map w (flat_map init_places p.init) ++ (words_in w p.goal [] ++ flat_map w (metric_places p.metric))
-words_problem w p =
+pub faults_problem : {F : Type 0} (w : Place → List F) (p : ProblemValue)
+    → flat_map w (problem_places p) ≡ flat_map w (flat_map init_places p.init) ++ (faults_in w p.goal [] ++ flat_map w (metric_places p.metric))
+faults_problem w p =
     flat_map-append w (flat_map init_places p.init ++ places_in p.goal []) (metric_places p.metric)
     ∙ ap (λ ws. ws ++ flat_map w (metric_places p.metric)) (flat_map-append w (flat_map init_places p.init) (places_in p.goal []))
-    ∙ append_assoc (flat_map w (flat_map init_places p.init)) (words_in w p.goal []) (flat_map w (metric_places p.metric))
+    ∙ append_assoc (flat_map w (flat_map init_places p.init)) (faults_in w p.goal []) (flat_map w (metric_places p.metric))
 
--- a value in `:init`: the function with its objects, and the number
-pub words_value : {A : Type 0} (w : Place → List Name) (item : InitItem A) (call : GroundFunction A) (n : ℕ) (f : Name) (objects : List Name)
-    → item ≡ Value call n → f ≡ call.function → objects ≡ call.objects.items
-    → flat_map w (init_places (init_view item)) ≡ w (at [] (calls (record { function = f; terms = map name objects }))) ++ (w (at [] (counts call.function n)) ++ [])
-words_value w item call n f objects is named given =
-    let rest = w (at [] (counts call.function n)) ++ [] in
-    ap (λ i. flat_map w (init_places (init_view i))) is
-    ∙ ap (λ g. w (at [] (calls (record { function = g; terms = map name call.objects.items }))) ++ rest) (sym named)
-    ∙ ap (λ os. w (at [] (calls (record { function = f; terms = map name os }))) ++ rest) (sym given)
+-- a literal that holds at first, or fails
+literal_places : {A : Type 0} (item : InitItem A) (fact : Fact A) → (item ≡ Holds fact) ⊎ (item ≡ Fails fact) → init_places (init_view item) ≡ at [] (says (ground_atom (fact_view fact))) ∷ []
+literal_places item fact (inl is) = ap (λ i. init_places (init_view i)) is
+literal_places item fact (inr is) = ap (λ i. init_places (init_view i)) is
+
+-- what is found of it, where nothing is bound
+pub faults_fact : {A F : Type 0} (w : Place → List F) (b : List TypedValue) (item : InitItem A) (fact : Fact A) (n : Name) (objects : List Name)
+    → b ≡ [] → (item ≡ Holds fact) ⊎ (item ≡ Fails fact) → n ≡ fact.predicate → objects ≡ fact.objects.items
+    → flat_map w (init_places (init_view item)) ≡ w (at b (says (record { predicate = n; terms = map name objects })))
+faults_fact w b item fact n objects none is named given =
+    ap (flat_map w) (literal_places item fact is)
+    ∙ append-none (w (at [] (says (record { predicate = fact.predicate; terms = map name fact.objects.items }))))
+    ∙ ap (λ p. w (at [] (says (record { predicate = p; terms = map name fact.objects.items })))) (sym named)
+    ∙ ap (λ os. w (at [] (says (record { predicate = n; terms = map name os })))) (sym given)
+    ∙ ap (λ vs. w (at vs (says (record { predicate = n; terms = map name objects })))) (sym none)

@@ -1,8 +1,6 @@
-pub mod BoundTypes
 pub mod Claims
 pub mod FileWalks
 pub mod InitClaims
 pub mod SeenItems
-pub mod SeenNames
 pub mod Walks
 pub mod LentNames

@@ -1,5 +1,3 @@
-pub mod LastTypes
-pub mod Parts
-pub mod Scopes
+pub mod Walks
 pub mod Grounds
 pub mod Claims

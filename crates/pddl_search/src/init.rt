@@ -1,6 +1,6 @@
 //! Atoms that hold and fail in `:init`, and functions of objects that have two values there.
 
-ghost use Rattle.std.specs.Prelude.{◌≡◌, [], map, IfOk};
+ghost use Rattle.std.specs.Prelude.{◌≡◌, [], map, OnOk};
 ghost use Rattle.std.specs.List.{list_any};
 ghost use Rattle.pddl_problem.specs.Inits.{init_view};
 ghost use Rattle.pddl_task.specs.Faults.{contradicts, init_name, clashing, wrong_values, starts_above_zero};
@@ -113,15 +113,15 @@ pub fn contradictions<'d, 'a, A: Allocator, B: Allocator>(
     Ok(())
 }
 
-/// The values of functions of objects. None of them has two, and `total-cost` starts at none but 0.
+/// Adds the values of functions of objects. None of them has two, and `total-cost` starts at none but 0.
 pub fn cost_values<'d, 'a, A: Allocator, B: Allocator>(
-    alloc: &'a B,
+    values: &mut Values<'d, 'a, A, B>,
     init: &'d [InitItem<A>],
-) -> Result<Values<'d, 'a, A, B>, LinkFault<'d>>
+) -> Result<(), LinkFault<'d>>
+    requires { values.old.entries ≡ [] }
     ensures passes { Passes 31 (wrong_values [] (map init_view init.now)) result }
-    ensures values { IfOk result (λ values. HoldsValues (map init_view init.now) values.entries) }
+    ensures values { OnOk result (HoldsValues (map init_view init.now) values.new.entries) }
 {
-    let mut values: Values<'d, 'a, A, B> = IndexMap::new(alloc);
     for item in init {
         if starts_above_zero(item) {
             return Err(LinkFault::CostValue(name_of(item)));
@@ -133,5 +133,5 @@ pub fn cost_values<'d, 'a, A: Allocator, B: Allocator>(
             }
         }
     }
-    Ok(values)
+    Ok(())
 }

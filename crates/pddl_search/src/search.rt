@@ -1,84 +1,51 @@
-//! One walk over formulas, effects and actions, for each fault that is looked for in places.
+//! One walk over formulas, effects and actions, for the faults that are looked for in places.
+//!
+//! Each function takes what was found before its part, and answers the lowest of that and of the faults that stand in its part.
 
-ghost use Rattle.std.specs.Prelude.{◌≡◌, ◌++◌, map, IfOk};
+ghost use Rattle.std.specs.Prelude.{◌++◌, ℕ, List, map};
 ghost use Rattle.std.specs.List.{flat_map};
 ghost use Rattle.pddl_formula.specs.Terms.{term_view, atom_view};
 ghost use Rattle.pddl_formula.specs.TypedLists.{typed_view};
 ghost use Rattle.pddl_formula.specs.Formulas.{formula_view, formulas_of};
 ghost use Rattle.pddl_effect.specs.Effects.{amount_view, effect_view, effects_of};
 ghost use Rattle.pddl_domain.specs.Actions.{action_view};
+ghost use Rattle.pddl_task.specs.Names.{Name};
 ghost use Rattle.pddl_task.specs.Places.{at, says, calls, binds, binding, action_places};
-ghost use Rattle.pddl_faults.specs.Passes.{Passes};
-ghost use Rattle.pddl_search.specs.Parts.{part_in};
-ghost use Rattle.pddl_search.specs.Scopes.{bound_of, words_in, words_in_all, effect_words, effects_words, increase_words};
+ghost use Rattle.pddl_faults.specs.Found.{IsFound};
+ghost use Rattle.pddl_faults.specs.Scopes.{bound_of};
+ghost use Rattle.pddl_search.specs.Walks.{faults_in, faults_in_all, effect_faults, effects_faults, increase_faults};
 
-use crate::part::{Part, Terms};
-use crate::variables::Variables;
 use pddl_domain::Action;
 use pddl_effect::{Amount, Effect};
-use pddl_faults::LinkFault;
+use pddl_faults::{LinkFault, Part, Scope, Search, Terms, Variables};
 use pddl_formula::{Atom, Formula, Term, Typed};
 use std::alloc::Allocator;
-
-/// The variables in scope, a list for each quantifier, the innermost first.
-#[derive(Drop)]
-pub enum Scope<'s, 'd, 'a, A: Allocator, B: Allocator> {
-    Empty,
-    Inside(&'s Variables<'d, 'a, A, B>, &'s Scope<'s, 'd, 'a, A, B>),
-}
-
-/// A search for one fault, place by place. Tables of variables in scope take their memory from `B`.
-pub trait Search<A: Allocator, B: Allocator> {
-    ghost use Rattle.std.specs.Prelude.{List, ℕ};
-    ghost use Rattle.pddl_task.specs.Places.{Place};
-
-    ghost number: { ℕ };
-
-    ghost words: { Self → Place → List (List ℕ) };
-
-    /// Looks at what stands at a place.
-    fn look<'d>(&self, part: &Part<'d, A>, scope: &Scope<A, B>) -> Result<(), LinkFault<'d>>
-        ensures { Passes number (words self.now (at (bound_of scope.now) (part_in part.now))) result };
-}
 
 /// Searches an atom.
 fn search_atom<'d, 's, 'a, A: Allocator, B: Allocator, S: Search<A, B>>(
     search: &S,
+    so_far: Result<(), LinkFault<'d>>,
     atom: &'d Atom<A>,
     scope: &'s Scope<'s, 'd, 'a, A, B>,
 ) -> Result<(), LinkFault<'d>>
-    ensures { Passes S.number (S.words search.now (at (bound_of scope.now) (says (atom_view atom.now)))) result }
+    ensures { (before : List (ℕ × Name)) → IsFound before so_far.entry → IsFound (before ++ S.found search.now (at (bound_of scope.now) (says (atom_view atom.now)))) result }
 {
     let part = Part::Says(atom.predicate.as_bytes(), Terms::Any(&atom.terms));
-    search.look(&part, &*scope)
+    search.look(so_far, &part, &*scope)
 }
 
 /// Searches a function of terms.
 pub fn search_call<'d, 's, 'a, A: Allocator, B: Allocator, S: Search<A, B>>(
     search: &S,
+    so_far: Result<(), LinkFault<'d>>,
     function: &'d [u8],
     terms: &'d [Term<A>],
     scope: &'s Scope<'s, 'd, 'a, A, B>,
 ) -> Result<(), LinkFault<'d>>
-    ensures { Passes S.number (S.words search.now (at (bound_of scope.now) (calls (record { function = function.now; terms = map term_view terms.now })))) result }
+    ensures { (before : List (ℕ × Name)) → IsFound before so_far.entry → IsFound (before ++ S.found search.now (at (bound_of scope.now) (calls (record { function = function.now; terms = map term_view terms.now })))) result }
 {
     let part = Part::Calls(function, Terms::Any(terms));
-    search.look(&part, &*scope)
-}
-
-/// Searches the variables of a quantifier, or parameters, and answers them as they are looked up.
-fn search_variables<'d, 's, 'a, A: Allocator, B: Allocator, S: Search<A, B>>(
-    alloc: &'a B,
-    search: &S,
-    variables: &'d [Typed<A>],
-    scope: &'s Scope<'s, 'd, 'a, A, B>,
-) -> Result<Variables<'d, 'a, A, B>, LinkFault<'d>>
-    ensures passes { Passes S.number (S.words search.now (at (bound_of scope.now) (binds (map typed_view variables.now)))) result }
-    ensures bound { IfOk result (λ bound. bound ≡ map typed_view variables.now) }
-{
-    let part = Part::Binds(variables);
-    search.look(&part, &*scope)?;
-    Ok(Variables::of(alloc, variables)?)
+    search.look(so_far, &part, &*scope)
 }
 
 /// Searches a formula.
@@ -86,29 +53,30 @@ fn search_variables<'d, 's, 'a, A: Allocator, B: Allocator, S: Search<A, B>>(
 pub fn search_formula<'d, 's, 'a, A: Allocator, B: Allocator, S: Search<A, B>>(
     alloc: &'a B,
     search: &S,
+    so_far: Result<(), LinkFault<'d>>,
     formula: &'d Formula<A>,
     scope: &'s Scope<'s, 'd, 'a, A, B>,
 ) -> Result<(), LinkFault<'d>>
-    ensures { Passes S.number (words_in (S.words search.now) (formula_view formula.now) (bound_of scope.now)) result }
+    ensures { (before : List (ℕ × Name)) → IsFound before so_far.entry → IsFound (before ++ faults_in (S.found search.now) (formula_view formula.now) (bound_of scope.now)) result }
 {
     match formula {
-        Formula::Atom(atom) => search_atom(search, atom, &*scope),
+        Formula::Atom(atom) => search_atom(search, so_far, atom, &*scope),
         Formula::Equal(first, second) => {
             let part = Part::Equates(first, second);
-            search.look(&part, &*scope)
+            search.look(so_far, &part, &*scope)
         }
-        Formula::Not(inner) => search_formula(alloc, search, inner, &*scope),
+        Formula::Not(inner) => search_formula(alloc, search, so_far, inner, &*scope),
         Formula::Imply(first, second) => {
-            search_formula(alloc, search, first, &*scope)?;
-            search_formula(alloc, search, second, &*scope)
+            let so_far = search_formula(alloc, search, so_far, first, &*scope);
+            search_formula(alloc, search, so_far, second, &*scope)
         }
-        Formula::And(parts) => search_formulas(alloc, search, parts, &*scope),
-        Formula::Or(parts) => search_formulas(alloc, search, parts, &*scope),
+        Formula::And(parts) => search_formulas(alloc, search, so_far, parts, &*scope),
+        Formula::Or(parts) => search_formulas(alloc, search, so_far, parts, &*scope),
         Formula::Exists(variables, inner) => {
-            search_quantified(alloc, search, variables, inner, &*scope)
+            search_quantified(alloc, search, so_far, variables, inner, &*scope)
         }
         Formula::Forall(variables, inner) => {
-            search_quantified(alloc, search, variables, inner, &*scope)
+            search_quantified(alloc, search, so_far, variables, inner, &*scope)
         }
     }
 }
@@ -118,16 +86,18 @@ pub fn search_formula<'d, 's, 'a, A: Allocator, B: Allocator, S: Search<A, B>>(
 fn search_quantified<'d, 's, 'a, A: Allocator, B: Allocator, S: Search<A, B>>(
     alloc: &'a B,
     search: &S,
+    so_far: Result<(), LinkFault<'d>>,
     variables: &'d [Typed<A>],
     inner: &'d Box<Formula<A>, A>,
     scope: &'s Scope<'s, 'd, 'a, A, B>,
 ) -> Result<(), LinkFault<'d>>
-    ensures { Passes S.number (S.words search.now (at (bound_of scope.now) (binds (map typed_view variables.now)))
-        ++ words_in (S.words search.now) (formula_view inner.now.value) (binding (map typed_view variables.now) (bound_of scope.now))) result }
+    ensures { (before : List (ℕ × Name)) → IsFound before so_far.entry → IsFound (before ++ (S.found search.now (at (bound_of scope.now) (binds (map typed_view variables.now)))
+        ++ faults_in (S.found search.now) (formula_view inner.now.value) (binding (map typed_view variables.now) (bound_of scope.now)))) result }
 {
-    let bound = search_variables(alloc, search, variables, &*scope)?;
+    let so_far = search.look(so_far, &Part::Binds(variables), &*scope);
+    let bound = Variables::of(alloc, variables)?;
     let inside = Scope::Inside(&bound, &*scope);
-    search_formula(alloc, search, inner, &inside)
+    search_formula(alloc, search, so_far, inner, &inside)
 }
 
 /// Searches formulas in turn.
@@ -135,34 +105,41 @@ fn search_quantified<'d, 's, 'a, A: Allocator, B: Allocator, S: Search<A, B>>(
 fn search_formulas<'d, 's, 'a, A: Allocator, B: Allocator, S: Search<A, B>>(
     alloc: &'a B,
     search: &S,
+    so_far: Result<(), LinkFault<'d>>,
     formulas: &'d Vec<Formula<A>, A>,
     scope: &'s Scope<'s, 'd, 'a, A, B>,
 ) -> Result<(), LinkFault<'d>>
-    ensures { Passes S.number (words_in_all (S.words search.now) (formulas_of (map formula_view formulas.now.items)) (bound_of scope.now)) result }
+    ensures { (before : List (ℕ × Name)) → IsFound before so_far.entry → IsFound (before ++ faults_in_all (S.found search.now) (formulas_of (map formula_view formulas.now.items)) (bound_of scope.now)) result }
 {
+    let mut found = so_far;
     for formula in formulas {
-        search_formula(alloc, search, formula, &*scope)?;
+        found = search_formula(alloc, search, found, formula, &*scope);
     }
-    Ok(())
+    found
 }
 
 /// Searches what an increase adds, the total cost first.
 fn search_increase<'d, 's, 'a, A: Allocator, B: Allocator, S: Search<A, B>>(
     search: &S,
+    so_far: Result<(), LinkFault<'d>>,
     amount: &'d Amount<A>,
     scope: &'s Scope<'s, 'd, 'a, A, B>,
 ) -> Result<(), LinkFault<'d>>
-    ensures { Passes S.number (increase_words (S.words search.now) (amount_view amount.now) (bound_of scope.now)) result }
+    ensures { (before : List (ℕ × Name)) → IsFound before so_far.entry → IsFound (before ++ increase_faults (S.found search.now) (amount_view amount.now) (bound_of scope.now)) result }
 {
-    search_call(search, b"total-cost".as_slice(), &[], &*scope)?;
+    let so_far = search_call(search, so_far, b"total-cost".as_slice(), &[], &*scope);
     match amount {
         Amount::Number(number) => {
             let part = Part::Counts(b"total-cost".as_slice(), *number);
-            search.look(&part, &*scope)
+            search.look(so_far, &part, &*scope)
         }
-        Amount::Function(call) => {
-            search_call(search, call.function.as_bytes(), &call.terms, &*scope)
-        }
+        Amount::Function(call) => search_call(
+            search,
+            so_far,
+            call.function.as_bytes(),
+            &call.terms,
+            &*scope,
+        ),
     }
 }
 
@@ -171,23 +148,24 @@ fn search_increase<'d, 's, 'a, A: Allocator, B: Allocator, S: Search<A, B>>(
 pub fn search_effect<'d, 's, 'a, A: Allocator, B: Allocator, S: Search<A, B>>(
     alloc: &'a B,
     search: &S,
+    so_far: Result<(), LinkFault<'d>>,
     effect: &'d Effect<A>,
     scope: &'s Scope<'s, 'd, 'a, A, B>,
 ) -> Result<(), LinkFault<'d>>
-    ensures { Passes S.number (effect_words (S.words search.now) (effect_view effect.now) (bound_of scope.now)) result }
+    ensures { (before : List (ℕ × Name)) → IsFound before so_far.entry → IsFound (before ++ effect_faults (S.found search.now) (effect_view effect.now) (bound_of scope.now)) result }
 {
     match effect {
-        Effect::And(parts) => search_effects(alloc, search, parts, &*scope),
+        Effect::And(parts) => search_effects(alloc, search, so_far, parts, &*scope),
         Effect::Forall(variables, inner) => {
-            search_each(alloc, search, variables, inner, &*scope)
+            search_each(alloc, search, so_far, variables, inner, &*scope)
         }
         Effect::When(condition, inner) => {
-            search_formula(alloc, search, condition, &*scope)?;
-            search_effect(alloc, search, inner, &*scope)
+            let so_far = search_formula(alloc, search, so_far, condition, &*scope);
+            search_effect(alloc, search, so_far, inner, &*scope)
         }
-        Effect::Add(atom) => search_atom(search, atom, &*scope),
-        Effect::Del(atom) => search_atom(search, atom, &*scope),
-        Effect::Increase(amount) => search_increase(search, amount, &*scope),
+        Effect::Add(atom) => search_atom(search, so_far, atom, &*scope),
+        Effect::Del(atom) => search_atom(search, so_far, atom, &*scope),
+        Effect::Increase(amount) => search_increase(search, so_far, amount, &*scope),
     }
 }
 
@@ -196,16 +174,18 @@ pub fn search_effect<'d, 's, 'a, A: Allocator, B: Allocator, S: Search<A, B>>(
 fn search_each<'d, 's, 'a, A: Allocator, B: Allocator, S: Search<A, B>>(
     alloc: &'a B,
     search: &S,
+    so_far: Result<(), LinkFault<'d>>,
     variables: &'d [Typed<A>],
     inner: &'d Box<Effect<A>, A>,
     scope: &'s Scope<'s, 'd, 'a, A, B>,
 ) -> Result<(), LinkFault<'d>>
-    ensures { Passes S.number (S.words search.now (at (bound_of scope.now) (binds (map typed_view variables.now)))
-        ++ effect_words (S.words search.now) (effect_view inner.now.value) (binding (map typed_view variables.now) (bound_of scope.now))) result }
+    ensures { (before : List (ℕ × Name)) → IsFound before so_far.entry → IsFound (before ++ (S.found search.now (at (bound_of scope.now) (binds (map typed_view variables.now)))
+        ++ effect_faults (S.found search.now) (effect_view inner.now.value) (binding (map typed_view variables.now) (bound_of scope.now)))) result }
 {
-    let bound = search_variables(alloc, search, variables, &*scope)?;
+    let so_far = search.look(so_far, &Part::Binds(variables), &*scope);
+    let bound = Variables::of(alloc, variables)?;
     let inside = Scope::Inside(&bound, &*scope);
-    search_effect(alloc, search, inner, &inside)
+    search_effect(alloc, search, so_far, inner, &inside)
 }
 
 /// Searches effects in turn.
@@ -213,40 +193,32 @@ fn search_each<'d, 's, 'a, A: Allocator, B: Allocator, S: Search<A, B>>(
 fn search_effects<'d, 's, 'a, A: Allocator, B: Allocator, S: Search<A, B>>(
     alloc: &'a B,
     search: &S,
+    so_far: Result<(), LinkFault<'d>>,
     effects: &'d Vec<Effect<A>, A>,
     scope: &'s Scope<'s, 'd, 'a, A, B>,
 ) -> Result<(), LinkFault<'d>>
-    ensures { Passes S.number (effects_words (S.words search.now) (effects_of (map effect_view effects.now.items)) (bound_of scope.now)) result }
+    ensures { (before : List (ℕ × Name)) → IsFound before so_far.entry → IsFound (before ++ effects_faults (S.found search.now) (effects_of (map effect_view effects.now.items)) (bound_of scope.now)) result }
 {
+    let mut found = so_far;
     for effect in effects {
-        search_effect(alloc, search, effect, &*scope)?;
+        found = search_effect(alloc, search, found, effect, &*scope);
     }
-    Ok(())
-}
-
-/// Searches an action's precondition and its effect, with its parameters in scope.
-fn search_body<'d, 's, 'a, A: Allocator, B: Allocator, S: Search<A, B>>(
-    alloc: &'a B,
-    search: &S,
-    action: &'d Action<A>,
-    inside: &'s Scope<'s, 'd, 'a, A, B>,
-) -> Result<(), LinkFault<'d>>
-    ensures { Passes S.number (words_in (S.words search.now) (formula_view action.now.precondition) (bound_of inside.now)
-        ++ effect_words (S.words search.now) (effect_view action.now.effect) (bound_of inside.now)) result }
-{
-    search_formula(alloc, search, &action.precondition, &*inside)?;
-    search_effect(alloc, search, &action.effect, &*inside)
+    found
 }
 
 /// Searches an action: its parameters, its precondition and its effect.
 pub fn search_action<'d, 'a, A: Allocator, B: Allocator, S: Search<A, B>>(
     alloc: &'a B,
     search: &S,
+    so_far: Result<(), LinkFault<'d>>,
     action: &'d Action<A>,
 ) -> Result<(), LinkFault<'d>>
-    ensures { Passes S.number (flat_map (S.words search.now) (action_places (action_view action.now))) result }
+    ensures { (before : List (ℕ × Name)) → IsFound before so_far.entry → IsFound (before ++ flat_map (S.found search.now) (action_places (action_view action.now))) result }
 {
     let outside = Scope::Empty;
-    let parameters = search_variables(alloc, search, &action.parameters, &outside)?;
-    search_body(alloc, search, action, &Scope::Inside(&parameters, &outside))
+    let so_far = search.look(so_far, &Part::Binds(&action.parameters), &outside);
+    let parameters = Variables::of(alloc, &action.parameters)?;
+    let inside = Scope::Inside(&parameters, &outside);
+    let so_far = search_formula(alloc, search, so_far, &action.precondition, &inside);
+    search_effect(alloc, search, so_far, &action.effect, &inside)
 }

@@ -74,7 +74,3 @@ takes_found {A} es n ts o is =
     ∙ ap (λ k. differs k (length ts)) (sym (parameters_found es n)) ∙ sym (differs_is (find (λ s. bytes_eq n s.name) (map signature_in es)) ts)
 
 -- ---- what stands in lists, in turn
-
-pub words_left : {X Y : Type 0} (word : Y → List Name) (view : X → Y) (xs : List X) (i : ℕ) (x : X) → i < length xs → x ≡ get_or xs i x
-    → flat_map word (map view (drop i xs)) ≡ word (view x) ++ flat_map word (map view (drop (i + 1) xs))
-words_left word view xs i x h is = ap (flat_map word) (views_drop view xs i x h is)

@@ -75,9 +75,6 @@ declared_next view xs i x rows next k low is named h put_in =
     ∙ ap (λ ns. is_in (root ∷ ns) t || bytes_eq t (view x).item) (sym (maps view item_of (take i xs))) ∙ ap (λ n. is_in (root ∷ map item_of (map view (take i xs))) t || bytes_eq t n) (sym named))
     refl)
 
-pub declared_all : {X : Type 0} (view : X → TypeValue) (xs : List X) (i : ℕ) (rows : List Row) → length xs ≤ i → Declares view (take i xs) rows → Declares view xs rows
-declared_all view xs i rows past h = subst (λ ys. Declares view ys rows) (take_all i xs past) h
-
 -- ---- the same, with the parents of some
 
 abbrev pub Tells : {X : Type 0} → (X → TypeValue) → List X → List X → List Row → Type 0
@@ -140,7 +137,3 @@ told_next view xs i x rows wider next parent child place low is above named once
     subst (IsTableOf more (map view (take (i + 1) xs))) (sym put_in)
     (subst (λ d. IsTableOf more d (put wider child place)) (sym told)
     (put_under more (map view (take i xs)) wider child place (view x) table type there new (sym named) (sym above ∙ sym at)))
-
-pub told_all : {X : Type 0} (view : X → TypeValue) (xs : List X) (i : ℕ) (rows : List Row) → length xs ≤ i → repeated [] (map item_of (map view xs)) ≡ [] → Tells view xs (take i xs) rows
-    → IsTypeTable (map view xs) rows
-told_all view xs i rows past once h = record { declared_once = once; table = subst (λ ys. Tells view xs ys rows) (take_all i xs past) h }

@@ -1,17 +1,23 @@
-use Rattle.std.proofs.Common.{map}
+use Rattle.std.proofs.Common.{[], ◌∷◌, map, drop, refl, ap, ◌∙◌}
 use Rattle.std.proofs.lemmas.Result.{err_from_is_err_and}
+use Rattle.pddl_domain.specs.Declarations.{type_view}
 use Rattle.pddl_domain.specs.Domains.{domain_view}
-use Rattle.pddl_task.specs.Linked.{domain_fault}
-use Rattle.pddl_names.specs.Parts.{type_rules, rules_behind_types}
-use Rattle.pddl_faults.proofs.Verdicts.{decided_after}
+use Rattle.pddl_task.specs.Names.{repeated, item_of}
+use Rattle.pddl_task.specs.Linked.{fault, domain_fault, rules}
+use Rattle.pddl_faults.proofs.Verdicts.{found_at, decided_after}
 use Rattle.pddl_link.proofs.check.check_domain.Goals as goal
 
-pub returns-in_err-types : goal.returns-in_err-types
-returns-in_err-types g c =
+pub of-requires : goal.of-requires
+of-requires g c = ap (λ ts. repeated [] (map item_of (map type_view ts))) c.deref.ensures.value ∙ c.in_ok-type_twice.ensures
+
+pub check_by_types-requires : goal.check_by_types-requires
+check_by_types-requires g c = c.in_ok-types.ensures ∙ ap (map type_view) c.deref.ensures.value
+
+pub returns-in_err-type_twice : goal.returns-in_err-type_twice
+returns-in_err-type_twice g c =
     let p = err_from_is_err_and c.from_residual.result c.from_residual.ensures.1 in
-    rw (p.1, p.2) c.in_err-types.ensures.verdict
+    rw (p.1, p.2) (found_at (fault 20 [] ∷ []) 21 _ _ c.in_err-type_twice.field-0.0 (refl, tt) refl c.in_err-type_twice.ensures)
 
 pub returns : goal.returns
 returns g c =
-    let d = domain_view c.args.domain.now in
-    decided_after (map (domain_fault d) type_rules) (map (domain_fault d) rules_behind_types) c.check_by_types.result c.in_ok-types.ensures.verdict c.check_by_types.ensures
+    decided_after (fault 20 [] ∷ fault 21 _ ∷ []) (map (domain_fault (domain_view c.args.domain.now)) (drop 2 rules)) c.check_by_types.result (refl, (c.in_ok-type_twice.ensures, tt)) c.check_by_types.ensures

@@ -11,13 +11,13 @@ pub shown-requires-clause-accepted : goal.shown-requires-clause-accepted
 shown-requires-clause-accepted g c =
     let task = c.args.task.now in
     let verdict = c.in_ok-verdict in
-    verdict_of (domain_view task.domain.now) (problem_view task.problem.now) task.tables.linked c.args.steps.now c.requires verdict.verdict _ verdict.ensures.happenings verdict.ensures.accepted
+    verdict_of (domain_view task.domain.now) (problem_view task.problem.now) task.held.linked c.args.steps.now c.requires verdict.verdict _ verdict.ensures.happenings verdict.ensures.accepted
 
 pub shown-requires-clause-in_range : goal.shown-requires-clause-in_range
 shown-requires-clause-in_range g c =
     let task = c.args.task.now in
     let verdict = c.in_ok-verdict in
-    shown_in_range (domain_view task.domain.now) (problem_view task.problem.now) task.tables.linked c.args.steps.now c.requires verdict.verdict verdict.ensures.interference
+    shown_in_range (domain_view task.domain.now) (problem_view task.problem.now) task.held.linked c.args.steps.now c.requires verdict.verdict verdict.ensures.interference
 
 pub returns : goal.returns
 returns g c =
@@ -26,6 +26,6 @@ returns g c =
     let verdict = c.in_ok-verdict in
     let said = verdict.ensures in
     IfOk-weaker c.shown.result _ (λ answer. AreStepsJudged (printing_of c.args.wanted) (task_of_files task) steps answer.0.items answer.1)
-    (λ answer shown. shown_judged (domain_view task.domain.now) (problem_view task.problem.now) task.tables.linked steps c.requires (printing_of c.args.wanted) verdict.verdict _ said.happenings said.accepted said.converges
+    (λ answer shown. shown_judged (domain_view task.domain.now) (problem_view task.problem.now) task.held.linked steps c.requires (printing_of c.args.wanted) verdict.verdict _ said.happenings said.accepted said.converges
     said.precondition said.interference said.passes said.goal said.refused answer.0.items answer.1 shown)
     c.shown.ensures

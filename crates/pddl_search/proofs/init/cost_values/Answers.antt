@@ -7,7 +7,7 @@ use Rattle.pddl_search.proofs.init.cost_values.Goals as goal
 use Rattle.pddl_search.proofs.init.cost_values.Goals.{in-Some+in_ok-insert+else-number-before, in_default}
 
 pub loop-item-init : goal.loop-item-init
-loop-item-init g c = valued_start init_view c.args.init.now c.new-values.result.entries c.new-values.ensures.empty
+loop-item-init g c = valued_start init_view c.args.init.now c.args.values.now.entries c.requires
 
 pub returns-then-starts_above_zero-clause-passes : goal.returns-then-starts_above_zero-clause-passes
 returns-then-starts_above_zero-clause-passes g c = (

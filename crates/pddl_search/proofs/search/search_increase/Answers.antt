@@ -1,16 +1,27 @@
-use Rattle.std.proofs.Common.{◌++◌, [], ap, sym}
-use Rattle.std.proofs.lemmas.Result.{err_from_is_err_and}
+use Rattle.std.proofs.Common.{◌++◌, map}
+use Rattle.pddl_formula.specs.Terms.{term_view}
 use Rattle.pddl_effect.specs.Effects.{amount_view}
-use Rattle.pddl_task.specs.Places.{at, calls, bare, amount_part}
-use Rattle.pddl_search.specs.Scopes.{bound_of, increase_words}
-use Rattle.pddl_faults.proofs.PassedParts.{pass_front}
+use Rattle.pddl_task.specs.Places.{at, calls, counts, bare}
+use Rattle.pddl_faults.specs.Scopes.{bound_of}
+use Rattle.pddl_faults.proofs.FoundFaults.{found_in_two}
+use Rattle.pddl_search.specs.Walks.{increase_faults}
+use Rattle.pddl_search.proofs.Walks.{faults_number, faults_function}
 use Rattle.pddl_search.proofs.search.search_increase.Goals as goal
 
-pub returns-in_err-search_call : goal.returns-in_err-search_call
-returns-in_err-search_call g c =
-    let w = g.S.Search.words c.args.search.now in
+pub returns-in-Number : goal.returns-in-Number
+returns-in-Number g c = λ before h.
+    let w = g.S.Search.found c.args.search.now in
     let b = bound_of c.args.scope.now in
-    let rest = w (at b (amount_part (amount_view c.args.amount.now))) ++ [] in
-    let p = err_from_is_err_and c.from_residual.result c.from_residual.ensures.1 in
-    rw (p.1, p.2) (pass_front g.S.Search.number (w (at b (calls (bare c.as_slice.result.now)))) rest (increase_words w (amount_view c.args.amount.now) b) c.in_err-search_call.field-0.0
-    (ap (λ f. w (at b (calls (bare f))) ++ rest) (sym c.as_slice.ensures)) c.in_err-search_call.ensures)
+    let total = w (at b (calls (bare c.as_slice.result.now))) in
+    found_in_two before total (w (at b (counts c.as_slice-in-Number.result.now c.in-Number.number))) (increase_faults w (amount_view c.args.amount.now) b) c.look.result
+    (faults_number w b c.args.amount.now c.in-Number.number c.as_slice.result.now c.as_slice-in-Number.result.now c.in-Number.is c.as_slice.ensures c.as_slice-in-Number.ensures)
+    (c.look.ensures (before ++ total) (c.search_call-so_far.ensures before h))
+
+pub returns-in-Function : goal.returns-in-Function
+returns-in-Function g c = λ before h.
+    let w = g.S.Search.found c.args.search.now in
+    let b = bound_of c.args.scope.now in
+    let total = w (at b (calls (bare c.as_slice.result.now))) in
+    found_in_two before total (w (at b (calls (record { function = c.as_bytes.result.now; terms = map term_view c.deref.result.now })))) (increase_faults w (amount_view c.args.amount.now) b) c.search_call.result
+    (faults_function w b c.args.amount.now c.in-Function.call c.as_slice.result.now c.as_bytes.result.now c.deref.result.now c.in-Function.is c.as_slice.ensures c.as_bytes.ensures.value c.deref.ensures.value)
+    (c.search_call.ensures (before ++ total) (c.search_call-so_far.ensures before h))

@@ -10,7 +10,7 @@ use Rattle.pddl_step.proofs.compiling.compile_by.Goals as goal
 pub used_actions-requires-clause-range : goal.used_actions-requires-clause-range
 used_actions-requires-clause-range g c =
     let files = files_of c.args.task.now in
-    action_low files.domain files.problem c.args.task.now.tables.linked c.args.steps.now c.requires.linked
+    action_low files.domain files.problem c.args.task.now.held.linked c.args.steps.now c.requires.linked
 
 pub invariant_of-result : goal.invariant_of-result
 invariant_of-result g c =

@@ -1,16 +1,21 @@
-use Rattle.std.proofs.Common.{map, ap, ◌∙◌}
+use Rattle.std.proofs.Common.{◌≡◌, map, ap, ◌∙◌}
+use Rattle.std.proofs.lemmas.Result.{IfOk-weaker}
 use Rattle.pddl_domain.specs.Domains.{domain_view}
+use Rattle.pddl_problem.specs.Problems.{problem_view}
 use Rattle.pddl_task.specs.Types.{pairs, fits}
 use Rattle.pddl_types.specs.KnownNames.{object_in}
+use Rattle.pddl_task.specs.Settings.{objects_of}
 use Rattle.pddl_task.specs.Tasks.{places_from}
-use Rattle.pddl_link.proofs.OkResults.{ok_is}
 use Rattle.pddl_link.proofs.task.Task.fitting.Goals as goal
 
 pub returns : goal.returns
 returns g c =
     let t = c.args.self.now in
     let slot = c.args.types.now in
-    ok_is (λ v. v.items) c.fitting_objects.result _ _
-    (ap (λ ts. places_from 0 (λ o. fits (pairs ts) o.of slot) (map object_in t.objects.entries)) t.tables.types_are
-    ∙ ap (λ os. places_from 0 (λ o. fits (pairs (domain_view t.domain.now).types) o.of slot) os) t.tables.objects_are)
+    let d = domain_view t.domain.now in
+    IfOk-weaker c.fitting_objects.result (λ v. v.items ≡ places_from 0 (λ o. fits (pairs t.types) o.of slot) (map object_in t.tables.objects.entries))
+    (λ v. v.items ≡ places_from 0 (λ o. fits (pairs d.types) o.of slot) (objects_of d (problem_view t.problem.now)))
+    (λ v is.
+    is ∙ ap (λ ts. places_from 0 (λ o. fits (pairs ts) o.of slot) (map object_in t.tables.objects.entries)) t.held.types_are
+    ∙ ap (λ os. places_from 0 (λ o. fits (pairs d.types) o.of slot) os) t.held.behind.objects_are)
     c.fitting_objects.ensures

@@ -4,11 +4,11 @@ use Rattle.pddl_domain.specs.Domains.{domain_view}
 use Rattle.pddl_problem.specs.Problems.{problem_view}
 use Rattle.pddl_task.specs.Names.{item_of, repeated}
 use Rattle.pddl_task.specs.Settings.{symbol_of}
-use Rattle.pddl_link.proofs.FunctionNames.{functions_once}
+use Rattle.pddl_link.proofs.OnceNamed.{functions_once}
 use Rattle.pddl_link.proofs.task.Task.functions.Goals as goal
 
 pub of-requires : goal.of-requires
 of-requires g c =
     let t = c.args.self.now in
     ap (λ fs. repeated [] (map symbol_of (map item_of (map function_view fs)))) c.deref.ensures.value
-    ∙ functions_once (domain_view t.domain.now) (problem_view t.problem.now) t.tables.linked
+    ∙ functions_once (domain_view t.domain.now) (problem_view t.problem.now) t.held.linked

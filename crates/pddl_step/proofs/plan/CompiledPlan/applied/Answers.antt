@@ -8,22 +8,22 @@ use Rattle.pddl_step.proofs.plan.CompiledPlan.applied.Goals as goal
 pub index-requires : goal.index-requires
 index-requires g c =
     let plan = c.args.self.now in
-    omega (arith, plan.actions.ok.0, action_within (files_of plan.task.now) plan.task.now.tables.linked plan.held c.args.step (lent_step c.step-own.result) c.step-own.ensures)
+    omega (arith, plan.actions.ok.0, action_within (files_of plan.task.now) plan.task.now.held.linked plan.held c.args.step (lent_step c.step-own.result) c.step-own.ensures)
 
 pub unwrap-requires : goal.unwrap-requires
 unwrap-requires g c =
     let plan = c.args.self.now in
     c.as_ref.ensures.variant
-    ∙ action_there (files_of plan.task.now) plan.task.now.tables.linked plan.held c.args.step (lent_step c.step-own.result) c.step-own.ensures c.index.result.now c.index.ensures
+    ∙ action_there (files_of plan.task.now) plan.task.now.held.linked plan.held c.args.step (lent_step c.step-own.result) c.step-own.ensures c.index.result.now c.index.ensures
 
 pub returns-clause-step : goal.returns-clause-step
 returns-clause-step g c =
     let plan = c.args.self.now in
-    action_does (files_of plan.task.now) plan.task.now.tables.linked plan.held c.args.step (lent_step c.step-own.result) c.step-own.ensures c.index.result.now c.index.ensures
+    action_does (files_of plan.task.now) plan.task.now.held.linked plan.held c.args.step (lent_step c.step-own.result) c.step-own.ensures c.index.result.now c.index.ensures
     c.unwrap.result.now (sym c.as_ref.ensures.value ∙ ap option_copied c.unwrap.ensures)
 
 pub returns-clause-few : goal.returns-clause-few
 returns-clause-few g c =
     let plan = c.args.self.now in
-    action_increases (files_of plan.task.now) plan.task.now.tables.linked plan.held c.args.step (lent_step c.step-own.result) c.step-own.ensures c.index.result.now c.index.ensures
+    action_increases (files_of plan.task.now) plan.task.now.held.linked plan.held c.args.step (lent_step c.step-own.result) c.step-own.ensures c.index.result.now c.index.ensures
     c.unwrap.result.now (sym c.as_ref.ensures.value ∙ ap option_copied c.unwrap.ensures)

@@ -11,5 +11,5 @@ returns-clause-value g c =
     let plan = c.args.self.now in
     let own = c.applied-own.result in
     let state = g.S.AtomStore.content c.args.store.now c.args.state.now in
-    let prices = prices_are (files_of plan.task.now) plan.task.now.tables.linked plan.held in
+    let prices = prices_are (files_of plan.task.now) plan.task.now.held.linked plan.held in
     subst (λ n. IfOk c.spent.result (λ m. m ≡ n)) ((λ i. spent (λ call. prices call i) state (change_view own.action.now.effect) (reverse own.objects.now)) ∙ ap (λ q. q.cost state) (sym c.applied-own.ensures.step)) c.spent.ensures.spent

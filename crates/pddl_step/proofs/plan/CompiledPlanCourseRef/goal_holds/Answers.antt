@@ -8,4 +8,4 @@ pub returns : goal.returns
 returns g c =
     let plan = c.args.self.now in
     let state = g.S.AtomStore.content c.args.store.now c.args.state.now in
-    subst (λ b. IfOk c.is_true.result (λ yes. yes ≡ b)) (goal_means (files_of plan.task.now) plan.task.now.tables.linked plan.held state) c.is_true.ensures
+    subst (λ b. IfOk c.is_true.result (λ yes. yes ≡ b)) (goal_means (files_of plan.task.now) plan.task.now.held.linked plan.held state) c.is_true.ensures

@@ -1,0 +1,129 @@
+-- Variables that are bound, the innermost first.
+use Rattle.std.proofs.Common.{◌≡◌, ℕ, ◌+◌, ◌-◌, ◌<◌, ◌≤◌, Bool, true, false, ◌||◌, cond, List, [], ◌∷◌, ◌++◌, map, length, get_or, take, Option, Some, None, refl, ap, sym, ◌∙◌, bytes_eq, arith}
+use Rattle.std.specs.Prelude.{is_some, find, option_map}
+use Rattle.std.specs.Borrow.{Bor}
+use Rattle.std.specs.Map.{lookup}
+use Rattle.std.specs.Option.{option_or, option_copied}
+use Rattle.std.proofs.lemmas.List.{take_more, map-append}
+use Rattle.pddl_formula.specs.TypedLists.{TypedValue}
+use Rattle.pddl_task.specs.Names.{Name, is_in, is_named, item_of}
+use Rattle.pddl_task.specs.Places.{binding}
+use Rattle.pddl_task.specs.Faults.{primitives_of}
+use Rattle.indexmap.specs.IndexMap.{insert_entry}
+use Rattle.pddl_faults.specs.LastTypes.{AreLastTypes}
+use Rattle.pddl_faults.proofs.PutValues.{lookup_put}
+
+either : (b : Bool) (x : TypedValue) (o p : Option TypedValue) → option_or o (cond b (Some x) p) ≡ option_or (option_or o (cond b (Some x) None)) p
+either true x None p = refl
+either true x (Some y) p = refl
+either false x None p = refl
+either false x (Some y) p = refl
+
+-- a variable of a list, or else one that was bound before
+find_bound : (xs bound : List TypedValue) (n : Name) → find (is_named n) (binding xs bound) ≡ option_or (find (is_named n) (binding xs [])) (find (is_named n) bound)
+find_bound [] bound n = refl
+find_bound (x ∷ xs) bound n =
+    find_bound xs (x ∷ bound) n ∙ either (is_named n x) x (find (is_named n) (binding xs [])) (find (is_named n) bound)
+    ∙ ap (λ o. option_or o (find (is_named n) bound)) (sym (find_bound xs (x ∷ []) n))
+
+types_or : (o p : Option TypedValue) → option_map primitives_of (option_or o p) ≡ option_or (option_map primitives_of o) (option_map primitives_of p)
+types_or None p = refl
+types_or (Some x) p = refl
+
+pub type_bound : (xs bound : List TypedValue) (n : Name)
+    → option_map primitives_of (find (is_named n) (binding xs bound)) ≡ option_or (option_map primitives_of (find (is_named n) (binding xs []))) (option_map primitives_of (find (is_named n) bound))
+type_bound xs bound n = ap (option_map primitives_of) (find_bound xs bound n) ∙ types_or (find (is_named n) (binding xs [])) (find (is_named n) bound)
+
+-- ---- a walk over a list from its end
+
+binding-push : (xs : List TypedValue) (x : TypedValue) (bound : List TypedValue) → binding (xs ++ x ∷ []) bound ≡ x ∷ binding xs bound
+binding-push [] x bound = refl
+binding-push (y ∷ xs) x bound = binding-push xs x (y ∷ bound)
+
+module _ {X : Type 0} (view : X → TypedValue) (n : Name) where
+  -- the type of the last variable of the name
+  abbrev pub last_type : List X → Option (List Name)
+  last_type xs = option_map primitives_of (find (is_named n) (binding (map view xs) []))
+
+type_if : (b : Bool) (x : TypedValue) (o : Option TypedValue) → option_map primitives_of (cond b (Some x) o) ≡ cond b (Some x.of) (option_map primitives_of o)
+type_if true x o = refl
+type_if false x o = refl
+
+last_more : {X : Type 0} (view : X → TypedValue) (n : Name) (xs : List X) (i : ℕ) (d : X) → i < length xs
+    → last_type view n (take (i + 1) xs) ≡ cond (bytes_eq n (view (get_or xs i d)).item) (Some (view (get_or xs i d)).of) (last_type view n (take i xs))
+last_more view n xs i d h =
+    let x = get_or xs i d in
+    ap (last_type view n) (take_more xs i d h)
+    ∙ ap (λ ys. option_map primitives_of (find (is_named n) (binding ys []))) (map-append view (take i xs) (x ∷ []))
+    ∙ ap (λ ys. option_map primitives_of (find (is_named n) ys)) (binding-push (map view (take i xs)) (view x) [])
+    ∙ type_if (is_named n (view x)) (view x) (find (is_named n) (binding (map view (take i xs)) []))
+
+last_at : {X : Type 0} (view : X → TypedValue) (n : Name) (xs : List X) (i : ℕ) (x : X) (b : Bool) → 0 < i → i ≤ length xs → x ≡ get_or xs (i - 1) x → bytes_eq n (view x).item ≡ b
+    → last_type view n (take i xs) ≡ cond b (Some (view x).of) (last_type view n (take (i - 1) xs))
+last_at view n xs i x b some h is told =
+    let back : i - 1 + 1 ≡ i = omega (arith, some) in
+    ap (λ j. last_type view n (take j xs)) (sym back) ∙ last_more view n xs (i - 1) x (omega (arith, some, h))
+    ∙ ap (λ y. cond (bytes_eq n (view y).item) (Some (view y).of) (last_type view n (take (i - 1) xs))) (sym is)
+    ∙ ap (λ c. cond c (Some (view x).of) (last_type view n (take (i - 1) xs))) told
+
+-- ---- a table of types
+
+copied_cond : (b : Bool) (v : Bor (List Name)) (o : Option (Bor (List Name))) → option_copied (cond b (Some v) o) ≡ cond b (Some v.now) (option_copied o)
+copied_cond true v o = refl
+copied_cond false v o = refl
+
+pub types_none : {X : Type 0} (view : X → TypedValue) (xs : List X) → AreLastTypes (map view (take 0 xs)) []
+types_none view [] n = refl
+types_none view (x ∷ xs) n = refl
+
+pub types_more : {X : Type 0} (view : X → TypedValue) (xs : List X) (i : ℕ) (x : X) (k : Bor Name) (v : Bor (List Name)) (table : List (Bor Name × Bor (List Name))) → i < length xs → x ≡ get_or xs i x
+    → k.now ≡ (view x).item → v.now ≡ (view x).of → AreLastTypes (map view (take i xs)) table → AreLastTypes (map view (take (i + 1) xs)) (insert_entry (λ a b. bytes_eq a.now b.now) table k v)
+types_more view xs i x k v table low is named typed so_far n =
+    ap option_copied (lookup_put table k v n) ∙ copied_cond (bytes_eq n k.now) v (lookup (λ j. bytes_eq n j.now) table)
+    ∙ ap (λ o. cond (bytes_eq n k.now) (Some v.now) o) (so_far n) ∙ ap (λ m. cond (bytes_eq n m) (Some v.now) (last_type view n (take i xs))) named
+    ∙ ap (λ t. cond (bytes_eq n (view x).item) (Some t) (last_type view n (take i xs))) typed
+    ∙ ap (λ y. cond (bytes_eq n (view y).item) (Some (view y).of) (last_type view n (take i xs))) is ∙ sym (last_more view n xs i x low)
+
+-- it is the one where the walk has come to
+pub last_here : {X : Type 0} (view : X → TypedValue) (n : Name) (xs : List X) (i : ℕ) (x : X) → 0 < i → i ≤ length xs → x ≡ get_or xs (i - 1) x
+    → bytes_eq n (view x).item ≡ true → last_type view n (take i xs) ≡ last_type view n xs → Some (view x).of ≡ last_type view n xs
+last_here view n xs i x some h is same inv = sym (last_at view n xs i x true some h is same) ∙ inv
+
+-- or it is before it
+pub last_before : {X : Type 0} (view : X → TypedValue) (n : Name) (xs : List X) (i : ℕ) (x : X) → 0 < i → i ≤ length xs → x ≡ get_or xs (i - 1) x
+    → bytes_eq n (view x).item ≡ false → last_type view n (take i xs) ≡ last_type view n xs → last_type view n (take (i - 1) xs) ≡ last_type view n xs
+last_before view n xs i x some h is other inv = sym (last_at view n xs i x false some h is other) ∙ inv
+
+-- ---- a scope
+
+-- its own list has a variable of the name
+pub found_inside : (all xs bound : List TypedValue) (n : Name) (o : Option (Bor (List Name))) (t : Bor (List Name))
+    → all ≡ binding xs bound → option_copied o ≡ option_map primitives_of (find (is_named n) (binding xs [])) → o ≡ Some t → Some t.now ≡ option_map primitives_of (find (is_named n) all)
+found_inside all xs bound n o t is found some =
+    let at : Some t.now ≡ option_map primitives_of (find (is_named n) (binding xs [])) = sym (ap option_copied some) ∙ found in
+    ap (λ p. option_or p (option_map primitives_of (find (is_named n) bound))) at ∙ sym (type_bound xs bound n) ∙ ap (λ ys. option_map primitives_of (find (is_named n) ys)) (sym is)
+
+-- or it is looked for further out
+pub found_outside : (all xs bound : List TypedValue) (n : Name) (o : Option (Bor (List Name))) (r : Option (List Name))
+    → all ≡ binding xs bound → option_copied o ≡ option_map primitives_of (find (is_named n) (binding xs [])) → o ≡ None
+    → r ≡ option_map primitives_of (find (is_named n) bound) → r ≡ option_map primitives_of (find (is_named n) all)
+found_outside all xs bound n o r is found none outer =
+    let at : None ≡ option_map primitives_of (find (is_named n) (binding xs [])) = sym (ap option_copied none) ∙ found in
+    outer ∙ ap (λ p. option_or p (option_map primitives_of (find (is_named n) bound))) at ∙ sym (type_bound xs bound n) ∙ ap (λ ys. option_map primitives_of (find (is_named n) ys)) (sym is)
+
+-- ---- whether a variable is bound
+
+found_or : (b c : Bool) (x : TypedValue) (o : Option TypedValue) → is_some (option_map primitives_of o) ≡ c → is_some (option_map primitives_of (cond b (Some x) o)) ≡ b || c
+found_or true c x o h = refl
+found_or false c x o h = h
+
+some_bound : (xs : List TypedValue) (n : Name) → is_some (option_map primitives_of (find (is_named n) xs)) ≡ is_in (map item_of xs) n
+some_bound [] n = refl
+some_bound (x ∷ xs) n = found_or (is_named n x) (is_in (map item_of xs) n) x (find (is_named n) xs) (some_bound xs n)
+
+some_lent : (o : Option (Bor (List Name))) → is_some o ≡ is_some (option_copied o)
+some_lent None = refl
+some_lent (Some x) = refl
+
+pub is_bound : (o : Option (Bor (List Name))) (xs : List TypedValue) (n : Name) → option_copied o ≡ option_map primitives_of (find (is_named n) xs) → is_some o ≡ is_in (map item_of xs) n
+is_bound o xs n is = some_lent o ∙ ap is_some is ∙ some_bound xs n

@@ -1,0 +1,29 @@
+//! The lowest fault, of what is found in two parts.
+
+ghost use Rattle.std.specs.Prelude.{◌++◌, ℕ, List, OnOk, IsOk};
+ghost use Rattle.pddl_task.specs.Names.{Name};
+ghost use Rattle.pddl_faults.specs.Found.{IsFound};
+
+use crate::fault::LinkFault;
+
+/// The lower of the faults that are found in two parts, the first of two with one number. `Memory` is lower than any fault, since what
+/// was not looked at may have one.
+pub fn lower<'d>(
+    first: Result<(), LinkFault<'d>>,
+    second: Result<(), LinkFault<'d>>,
+) -> Result<(), LinkFault<'d>>
+    ensures found { (xs ys : List (ℕ × Name)) → IsFound xs first.entry → IsFound ys second.entry → IsFound (xs ++ ys) result }
+    ensures both { OnOk result (IsOk first.entry × IsOk second.entry) }
+{
+    match first {
+        Ok(()) => second,
+        Err(fault) => match second {
+            Ok(()) => Err(fault),
+            Err(other) => if other.number() < fault.number() {
+                Err(other)
+            } else {
+                Err(fault)
+            },
+        },
+    }
+}

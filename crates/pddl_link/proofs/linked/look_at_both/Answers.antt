@@ -1,0 +1,61 @@
+use Rattle.std.proofs.Common.{◌≡◌, List, [], ◌∷◌, ◌++◌, map, filter, refl, ap, subst, ◌∙◌}
+use Rattle.std.proofs.lemmas.Result.{on_ok_weaker}
+use Rattle.pddl_formula.specs.TypedLists.{typed_view}
+use Rattle.pddl_formula.specs.declared.type_names.Typed.{Typed}
+use Rattle.pddl_domain.specs.Declarations.{TypeValue}
+use Rattle.pddl_domain.specs.Domains.{domain_view}
+use Rattle.pddl_problem.specs.Problems.{problem_view}
+use Rattle.pddl_task.specs.Names.{firsts, item_of}
+use Rattle.pddl_task.specs.Types.{pairs, is_cyclic}
+use Rattle.pddl_task.specs.Settings.{objects_of}
+use Rattle.pddl_task.specs.Faults.{first_alone, retyped}
+use Rattle.pddl_task.specs.Linked.{fault_in}
+use Rattle.pddl_faults.specs.Found.{IsFound, numbered}
+use Rattle.pddl_types.specs.KnownNames.{AreNamed, object_in}
+use Rattle.pddl_names.specs.FaultParts.{joined, domain_parts, problem_parts, name_rules}
+use Rattle.pddl_names.proofs.FoundParts.{found_parts, passed_part, first_kept, second_kept}
+use Rattle.pddl_names.proofs.RuleParts.{names_stand}
+use Rattle.pddl_link.proofs.Stages.{verdict_of}
+use Rattle.pddl_link.proofs.linked.look_at_both.Goals as goal
+
+pub returns-clause-constants : goal.returns-clause-constants
+returns-clause-constants g c =
+    let listed = map object_in c.list_objects-listed.new.objects.entries ≡ firsts (domain_view c.args.domain.now).constants in
+    second_kept c.cycle-above.result c.lower-3.result c.lower-4.result listed c.lower-4.ensures.both
+    (first_kept c.list_objects-listed.result c.lower-2.result c.lower-3.result listed c.lower-3.ensures.both
+    (on_ok_weaker c.list_objects-listed.result (λ lists. lists [] refl (ap (map object_in) c.requires.no_constants) ∙ ap (λ xs. firsts (map typed_view xs)) c.deref.ensures.value) c.list_objects-listed.ensures.lists))
+
+pub returns-clause-objects : goal.returns-clause-objects
+returns-clause-objects g c =
+    let listed = map object_in c.list_all-all.new.objects.entries ≡ objects_of (domain_view c.args.domain.now) (problem_view c.args.problem.now) in
+    second_kept c.cycle-above.result c.lower-3.result c.lower-4.result listed c.lower-4.ensures.both
+    (second_kept c.list_objects-listed.result c.lower-2.result c.lower-3.result listed c.lower-3.ensures.both
+    (second_kept c.look_at_domain-declared.result c.lower.result c.lower-2.result listed c.lower-2.ensures.both
+    (first_kept c.list_all-all.result c.look_at_problem-bound.result c.lower.result listed c.lower.ensures.both c.list_all-all.ensures.objects)))
+
+pub returns-clause-named : goal.returns-clause-named
+returns-clause-named g c =
+    let named = AreNamed c.list_all-all.new.objects.entries in
+    second_kept c.cycle-above.result c.lower-3.result c.lower-4.result named c.lower-4.ensures.both
+    (second_kept c.list_objects-listed.result c.lower-2.result c.lower-3.result named c.lower-3.ensures.both
+    (second_kept c.look_at_domain-declared.result c.lower.result c.lower-2.result named c.lower-2.ensures.both
+    (first_kept c.list_all-all.result c.look_at_problem-bound.result c.lower.result named c.lower.ensures.both c.list_all-all.ensures.names)))
+
+pub returns-clause-verdict : goal.returns-clause-verdict
+returns-clause-verdict g c =
+    let d = domain_view c.args.domain.now in
+    let p = problem_view c.args.problem.now in
+    let ts = c.args.types.now in
+    let above = λ (us : List TypeValue). numbered 22 (first_alone (filter (is_cyclic (pairs us)) (map item_of us))) in
+    let listed = λ (xs : List (Typed g.row.A.Denot)). numbered 24 (retyped [] (map typed_view xs)) in
+    let constants = c.args.domain.now.constants.items in
+    let all = numbered 24 (retyped [] d.constants ++ retyped d.constants p.objects) in
+    verdict_of (joined (above d.types ∷ (listed constants ∷ (domain_parts d.types d ++ (all ∷ problem_parts d.types p))))) (map (fault_in d p) name_rules) c.lower-4.result (names_stand d p)
+    (subst (λ us. IsFound (joined (above us ∷ (listed constants ∷ (domain_parts us d ++ (all ∷ problem_parts us p))))) c.lower-4.result) c.requires.types
+    (found_parts (above ts ∷ []) (listed constants ∷ (domain_parts ts d ++ (all ∷ problem_parts ts p))) c.cycle-above.result c.lower-3.result c.lower-4.result c.lower-4.ensures.found
+    (passed_part 22 _ c.cycle-above.result c.cycle-above.ensures)
+    (found_parts (listed constants ∷ []) (domain_parts ts d ++ (all ∷ problem_parts ts p)) c.list_objects-listed.result c.lower-2.result c.lower-3.result c.lower-3.ensures.found
+    (subst (λ xs. IsFound (joined (listed xs ∷ [])) c.list_objects-listed.result) c.deref.ensures.value (passed_part 24 _ c.list_objects-listed.result (c.list_objects-listed.ensures.passes [] refl (ap (map object_in) c.requires.no_constants))))
+    (found_parts (domain_parts ts d) (all ∷ problem_parts ts p) c.look_at_domain-declared.result c.lower.result c.lower-2.result c.lower-2.ensures.found c.look_at_domain-declared.ensures
+    (found_parts (all ∷ []) (problem_parts ts p) c.list_all-all.result c.look_at_problem-bound.result c.lower.result c.lower.ensures.found
+    (passed_part 24 _ c.list_all-all.result c.list_all-all.ensures.passes) c.look_at_problem-bound.ensures)))))

@@ -1,0 +1,37 @@
+use Rattle.std.proofs.Common.{◌++◌, map, ◌∙◌}
+use Rattle.pddl_domain.specs.Domains.{domain_view}
+use Rattle.pddl_problem.specs.Problems.{problem_view}
+use Rattle.pddl_task.specs.Names.{firsts}
+use Rattle.pddl_task.specs.Settings.{objects_of}
+use Rattle.pddl_task.specs.Linked.{fault_in}
+use Rattle.pddl_search.specs.Claims.{HoldsValues}
+use Rattle.pddl_types.specs.KnownNames.{signature_in, object_in}
+use Rattle.pddl_names.specs.FaultParts.{joined, domain_uses, problem_uses, use_rules}
+use Rattle.pddl_names.proofs.FoundParts.{found_parts, second_kept}
+use Rattle.pddl_names.proofs.RuleParts.{uses_stand}
+use Rattle.pddl_link.proofs.Settings.{setting_by_parts}
+use Rattle.pddl_link.proofs.Stages.{verdict_of}
+use Rattle.pddl_link.proofs.linked.look_at_uses.Goals as goal
+
+pub look_at_domain_uses-used-requires : goal.look_at_domain_uses-used-requires
+look_at_domain_uses-used-requires g c =
+    let d = domain_view c.args.domain.now in
+    c.known-inner.ensures ∙ setting_by_parts d c.args.types.now (map signature_in c.args.declared.now.predicates.entries) (map signature_in c.args.declared.now.functions.entries) (map object_in c.args.constants.now.entries) (firsts d.constants)
+    c.requires.types c.requires.predicates c.requires.functions c.requires.constants
+
+pub look_at_problem_uses-requires-clause-known : goal.look_at_problem_uses-requires-clause-known
+look_at_problem_uses-requires-clause-known g c =
+    let d = domain_view c.args.domain.now in
+    c.known-outer.ensures ∙ setting_by_parts d c.args.types.now (map signature_in c.args.declared.now.predicates.entries) (map signature_in c.args.declared.now.functions.entries) (map object_in c.args.objects.now.entries) (objects_of d (problem_view c.args.problem.now))
+    c.requires.types c.requires.predicates c.requires.functions c.requires.objects
+
+pub returns-clause-values : goal.returns-clause-values
+returns-clause-values g c =
+    second_kept c.look_at_domain_uses-used.result c.look_at_problem_uses.result c.lower.result (HoldsValues (problem_view c.args.problem.now).init c.look_at_problem_uses.new.values.entries) c.lower.ensures.both c.look_at_problem_uses.ensures.values
+
+pub returns-clause-verdict : goal.returns-clause-verdict
+returns-clause-verdict g c =
+    let d = domain_view c.args.domain.now in
+    let p = problem_view c.args.problem.now in
+    verdict_of (joined (domain_uses d ++ problem_uses d p)) (map (fault_in d p) use_rules) c.lower.result (uses_stand d p)
+    (found_parts (domain_uses d) (problem_uses d p) c.look_at_domain_uses-used.result c.look_at_problem_uses.result c.lower.result c.lower.ensures.found c.look_at_domain_uses-used.ensures c.look_at_problem_uses.ensures.found)

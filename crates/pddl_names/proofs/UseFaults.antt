@@ -1,0 +1,182 @@
+-- The faults of a predicate or a function with its terms.
+use Rattle.std.proofs.Common.{◌≡◌, ◌≢◌, ◌≤◌, ℕ, ◌∷◌, IfSome, Ok, ◌⊎◌, Bool, true, false, not, List, [], ◌++◌, map, length, ◌==◌, Option, Some, None, Result, Err, refl, ap, sym, ◌∙◌, subst, bytes_eq, arith, inl, inr}
+use Rattle.std.specs.Prelude.{Contains, is_some, option_map, MatchOption, OnOk, IsOk}
+use Rattle.std.specs.Option.{option_map_or}
+use Rattle.std.specs.Borrow.{Bor}
+use Rattle.std.specs.List.{flat_map}
+use Rattle.std.specs.Map.{lookup}
+use Rattle.std.proofs.lemmas.List.{map-append, length-map}
+use Rattle.std.proofs.lemmas.List.Elements.{Contains-append_cases, Contains-append_left, Contains-append_right}
+use Rattle.pddl_formula.specs.Terms.{TermValue}
+use Rattle.pddl_formula.specs.TypedLists.{TypedValue, typed_view}
+use Rattle.pddl_formula.specs.declared.type_names.Typed.{Typed}
+use Rattle.pddl_domain.specs.Declarations.{Signature}
+use Rattle.pddl_task.specs.Names.{Name, word_if}
+use Rattle.pddl_task.specs.Settings.{Setting}
+use Rattle.pddl_task.specs.Faults.{Use, is_declared, signature_of, unknown_term, takes_others, some_misfit, has_misfit}
+use Rattle.pddl_task.proofs.Lists.{mapped_is, append-none, has_first}
+use Rattle.pddl_faults.specs.declared.fault.LinkFault.{LinkFault}
+use Rattle.pddl_faults.specs.Passes.{fault_of, Passes}
+use Rattle.pddl_faults.specs.Found.{IsLowestOf, IsFound, numbered}
+use Rattle.pddl_faults.proofs.FoundFaults.{AreBelow, passed_found, found_first, found_rest, found_same}
+use Rattle.pddl_types.specs.KnownNames.{signature_in}
+use Rattle.pddl_types.proofs.Lookups.{is_symbol, signature_found}
+use Rattle.pddl_names.specs.Uses.{IsFoundUpTo, faults_of_use, faults_of_terms}
+
+-- ---- three faults in turn
+
+-- names that are not known, another number of terms, and terms that do not fit
+abbrev pub in_turn : List Name → List Name → List Name → List (ℕ × Name)
+in_turn xs ys zs = numbered 26 xs ++ (numbered 27 ys ++ numbered 28 zs)
+
+at_number : (n : ℕ) (words : List Name) (f : ℕ × Name) → Contains (numbered n words) f → f.0 ≡ n
+at_number n words f c = sym (ap (λ (p : ℕ × Name). p.0) (mapped_is (λ w. (n, w)) words f c).2)
+
+first_below : (xs ys zs : List Name) → AreBelow (numbered 26 xs) (numbered 27 ys ++ numbered 28 zs)
+first_below xs ys zs f g c d =
+    let m = at_number 26 xs f c in
+    elim (Contains-append_cases (numbered 27 ys) (numbered 28 zs) g d) as (λ _. f.0 ≤ g.0) [
+      | inl h ↦ let k = at_number 27 ys g h in omega (arith, m, k)
+      | inr h ↦ let k = at_number 28 zs g h in omega (arith, m, k)
+    ]
+
+second_below : (ys zs : List Name) → AreBelow (numbered 27 ys) (numbered 28 zs)
+second_below ys zs f g c d = let m = at_number 27 ys f c in let k = at_number 28 zs g d in omega (arith, m, k)
+
+-- a name is not known
+pub first_found : (xs ys zs : List Name) (e : LinkFault) → Passes {T = Unit {0}} 26 xs (Err e) → IsFound {T = Unit {0}} (in_turn xs ys zs) (Err e)
+first_found xs ys zs e h = found_first (numbered 26 xs) (numbered 27 ys ++ numbered 28 zs) e (first_below xs ys zs) (passed_found {T = Unit {0}} 26 xs (Err e) h)
+
+-- each name is known, and there is another number of terms
+pub second_found : (xs ys zs : List Name) (e : LinkFault) → xs ≡ [] → Passes {T = Unit {0}} 27 ys (Err e) → IsFound {T = Unit {0}} (in_turn xs ys zs) (Err e)
+second_found xs ys zs e none h =
+    found_rest {T = Unit {0}} (numbered 26 xs) (numbered 27 ys ++ numbered 28 zs) (Err e) (ap (numbered 26) none)
+    (found_first (numbered 27 ys) (numbered 28 zs) e (second_below ys zs) (passed_found {T = Unit {0}} 27 ys (Err e) h))
+
+-- each name is known, there are as many terms as slots, and one does not fit
+pub third_found : (xs ys zs : List Name) (r : Result (Unit {0}) LinkFault) → xs ≡ [] → ys ≡ [] → Passes 28 zs r → IsFound (in_turn xs ys zs) r
+third_found xs ys zs r none more h =
+    found_rest (numbered 26 xs) (numbered 27 ys ++ numbered 28 zs) r (ap (numbered 26) none)
+    (found_rest (numbered 27 ys) (numbered 28 zs) r (ap (numbered 27) more) (passed_found 28 zs r h))
+
+-- ---- words
+
+-- the word, where what the fault is the opposite of does not hold
+pub has_word : (b holds : Bool) (w : Name) → b ≡ not holds → holds ≡ false → Contains (word_if b w) w
+has_word b holds w is off = subst (λ c. Contains (word_if c w) w) (sym (is ∙ ap not off)) (has_first w [])
+
+-- no word, where it holds
+pub has_no_word : (holds : Bool) (w : Name) → holds ≡ true → word_if (not holds) w ≡ []
+has_no_word holds w on = ap (λ c. word_if (not c) w) on
+
+-- ---- what is declared
+
+-- another number of terms than slots, where there are slots
+abbrev slots_differ : Option (List TypedValue) → List TermValue → Bool
+slots_differ None ts = false
+slots_differ (Some xs) ts = not (length ts == length xs)
+
+takes_is : (g : Option Signature) (ts : List TermValue) → takes_others g ts ≡ slots_differ (option_map (λ (h : Signature). h.parameters) g) ts
+takes_is None ts = refl
+takes_is (Some g) ts = refl
+
+-- some of these terms does not fit, where there are slots
+abbrev slots_misfit : Setting → List TypedValue → List TermValue → Option (List TypedValue) → Bool
+slots_misfit s b ts None = false
+slots_misfit s b ts (Some xs) = some_misfit s b ts xs
+
+misfit_is : (s : Setting) (b : List TypedValue) (ts : List TermValue) (g : Option Signature) → has_misfit s b ts g ≡ slots_misfit s b ts (option_map (λ (h : Signature). h.parameters) g)
+misfit_is s b ts None = refl
+misfit_is s b ts (Some g) = refl
+
+module _ {A : Type 0} (s : Setting) (b : List TypedValue) (ts : List TermValue) (es : List (Bor (List ℕ) × Bor (List (Typed A)))) (n : Name) where
+  abbrev used : Use
+  used = record { name = n; terms = ts; declared = map signature_in es }
+
+  -- a name that is not found is a fault
+  pub undeclared_found : (e : LinkFault) → None ≡ lookup (λ k. bytes_eq n k.now) es → ((words : List Name) → Contains words n → Passes {T = Unit {0}} 26 words (Err e))
+      → IsFound {T = Unit {0}} (faults_of_use s b used) (Err e)
+  undeclared_found e at told =
+      let off : is_declared used ≡ false = sym (is_symbol es n) ∙ ap is_some (sym at) in
+      first_found (word_if (not (is_declared used)) n ++ flat_map (unknown_term s b) ts) (word_if (takes_others (signature_of used) ts) n) (word_if (has_misfit s b ts (signature_of used)) n) e
+      (told (word_if (not (is_declared used)) n ++ flat_map (unknown_term s b) ts)
+      (Contains-append_left (word_if (not (is_declared used)) n) (flat_map (unknown_term s b) ts) n (has_word (not (is_declared used)) (is_declared used) n refl off)))
+
+  -- the faults of a name that is found are those of its terms
+  pub declared_is : (slots : Bor (List (Typed A))) → Some slots ≡ lookup (λ k. bytes_eq n k.now) es → faults_of_use s b used ≡ faults_of_terms s b n ts (length slots.now) (map typed_view slots.now)
+  declared_is slots at =
+      let xs = map typed_view slots.now in
+      let words = flat_map (unknown_term s b) ts in
+      let on : is_declared used ≡ true = sym (is_symbol es n) ∙ ap is_some (sym at) in
+      let same : option_map (λ (h : Signature). h.parameters) (signature_of used) ≡ Some xs =
+      signature_found es n ∙ ap (option_map (λ (ys : Bor (List (Typed A))). map typed_view ys.now)) (sym at) in
+      let takes : takes_others (signature_of used) ts ≡ not (length ts == length xs) = takes_is (signature_of used) ts ∙ ap (λ o. slots_differ o ts) same in
+      let misfit : has_misfit s b ts (signature_of used) ≡ some_misfit s b ts xs = misfit_is s b ts (signature_of used) ∙ ap (slots_misfit s b ts) same in
+      ap (λ c. in_turn (word_if (not c) n ++ words) (word_if (takes_others (signature_of used) ts) n) (word_if (has_misfit s b ts (signature_of used)) n)) on
+      ∙ ap (λ c. in_turn words (word_if c n) (word_if (has_misfit s b ts (signature_of used)) n)) (takes ∙ ap (λ k. not (length ts == k)) (length-map slots.now typed_view))
+      ∙ ap (λ c. in_turn words (word_if (not (length ts == length slots.now)) n) (word_if c n)) misfit
+
+-- ---- where a fault was found already that is no higher than a term that does not fit
+
+-- what has so low a number
+pub up_to : (o : Option (ℕ × Name)) (n : ℕ) → n ≡ option_map_or (λ f. f.0) o 0 → n ≢ 0 → n ≤ 28 → MatchOption o ⊥ (λ f. f.0 ≤ 28)
+up_to None n is some low = absurd (some is)
+up_to (Some f) n is some low = omega (arith, is)
+
+with_misfits : (before : List (ℕ × Name)) (xs ys zs : List Name) (f : ℕ × Name) → Contains (before ++ in_turn xs ys []) f → Contains (before ++ in_turn xs ys zs) f
+with_misfits before xs ys zs f c =
+    elim (Contains-append_cases before (in_turn xs ys []) f c) as (λ _. Contains (before ++ in_turn xs ys zs) f) [
+      | inl h ↦ Contains-append_left before (in_turn xs ys zs) f h
+      | inr h ↦
+          Contains-append_right before (in_turn xs ys zs) f (elim (Contains-append_cases (numbered 26 xs) (numbered 27 ys ++ []) f h) as (λ _. Contains (in_turn xs ys zs) f) [
+            | inl k ↦ Contains-append_left (numbered 26 xs) (numbered 27 ys ++ numbered 28 zs) f k
+            | inr k ↦ Contains-append_right (numbered 26 xs) (numbered 27 ys ++ numbered 28 zs) f (Contains-append_left (numbered 27 ys) (numbered 28 zs) f (subst (λ (fs : List (ℕ × Name)). Contains fs f) (append-none (numbered 27 ys)) k))
+          ])
+    ]
+
+without_misfits : (before : List (ℕ × Name)) (xs ys zs : List Name) (f : ℕ × Name) → Contains (before ++ in_turn xs ys zs) f → Contains (before ++ in_turn xs ys []) f ⊎ (f.0 ≡ 28)
+without_misfits before xs ys zs f c =
+    elim (Contains-append_cases before (in_turn xs ys zs) f c) as (λ _. Contains (before ++ in_turn xs ys []) f ⊎ (f.0 ≡ 28)) [
+      | inl h ↦ inl (Contains-append_left before (in_turn xs ys []) f h)
+      | inr h ↦
+          elim (Contains-append_cases (numbered 26 xs) (numbered 27 ys ++ numbered 28 zs) f h) as (λ _. Contains (before ++ in_turn xs ys []) f ⊎ (f.0 ≡ 28)) [
+            | inl k ↦ inl (Contains-append_right before (in_turn xs ys []) f (Contains-append_left (numbered 26 xs) (numbered 27 ys ++ []) f k))
+            | inr k ↦
+                elim (Contains-append_cases (numbered 27 ys) (numbered 28 zs) f k) as (λ _. Contains (before ++ in_turn xs ys []) f ⊎ (f.0 ≡ 28)) [
+                  | inl m ↦ inl (Contains-append_right before (in_turn xs ys []) f (Contains-append_right (numbered 26 xs) (numbered 27 ys ++ []) f (Contains-append_left (numbered 27 ys) [] f m)))
+                  | inr m ↦ inr (at_number 28 zs f m)
+                ]
+          ]
+    ]
+
+some_settled : (before : List (ℕ × Name)) (xs ys zs : List Name) (o p : Option (ℕ × Name)) → MatchOption o ⊥ (λ f. f.0 ≤ 28) → IfSome o (IsLowestOf before)
+    → IfSome p (IsLowestOf (before ++ in_turn xs ys [])) → IfSome p (IsLowestOf (before ++ in_turn xs ys zs))
+some_settled before xs ys zs None p low h k = absurd low
+some_settled before xs ys zs (Some f) None low h k = tt
+some_settled before xs ys zs (Some f) (Some g) low h k = record {
+  stands = with_misfits before xs ys zs g k.stands;
+  lowest = λ other c. elim (without_misfits before xs ys zs other c) as (λ _. g.0 ≤ other.0) [
+    | inl m ↦ k.lowest other m
+    | inr is ↦ let m = k.lowest f (Contains-append_left before (in_turn xs ys []) f h.stands) in omega (arith, m, low, is)
+  ];
+}
+
+-- then terms that do not fit change nothing
+pub settled : (before : List (ℕ × Name)) (xs ys zs : List Name) (first second both : Result (Unit {0}) LinkFault) → IsFoundUpTo 28 first → OnOk both (IsOk first × IsOk second)
+    → IsFound before first → IsFound (before ++ in_turn xs ys []) both → IsFound (before ++ in_turn xs ys zs) both
+settled before xs ys zs (Ok u) second both low done h k = absurd low
+settled before xs ys zs (Err e) second (Ok v) low done h k = absurd (cc (done.0))
+settled before xs ys zs (Err e) second (Err d) low done h k = some_settled before xs ys zs (fault_of e) (fault_of d) low h k
+
+-- no slot, no term that does not fit
+pub no_slots : (s : Setting) (b : List TypedValue) (ts : List TermValue) → some_misfit s b ts [] ≡ false
+no_slots s b [] = refl
+no_slots s b (t ∷ ts) = refl
+
+-- ---- at a place
+
+-- two terms, which no other faults follow
+pub both_found : (xs ys : List Name) (r : Result (Unit {0}) LinkFault) → IsFound (numbered 26 xs ++ numbered 26 ys) r → IsFound (numbered 26 (xs ++ (ys ++ [])) ++ []) r
+both_found xs ys r h =
+    found_same (numbered 26 xs ++ numbered 26 ys) (numbered 26 (xs ++ (ys ++ [])) ++ []) r
+    (append-none (numbered 26 (xs ++ (ys ++ []))) ∙ ap (λ zs. numbered 26 (xs ++ zs)) (append-none ys) ∙ map-append (λ w. (26, w)) xs ys) h

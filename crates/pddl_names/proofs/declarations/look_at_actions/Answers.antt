@@ -1,0 +1,50 @@
+use Rattle.std.proofs.Common.{[], ◌∷◌, ◌++◌, ◌+◌, drop, map, Ok, refl, ap, subst}
+use Rattle.std.specs.List.{flat_map}
+use Rattle.std.proofs.lemmas.List.{drop_all}
+use Rattle.pddl_domain.specs.Actions.{action_view}
+use Rattle.pddl_task.specs.Names.{is_in, word_if}
+use Rattle.pddl_task.specs.Places.{action_places}
+use Rattle.pddl_faults.specs.Passes.{Passes}
+use Rattle.pddl_faults.specs.Found.{numbered}
+use Rattle.pddl_faults.proofs.FoundFaults.{up_to_none, up_to_more, up_to_all, passed_found}
+use Rattle.pddl_faults.proofs.ListPasses.{views_drop}
+use Rattle.pddl_names.specs.Uses.{binding_faults}
+use Rattle.pddl_names.specs.FaultParts.{action_faults}
+use Rattle.pddl_names.proofs.SeenNames.{texts}
+use Rattle.pddl_names.proofs.ActionFaults.{same_more, word_is}
+use Rattle.pddl_names.proofs.declarations.look_at_actions.Goals as goal
+
+pub loop-action-init : goal.loop-action-init
+loop-action-init g c = record {
+  seen = [];
+  same = λ n. ap (λ ks. is_in (texts ks) n) c.new-seen.ensures.empty;
+  so_far = up_to_none [] (action_faults c.args.types.now [] (map action_view c.args.actions.now)) (Ok tt) refl;
+}
+
+pub loop-action-preserved : goal.loop-action-preserved
+loop-action-preserved g c =
+    let ts = c.args.types.now in
+    let all = c.args.actions.now in
+    let i = c.loop-action.action-index in
+    let a = c.action-item.result in
+    let before = c.loop-action.invariant in
+    let bound = flat_map (binding_faults ts) (action_places (action_view a)) in
+    let words = word_if (is_in before.seen a.name) a.name in
+    record {
+      seen = before.seen ++ a.name ∷ [];
+      same = same_more c.loop-action.seen.keys c.insert_full.new.self.keys c.as_bytes-name.result before.seen a.name c.as_bytes-name.ensures.value before.same c.in_ok-is_new.ensures.keys;
+      so_far =
+          up_to_more [] (action_faults ts before.seen (map action_view (drop i all))) (numbered 24 words ++ bound) (action_faults ts (before.seen ++ a.name ∷ []) (map action_view (drop (i + 1) all)))
+          (action_faults ts [] (map action_view all)) c.loop-action.found c.lower-found.result
+          (ap (action_faults ts before.seen) (views_drop action_view all i a c.loop-action-test.true c.action-item.is))
+          (λ xs h. c.lower-found.ensures.found xs (numbered 24 words ++ bound) h (c.lower.ensures.found (numbered 24 words) bound
+          (passed_found 24 words c.once.result (subst (λ ws. Passes 24 ws c.once.result) (word_is c.loop-action.seen.keys c.as_bytes-name.result before.seen a.name c.in_ok-is_new.is_new c.as_bytes-name.ensures.value before.same c.in_ok-is_new.ensures.added) c.once.ensures))
+          (c.search_action-bound.ensures [] refl))) before.so_far;
+    }
+
+pub returns : goal.returns
+returns g c =
+    let ts = c.args.types.now in
+    let all = c.args.actions.now in
+    up_to_all [] (action_faults ts c.loop-action.invariant.seen (map action_view (drop c.loop-action.action-index all))) (action_faults ts [] (map action_view all)) c.loop-action.found
+    (ap (λ xs. action_faults ts c.loop-action.invariant.seen (map action_view xs)) (drop_all c.loop-action.action-index all c.loop-action-test.false)) c.loop-action.invariant.so_far

@@ -1,0 +1,46 @@
+use Rattle.std.proofs.Common.{◌≡◌, false, true, not, ◌==◌, length, map, Err, refl, arith}
+use Rattle.std.specs.List.{flat_map}
+use Rattle.std.proofs.lemmas.Grind.{common_steps}
+use Rattle.std.proofs.lemmas.Result.{err_from_is_err_and}
+use Rattle.pddl_formula.specs.TypedLists.{typed_view}
+use Rattle.pddl_task.specs.Names.{word_if}
+use Rattle.pddl_task.specs.Faults.{unknown_term, some_misfit}
+use Rattle.pddl_faults.specs.declared.fault.LinkFault.TheVariants as link
+use Rattle.pddl_faults.specs.Parts.{terms_in}
+use Rattle.pddl_faults.specs.Scopes.{bound_of}
+use Rattle.pddl_types.specs.KnownNames.{setting_of}
+use Rattle.pddl_names.proofs.UseFaults.{first_found, second_found, third_found, has_word, has_no_word}
+use Rattle.pddl_names.proofs.uses.look_at_terms.Goals as goal
+
+pub returns-in_err-all_fit : goal.returns-in_err-all_fit
+returns-in_err-all_fit g c =
+    let s = setting_of c.args.known.now in
+    let b = bound_of c.args.scope.now in
+    let n = c.args.symbol.now in
+    let ts = terms_in c.args.terms.now in
+    let slots = map typed_view c.args.slots.now in
+    let p = err_from_is_err_and c.from_residual.result c.from_residual.ensures.1 in
+    rw (p.1, p.2) (first_found (flat_map (unknown_term s b) ts) (word_if (not (length ts == c.args.count)) n) (word_if (some_misfit s b ts slots) n) c.in_err-all_fit.field-0.0 c.in_err-all_fit.ensures.passes)
+
+pub returns-then-len-count : goal.returns-then-len-count
+returns-then-len-count g c =
+    let s = setting_of c.args.known.now in
+    let b = bound_of c.args.scope.now in
+    let n = c.args.symbol.now in
+    let ts = terms_in c.args.terms.now in
+    let slots = map typed_view c.args.slots.now in
+    let other : (length ts == c.args.count) ≡ false = grind (arith, common_steps, c.len.ensures, c.if-len-count.true) in
+    second_found (flat_map (unknown_term s b) ts) (word_if (not (length ts == c.args.count)) n) (word_if (some_misfit s b ts slots) n) (link.Arity c.args.symbol)
+    c.in_ok-all_fit.ensures.passes (refl, has_word (not (length ts == c.args.count)) (length ts == c.args.count) n refl other)
+
+pub returns-else-all_fit : goal.returns-else-all_fit
+returns-else-all_fit g c =
+    let s = setting_of c.args.known.now in
+    let b = bound_of c.args.scope.now in
+    let n = c.args.symbol.now in
+    let ts = terms_in c.args.terms.now in
+    let slots = map typed_view c.args.slots.now in
+    let same : (length ts == c.args.count) ≡ true = grind (arith, common_steps, c.len.ensures, c.if-len-count.false) in
+    third_found (flat_map (unknown_term s b) ts) (word_if (not (length ts == c.args.count)) n) (word_if (some_misfit s b ts slots) n) (Err (link.ArgumentType c.args.symbol))
+    c.in_ok-all_fit.ensures.passes (has_no_word (length ts == c.args.count) n same)
+    (refl, has_word (some_misfit s b ts slots) c.in_ok-all_fit.all_fit n c.in_ok-all_fit.ensures.fits c.if-all_fit.false)

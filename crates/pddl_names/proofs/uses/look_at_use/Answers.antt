@@ -1,0 +1,29 @@
+use Rattle.std.proofs.Common.{◌++◌, length, map, refl, ap, sym, ◌∙◌}
+use Rattle.std.specs.Option.{option_copied}
+use Rattle.pddl_formula.specs.TypedLists.{typed_view}
+use Rattle.pddl_faults.specs.declared.fault.LinkFault.TheVariants as link
+use Rattle.pddl_faults.specs.Parts.{terms_in}
+use Rattle.pddl_faults.specs.Scopes.{bound_of}
+use Rattle.pddl_faults.proofs.FoundFaults.{found_same}
+use Rattle.pddl_types.specs.KnownNames.{signature_in, setting_of}
+use Rattle.pddl_names.specs.Uses.{faults_of_use, faults_of_terms}
+use Rattle.pddl_names.proofs.UseFaults.{undeclared_found, declared_is}
+use Rattle.pddl_names.proofs.uses.look_at_use.Goals as goal
+
+pub returns-in-None : goal.returns-in-None
+returns-in-None g c = λ before h.
+    let s = setting_of c.args.known.now in
+    let b = bound_of c.args.scope.now in
+    let ts = terms_in c.args.terms.now in
+    c.lower.ensures.found before (faults_of_use s b (record { name = c.args.symbol.now; terms = ts; declared = map signature_in c.args.declared.now.entries })) h
+    (undeclared_found s b ts c.args.declared.now.entries c.args.symbol.now (link.UnknownName c.args.symbol) (sym (ap option_copied c.in-None.is) ∙ c.get.ensures.value) (λ words k. (refl, k)))
+
+pub returns-in-Some : goal.returns-in-Some
+returns-in-Some g c = λ before h.
+    let s = setting_of c.args.known.now in
+    let b = bound_of c.args.scope.now in
+    let n = c.args.symbol.now in
+    let ts = terms_in c.args.terms.now in
+    let slots = c.in-Some.slots.now in
+    found_same (before ++ faults_of_terms s b n ts (length slots.now) (map typed_view slots.now)) (before ++ faults_of_use s b (record { name = n; terms = ts; declared = map signature_in c.args.declared.now.entries })) c.look_at_slots.result
+    (ap (λ fs. before ++ fs) (declared_is s b ts c.args.declared.now.entries n slots (sym (ap option_copied c.in-Some.is) ∙ c.get.ensures.value))) (c.look_at_slots.ensures before h)

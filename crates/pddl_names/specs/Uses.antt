@@ -1,0 +1,52 @@
+-- The faults that are looked for together at each place, each told by its number and its word.
+use Rattle.std.specs.Prelude.{Bool, true, not, ◌==◌, ℕ, List, ◌++◌, filter, length, Option, Some, None, Result, MatchResult, MatchOption, ◌≤◌}
+use Rattle.std.specs.List.{flat_map}
+use Rattle.pddl_formula.specs.Terms.{TermValue}
+use Rattle.pddl_formula.specs.TypedLists.{TypedValue}
+use Rattle.pddl_domain.specs.Declarations.{TypeValue}
+use Rattle.pddl_task.specs.Names.{Name, is_in, word_if}
+use Rattle.pddl_task.specs.Types.{types_of, fits}
+use Rattle.pddl_task.specs.Places.{Place}
+use Rattle.pddl_task.specs.Settings.{Setting}
+use Rattle.pddl_task.specs.Faults.{Use, primitives_of, variables_at, repeated_at, is_declared, signature_of, unknown_term, takes_others, some_misfit, has_misfit, unknown_at, arity_at, misfit_at, fraction_at}
+use Rattle.pddl_faults.specs.declared.fault.LinkFault.{LinkFault}
+use Rattle.pddl_faults.specs.Passes.{fault_of}
+use Rattle.pddl_faults.specs.Found.{numbered}
+
+-- ---- what is bound
+
+-- of typed names and variables, the primitive types that are none of these types
+abbrev pub unknown_among : List TypeValue → List TypedValue → List Name
+unknown_among declared xs = filter (λ t. not (is_in (types_of declared) t)) (flat_map primitives_of xs)
+
+-- types of variables that are not known, and variables that stand twice
+abbrev pub binding_faults : List TypeValue → Place → List (ℕ × Name)
+binding_faults declared pl = numbered 23 (unknown_among declared (variables_at pl)) ++ numbered 24 (repeated_at pl)
+
+-- ---- what is used
+
+-- names that are not known, other numbers of terms than declared, terms that do not fit, and numbers that are not whole
+abbrev pub use_faults : Setting → Place → List (ℕ × Name)
+use_faults s pl = numbered 30 (fraction_at pl) ++ (numbered 26 (unknown_at s pl) ++ (numbered 27 (arity_at s pl) ++ numbered 28 (misfit_at s pl)))
+
+-- of these, those of a predicate or a function with its terms
+abbrev pub faults_of_use : Setting → List TypedValue → Use → List (ℕ × Name)
+faults_of_use s bound u =
+    numbered 26 (word_if (not (is_declared u)) u.name ++ flat_map (unknown_term s bound) u.terms)
+    ++ (numbered 27 (word_if (takes_others (signature_of u) u.terms) u.name) ++ numbered 28 (word_if (has_misfit s bound u.terms (signature_of u)) u.name))
+
+-- and those of its terms, where it is declared with so many slots, of which these are looked at
+abbrev pub faults_of_terms : Setting → List TypedValue → Name → List TermValue → ℕ → List TypedValue → List (ℕ × Name)
+faults_of_terms s bound symbol terms count slots =
+    numbered 26 (flat_map (unknown_term s bound) terms)
+    ++ (numbered 27 (word_if (not (length terms == count)) symbol) ++ numbered 28 (word_if (some_misfit s bound terms slots) symbol))
+
+-- whether what is typed fits a slot, where there is one; `None` where nothing is typed
+abbrev pub fit_of : List TypeValue → Option TypedValue → Option TypedValue → Option Bool
+fit_of ps None slot = None
+fit_of ps (Some x) None = Some true
+fit_of ps (Some x) (Some slot) = Some (fits ps x.of slot.of)
+
+-- a fault was found whose number is at most this
+abbrev pub IsFoundUpTo : ℕ → Result (Unit {0}) LinkFault → Type 0
+IsFoundUpTo n r = MatchResult r (λ _. ⊥) (λ e. MatchOption (fault_of e) ⊥ (λ f. f.0 ≤ n))

@@ -1,0 +1,114 @@
+//! What is declared and bound: types that are not known, names that stand twice, and objects with several types.
+
+ghost use Rattle.std.specs.Prelude.{[], map};
+ghost use Rattle.std.specs.List.{flat_map};
+ghost use Rattle.pddl_domain.specs.Declarations.{predicate_view, function_view};
+ghost use Rattle.pddl_domain.specs.Actions.{action_view};
+ghost use Rattle.pddl_domain.specs.Domains.{domain_view};
+ghost use Rattle.pddl_problem.specs.Problems.{problem_view};
+ghost use Rattle.pddl_task.specs.Names.{item_of};
+ghost use Rattle.pddl_task.specs.Settings.{parameters_of};
+ghost use Rattle.pddl_faults.specs.Passes.{Passes};
+ghost use Rattle.pddl_faults.specs.Found.{IsFound};
+ghost use Rattle.pddl_names.specs.Uses.{unknown_among};
+ghost use Rattle.pddl_names.specs.FaultParts.{joined, used_types, action_faults, domain_parts, problem_parts};
+
+use crate::bindings::Bindings;
+use crate::repeats::{function_twice, once, predicate_twice};
+use indexmap::IndexSet;
+use pddl_domain::{Action, DeclaredFunction, DeclaredPredicate, Domain};
+use pddl_faults::{Hashed, LinkFault, lower};
+use pddl_problem::Problem;
+use pddl_search::{object_types, search_action, search_problem};
+use pddl_types::Types;
+use std::alloc::Allocator;
+
+/// The types of the parameters of predicates are known.
+fn predicates_known<'m, 'a, 'd, A: Allocator, B: Allocator>(
+    types: &Types<'m, 'a, A, B>,
+    predicates: &'d [DeclaredPredicate<A>],
+) -> Result<(), LinkFault<'d>>
+    ensures { Passes 23 (unknown_among types.now (flat_map parameters_of (map predicate_view predicates.now))) result }
+{
+    for predicate in predicates {
+        types.known(&predicate.parameters)?;
+    }
+    Ok(())
+}
+
+/// The types of the parameters of functions are known.
+fn functions_known<'m, 'a, 'd, A: Allocator, B: Allocator>(
+    types: &Types<'m, 'a, A, B>,
+    functions: &'d [DeclaredFunction<A>],
+) -> Result<(), LinkFault<'d>>
+    ensures { Passes 23 (unknown_among types.now (flat_map parameters_of (map item_of (map function_view functions.now)))) result }
+{
+    for function in functions {
+        types.known(&function.parameters)?;
+    }
+    Ok(())
+}
+
+/// Types that are not known in a domain's declarations.
+fn look_at_types<'m, 'a, A: Allocator, B: Allocator>(
+    types: &Types<'m, 'a, A, B>,
+    domain: &'m Domain<A>,
+) -> Result<(), LinkFault<'m>>
+    ensures { IsFound (joined (used_types types.now (domain_view domain.now))) result }
+{
+    let constants = types.known(&domain.constants);
+    let predicates = predicates_known(types, &domain.predicates);
+    let functions = functions_known(types, &domain.functions);
+    lower(constants, lower(predicates, functions))
+}
+
+/// The lowest fault of actions: names that stand twice, and what is bound in them.
+fn look_at_actions<'m, 'a, A: Allocator, B: Allocator>(
+    alloc: &'a B,
+    types: &Types<'m, 'a, A, B>,
+    actions: &'m [Action<A>],
+) -> Result<(), LinkFault<'m>>
+    ensures { IsFound (action_faults types.now [] (map action_view actions.now)) result }
+{
+    let mut seen: IndexSet<&'m [u8], Hashed, &'a B> = IndexSet::new(alloc);
+    let mut found = Ok(());
+    for action in actions {
+        let name = action.name.as_bytes();
+        let (_, is_new) = seen.insert_full(name)?;
+        let bound = search_action(alloc, &Bindings { alloc, types }, Ok(()), action);
+        found = lower(found, lower(once(is_new, name), bound));
+    }
+    found
+}
+
+/// The lowest fault of types and names in a domain, but for constants with two types.
+pub fn look_at_domain<'m, 'a, A: Allocator, B: Allocator>(
+    alloc: &'a B,
+    types: &Types<'m, 'a, A, B>,
+    domain: &'m Domain<A>,
+) -> Result<(), LinkFault<'m>>
+    ensures { IsFound (joined (domain_parts types.now (domain_view domain.now))) result }
+{
+    let used = look_at_types(types, domain);
+    let predicates = predicate_twice(alloc, &domain.predicates);
+    let functions = function_twice(alloc, &domain.functions);
+    let actions = look_at_actions(alloc, types, &domain.actions);
+    let single = object_types(&domain.constants);
+    lower(
+        used,
+        lower(predicates, lower(functions, lower(actions, single))),
+    )
+}
+
+/// The lowest fault of types and names in a problem, but for objects with two types.
+pub fn look_at_problem<'m, 'a, A: Allocator, B: Allocator>(
+    alloc: &'a B,
+    types: &Types<'m, 'a, A, B>,
+    problem: &'m Problem<A>,
+) -> Result<(), LinkFault<'m>>
+    ensures { IsFound (joined (problem_parts types.now (problem_view problem.now))) result }
+{
+    let used = types.known(&problem.objects);
+    let bound = search_problem(alloc, &Bindings { alloc, types }, problem);
+    lower(used, lower(bound, object_types(&problem.objects)))
+}

@@ -1,0 +1,77 @@
+//! The predicates and the functions of a domain by name, with the tops of their slots.
+
+ghost use Rattle.std.specs.Prelude.{◌≡◌, [], map, IfOk};
+ghost use Rattle.pddl_domain.specs.Domains.{domain_view};
+ghost use Rattle.pddl_task.specs.Names.{repeated};
+ghost use Rattle.pddl_task.specs.Types.{pairs};
+ghost use Rattle.pddl_task.specs.Settings.{symbol_of, function_signatures};
+ghost use Rattle.pddl_types.specs.KnownNames.{signature_in, object_in, setting_of};
+
+use pddl_domain::Domain;
+use pddl_types::{Known, Objects, Signatures, Tops, Types, functions, predicates};
+use std::alloc::{AllocError, Allocator};
+
+/// What a domain declares beside types and constants, by name.
+#[derive(Drop)]
+pub struct Declared<'m, 'a, A: Allocator, B: Allocator> {
+    pub predicates: Signatures<'m, 'a, A, B>,
+    pub functions: Signatures<'m, 'a, A, B>,
+    pub tops: Tops<'m, 'a, B>,
+}
+
+/// Tables of predicates and of functions with the tops of their slots.
+///
+/// Fails where memory for these is refused.
+fn with_tops<'m, 'a, A: Allocator, B: Allocator>(
+    alloc: &'a B,
+    types: &Types<'m, 'a, A, B>,
+    predicates: Signatures<'m, 'a, A, B>,
+    functions: Signatures<'m, 'a, A, B>,
+) -> Result<Declared<'m, 'a, A, B>, AllocError>
+    ensures predicates { IfOk result (λ declared. declared.predicates ≡ predicates.entry) }
+    ensures functions { IfOk result (λ declared. declared.functions ≡ functions.entry) }
+{
+    let tops = Tops::of(alloc, types, &predicates, &functions)?;
+    Ok(Declared {
+        predicates,
+        functions,
+        tops,
+    })
+}
+
+impl<'m, 'a, A: Allocator, B: Allocator> Declared<'m, 'a, A, B> {
+    /// The tables of a domain in which no predicate and no function is declared twice.
+    ///
+    /// Fails where memory for them is refused.
+    pub fn of(
+        alloc: &'a B,
+        types: &Types<'m, 'a, A, B>,
+        domain: &'m Domain<A>,
+    ) -> Result<Declared<'m, 'a, A, B>, AllocError>
+        requires predicates { repeated [] (map symbol_of (domain_view domain.now).predicates) ≡ [] }
+        requires functions { repeated [] (map symbol_of (function_signatures (domain_view domain.now))) ≡ [] }
+        ensures predicates { IfOk result (λ declared. map signature_in declared.predicates.entries ≡ (domain_view domain.now).predicates) }
+        ensures functions { IfOk result (λ declared. map signature_in declared.functions.entries ≡ function_signatures (domain_view domain.now)) }
+    {
+        let predicates = predicates(alloc, &domain.predicates)?;
+        let functions = functions(alloc, &domain.functions)?;
+        with_tops(alloc, types, predicates, functions)
+    }
+
+    /// What may be named beside these objects.
+    pub fn known<'t>(
+        &'t self,
+        types: &'t Types<'m, 'a, A, B>,
+        objects: &'t Objects<'m, 'a, A, B>,
+    ) -> Known<'t, 'm, 'a, A, B>
+        ensures { setting_of result ≡ record { pairs = pairs types.now; predicates = map signature_in self.now.predicates.entries; functions = map signature_in self.now.functions.entries; objects = map object_in objects.now.entries } }
+    {
+        Known {
+            types,
+            predicates: &self.predicates,
+            functions: &self.functions,
+            tops: &self.tops,
+            objects,
+        }
+    }
+}

@@ -1,0 +1,76 @@
+//! What a domain and a problem use: names, terms, numbers, what `:init` says, the metric, and the size of the goal.
+
+ghost use Rattle.std.specs.Prelude.{◌≡◌, [], map, OnOk};
+ghost use Rattle.pddl_domain.specs.Domains.{domain_view};
+ghost use Rattle.pddl_problem.specs.Problems.{problem_view};
+ghost use Rattle.pddl_task.specs.Settings.{in_domain, in_problem, objects_of};
+ghost use Rattle.pddl_task.specs.Faults.{large_goals};
+ghost use Rattle.pddl_faults.specs.Passes.{Passes};
+ghost use Rattle.pddl_faults.specs.Found.{IsFound};
+ghost use Rattle.pddl_search.specs.Claims.{HoldsValues};
+ghost use Rattle.pddl_types.specs.KnownNames.{setting_of, object_in};
+ghost use Rattle.pddl_names.specs.FaultParts.{joined, domain_uses, problem_uses};
+
+use crate::uses::Uses;
+use pddl_domain::Domain;
+use pddl_faults::{LinkFault, lower};
+use pddl_problem::Problem;
+use pddl_search::{
+    Values, contradictions, cost_values, metric, object_fluents, search_domain, search_problem,
+};
+use pddl_types::{Known, ObjectCounts, ground_size};
+use std::alloc::Allocator;
+
+/// The lowest fault of what a domain uses.
+pub fn look_at_domain_uses<'k, 'm, 'a, A: Allocator, B: Allocator>(
+    alloc: &'a B,
+    known: &Known<'k, 'm, 'a, A, B>,
+    domain: &'m Domain<A>,
+) -> Result<(), LinkFault<'m>>
+    requires { setting_of known.now ≡ in_domain (domain_view domain.now) }
+    ensures { IsFound (joined (domain_uses (domain_view domain.now))) result }
+{
+    let used = search_domain(alloc, &Uses { known }, domain);
+    lower(used, object_fluents(domain))
+}
+
+/// The goal is not too large.
+fn goal_size<'k, 'm, 'a, 'd, A: Allocator, B: Allocator>(
+    counts: &ObjectCounts<'k, 'm, 'a, A, B>,
+    domain: &Domain<A>,
+    problem: &'d Problem<A>,
+) -> Result<(), LinkFault<'d>>
+    requires types { counts.now.types.now ≡ (domain_view domain.now).types }
+    requires objects { map object_in counts.now.objects.now.entries ≡ objects_of (domain_view domain.now) (problem_view problem.now) }
+    ensures { Passes 35 (large_goals (domain_view domain.now) (problem_view problem.now)) result }
+{
+    if ground_size(counts, &problem.goal) > 1_000_000 {
+        Err(LinkFault::GoalTooLarge)
+    } else {
+        Ok(())
+    }
+}
+
+/// The lowest fault of what a problem uses; the values that it gives to functions of objects are added to no values.
+pub fn look_at_problem_uses<'k, 'm, 'a, A: Allocator, B: Allocator>(
+    alloc: &'a B,
+    known: &Known<'k, 'm, 'a, A, B>,
+    counts: &ObjectCounts<'k, 'm, 'a, A, B>,
+    values: &mut Values<'m, 'a, A, B>,
+    domain: &'m Domain<A>,
+    problem: &'m Problem<A>,
+) -> Result<(), LinkFault<'m>>
+    requires known { setting_of known.now ≡ in_problem (domain_view domain.now) (problem_view problem.now) }
+    requires types { counts.now.types.now ≡ (domain_view domain.now).types }
+    requires objects { map object_in counts.now.objects.now.entries ≡ objects_of (domain_view domain.now) (problem_view problem.now) }
+    requires none { values.old.entries ≡ [] }
+    ensures found { IsFound (joined (problem_uses (domain_view domain.now) (problem_view problem.now))) result }
+    ensures values { OnOk result (HoldsValues (problem_view problem.now).init values.new.entries) }
+{
+    let used = search_problem(alloc, &Uses { known }, problem);
+    let claimed = contradictions(alloc, &problem.init);
+    let metric = metric(&problem.metric);
+    let size = goal_size(counts, domain, problem);
+    let told = cost_values(values, &problem.init);
+    lower(used, lower(claimed, lower(metric, lower(size, told))))
+}

@@ -1,0 +1,143 @@
+//! Names that stand twice in a list.
+
+ghost use Rattle.std.specs.Prelude.{◌≡◌, [], map, not, IfOk, MatchOption, Contains};
+ghost use Rattle.pddl_formula.specs.TypedLists.{typed_view};
+ghost use Rattle.pddl_domain.specs.Declarations.{predicate_view, function_view};
+ghost use Rattle.pddl_domain.specs.Actions.{action_view};
+ghost use Rattle.pddl_domain.specs.Domains.{domain_view};
+ghost use Rattle.pddl_task.specs.Names.{repeated, item_of, word_if};
+ghost use Rattle.pddl_task.specs.Settings.{symbol_of};
+ghost use Rattle.pddl_task.specs.Faults.{types_twice};
+ghost use Rattle.pddl_faults.specs.Passes.{Passes};
+
+use indexmap::IndexSet;
+use pddl_domain::{Action, DeclaredFunction, DeclaredPredicate, DeclaredType, Domain};
+use pddl_faults::{Hashed, LinkFault};
+use pddl_formula::Typed;
+use std::alloc::{AllocError, Allocator};
+
+/// What has a name.
+pub trait Named {
+    ghost use Rattle.std.specs.Prelude.{◌≡◌, List, ℕ};
+
+    ghost name: { Self → List ℕ };
+
+    /// The name's bytes.
+    fn text(&self) -> &[u8]
+        ensures { result.now ≡ name self.now };
+}
+
+impl<A: Allocator> Named for DeclaredType<A> {
+    ghost name = { λ t. t.name };
+
+    fn text(&self) -> &[u8] {
+        self.name.as_bytes()
+    }
+}
+
+impl<A: Allocator> Named for DeclaredPredicate<A> {
+    ghost name = { λ p. p.predicate };
+
+    fn text(&self) -> &[u8] {
+        self.predicate.as_bytes()
+    }
+}
+
+impl<A: Allocator> Named for DeclaredFunction<A> {
+    ghost name = { λ f. f.name };
+
+    fn text(&self) -> &[u8] {
+        self.name.as_bytes()
+    }
+}
+
+impl<A: Allocator> Named for Action<A> {
+    ghost name = { λ a. a.name };
+
+    fn text(&self) -> &[u8] {
+        self.name.as_bytes()
+    }
+}
+
+impl<A: Allocator> Named for Typed<A> {
+    ghost name = { λ x. x.name };
+
+    fn text(&self) -> &[u8] {
+        self.name.as_bytes()
+    }
+}
+
+/// The first of these names that stands before it too.
+fn first_repeat<'d, 'a, N: Named, B: Allocator>(
+    alloc: &'a B,
+    items: &'d [N],
+) -> Result<Option<&'d [u8]>, AllocError>
+    ensures { IfOk result (λ found. MatchOption found (repeated [] (map N.name items.now) ≡ []) (λ word. Contains (repeated [] (map N.name items.now)) word.now)) }
+{
+    let mut seen: IndexSet<&'d [u8], Hashed, &'a B> = IndexSet::new(alloc);
+    for item in items {
+        let name = item.text();
+        let (_, is_new) = seen.insert_full(name)?;
+        if !is_new {
+            return Ok(Some(name));
+        }
+    }
+    Ok(None)
+}
+
+/// No type is declared twice.
+pub fn type_twice<'d, 'a, A: Allocator, B: Allocator>(
+    alloc: &'a B,
+    domain: &'d Domain<A>,
+) -> Result<(), LinkFault<'d>>
+    ensures { Passes 21 (types_twice (domain_view domain.now)) result }
+{
+    match first_repeat(alloc, &domain.types)? {
+        Some(name) => Err(LinkFault::TypeTwice(name)),
+        None => Ok(()),
+    }
+}
+
+/// No name of these stands twice.
+pub fn name_twice<'d, 'a, N: Named, B: Allocator>(
+    alloc: &'a B,
+    items: &'d [N],
+) -> Result<(), LinkFault<'d>>
+    ensures { Passes 24 (repeated [] (map N.name items.now)) result }
+{
+    match first_repeat(alloc, items)? {
+        Some(name) => Err(LinkFault::NameTwice(name)),
+        None => Ok(()),
+    }
+}
+
+/// No two predicates have one name.
+pub fn predicate_twice<'d, 'a, A: Allocator, B: Allocator>(
+    alloc: &'a B,
+    predicates: &'d [DeclaredPredicate<A>],
+) -> Result<(), LinkFault<'d>>
+    ensures { Passes 24 (repeated [] (map symbol_of (map predicate_view predicates.now))) result }
+{
+    name_twice(alloc, predicates)
+}
+
+/// No two functions have one name.
+pub fn function_twice<'d, 'a, A: Allocator, B: Allocator>(
+    alloc: &'a B,
+    functions: &'d [DeclaredFunction<A>],
+) -> Result<(), LinkFault<'d>>
+    ensures { Passes 24 (repeated [] (map symbol_of (map item_of (map function_view functions.now)))) result }
+{
+    name_twice(alloc, functions)
+}
+
+/// A name stands here alone.
+pub fn once<'d>(is_alone: bool, name: &'d [u8]) -> Result<(), LinkFault<'d>>
+    ensures { Passes 24 (word_if (not is_alone) name.now) result }
+{
+    if is_alone {
+        Ok(())
+    } else {
+        Err(LinkFault::NameTwice(name))
+    }
+}

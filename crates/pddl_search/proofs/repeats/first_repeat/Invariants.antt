@@ -1,8 +1,0 @@
-use Rattle.std.proofs.Common.{◌≡◌, [], drop, map}
-use Rattle.pddl_task.specs.Names.{repeated}
-use Rattle.pddl_search.proofs.SeenNames.{texts}
-use Rattle.pddl_search.proofs.repeats.first_repeat.Given as goal
-
--- the names that stand twice are those of what is left
-abbrev pub invariant-loop-item : goal.invariant-loop-item
-invariant-loop-item g l = repeated (texts l.seen.keys) (map g.N.Named.name (drop l.item-index l.items)) ≡ repeated [] (map g.N.Named.name l.items)
