@@ -27,5 +27,6 @@ pub use formatting::{format, one_outcome};
 pub use line::{fault_line, push_number};
 pub use outcome::{Outcome, RunFault, status};
 pub use pddl_kind::Kind;
+pub use pddl_link;
 pub use plan_file::{PlanContent, read_plan_file};
 pub use reading::{Content, read_file};

@@ -16,3 +16,4 @@ pub mod HeldSteps
 pub mod PlanSteps
 pub mod KnownSteps
 mod StepExamples
+pub use Rattle.pddl_tables.proofs as Tables

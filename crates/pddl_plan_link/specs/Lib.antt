@@ -9,3 +9,5 @@ pub mod StepVerdicts
 pub mod KnownSteps
 pub mod LinkedLaws
 pub mod NumberedAtoms
+pub use Rattle.pddl_tables.specs.Link as Link
+pub use Rattle.pddl_tables.specs as Tables

@@ -3,7 +3,7 @@ use Rattle.std.specs.Prelude.{◌≡◌, Result, Ok, Err}
 use Rattle.pddl_task.specs.Linked.{IsLinked}
 use Rattle.pddl_task.specs.Tasks.{TaskValue}
 use Rattle.pddl_state.specs.Atoms.{AtomValue}
-use Rattle.pddl_link.specs.LinkedTasks.{files_of, task_of_files}
+use Rattle.pddl_tables.specs.Link.LinkedTasks.{files_of, task_of_files}
 use Rattle.pddl_tables.specs.declared.lookups.TaskLookups.{TaskLookups}
 use Rattle.pddl_tables.specs.declared.prices.TaskPrices.{TaskPrices}
 use Rattle.pddl_tables.specs.Lookups.{task_in, price_in}

@@ -5,13 +5,13 @@ ghost use Rattle.pddl_domain.specs.Actions.{action_view};
 ghost use Rattle.pddl_task.specs.Names.{repeated};
 ghost use Rattle.pddl_task.specs.GroundSize.{capped, action_size};
 ghost use Rattle.pddl_task.specs.Tasks.{task_count};
-ghost use Rattle.pddl_link.specs.LinkedTasks.{task_of_files};
+ghost use Rattle.pddl_tables.specs.Link.LinkedTasks.{task_of_files};
 ghost use Rattle.pddl_plan_link.specs.StepFaults.{action_name};
 ghost use Rattle.pddl_plan_link.specs.StepTables.{named_action, named_in};
 
 use indexmap::IndexMap;
 use pddl_domain::Action;
-use pddl_link::{Hashed, Task};
+use pddl_tables::pddl_link::{Hashed, Task};
 use std::alloc::{AllocError, Allocator};
 
 /// An action with the ground size of its steps.

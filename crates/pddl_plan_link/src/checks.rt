@@ -6,7 +6,7 @@ ghost use Rattle.pddl_formula.specs.TypedLists.{typed_view};
 ghost use Rattle.pddl_domain.specs.Actions.{action_view};
 ghost use Rattle.pddl_task.specs.Names.{is_in, number_in};
 ghost use Rattle.pddl_task.specs.Tasks.{object_names};
-ghost use Rattle.pddl_link.specs.LinkedTasks.{task_of_files};
+ghost use Rattle.pddl_tables.specs.Link.LinkedTasks.{task_of_files};
 ghost use Rattle.pddl_tables.specs.Lookups.{task_in, price_in};
 ghost use Rattle.pddl_plan_link.specs.ChangeCosts.{is_unpriced, some_cost};
 ghost use Rattle.pddl_plan_link.specs.ActionChanges.{effect_of, AreChangesOf};
@@ -22,8 +22,8 @@ use crate::tables::PlanTables;
 use pddl_compiled::Frame;
 use pddl_domain::Action;
 use pddl_formula::Typed;
-use pddl_link::Task;
 use pddl_state::Atom;
+use pddl_tables::pddl_link::Task;
 use pddl_tree::Step;
 use std::alloc::{AllocError, Allocator};
 

@@ -21,6 +21,8 @@ pub use initial::{
     atoms_in_range_name_one, initial_atoms, known_atoms_have_numbers, numbers_name_atoms,
 };
 pub use linked_plan::link_plan;
+pub use pddl_tables;
+pub use pddl_tables::pddl_link;
 pub use step_laws::{
     linked_steps_are_known, linked_steps_are_sound, linked_steps_have_names,
     steps_in_any_order_are_linked,

@@ -2,7 +2,7 @@
 
 ghost use Rattle.std.specs.Prelude.{◌≡◌, ◌≤◌, [], length, IfOk, OnOk};
 ghost use Rattle.pddl_tree.specs.Plans.{plan_view, steps_of};
-ghost use Rattle.pddl_link.specs.LinkedTasks.{task_of_files};
+ghost use Rattle.pddl_tables.specs.Link.LinkedTasks.{task_of_files};
 ghost use Rattle.pddl_plan_link.specs.StepFaults.{most_steps};
 ghost use Rattle.pddl_plan_link.specs.LinkedSteps.{linked_steps};
 ghost use Rattle.pddl_plan_link.specs.ActionChanges.{AreChangesOf};
@@ -14,8 +14,8 @@ use crate::checks::check_step;
 use crate::fault::StepFault;
 use crate::steps::Steps;
 use crate::tables::{PlanTables, plan_tables};
-use pddl_link::Task;
 use pddl_state::Atom;
+use pddl_tables::pddl_link::Task;
 use pddl_tree::Plan;
 use std::alloc::Allocator;
 

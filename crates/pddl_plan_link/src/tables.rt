@@ -1,11 +1,11 @@
 //! What a plan's steps are looked up in.
 
 ghost use Rattle.std.specs.Prelude.{◌≡◌, IfOk};
-ghost use Rattle.pddl_link.specs.LinkedTasks.{task_of_files};
+ghost use Rattle.pddl_tables.specs.Link.LinkedTasks.{task_of_files};
 ghost use Rattle.pddl_plan_link.specs.PlanTables.{both_made, AreCostTables, ArePlanTables};
 
 use crate::action_table::{Actions, actions_by_name};
-use pddl_link::{SlotTops, Task};
+use pddl_tables::pddl_link::{SlotTops, Task};
 use pddl_tables::{TaskLookups, TaskPrices, task_lookups, task_prices};
 use std::alloc::{AllocError, Allocator};
 

@@ -3,9 +3,9 @@
 use crate::listing::list;
 use pddl_commands::{Outcome, RunFault};
 use pddl_fakes::FakeSink;
+use pddl_plan_commands::pddl_serial_plans::Order;
 use pddl_plan_commands::{check, serial, serial_groups};
 use pddl_row_driver::{Files, Memory, Sources};
-use pddl_serial_plans::Order;
 use std::alloc::Global;
 
 /// What is listed of the task of the first two files.

@@ -12,7 +12,7 @@ mod stores;
 
 use crate::command::Listed;
 use pddl_commands::{Outcome, RunFault};
-use pddl_link::Task;
+use pddl_plan_commands::pddl_link::Task;
 use pddl_row_driver::{Files, Lines, Memory, OfTask, add_task, write_lines};
 use pddl_text::Sink;
 use std::alloc::Allocator;

@@ -4,8 +4,8 @@ use crate::faults::{add_file_fault, add_link_fault};
 use crate::lines::Lines;
 use crate::row::Files;
 use pddl_commands::Outcome;
+use pddl_commands::pddl_link::{Task, link};
 use pddl_domain::{Domain, read_domain};
-use pddl_link::{Task, link};
 use pddl_problem::{Problem, read_problem};
 use std::alloc::Allocator;
 

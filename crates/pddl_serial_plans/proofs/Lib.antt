@@ -4,3 +4,6 @@ pub mod ScaledMoments
 pub mod NewPlans
 pub mod Replays
 mod AddedNames
+pub use Rattle.pddl_valid.proofs.PlanLink as PlanLink
+pub use Rattle.pddl_valid.proofs.PlanSteps as PlanSteps
+pub use Rattle.pddl_valid.proofs as Valid

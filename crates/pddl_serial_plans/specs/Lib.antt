@@ -1,3 +1,7 @@
 pub mod NewSteps
 pub mod NewPlans
 pub mod SerialEnds
+pub use Rattle.pddl_valid.specs.Link as Link
+pub use Rattle.pddl_valid.specs.PlanLink as PlanLink
+pub use Rattle.pddl_valid.specs.PlanSteps as PlanSteps
+pub use Rattle.pddl_valid.specs as Valid

@@ -5,16 +5,16 @@ ghost use Rattle.pddl_tree.specs.Building.{nothing_built, with_names};
 ghost use Rattle.pddl_tree.specs.Plans.{built_plan};
 ghost use Rattle.pddl_tree.specs.Inner.StepNames.{names_of_step};
 ghost use Rattle.pddl_task.specs.Tasks.{object_names};
-ghost use Rattle.pddl_link.specs.LinkedTasks.{task_of_files};
-ghost use Rattle.pddl_plan_link.specs.LinkedSteps.{AreLinkedSteps};
-ghost use Rattle.pddl_plan_link.specs.LinkedLaws.{name_at, named_step, IsLinkedStep};
-ghost use Rattle.pddl_plan_link.specs.StepParts.{lent_step};
+ghost use Rattle.pddl_valid.specs.Link.LinkedTasks.{task_of_files};
+ghost use Rattle.pddl_valid.specs.PlanLink.LinkedSteps.{AreLinkedSteps};
+ghost use Rattle.pddl_valid.specs.PlanLink.LinkedLaws.{name_at, named_step, IsLinkedStep};
+ghost use Rattle.pddl_valid.specs.PlanLink.StepParts.{lent_step};
 ghost use Rattle.pddl_serial_plans.specs.NewSteps.{picked, at_moments, plain_plan, timed_plan};
 
-use pddl_link::Task;
-use pddl_plan_link::{LinkedStep, Steps};
 use pddl_text::Fixed;
 use pddl_tree::{Name, PlanBuilder};
+use pddl_valid::pddl_link::Task;
+use pddl_valid::pddl_plan_link::{LinkedStep, Steps};
 use std::alloc::{AllocError, Allocator};
 
 /// The name of an object of the task.

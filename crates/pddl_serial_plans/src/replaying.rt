@@ -1,17 +1,17 @@
 //! Runs of a plan's steps, one after another.
 
 ghost use Rattle.std.specs.Prelude.{◌≡◌};
-ghost use Rattle.pddl_link.specs.LinkedTasks.{task_of_files};
-ghost use Rattle.pddl_plan_link.specs.LinkedSteps.{AreLinkedSteps};
+ghost use Rattle.pddl_valid.specs.Link.LinkedTasks.{task_of_files};
+ghost use Rattle.pddl_valid.specs.PlanLink.LinkedSteps.{AreLinkedSteps};
 ghost use Rattle.pddl_serial_plans.specs.SerialEnds.{IsReplayed, end_of};
 
 use crate::fault::ReplayFault;
-use pddl_link::Task;
-use pddl_plan_link::Steps;
 use pddl_serial::{End, Replayed};
 use pddl_state::AtomStore;
-use pddl_step::compile_plan;
 use pddl_valid::happenings;
+use pddl_valid::pddl_link::Task;
+use pddl_valid::pddl_plan_link::Steps;
+use pddl_valid::pddl_step::compile_plan;
 use std::alloc::Allocator;
 
 /// The end of a list that was executed, or why there is none.

@@ -4,18 +4,18 @@ ghost use Rattle.std.specs.Prelude.{IfOk};
 ghost use Rattle.pddl_tree.specs.Plans.{plan_view};
 ghost use Rattle.pddl_happenings.specs.NamedSteps.{by_name};
 ghost use Rattle.pddl_judge.specs.HappeningValues.{groups_of, moments_of};
-ghost use Rattle.pddl_link.specs.LinkedTasks.{task_of_files};
-ghost use Rattle.pddl_plan_steps.specs.NumberedSteps.{number_of};
+ghost use Rattle.pddl_valid.specs.Link.LinkedTasks.{task_of_files};
+ghost use Rattle.pddl_valid.specs.PlanSteps.NumberedSteps.{number_of};
 ghost use Rattle.pddl_serial.specs.Orders.{in_order};
 ghost use Rattle.pddl_serial_plans.specs.NewPlans.{IsAcceptedOf, IsSerialPlan};
 
 use crate::named::add_steps;
-use pddl_link::Task;
-use pddl_plan_link::Steps;
 use pddl_serial::Order;
 use pddl_state::AtomStore;
 use pddl_tree::{Plan, PlanBuilder};
 use pddl_valid::Accepted;
+use pddl_valid::pddl_link::Task;
+use pddl_valid::pddl_plan_link::Steps;
 use std::alloc::{AllocError, Allocator};
 
 /// The plain plan of an accepted plan's happenings in turn, the steps of each in file order or reversed.

@@ -5,21 +5,21 @@ ghost use Rattle.pddl_tree.specs.Plans.{plan_view};
 ghost use Rattle.pddl_happenings.specs.NamedSteps.{by_name};
 ghost use Rattle.pddl_happenings.specs.Splits.{IsSplitOf};
 ghost use Rattle.pddl_judge.specs.HappeningValues.{groups_of, moments_of};
-ghost use Rattle.pddl_link.specs.LinkedTasks.{task_of_files};
-ghost use Rattle.pddl_plan_link.specs.LinkedSteps.{AreLinkedSteps};
-ghost use Rattle.pddl_plan_steps.specs.NumberedSteps.{number_of};
+ghost use Rattle.pddl_valid.specs.Link.LinkedTasks.{task_of_files};
+ghost use Rattle.pddl_valid.specs.PlanLink.LinkedSteps.{AreLinkedSteps};
+ghost use Rattle.pddl_valid.specs.PlanSteps.NumberedSteps.{number_of};
 ghost use Rattle.pddl_serial.specs.Cuts.{cut_in_order};
 ghost use Rattle.pddl_serial_plans.specs.NewPlans.{IsAcceptedOf, IsSplitPlan};
 ghost use Rattle.pddl_serial_plans.specs.NewSteps.{picked, at_moments, timed_plan};
 
 use crate::fault::SplitFault;
 use crate::named::add_timed_steps;
-use pddl_link::Task;
-use pddl_plan_link::Steps;
 use pddl_serial::{Order, groups_of_at_most};
 use pddl_state::AtomStore;
 use pddl_tree::{Plan, PlanBuilder};
 use pddl_valid::Accepted;
+use pddl_valid::pddl_link::Task;
+use pddl_valid::pddl_plan_link::Steps;
 use std::alloc::{AllocError, Allocator};
 
 /// The timed plan of the steps of some numbers, in turn, each at its moment; of no steps it is plain.

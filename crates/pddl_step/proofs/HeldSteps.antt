@@ -10,14 +10,14 @@ use Rattle.std.proofs.lemmas.Option.{slice_get_within, get_or_from_slice_get}
 use Rattle.pddl_task.specs.Linked.{IsLinked}
 use Rattle.pddl_task.specs.Tasks.{TaskValue}
 use Rattle.pddl_state.specs.Atoms.{AtomValue}
-use Rattle.pddl_link.specs.TaskTables.{Files, task_in}
+use Rattle.pddl_plan_steps.specs.Link.TaskTables.{Files, task_in}
 use Rattle.pddl_compiled.specs.CompiledMeaning.{is_true}
 use Rattle.pddl_compiled.specs.Views.{condition_view, change_view}
 use Rattle.pddl_compiled.specs.declared.compiled.Condition.{Condition}
 use Rattle.pddl_evaluation.specs.Costs.{increases_of, most_increases}
-use Rattle.pddl_tables.specs.Prices.{prices_of}
-use Rattle.pddl_plan_link.specs.LinkedSteps.{LinkedStepValue}
-use Rattle.pddl_plan_link.specs.LinkedLaws.{IsLinkedStep}
+use Rattle.pddl_plan_steps.specs.Tables.Prices.{prices_of}
+use Rattle.pddl_plan_steps.specs.PlanLink.LinkedSteps.{LinkedStepValue}
+use Rattle.pddl_plan_steps.specs.PlanLink.LinkedLaws.{IsLinkedStep}
 use Rattle.pddl_plan_steps.specs.PlanSteps.{numbered_steps, numbered_goal}
 use Rattle.pddl_plan_steps.proofs.PlanSteps.{each_linked}
 use Rattle.pddl_step.specs.CompiledSteps.{form_in, form_of, form_step, IsHeldPlan}

@@ -2,18 +2,18 @@
 
 ghost use Rattle.std.specs.Prelude.{◌≡◌, ◌<◌, ℕ, false, true, Some, length, replicate, slice_get, IfOk, MatchOption};
 ghost use Rattle.pddl_domain.specs.Actions.{ActionValue, action_view};
-ghost use Rattle.pddl_link.specs.LinkedTasks.{task_of_files};
+ghost use Rattle.pddl_plan_steps.specs.Link.LinkedTasks.{task_of_files};
 ghost use Rattle.pddl_task.specs.Tasks.{TaskValue};
 ghost use Rattle.pddl_compiled.specs.TaskTables.{tables_of};
-ghost use Rattle.pddl_plan_link.specs.LinkedSteps.{LinkedStepValue};
+ghost use Rattle.pddl_plan_steps.specs.PlanLink.LinkedSteps.{LinkedStepValue};
 ghost use Rattle.pddl_step.specs.CompiledSteps.{form_in, form_of, AreForms, AreHeld, AreMarked, IsHeld};
 
 use pddl_compiled::{
     Change, Condition, Lookups, Scope, compile_change, compile_condition, parameter_slots,
 };
 use pddl_domain::Action;
-use pddl_link::Task;
-use pddl_plan_link::Steps;
+use pddl_plan_steps::pddl_link::Task;
+use pddl_plan_steps::pddl_plan_link::Steps;
 use std::alloc::{AllocError, Allocator};
 
 /// An action's precondition and effect by numbers.

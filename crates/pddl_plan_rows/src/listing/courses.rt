@@ -1,18 +1,18 @@
 //! What the steps of a plan and its goal are in the state that it starts in.
 
 ghost use Rattle.std.specs.Prelude.{◌≡◌, ◌<◌};
-ghost use Rattle.pddl_link.specs.LinkedTasks.{task_of_files};
-ghost use Rattle.pddl_plan_link.specs.LinkedSteps.{AreLinkedSteps};
+ghost use Rattle.pddl_plan_commands.specs.Link.LinkedTasks.{task_of_files};
+ghost use Rattle.pddl_plan_commands.specs.PlanLink.LinkedSteps.{AreLinkedSteps};
 
 use super::atoms::add_set;
 use crate::command::Asked;
 use pddl_commands::Outcome;
 use pddl_judge::Course;
-use pddl_link::Task;
-use pddl_plan_link::Steps;
+use pddl_plan_commands::pddl_link::Task;
+use pddl_plan_commands::pddl_plan_link::Steps;
+use pddl_plan_commands::pddl_step::compile_plan;
 use pddl_row_driver::Lines;
 use pddl_state::AtomStore;
-use pddl_step::compile_plan;
 use std::alloc::{AllocError, Allocator};
 use std::fmt::Debug;
 

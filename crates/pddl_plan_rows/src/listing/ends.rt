@@ -1,15 +1,15 @@
 //! Verdicts, and the ends of accepted plans.
 
-ghost use Rattle.pddl_link.specs.LinkedTasks.{task_of_files};
-ghost use Rattle.pddl_plan_link.specs.LinkedSteps.{AreLinkedSteps};
+ghost use Rattle.pddl_plan_commands.specs.Link.LinkedTasks.{task_of_files};
+ghost use Rattle.pddl_plan_commands.specs.PlanLink.LinkedSteps.{AreLinkedSteps};
 
 use super::atoms::{add_atom, add_atoms};
 use pddl_commands::Outcome;
-use pddl_link::Task;
-use pddl_plan_link::Steps;
+use pddl_plan_commands::pddl_link::Task;
+use pddl_plan_commands::pddl_plan_link::Steps;
+use pddl_plan_commands::pddl_valid::{Accepted, Refusal, Verdict, validate};
 use pddl_row_driver::Lines;
 use pddl_state::{Atom, AtomStore};
-use pddl_valid::{Accepted, Refusal, Verdict, validate};
 use std::alloc::Allocator;
 
 /// Adds the atoms that hold at an end, and what the steps before it cost.

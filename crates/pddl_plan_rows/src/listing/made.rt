@@ -2,10 +2,10 @@
 
 ghost use Rattle.pddl_happenings.specs.NamedSteps.{by_name};
 ghost use Rattle.pddl_judge.specs.HappeningValues.{groups_of, moments_of};
-ghost use Rattle.pddl_link.specs.LinkedTasks.{task_of_files};
-ghost use Rattle.pddl_plan_link.specs.LinkedSteps.{AreLinkedSteps};
-ghost use Rattle.pddl_plan_steps.specs.NumberedSteps.{number_of};
-ghost use Rattle.pddl_serial_plans.specs.NewPlans.{IsAcceptedOf};
+ghost use Rattle.pddl_plan_commands.specs.Link.LinkedTasks.{task_of_files};
+ghost use Rattle.pddl_plan_commands.specs.PlanLink.LinkedSteps.{AreLinkedSteps};
+ghost use Rattle.pddl_plan_commands.specs.PlanSteps.NumberedSteps.{number_of};
+ghost use Rattle.pddl_plan_commands.specs.SerialPlans.NewPlans.{IsAcceptedOf};
 
 use super::ends::{add_refusal, add_verdict};
 use super::replays::add_numbers;
@@ -13,13 +13,13 @@ use super::steps::add_step_fault;
 use crate::command::Made;
 use pddl_commands::Outcome;
 use pddl_layout::plan_text;
-use pddl_link::Task;
-use pddl_plan_link::{Steps, link_plan};
+use pddl_plan_commands::pddl_link::Task;
+use pddl_plan_commands::pddl_plan_link::{Steps, link_plan};
+use pddl_plan_commands::pddl_serial_plans::{Order, SplitFault, serialise, split};
+use pddl_plan_commands::pddl_valid::{Accepted, Verdict, validate};
 use pddl_row_driver::{Lines, text_of};
-use pddl_serial_plans::{Order, SplitFault, serialise, split};
 use pddl_state::{AtomStore, BitStore};
 use pddl_tree::Plan;
-use pddl_valid::{Accepted, Verdict, validate};
 use std::alloc::Allocator;
 
 /// Adds the canonical text of a plan.

@@ -1,7 +1,7 @@
 //! Linked plans.
 
-ghost use Rattle.pddl_link.specs.LinkedTasks.{task_of_files};
-ghost use Rattle.pddl_plan_link.specs.LinkedSteps.{AreLinkedSteps};
+ghost use Rattle.pddl_plan_commands.specs.Link.LinkedTasks.{task_of_files};
+ghost use Rattle.pddl_plan_commands.specs.PlanLink.LinkedSteps.{AreLinkedSteps};
 
 use super::moments::add_happenings;
 use super::replays::add_replays;
@@ -9,8 +9,8 @@ use super::steps::{add_step_fault, add_steps};
 use super::stores::add_over_both;
 use crate::command::OfPlan;
 use pddl_commands::Outcome;
-use pddl_link::Task;
-use pddl_plan_link::{Steps, link_plan};
+use pddl_plan_commands::pddl_link::Task;
+use pddl_plan_commands::pddl_plan_link::{Steps, link_plan};
 use pddl_row_driver::{Files, Lines, add_read_fault};
 use pddl_tree::{Plan, read_plan};
 use std::alloc::Allocator;

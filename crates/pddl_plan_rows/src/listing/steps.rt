@@ -1,7 +1,7 @@
 //! Steps of linked plans, and why a plan is not linked.
 
 use pddl_commands::Outcome;
-use pddl_plan_link::{LinkedStep, StepFault, Steps};
+use pddl_plan_commands::pddl_plan_link::{LinkedStep, StepFault, Steps};
 use pddl_row_driver::Lines;
 use std::alloc::Allocator;
 

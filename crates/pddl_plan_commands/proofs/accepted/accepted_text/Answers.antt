@@ -3,8 +3,8 @@ use Rattle.std.proofs.lemmas.List.{length-map}
 use Rattle.std.proofs.lemmas.Result.{IfOk-weaker}
 use Rattle.pddl_happenings.specs.NamedSteps.{by_name}
 use Rattle.pddl_judge.specs.HappeningValues.{groups_of}
-use Rattle.pddl_link.specs.LinkedTasks.{task_of_files}
-use Rattle.pddl_plan_steps.specs.NumberedSteps.{number_of}
+use Rattle.pddl_serial_plans.specs.Link.LinkedTasks.{task_of_files}
+use Rattle.pddl_serial_plans.specs.PlanSteps.NumberedSteps.{number_of}
 use Rattle.pddl_plan_commands.specs.PlanLines.{valid_line}
 use Rattle.pddl_plan_commands.specs.Inner.WantedPrintings.{printing_of}
 use Rattle.pddl_plan_commands.proofs.accepted.accepted_text.Goals as goal

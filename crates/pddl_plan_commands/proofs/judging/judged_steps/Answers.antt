@@ -1,7 +1,7 @@
 use Rattle.std.proofs.lemmas.Result.{IfOk-weaker}
 use Rattle.pddl_domain.specs.Domains.{domain_view}
 use Rattle.pddl_problem.specs.Problems.{problem_view}
-use Rattle.pddl_link.specs.LinkedTasks.{task_of_files}
+use Rattle.pddl_serial_plans.specs.Link.LinkedTasks.{task_of_files}
 use Rattle.pddl_plan_commands.specs.PlanChecks.{AreStepsJudged}
 use Rattle.pddl_plan_commands.specs.Inner.WantedPrintings.{printing_of}
 use Rattle.pddl_plan_commands.proofs.Judged.{shown_in_range, verdict_of, shown_judged}

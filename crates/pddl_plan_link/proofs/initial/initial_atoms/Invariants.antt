@@ -1,4 +1,4 @@
-use Rattle.pddl_link.specs.LinkedTasks.{task_of_files}
+use Rattle.pddl_tables.specs.Link.LinkedTasks.{task_of_files}
 use Rattle.pddl_plan_link.proofs.InitialAtoms.{AreFacts}
 use Rattle.pddl_plan_link.proofs.initial.initial_atoms.Given as goal
 

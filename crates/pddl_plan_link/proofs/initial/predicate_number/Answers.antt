@@ -1,5 +1,5 @@
 use Rattle.pddl_task.specs.Tasks.{predicate_names}
-use Rattle.pddl_link.specs.LinkedTasks.{task_of_files}
+use Rattle.pddl_tables.specs.Link.LinkedTasks.{task_of_files}
 use Rattle.pddl_plan_link.proofs.InitialAtoms.{has_number}
 use Rattle.pddl_plan_link.proofs.initial.predicate_number.Goals as goal
 

@@ -3,7 +3,7 @@ use Rattle.pddl_domain.specs.declared.domain.Action.{Action}
 use Rattle.pddl_domain.specs.Actions.{action_view}
 use Rattle.pddl_domain.specs.Domains.{DomainValue}
 use Rattle.pddl_task.specs.Tasks.{task_count}
-use Rattle.pddl_link.specs.LinkedTasks.{files_of, task_of_files}
+use Rattle.pddl_tables.specs.Link.LinkedTasks.{files_of, task_of_files}
 use Rattle.pddl_plan_link.specs.StepTables.{named_action, named_in}
 use Rattle.pddl_plan_link.specs.PlanTables.{AreCostTables}
 use Rattle.pddl_plan_link.proofs.NamedActions.{once_in_files}

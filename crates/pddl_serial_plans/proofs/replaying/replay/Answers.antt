@@ -2,10 +2,10 @@ use Rattle.std.proofs.Common.{rules, ◌≡◌, ◌≤◌, length, sym, ap, ap�
 use Rattle.pddl_task.specs.Tasks.{TaskValue, task_of}
 use Rattle.pddl_happenings.specs.Happenings.{HaveEachOnce}
 use Rattle.pddl_judge.specs.HappeningValues.{groups_of, moments_of}
-use Rattle.pddl_link.specs.LinkedTasks.{files_of}
-use Rattle.pddl_plan_link.proofs.SoundSteps.{steps_are_sound}
-use Rattle.pddl_plan_steps.specs.PlanSteps.{numbered_steps, numbered_start, numbered_goal}
-use Rattle.pddl_step.specs.HeldPlans.{plan_task, plan_steps}
+use Rattle.pddl_valid.specs.Link.LinkedTasks.{files_of}
+use Rattle.pddl_valid.proofs.PlanLink.SoundSteps.{steps_are_sound}
+use Rattle.pddl_valid.specs.PlanSteps.PlanSteps.{numbered_steps, numbered_start, numbered_goal}
+use Rattle.pddl_valid.specs.Step.HeldPlans.{plan_task, plan_steps}
 use Rattle.pddl_valid.specs.AcceptedPlans.{AreHappeningsOf}
 use Rattle.pddl_valid.proofs.NamedPlans.{IsCourseOf}
 use Rattle.pddl_serial_plans.specs.SerialEnds.{IsReplayed}

@@ -1,9 +1,9 @@
 use Rattle.std.proofs.Common.{[], ap, ◌∙◌}
 use Rattle.pddl_formula.specs.Formulas.{formula_view}
-use Rattle.pddl_link.specs.LinkedTasks.{files_of, task_of_files}
+use Rattle.pddl_plan_steps.specs.Link.LinkedTasks.{files_of, task_of_files}
 use Rattle.pddl_compiled.specs.Compiler.{condition_of}
 use Rattle.pddl_compiled.specs.TaskTables.{tables_of}
-use Rattle.pddl_tables.specs.Prices.{price_at}
+use Rattle.pddl_plan_steps.specs.Tables.Prices.{price_at}
 use Rattle.pddl_step.proofs.Forms.{action_low}
 use Rattle.pddl_step.proofs.compiling.compile_by.Goals as goal
 

@@ -2,10 +2,10 @@ use Rattle.std.proofs.Common.{◌≡◌, ◌≤◌, length, sym, ap, ap₂, ◌�
 use Rattle.pddl_task.specs.Tasks.{TaskValue, task_of}
 use Rattle.pddl_happenings.specs.Serialisations.{Converges}
 use Rattle.pddl_judge.specs.HappeningValues.{groups_of, moments_of}
-use Rattle.pddl_link.specs.LinkedTasks.{files_of}
-use Rattle.pddl_plan_link.proofs.SoundSteps.{steps_are_sound}
+use Rattle.pddl_step.specs.Link.LinkedTasks.{files_of}
+use Rattle.pddl_step.proofs.PlanLink.SoundSteps.{steps_are_sound}
 use Rattle.pddl_step.specs.HeldPlans.{plan_task, plan_steps}
-use Rattle.pddl_plan_steps.specs.PlanSteps.{named_steps, numbered_steps, initial_state, numbered_start, numbered_goal}
+use Rattle.pddl_step.specs.PlanSteps.PlanSteps.{named_steps, numbered_steps, initial_state, numbered_start, numbered_goal}
 use Rattle.pddl_valid.specs.AcceptedPlans.{AreHappeningsOf}
 use Rattle.pddl_valid.proofs.NamedPlans.{IsCourseOf, accepted, converges, unready, clashes, passes, off_goal, refused}
 use Rattle.pddl_valid.proofs.Verdicts.{accepted_so, accepted_both, refused_so, precondition_so, interference_so, goal_so}

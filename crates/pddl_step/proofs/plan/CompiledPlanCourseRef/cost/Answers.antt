@@ -2,7 +2,7 @@ use Rattle.std.proofs.Common.{◌≡◌, ◌∙◌, sym, ap, subst, reverse}
 use Rattle.std.specs.Prelude.{IfOk}
 use Rattle.pddl_compiled.specs.CompiledMeaning.{spent}
 use Rattle.pddl_compiled.specs.Views.{change_view}
-use Rattle.pddl_link.specs.LinkedTasks.{files_of}
+use Rattle.pddl_plan_steps.specs.Link.LinkedTasks.{files_of}
 use Rattle.pddl_step.proofs.HeldSteps.{prices_are}
 use Rattle.pddl_step.proofs.plan.CompiledPlanCourseRef.cost.Goals as goal
 

@@ -1,6 +1,6 @@
 use Rattle.std.proofs.Common.{◌≡◌, subst}
 use Rattle.std.specs.Prelude.{IfOk}
-use Rattle.pddl_link.specs.LinkedTasks.{files_of}
+use Rattle.pddl_plan_steps.specs.Link.LinkedTasks.{files_of}
 use Rattle.pddl_step.proofs.HeldSteps.{goal_means}
 use Rattle.pddl_step.proofs.plan.CompiledPlanCourseRef.goal_holds.Goals as goal
 
