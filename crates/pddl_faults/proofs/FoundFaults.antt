@@ -29,13 +29,8 @@ low_back xs ys f low above = record {
 in_none : (xs : List (ℕ × Name)) (n : ℕ) (g : ℕ × Name) → xs ≡ [] → Contains xs g → n ≤ g.0
 in_none xs n g none c = absurd (has_none g (subst (λ (ys : List (ℕ × Name)). Contains ys g) none c))
 
--- the first part has a fault, and the second none
-pub front_found : (xs ys : List (ℕ × Name)) (o : Option (ℕ × Name)) → ys ≡ [] → IfSome o (IsLowestOf xs) → IfSome o (IsLowestOf (xs ++ ys))
-front_found xs ys None none h = tt
-front_found xs ys (Some f) none h = low_front xs ys f h (λ g. in_none ys f.0 g none)
-
 -- the first part has none
-pub back_found : (xs ys : List (ℕ × Name)) (o : Option (ℕ × Name)) → xs ≡ [] → IfSome o (IsLowestOf ys) → IfSome o (IsLowestOf (xs ++ ys))
+back_found : (xs ys : List (ℕ × Name)) (o : Option (ℕ × Name)) → xs ≡ [] → IfSome o (IsLowestOf ys) → IfSome o (IsLowestOf (xs ++ ys))
 back_found xs ys None none h = tt
 back_found xs ys (Some f) none h = low_back xs ys f h (λ g. in_none xs f.0 g none)
 

@@ -1,11 +1,11 @@
 //! The variables in scope at a place, and what a search for faults promises there.
 
-ghost use Rattle.std.specs.Prelude.{◌≡◌, ◌++◌, List, ℕ, find, option_map};
+ghost use Rattle.std.specs.Prelude.{◌≡◌, List, ℕ, find, option_map};
 ghost use Rattle.std.specs.Option.{option_copied};
 ghost use Rattle.pddl_task.specs.Names.{is_named};
 ghost use Rattle.pddl_task.specs.Places.{at};
 ghost use Rattle.pddl_task.specs.Faults.{primitives_of};
-ghost use Rattle.pddl_faults.specs.Found.{IsFound};
+ghost use Rattle.pddl_faults.specs.Found.{FindsMore};
 ghost use Rattle.pddl_faults.specs.Parts.{part_in};
 ghost use Rattle.pddl_faults.specs.Scopes.{bound_of};
 
@@ -51,5 +51,5 @@ pub trait Search<A: Allocator, B: Allocator> {
         part: &Part<'d, A>,
         scope: &Scope<A, B>,
     ) -> Result<(), LinkFault<'d>>
-        ensures { (before : List (ℕ × List ℕ)) → IsFound before so_far.entry → IsFound (before ++ found self.now (at (bound_of scope.now) (part_in part.now))) result };
+        ensures { FindsMore (found self.now (at (bound_of scope.now) (part_in part.now))) so_far.entry result };
 }

@@ -1,17 +1,17 @@
 //! The search for names that are not known, other numbers of terms than declared, terms that do not fit their slots, and numbers that are not
 //! whole, with one look-up of each name.
 
-ghost use Rattle.std.specs.Prelude.{◌++◌, ℕ, List, true, length, ◌≡◌, not, map, find, Option, option_map, IfOk};
+ghost use Rattle.std.specs.Prelude.{true, length, ◌≡◌, not, map, find, Option, option_map, IfOk};
 ghost use Rattle.std.specs.Option.{option_copied};
 ghost use Rattle.std.specs.List.{flat_map};
 ghost use Rattle.pddl_formula.specs.Terms.{term_view};
 ghost use Rattle.pddl_formula.specs.TypedLists.{TypedValue, typed_view};
-ghost use Rattle.pddl_task.specs.Names.{Name, is_named, word_if};
+ghost use Rattle.pddl_task.specs.Names.{is_named, word_if};
 ghost use Rattle.pddl_task.specs.Types.{pairs};
 ghost use Rattle.pddl_task.specs.Places.{counts};
 ghost use Rattle.pddl_task.specs.Faults.{primitives_of, typed_term, unknown_term, some_misfit, fraction_of};
 ghost use Rattle.pddl_faults.specs.Passes.{Passes};
-ghost use Rattle.pddl_faults.specs.Found.{IsFound};
+ghost use Rattle.pddl_faults.specs.Found.{IsFound, FindsMore};
 ghost use Rattle.pddl_faults.specs.Parts.{term_in, term_name, terms_in};
 ghost use Rattle.pddl_faults.specs.Scopes.{bound_of};
 ghost use Rattle.pddl_types.specs.KnownNames.{signature_in, setting_of};
@@ -153,8 +153,7 @@ fn look_at_slots<'t, 'm, 'a, 'd, A: Allocator, B: Allocator>(
     tops: &SlotTops<'m, 'a, B>,
     scope: &Scope<A, B>,
 ) -> Result<(), LinkFault<'d>>
-    ensures { (before : List (ℕ × Name)) → IsFound before so_far.entry
-        → IsFound (before ++ faults_of_terms (setting_of known.now) (bound_of scope.now) symbol.now (terms_in terms.now) (length slots.now) (map typed_view slots.now)) result }
+    ensures { FindsMore (faults_of_terms (setting_of known.now) (bound_of scope.now) symbol.now (terms_in terms.now) (length slots.now) (map typed_view slots.now)) so_far.entry result }
 {
     let count = slots.len();
     if is_found(&so_far) {
@@ -181,8 +180,7 @@ fn look_at_use<'t, 'm, 'a, 'd, A: Allocator, B: Allocator>(
     terms: &Terms<'d, A>,
     scope: &Scope<A, B>,
 ) -> Result<(), LinkFault<'d>>
-    ensures { (before : List (ℕ × Name)) → IsFound before so_far.entry
-        → IsFound (before ++ faults_of_use (setting_of known.now) (bound_of scope.now) (record { name = symbol.now; terms = terms_in terms.now; declared = map signature_in declared.now.entries })) result }
+    ensures { FindsMore (faults_of_use (setting_of known.now) (bound_of scope.now) (record { name = symbol.now; terms = terms_in terms.now; declared = map signature_in declared.now.entries })) so_far.entry result }
 {
     match declared.get(symbol) {
         None => lower(so_far, Err(LinkFault::UnknownName(symbol))),

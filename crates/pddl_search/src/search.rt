@@ -2,16 +2,15 @@
 //!
 //! Each function takes what was found before its part, and answers the lowest of that and of the faults that stand in its part.
 
-ghost use Rattle.std.specs.Prelude.{◌++◌, ℕ, List, map};
+ghost use Rattle.std.specs.Prelude.{◌++◌, map};
 ghost use Rattle.std.specs.List.{flat_map};
 ghost use Rattle.pddl_formula.specs.Terms.{term_view, atom_view};
 ghost use Rattle.pddl_formula.specs.TypedLists.{typed_view};
 ghost use Rattle.pddl_formula.specs.Formulas.{formula_view, formulas_of};
 ghost use Rattle.pddl_effect.specs.Effects.{amount_view, effect_view, effects_of};
 ghost use Rattle.pddl_domain.specs.Actions.{action_view};
-ghost use Rattle.pddl_task.specs.Names.{Name};
 ghost use Rattle.pddl_task.specs.Places.{at, says, calls, binds, binding, action_places};
-ghost use Rattle.pddl_faults.specs.Found.{IsFound};
+ghost use Rattle.pddl_faults.specs.Found.{FindsMore};
 ghost use Rattle.pddl_faults.specs.Scopes.{bound_of};
 ghost use Rattle.pddl_search.specs.Walks.{faults_in, faults_in_all, effect_faults, effects_faults, increase_faults};
 
@@ -28,7 +27,7 @@ fn search_atom<'d, 's, 'a, A: Allocator, B: Allocator, S: Search<A, B>>(
     atom: &'d Atom<A>,
     scope: &'s Scope<'s, 'd, 'a, A, B>,
 ) -> Result<(), LinkFault<'d>>
-    ensures { (before : List (ℕ × Name)) → IsFound before so_far.entry → IsFound (before ++ S.found search.now (at (bound_of scope.now) (says (atom_view atom.now)))) result }
+    ensures { FindsMore (S.found search.now (at (bound_of scope.now) (says (atom_view atom.now)))) so_far.entry result }
 {
     let part = Part::Says(atom.predicate.as_bytes(), Terms::Any(&atom.terms));
     search.look(so_far, &part, &*scope)
@@ -42,7 +41,7 @@ pub fn search_call<'d, 's, 'a, A: Allocator, B: Allocator, S: Search<A, B>>(
     terms: &'d [Term<A>],
     scope: &'s Scope<'s, 'd, 'a, A, B>,
 ) -> Result<(), LinkFault<'d>>
-    ensures { (before : List (ℕ × Name)) → IsFound before so_far.entry → IsFound (before ++ S.found search.now (at (bound_of scope.now) (calls (record { function = function.now; terms = map term_view terms.now })))) result }
+    ensures { FindsMore (S.found search.now (at (bound_of scope.now) (calls (record { function = function.now; terms = map term_view terms.now })))) so_far.entry result }
 {
     let part = Part::Calls(function, Terms::Any(terms));
     search.look(so_far, &part, &*scope)
@@ -57,7 +56,7 @@ pub fn search_formula<'d, 's, 'a, A: Allocator, B: Allocator, S: Search<A, B>>(
     formula: &'d Formula<A>,
     scope: &'s Scope<'s, 'd, 'a, A, B>,
 ) -> Result<(), LinkFault<'d>>
-    ensures { (before : List (ℕ × Name)) → IsFound before so_far.entry → IsFound (before ++ faults_in (S.found search.now) (formula_view formula.now) (bound_of scope.now)) result }
+    ensures { FindsMore (faults_in (S.found search.now) (formula_view formula.now) (bound_of scope.now)) so_far.entry result }
 {
     match formula {
         Formula::Atom(atom) => search_atom(search, so_far, atom, &*scope),
@@ -91,8 +90,8 @@ fn search_quantified<'d, 's, 'a, A: Allocator, B: Allocator, S: Search<A, B>>(
     inner: &'d Box<Formula<A>, A>,
     scope: &'s Scope<'s, 'd, 'a, A, B>,
 ) -> Result<(), LinkFault<'d>>
-    ensures { (before : List (ℕ × Name)) → IsFound before so_far.entry → IsFound (before ++ (S.found search.now (at (bound_of scope.now) (binds (map typed_view variables.now)))
-        ++ faults_in (S.found search.now) (formula_view inner.now.value) (binding (map typed_view variables.now) (bound_of scope.now)))) result }
+    ensures { FindsMore (S.found search.now (at (bound_of scope.now) (binds (map typed_view variables.now)))
+        ++ faults_in (S.found search.now) (formula_view inner.now.value) (binding (map typed_view variables.now) (bound_of scope.now))) so_far.entry result }
 {
     let so_far = search.look(so_far, &Part::Binds(variables), &*scope);
     let bound = Variables::of(alloc, variables)?;
@@ -109,7 +108,7 @@ fn search_formulas<'d, 's, 'a, A: Allocator, B: Allocator, S: Search<A, B>>(
     formulas: &'d Vec<Formula<A>, A>,
     scope: &'s Scope<'s, 'd, 'a, A, B>,
 ) -> Result<(), LinkFault<'d>>
-    ensures { (before : List (ℕ × Name)) → IsFound before so_far.entry → IsFound (before ++ faults_in_all (S.found search.now) (formulas_of (map formula_view formulas.now.items)) (bound_of scope.now)) result }
+    ensures { FindsMore (faults_in_all (S.found search.now) (formulas_of (map formula_view formulas.now.items)) (bound_of scope.now)) so_far.entry result }
 {
     let mut found = so_far;
     for formula in formulas {
@@ -125,7 +124,7 @@ fn search_increase<'d, 's, 'a, A: Allocator, B: Allocator, S: Search<A, B>>(
     amount: &'d Amount<A>,
     scope: &'s Scope<'s, 'd, 'a, A, B>,
 ) -> Result<(), LinkFault<'d>>
-    ensures { (before : List (ℕ × Name)) → IsFound before so_far.entry → IsFound (before ++ increase_faults (S.found search.now) (amount_view amount.now) (bound_of scope.now)) result }
+    ensures { FindsMore (increase_faults (S.found search.now) (amount_view amount.now) (bound_of scope.now)) so_far.entry result }
 {
     let so_far = search_call(search, so_far, b"total-cost".as_slice(), &[], &*scope);
     match amount {
@@ -152,7 +151,7 @@ pub fn search_effect<'d, 's, 'a, A: Allocator, B: Allocator, S: Search<A, B>>(
     effect: &'d Effect<A>,
     scope: &'s Scope<'s, 'd, 'a, A, B>,
 ) -> Result<(), LinkFault<'d>>
-    ensures { (before : List (ℕ × Name)) → IsFound before so_far.entry → IsFound (before ++ effect_faults (S.found search.now) (effect_view effect.now) (bound_of scope.now)) result }
+    ensures { FindsMore (effect_faults (S.found search.now) (effect_view effect.now) (bound_of scope.now)) so_far.entry result }
 {
     match effect {
         Effect::And(parts) => search_effects(alloc, search, so_far, parts, &*scope),
@@ -179,8 +178,8 @@ fn search_each<'d, 's, 'a, A: Allocator, B: Allocator, S: Search<A, B>>(
     inner: &'d Box<Effect<A>, A>,
     scope: &'s Scope<'s, 'd, 'a, A, B>,
 ) -> Result<(), LinkFault<'d>>
-    ensures { (before : List (ℕ × Name)) → IsFound before so_far.entry → IsFound (before ++ (S.found search.now (at (bound_of scope.now) (binds (map typed_view variables.now)))
-        ++ effect_faults (S.found search.now) (effect_view inner.now.value) (binding (map typed_view variables.now) (bound_of scope.now)))) result }
+    ensures { FindsMore (S.found search.now (at (bound_of scope.now) (binds (map typed_view variables.now)))
+        ++ effect_faults (S.found search.now) (effect_view inner.now.value) (binding (map typed_view variables.now) (bound_of scope.now))) so_far.entry result }
 {
     let so_far = search.look(so_far, &Part::Binds(variables), &*scope);
     let bound = Variables::of(alloc, variables)?;
@@ -197,7 +196,7 @@ fn search_effects<'d, 's, 'a, A: Allocator, B: Allocator, S: Search<A, B>>(
     effects: &'d Vec<Effect<A>, A>,
     scope: &'s Scope<'s, 'd, 'a, A, B>,
 ) -> Result<(), LinkFault<'d>>
-    ensures { (before : List (ℕ × Name)) → IsFound before so_far.entry → IsFound (before ++ effects_faults (S.found search.now) (effects_of (map effect_view effects.now.items)) (bound_of scope.now)) result }
+    ensures { FindsMore (effects_faults (S.found search.now) (effects_of (map effect_view effects.now.items)) (bound_of scope.now)) so_far.entry result }
 {
     let mut found = so_far;
     for effect in effects {
@@ -213,7 +212,7 @@ pub fn search_action<'d, 'a, A: Allocator, B: Allocator, S: Search<A, B>>(
     so_far: Result<(), LinkFault<'d>>,
     action: &'d Action<A>,
 ) -> Result<(), LinkFault<'d>>
-    ensures { (before : List (ℕ × Name)) → IsFound before so_far.entry → IsFound (before ++ flat_map (S.found search.now) (action_places (action_view action.now))) result }
+    ensures { FindsMore (flat_map (S.found search.now) (action_places (action_view action.now))) so_far.entry result }
 {
     let outside = Scope::Empty;
     let so_far = search.look(so_far, &Part::Binds(&action.parameters), &outside);

@@ -1,13 +1,12 @@
 //! One search over all places of a domain, or of a problem.
 
-ghost use Rattle.std.specs.Prelude.{◌≡◌, [], ◌++◌, ℕ, List, map, option_map};
+ghost use Rattle.std.specs.Prelude.{◌≡◌, [], map, option_map};
 ghost use Rattle.std.specs.List.{flat_map};
 ghost use Rattle.pddl_domain.specs.Domains.{domain_view};
 ghost use Rattle.pddl_problem.specs.Inits.{init_view, metric_view};
 ghost use Rattle.pddl_problem.specs.Problems.{problem_view};
-ghost use Rattle.pddl_task.specs.Names.{Name};
 ghost use Rattle.pddl_task.specs.Places.{init_places, metric_places, domain_places, problem_places};
-ghost use Rattle.pddl_faults.specs.Found.{IsFound};
+ghost use Rattle.pddl_faults.specs.Found.{IsFound, FindsMore};
 ghost use Rattle.pddl_faults.specs.Scopes.{bound_of};
 
 use crate::passes::is_taken;
@@ -40,7 +39,7 @@ fn search_item<'p, 's, 'a, A: Allocator, B: Allocator, S: Search<A, B>>(
     outside: &'s Scope<'s, 'p, 'a, A, B>,
 ) -> Result<(), LinkFault<'p>>
     requires { bound_of outside.now ≡ [] }
-    ensures { (before : List (ℕ × Name)) → IsFound before so_far.entry → IsFound (before ++ flat_map (S.found search.now) (init_places (init_view item.now))) result }
+    ensures { FindsMore (flat_map (S.found search.now) (init_places (init_view item.now))) so_far.entry result }
 {
     match item {
         InitItem::Holds(fact) | InitItem::Fails(fact) => {
@@ -65,7 +64,7 @@ fn search_init<'p, 's, 'a, A: Allocator, B: Allocator, S: Search<A, B>>(
     outside: &'s Scope<'s, 'p, 'a, A, B>,
 ) -> Result<(), LinkFault<'p>>
     requires { bound_of outside.now ≡ [] }
-    ensures { (before : List (ℕ × Name)) → IsFound before so_far.entry → IsFound (before ++ flat_map (S.found search.now) (flat_map init_places (map init_view init.now))) result }
+    ensures { FindsMore (flat_map (S.found search.now) (flat_map init_places (map init_view init.now))) so_far.entry result }
 {
     let mut found = so_far;
     for item in init {
@@ -82,7 +81,7 @@ fn search_metric<'p, 's, 'a, A: Allocator, B: Allocator, S: Search<A, B>>(
     outside: &'s Scope<'s, 'p, 'a, A, B>,
 ) -> Result<(), LinkFault<'p>>
     requires { bound_of outside.now ≡ [] }
-    ensures { (before : List (ℕ × Name)) → IsFound before so_far.entry → IsFound (before ++ flat_map (S.found search.now) (metric_places (option_map metric_view metric.now))) result }
+    ensures { FindsMore (flat_map (S.found search.now) (metric_places (option_map metric_view metric.now))) so_far.entry result }
 {
     match metric {
         None => so_far,
