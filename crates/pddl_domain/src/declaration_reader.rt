@@ -118,22 +118,21 @@ fn number_type<'a, B: Allocator>(alloc: &'a B) -> Result<Option<TypeNames<&'a B>
     let Some(name) = TypeName::new(name) else {
         return Ok(None);
     };
-    let mut names = Vec::new(alloc);
+    let mut names = Vec::with_capacity(alloc, 1)?;
     names.push(name)?;
-    Ok(TypeNames::new(names))
+    TypeNames::new(alloc, names)
 }
 
-/// Adds the functions of a group, each with a copy of the type of their results.
-fn add_functions<'a, B: Allocator>(
-    alloc: &'a B,
-    found: &mut Vec<DeclaredFunction<&'a B>, &'a B>,
-    group: Vec<Signature<&'a B>, &'a B>,
-    types: &TypeNames<&'a B>,
+/// Adds functions, which share the type of their results.
+fn add_sharing<A: Allocator>(
+    found: &mut Vec<DeclaredFunction<A>, A>,
+    signatures: Vec<Signature<A>, A>,
+    types: &TypeNames<A>,
 ) -> Result<(), AllocError>
-    ensures { OnOk result (map function_view found.new.items ≡ map function_view found.old.items ++ of_type (map signature_view group.entry.items) types.now) }
+    ensures { OnOk result (map function_view found.new.items ≡ map function_view found.old.items ++ of_type (map signature_view signatures.items) types.now) }
 {
-    for signature in group {
-        let result = types.copy(alloc)?;
+    for signature in signatures {
+        let result = types.share()?;
         let Signature { name, parameters } = signature;
         found.push(DeclaredFunction {
             name,
@@ -142,6 +141,17 @@ fn add_functions<'a, B: Allocator>(
         })?;
     }
     Ok(())
+}
+
+/// Adds the functions of a group, with the type of their results.
+fn add_functions<A: Allocator>(
+    found: &mut Vec<DeclaredFunction<A>, A>,
+    group: Vec<Signature<A>, A>,
+    types: TypeNames<A>,
+) -> Result<(), AllocError>
+    ensures { OnOk result (map function_view found.new.items ≡ map function_view found.old.items ++ of_type (map signature_view group.items) types) }
+{
+    add_sharing(found, group, &types)
 }
 
 /// The functions that some items declare, with the types of their results.
@@ -159,7 +169,7 @@ pub fn declared_functions_of<'a, B: Allocator>(
             let Some(types) = type_of(alloc, item)? else {
                 return Ok(None);
             };
-            add_functions(alloc, &mut found, group, &types)?;
+            add_functions(&mut found, group, types)?;
             group = Vec::new(alloc);
             after_dash = false;
         } else if is_dash(item) {
@@ -180,7 +190,7 @@ pub fn declared_functions_of<'a, B: Allocator>(
     let Some(types) = number_type(alloc)? else {
         return Ok(None);
     };
-    add_functions(alloc, &mut found, group, &types)?;
+    add_functions(&mut found, group, types)?;
     Ok(Some(found))
 }
 

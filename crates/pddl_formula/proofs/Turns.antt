@@ -1,16 +1,17 @@
 -- Items as the code goes over them, and values read from each.
 use Rattle.std.proofs.Common.{◌≡◌, ℕ, ◌+◌, ◌-◌, ◌<◌, ◌≤◌, List, [], ◌∷◌, ◌++◌, length, get_or, take, drop, map, refl, sym, ap, ◌∙◌, arith, add-one, drop-cons}
-use Rattle.std.specs.Prelude.{Option, Some, None}
+use Rattle.std.specs.Prelude.{Option, Some, None, option_and_then, if◌then◌else◌, codes}
 use Rattle.std.proofs.lemmas.List.{append-nil, drop_all, take_all}
 use Rattle.pddl_text.specs.declared.item.Item.{Item}
 use Rattle.pddl_text.specs.Trees.{Tree}
 use Rattle.pddl_tree.specs.Words.{list}
 use Rattle.pddl_tree.specs.ItemTrees.{item_tree, item_trees}
 use Rattle.pddl_tree.specs.Inner.PlanReading.{both}
-use Rattle.pddl_tree.specs.Inner.TreeReading.{all_of}
+use Rattle.pddl_tree.specs.Inner.TreeReading.{all_of, is_word_at}
 use Rattle.pddl_tree.proofs.Options.{with_front, front_more}
 use Rattle.pddl_tree.proofs.TreeLists.{list_of_trees_of}
-use Rattle.pddl_formula.specs.Inner.Reading.{atom_at, atom_of, atom_of_list, type_at, either_of, variables_at, typed_variables}
+use Rattle.pddl_formula.specs.Reserved.{type_of}
+use Rattle.pddl_formula.specs.Inner.Reading.{atom_at, atom_of, atom_of_list, type_at, type_name_at, either_of, variables_at, typed_variables}
 
 -- the items from a place on: the one there, and those behind it
 pub trees_from : {A : Type 0} (xs : List (Item A)) (i : ℕ) (d : Item A) → i < length xs → item_trees (drop i xs) ≡ item_tree (get_or xs i d) ∷ item_trees (drop (i + 1) xs)
@@ -54,6 +55,12 @@ pub atom_by_head : {A : Type 0} (xs : List (Item A)) (h : Item A) → 0 < length
     → atom_of_list (item_trees xs) ≡ atom_of (item_tree h) (item_trees (take (length xs - 1) (drop 1 xs)))
 atom_by_head [] h some first = absurd (omega (arith, some))
 atom_by_head (x ∷ xs) h some first = rw (take_all (length (x ∷ xs) - 1) xs (omega arith), first) refl
+
+-- the type of a list by its head and what stands behind it, as a call takes them
+pub either_by_head : {A : Type 0} (xs : List (Item A)) (h : Item A) → 0 < length xs → h ≡ get_or xs 0 h
+    → either_of (item_trees xs) ≡ (if is_word_at (codes "either") (item_tree h) then option_and_then type_of (all_of (map type_name_at (item_trees (take (length xs - 1) (drop 1 xs))))) else None)
+either_by_head [] h some first = absurd (omega (arith, some))
+either_by_head (x ∷ xs) h some first = rw (take_all (length (x ∷ xs) - 1) xs (omega arith), first) refl
 
 -- ---- what lists of trees are
 

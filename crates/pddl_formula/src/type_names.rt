@@ -7,6 +7,7 @@ ghost use Rattle.pddl_formula.specs.Reserved.{is_type_name, type_name_of, is_typ
 use pddl_tree::Name;
 use std::alloc::{AllocError, Allocator};
 use std::marker::Model;
+use std::rc::Rc;
 
 /// A primitive type: a name other than `either`.
 ///
@@ -70,11 +71,12 @@ impl<A: Allocator> TypeName<A> {
 
 /// A type: its primitive types, of which there is at least one, in the order in which they are written.
 ///
-/// Contracts see it as the list of their bytes.
+/// The names of a group of a typed list share it, so that a list takes memory for its text and not for each name's type. Contracts see it as
+/// the list of their bytes.
 #[derive(Drop)]
 #[derive_where(Debug)]
 pub struct TypeNames<A: Allocator> {
-    names: Vec<TypeName<A>, A>,
+    names: Rc<Vec<TypeName<A>, A>, A>,
 }
 
 impl<A: Allocator> Model for TypeNames<A> {
@@ -83,31 +85,34 @@ impl<A: Allocator> Model for TypeNames<A> {
 
     ghost Value = { List (List ℕ) };
 
-    ghost view = { λ t. t.names.items };
+    ghost view = { λ t. t.names.value.items };
 
-    ghost invariant = { λ t. IsTrue (is_type t.names.items) };
+    ghost invariant = { λ t. IsTrue (is_type t.names.value.items) };
 }
 
 impl<A: Allocator> TypeNames<A> {
     /// The type of these primitive types, or `None` where there are none.
-    pub fn new(names: Vec<TypeName<A>, A>) -> Option<TypeNames<A>>
-        ensures { result ≡ type_of names.items }
+    ///
+    /// Fails where memory for it is refused.
+    pub fn new(alloc: A, names: Vec<TypeName<A>, A>) -> Result<Option<TypeNames<A>>, AllocError>
+        ensures { IfOk result (λ found. found ≡ type_of names.items) }
     {
         know_type_names(&names);
         if names.len() == 0 {
-            None
+            Ok(None)
         } else {
-            Some(TypeNames { names })
+            let names = Rc::new(alloc, names)?;
+            Ok(Some(TypeNames { names }))
         }
     }
 
-    /// The same type in memory of another allocator.
+    /// The same type, in the same memory.
     ///
-    /// Fails where memory for it is refused.
-    pub fn copy<'a, B: Allocator>(&self, alloc: &'a B) -> Result<TypeNames<&'a B>, AllocError>
-        ensures { IfOk result (λ copy. copy ≡ self.now) }
+    /// Fails where it is shared as often as can be counted.
+    pub fn share(&self) -> Result<TypeNames<A>, AllocError>
+        ensures { IfOk result (λ shared. shared ≡ self.now) }
     {
-        let names = copy_names(alloc, &self.names)?;
+        let names = self.names.clone()?;
         Ok(TypeNames { names })
     }
 
@@ -127,20 +132,6 @@ fn know_type_names<A: Allocator>(names: &[TypeName<A>])
     for name in names {
         let _bytes = name.as_bytes();
     }
-}
-
-/// The same primitive types in memory of another allocator.
-fn copy_names<'a, A: Allocator, B: Allocator>(
-    alloc: &'a B,
-    names: &[TypeName<A>],
-) -> Result<Vec<TypeName<&'a B>, &'a B>, AllocError>
-    ensures { IfOk result (λ copies. copies.items ≡ names.now) }
-{
-    let mut copies = Vec::with_capacity(alloc, names.len())?;
-    for name in names {
-        copies.push(name.copy(alloc)?)?;
-    }
-    Ok(copies)
 }
 
 /// A name and its type: an object, a constant or a variable (without `?`) of a typed list.

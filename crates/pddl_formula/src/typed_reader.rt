@@ -1,10 +1,11 @@
 //! Types and typed lists read from items.
 
-ghost use Rattle.std.specs.Prelude.{◌≡◌, [], ◌∷◌, ◌++◌, false, IsTrue, IfOk, OnOk, Err, MatchResult, Some, map, option_map};
+ghost use Rattle.std.specs.Prelude.{◌≡◌, [], ◌∷◌, ◌++◌, false, IsTrue, IfOk, OnOk, Err, MatchResult, Some, map, option_map, option_and_then};
 ghost use Rattle.std.specs.Bool.{then_some};
 ghost use Rattle.pddl_tree.specs.Names.{folded};
 ghost use Rattle.pddl_tree.specs.ItemTrees.{item_tree, item_trees};
 ghost use Rattle.pddl_tree.specs.Inner.TreeReading.{all_of, is_word_at, is_keyword_at, is_dash};
+ghost use Rattle.pddl_formula.specs.Reserved.{type_of};
 ghost use Rattle.pddl_formula.specs.TypedLists.{object, typed_view};
 ghost use Rattle.pddl_formula.specs.Inner.Reading.{type_name_at, either_of, type_at, of_type, typed_from, typed_list, typed_names, typed_variables, variables_at};
 ghost use Rattle.pddl_formula.specs.Inner.Sorts.{item_at};
@@ -106,6 +107,19 @@ fn add_type_names<'a, B: Allocator>(
     Ok(true)
 }
 
+/// The type of primitive types, if there are some.
+fn type_of_names<A: Allocator>(
+    alloc: A,
+    names: Option<Vec<TypeName<A>, A>>,
+) -> Result<Option<TypeNames<A>>, AllocError>
+    ensures { IfOk result (λ found. found ≡ option_and_then type_of (option_map (λ v. v.items) names)) }
+{
+    match names {
+        None => Ok(None),
+        Some(names) => TypeNames::new(alloc, names),
+    }
+}
+
 /// The type behind the word `either`.
 fn either_of<'a, B: Allocator>(
     alloc: &'a B,
@@ -113,15 +127,14 @@ fn either_of<'a, B: Allocator>(
 ) -> Result<Option<TypeNames<&'a B>>, AllocError>
     ensures { IfOk result (λ found. found ≡ either_of (item_trees items.now)) }
 {
-    match items {
-        [head, rest @ ..] if is_word_item(head, b"either") => {
-            let Some(names) = type_names_of(alloc, rest)? else {
-                return Ok(None);
-            };
-            Ok(TypeNames::new(names))
-        }
-        _ => Ok(None),
+    let [head, rest @ ..] = items else {
+        return Ok(None);
+    };
+    if !is_word_item(head, b"either") {
+        return Ok(None);
     }
+    let names = type_names_of(alloc, rest)?;
+    type_of_names(alloc, names)
 }
 
 /// The type of one primitive type.
@@ -131,9 +144,9 @@ fn single<'a, B: Allocator>(
 ) -> Result<Option<TypeNames<&'a B>>, AllocError>
     ensures { IfOk result (λ found. found ≡ Some (name.entry ∷ [])) }
 {
-    let mut names = Vec::new(alloc);
+    let mut names = Vec::with_capacity(alloc, 1)?;
     names.push(name)?;
-    Ok(TypeNames::new(names))
+    TypeNames::new(alloc, names)
 }
 
 /// The type that an item spells, or `None` where it spells none: a primitive type, or `(either t+)` of primitive types
@@ -184,50 +197,33 @@ fn listed_of<'a, B: Allocator>(
     }
 }
 
-/// Adds the names of a group, each with the group's type.
-fn add_group<'a, B: Allocator>(
-    alloc: &'a B,
-    found: &mut Vec<Typed<&'a B>, &'a B>,
-    mut group: Vec<Name<&'a B>, &'a B>,
-    types: TypeNames<&'a B>,
+/// Adds the names of a group, which share the type.
+fn add_group<A: Allocator>(
+    found: &mut Vec<Typed<A>, A>,
+    group: Vec<Name<A>, A>,
+    types: &TypeNames<A>,
 ) -> Result<(), AllocError>
-    ensures { OnOk result (map typed_view found.new.items ≡ map typed_view found.old.items ++ of_type group.entry.items types.entry) }
+    ensures { OnOk result (map typed_view found.new.items ≡ map typed_view found.old.items ++ of_type group.items types.now) }
 {
-    let Some(last) = group.pop() else {
-        return Ok(());
-    };
-    add_copies(alloc, found, group, &types)?;
-    found.push(Typed { name: last, types })?;
-    Ok(())
-}
-
-/// Adds names, each with a copy of the type.
-fn add_copies<'a, B: Allocator>(
-    alloc: &'a B,
-    found: &mut Vec<Typed<&'a B>, &'a B>,
-    names: Vec<Name<&'a B>, &'a B>,
-    types: &TypeNames<&'a B>,
-) -> Result<(), AllocError>
-    ensures { OnOk result (map typed_view found.new.items ≡ map typed_view found.old.items ++ of_type names.entry.items types.now) }
-{
-    for name in names {
-        let types = types.copy(alloc)?;
+    for name in group {
+        let types = types.share()?;
         found.push(Typed { name, types })?;
     }
     Ok(())
 }
 
-/// Adds the names of a group, each with the type, if there is one; true exactly where there is one, and then the group has no
-/// name left.
+/// Adds the names of a group, each with the type, if there is one; true exactly where there is one, and then the next group,
+/// which is empty, stands in its place.
 ///
-/// Fails as the type failed, and where memory for the names or a type is refused.
-fn add_typed<'a, B: Allocator>(
-    alloc: &'a B,
-    found: &mut Vec<Typed<&'a B>, &'a B>,
-    group: &mut Vec<Name<&'a B>, &'a B>,
-    types: Result<Option<TypeNames<&'a B>>, AllocError>,
+/// Fails as the type failed, and where memory for the names is refused.
+fn add_typed<A: Allocator>(
+    found: &mut Vec<Typed<A>, A>,
+    group: &mut Vec<Name<A>, A>,
+    next: Vec<Name<A>, A>,
+    types: Result<Option<TypeNames<A>>, AllocError>,
 ) -> Result<bool, AllocError>
-    ensures typed { MatchResult types.entry
+    requires { next.items ≡ [] }
+    ensures typed { MatchResult types
         (λ type. IfOk result (λ right. then_some right (map typed_view found.new.items) ≡ option_map (λ t. map typed_view found.old.items ++ of_type group.old.items t) type))
         (λ e. result ≡ Err e) }
     ensures group { IfOk result (λ right. IsTrue right → group.new.items ≡ []) }
@@ -235,7 +231,7 @@ fn add_typed<'a, B: Allocator>(
     let Some(types) = types? else {
         return Ok(false);
     };
-    add_group(alloc, found, replace(group, Vec::new(alloc)), types)?;
+    add_group(found, replace(group, next), &types)?;
     Ok(true)
 }
 
@@ -253,7 +249,7 @@ fn add_typed_list<'a, B: Allocator>(
     let mut after_dash = false;
     for item in items {
         if after_dash {
-            if !add_typed(alloc, found, group, type_of(alloc, item))? {
+            if !add_typed(found, group, Vec::new(alloc), type_of(alloc, item))? {
                 return Ok(false);
             }
             after_dash = false;
@@ -269,7 +265,7 @@ fn add_typed_list<'a, B: Allocator>(
     if after_dash {
         return Ok(false);
     }
-    add_typed(alloc, found, group, object_type(alloc))
+    add_typed(found, group, Vec::new(alloc), object_type(alloc))
 }
 
 /// The typed list of this sort that some items are.

@@ -76,10 +76,10 @@ fn add_fits<A: Allocator, C: Allocator, N: Allocator, B: Allocator>(
 }
 
 /// Adds the numbers of the objects that fit a type, as a list and one by one.
-fn add_fitting_of<A: Allocator, C: Allocator, B: Allocator>(
+fn add_fitting_of<A: Allocator, C: Allocator, N: Allocator, B: Allocator>(
     alloc: &B,
     task: &Task<'_, '_, A, C>,
-    types: Option<TypeNames<&B>>,
+    types: Option<TypeNames<N>>,
     lines: &mut Lines<'_, B>,
 ) {
     let Some(types) = &types else {
@@ -102,7 +102,8 @@ fn add_fitting<A: Allocator, C: Allocator, B: Allocator>(
 ) {
     let mut types = Vec::new(alloc);
     add_primitives(alloc, line, &mut types, lines);
-    add_fitting_of(alloc, task, TypeNames::new(types), lines);
+    let types = lines.kept(TypeNames::new(alloc, types));
+    add_fitting_of(alloc, task, types, lines);
 }
 
 /// Adds the words of a line to others.
