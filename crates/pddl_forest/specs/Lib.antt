@@ -1,3 +1,4 @@
 pub mod Forests
 pub mod Counts
+pub mod Rounds
 pub mod Inner

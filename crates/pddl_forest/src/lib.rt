@@ -1,4 +1,4 @@
-//! Numbers of places in a forest, by which a test of what is under what is two comparisons.
+//! Numbers of places in a forest, by which a test of what is under what is two comparisons; and places that lie on no way round, where it is no forest.
 #![tactic(auto)]
 
 mod checking;
@@ -6,5 +6,7 @@ mod counting;
 mod numbering;
 mod preorder;
 mod roots;
+mod rounds;
 
 pub use preorder::Preorder;
+pub use rounds::off_rounds;

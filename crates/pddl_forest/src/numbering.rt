@@ -8,7 +8,7 @@ use crate::checking::{number_at, parent_of, raise};
 use std::alloc::{AllocError, Allocator};
 
 /// Sets the number at a place, where there is one.
-fn put<'a, B: Allocator>(numbers: &mut Vec<usize, &'a B>, place: usize, number: usize)
+pub fn put<'a, B: Allocator>(numbers: &mut Vec<usize, &'a B>, place: usize, number: usize)
     ensures { length numbers.new.items ≡ length numbers.old.items }
 {
     if place < numbers.len() {

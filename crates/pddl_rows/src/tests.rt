@@ -26,7 +26,7 @@ fn costs(rt: HostRuntime) -> Result<(), Fail> {
 
 #[test]
 fn domains(rt: HostRuntime) -> Result<(), Fail> {
-    all_hold(&rt, rows::DOMAINS, 20)
+    all_hold(&rt, rows::DOMAINS, 21)
 }
 
 #[test]

@@ -1,5 +1,7 @@
 -- Tables whose types are all below `object`, in which no type is above itself.
-use Rattle.std.proofs.Common.{◌≡◌, ℕ, zero, suc, ◌<◌, Bool, true, false, ◌&&◌, ◌==◌, List, [], ◌∷◌, map, filter, cond, length, refl, sym, ap, ◌∙◌, bytes_eq, inl, inr}
+use Rattle.std.proofs.Common.{◌≡◌, ℕ, zero, suc, ◌<◌, Bool, true, false, ◌&&◌, ◌==◌, List, [], ◌∷◌, map, filter, cond, length, refl, sym, ap, ◌∙◌, subst, arith, bytes_eq, inl, inr}
+use Rattle.std.specs.Prelude.{◌+◌, drop, get_or, Contains}
+use Rattle.std.proofs.lemmas.List.{at_drop_more}
 use Rattle.pddl_domain.specs.Declarations.{TypeValue}
 use Rattle.pddl_task.specs.Names.{Name, item_of}
 use Rattle.pddl_task.specs.Types.{root, says_nothing, pairs, is_under, is_cyclic}
@@ -63,8 +65,11 @@ round_is_root rows (suc n) m i top up round =
 
 -- ---- no type is above itself
 
-not_cyclic : (declared : List TypeValue) (rows : List Row) (t : Name) → IsTypeTable declared rows → AllBelowRoot rows → is_cyclic (pairs declared) t ≡ true → ⊥
-not_cyclic declared rows t h all cyclic =
+-- what is above itself has a place that is come to from that of its parent
+pub cyclic_goes_round : (declared : List TypeValue) (rows : List Row) (t : Name) → IsTypeTable declared rows → is_cyclic (pairs declared) t ≡ true
+    → (e : TypeValue) × Contains (pairs declared) e × (t ≡ e.item) × (i : ℕ) × (i < length rows) × (name_at rows i ≡ t) × (name_at rows (parent_place rows i) ≡ e.of)
+    × (climbs rows (length rows) (parent_place rows i) i ≡ true)
+cyclic_goes_round declared rows t h cyclic =
     let ps = pairs declared in
     let f = any_found (λ e. bytes_eq t e.item && is_under ps e.of t) ps cyclic in
     let named : t ≡ f.0.item = bytes_same t f.0.item (and_left (bytes_eq t f.0.item) (is_under ps f.0.of t) f.2) in
@@ -77,12 +82,17 @@ not_cyclic declared rows t h all cyclic =
     let round : climbs rows (length rows) (parent_place rows i.0) i.0 ≡ true =
     climbs_decide declared rows (parent_place rows i.0) i.0 h above.0 i.1 ∙ ap (λ n. is_under ps n (name_at rows i.0)) of ∙ ap (is_under ps f.0.of) (item ∙ sym named)
     ∙ and_right (bytes_eq t f.0.item) (is_under ps f.0.of t) f.2 in
-    let way = all.below i.0 i.1 in
-    let is : i.0 ≡ 0 = round_is_root rows way.0 (length rows) i.0 all.top way.1 round in
-    let first : f.0.item ≡ root = sym item ∙ ap (name_at rows) is ∙ h.table.first in
-    let under : f.0.of ≡ root = sym of ∙ ap (name_at rows) (ap (parent_place rows) is ∙ all.top) ∙ h.table.first in
-    let says : says_nothing f.0 ≡ true = and_both (bytes_eq f.0.item root) (bytes_eq f.0.of root) (same_bytes f.0.item root first) (same_bytes f.0.of root under) in
-    let not_so : says_nothing f.0 ≡ false = pair_says declared f.0 f.1 in cc
+    (f.0, f.1, named, i.0, i.1, item ∙ sym named, of, round)
+
+not_cyclic : (declared : List TypeValue) (rows : List Row) (t : Name) → IsTypeTable declared rows → AllBelowRoot rows → is_cyclic (pairs declared) t ≡ true → ⊥
+not_cyclic declared rows t h all cyclic =
+    let (e, has, named, i, low, item, of, round) = cyclic_goes_round declared rows t h cyclic in
+    let way = all.below i low in
+    let is : i ≡ 0 = round_is_root rows way.0 (length rows) i all.top way.1 round in
+    let first : e.item ≡ root = sym named ∙ sym item ∙ ap (name_at rows) is ∙ h.table.first in
+    let under : e.of ≡ root = sym of ∙ ap (name_at rows) (ap (parent_place rows) is ∙ all.top) ∙ h.table.first in
+    let says : says_nothing e ≡ true = and_both (bytes_eq e.item root) (bytes_eq e.of root) (same_bytes e.item root first) (same_bytes e.of root under) in
+    let not_so : says_nothing e ≡ false = pair_says declared e has in cc
 
 none_kept : (q : Name → Bool) (ns : List Name) → ((n : Name) → q n ≡ true → ⊥) → filter q ns ≡ []
 none_kept q [] h = refl
@@ -93,3 +103,14 @@ pub no_cycle : (declared values : List TypeValue) (rows : List Row) → declared
 no_cycle declared values rows same h all =
     ap (λ ts. first_alone (filter (is_cyclic (pairs ts)) (map item_of ts))) (sym same)
     ∙ ap first_alone (none_kept (is_cyclic (pairs declared)) (map item_of declared) (λ t. not_cyclic declared rows t h all))
+
+-- ---- the first of some that are left
+
+pub first_left : {X : Type 0} (view : X → TypeValue) (q : Name → Bool) (xs : List X) (i : ℕ) (x : X) (ns : List Name) → i < length xs → x ≡ get_or xs i x
+    → q (view x).item ≡ true → filter q (map item_of (map view (drop i xs))) ≡ filter q ns → Contains (first_alone (filter q ns)) (view x).item
+first_left view q xs i x ns low is on left =
+    let rest = map item_of (map view (drop (i + 1) xs)) in
+    let first : filter q ns ≡ (view x).item ∷ filter q rest =
+    sym left ∙ at_drop_more (λ ys. filter q (map item_of (map view ys))) xs i x low ∙ ap (λ y. filter q ((view y).item ∷ rest)) (sym is)
+    ∙ ap (λ b. cond b ((view x).item ∷ filter q rest) (filter q rest)) on in
+    subst (λ ws. Contains (first_alone ws) (view x).item) (sym first) (0, omega arith, refl)

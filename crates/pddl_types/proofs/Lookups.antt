@@ -1,8 +1,7 @@
 -- Names that are looked up.
-use Rattle.std.proofs.Common.{◌≡◌, ℕ, ◌+◌, ◌<◌, Bool, true, false, ◌||◌, not, cond, List, [], ◌∷◌, ◌++◌, map, length, get_or, drop, ◌==◌, Option, Some, None, refl, ap, sym, ◌∙◌, bytes_eq}
+use Rattle.std.proofs.Common.{◌≡◌, ℕ, Bool, true, false, ◌||◌, not, cond, List, [], ◌∷◌, map, length, ◌==◌, Option, Some, None, refl, ap, sym, ◌∙◌, bytes_eq}
 use Rattle.std.specs.Prelude.{is_some, find, option_map}
 use Rattle.std.specs.Borrow.{Bor}
-use Rattle.std.specs.List.{flat_map}
 use Rattle.std.specs.Map.{lookup}
 use Rattle.std.proofs.lemmas.List.{length-map}
 use Rattle.pddl_formula.specs.Terms.{TermValue}
@@ -13,7 +12,6 @@ use Rattle.pddl_task.specs.Names.{Name, is_in, is_named, item_of}
 use Rattle.pddl_task.specs.Settings.{symbol_of}
 use Rattle.pddl_task.specs.Faults.{primitives_of, takes_others}
 use Rattle.pddl_types.specs.KnownNames.{signature_in, object_in}
-use Rattle.pddl_faults.proofs.ListPasses.{views_drop}
 use Rattle.pddl_faults.proofs.PutValues.{found_or}
 
 pub is_symbol : {A : Type 0} (es : List (Bor (List ℕ) × Bor (List (Typed A)))) (n : Name) → is_some (lookup (λ k. bytes_eq n k.now) es) ≡ is_in (map symbol_of (map signature_in es)) n

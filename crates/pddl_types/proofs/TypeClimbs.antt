@@ -132,7 +132,7 @@ name_has (r ∷ rows) zero low = (0, omega arith, refl)
 name_has (r ∷ rows) (suc i) low = has_later r.0.now (names_in rows) (name_at rows i) (name_has rows i (omega (arith, low)))
 
 -- no two places have one name
-one_place : (rows : List Row) (i j : ℕ) → IsDistinct bytes_eq (names_in rows) → i < length rows → j < length rows → name_at rows i ≡ name_at rows j → i ≡ j
+pub one_place : (rows : List Row) (i j : ℕ) → IsDistinct bytes_eq (names_in rows) → i < length rows → j < length rows → name_at rows i ≡ name_at rows j → i ≡ j
 one_place [] i j once low lower same = absurd (omega (arith, low))
 one_place (r ∷ rows) zero zero once low lower same = refl
 one_place (r ∷ rows) zero (suc j) once low lower same =

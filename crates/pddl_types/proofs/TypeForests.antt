@@ -1,17 +1,19 @@
 -- The numbered places of a table of types, against climbs.
-use Rattle.std.proofs.Common.{◌≡◌, ℕ, zero, suc, ◌<◌, Bool, true, false, ◌==◌, List, [], ◌∷◌, map, length, refl, sym, ap, ◌∙◌, subst, arith, inl, inr}
+use Rattle.std.proofs.Common.{◌≡◌, ◌≢◌, ℕ, zero, suc, ◌<◌, Bool, true, false, not, ◌==◌, List, [], ◌∷◌, map, length, refl, sym, ap, ◌∙◌, subst, arith, inl, inr}
 use Rattle.std.specs.Prelude.{◌↔◌, IsTrue, ◌+◌, ◌++◌, take, Option, Some, None, IfSome, is_some, Result, Ok, Err, IfOk}
 use Rattle.std.specs.List.{slice_get, slice_index_or}
 use Rattle.std.specs.Option.{option_map_or}
 use Rattle.std.proofs.lemmas.List.{length-map}
 use Rattle.pddl_forest.specs.Forests as forests
+use Rattle.pddl_forest.specs.Rounds.{AreOffRounds}
 use Rattle.pddl_domain.specs.Declarations.{TypeValue}
-use Rattle.pddl_task.specs.Types.{pairs, is_under}
+use Rattle.pddl_task.specs.Names.{Name}
+use Rattle.pddl_task.specs.Types.{pairs, is_under, is_cyclic}
 use Rattle.pddl_task.proofs.Lists.{or_cases, or_right}
 use Rattle.pddl_task.proofs.Subtypes.{under_found}
 use Rattle.pddl_types.specs.TypeTables.{Row, name_at, parent_place, climbs, IsTypeTable, AreNumbered}
-use Rattle.pddl_types.proofs.TypeClimbs.{climbs_sound, climbs_decide, same_place, place_same}
-use Rattle.pddl_types.proofs.BelowRoot.{AllBelowRoot}
+use Rattle.pddl_types.proofs.TypeClimbs.{climbs_sound, climbs_decide, same_place, place_same, one_place}
+use Rattle.pddl_types.proofs.BelowRoot.{AllBelowRoot, cyclic_goes_round}
 
 -- the places of the parents
 abbrev pub parents_in : List Row → List ℕ
@@ -75,6 +77,27 @@ all_below rows ps same forest =
 pub below_where_numbered : (rows : List Row) (order : Option (List ℕ)) → AreNumbered rows order → is_some order ≡ true → AllBelowRoot rows
 below_where_numbered rows None numbered some = absurd (cc (some))
 below_where_numbered rows (Some ps) numbered some = all_below rows ps numbered.0 numbered.1
+
+-- ---- where they are not, no type is above itself whose place lies on no way round
+
+pub other_than_none : (n m : ℕ) → not (n == 0) ≡ true → n ≡ m → m ≢ 0
+other_than_none n m told is = grind arith
+
+off_rounds : (declared : List TypeValue) (rows : List Row) (numbers : List ℕ) (t : Name) (i : ℕ) → IsTypeTable declared rows → AreOffRounds (parents_in rows) numbers
+    → i < length rows → name_at rows i ≡ t → forests.number_at numbers i ≢ 0 → is_cyclic (pairs declared) t ≡ true → ⊥
+off_rounds declared rows numbers t i h off low is numbered cyclic =
+    let (e, has, named, j, lower, item, of, round) = cyclic_goes_round declared rows t h cyclic in
+    let same : i ≡ j = one_place rows i j h.table.once low lower (is ∙ sym item) in
+    let way = climbs_up rows (length rows) (parent_place rows j) j round in
+    off.off j (subst (λ k. forests.number_at numbers k ≢ 0) same numbered) (way.0, ap (forests.up (parents_in rows) way.0) (parent_same rows j j) ∙ way.1)
+
+pub not_above_itself : (declared : List TypeValue) (rows : List Row) (numbers : List ℕ) (t : Name) (i : ℕ) → IsTypeTable declared rows → AreOffRounds (parents_in rows) numbers
+    → i < length rows → name_at rows i ≡ t → forests.number_at numbers i ≢ 0 → is_cyclic (pairs declared) t ≡ false
+not_above_itself declared rows numbers t i h off low is numbered =
+    elim (is_cyclic (pairs declared) t) as (λ b. is_cyclic (pairs declared) t ≡ b → b ≡ false) [
+      | true ↦ λ on. absurd (off_rounds declared rows numbers t i h off low is numbered on)
+      | false ↦ λ _. refl
+    ] refl
 
 -- ---- the places of parents, one after another
 

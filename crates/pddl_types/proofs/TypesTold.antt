@@ -1,15 +1,15 @@
 -- Declared types that are put into a table one by one, and then told their parents.
-use Rattle.std.proofs.Common.{◌≡◌, ℕ, zero, suc, ◌+◌, ◌<◌, ◌≤◌, true, false, ◌||◌, cond, List, [], ◌∷◌, ◌++◌, map, length, get_or, take, refl, sym, ap, ◌∙◌, subst, arith, bytes_eq}
+use Rattle.std.proofs.Common.{◌≡◌, ℕ, zero, suc, ◌+◌, ◌<◌, true, false, ◌||◌, cond, List, [], ◌∷◌, ◌++◌, map, length, get_or, take, refl, sym, ap, ◌∙◌, subst, arith, bytes_eq}
 use Rattle.std.specs.Borrow.{Bor}
 use Rattle.std.specs.List.{IsDistinct}
 use Rattle.std.proofs.lemmas.Cmp.{nat_list_eq_equiv}
-use Rattle.std.proofs.lemmas.List.{take_more, take_all}
+use Rattle.std.proofs.lemmas.List.{take_more}
 use Rattle.std.proofs.lemmas.List.Elements.{Contains-get_or}
 use Rattle.std.proofs.lemmas.Map.Keys.{IsDistinct-head, IsDistinct-tail}
 use Rattle.pddl_domain.specs.Declarations.{TypeValue}
 use Rattle.pddl_task.specs.Names.{Name, is_in, repeated, item_of}
 use Rattle.pddl_task.specs.Types.{root, parent_of}
-use Rattle.pddl_types.specs.TypeTables.{Row, names_in, name_at, with_name, IsTableOf, IsTypeTable}
+use Rattle.pddl_types.specs.TypeTables.{Row, names_in, name_at, with_name, IsTableOf}
 use Rattle.pddl_task.proofs.Lists.{append-none, or_right, none_left, none_right, is_mapped}
 use Rattle.pddl_types.proofs.TypeTables.{or_none, or_group, put, known, apart, put_under_root, put_under}
 use Rattle.pddl_types.proofs.TypeClimbs.{has_in, parent_undeclared, once_declared}

@@ -1,6 +1,6 @@
 //! The types of a domain with their parents, looked up by name.
 
-ghost use Rattle.std.specs.Prelude.{◌≡◌, ◌<◌, [], ◌∷◌, true, map, not, filter, length, IfOk, OnOk, IfSome, Contains};
+ghost use Rattle.std.specs.Prelude.{◌≡◌, ◌<◌, [], ◌∷◌, true, false, map, not, filter, length, IfOk, OnOk, IfSome, Contains};
 ghost use Rattle.std.specs.List.{flat_map, list_any};
 ghost use Rattle.pddl_formula.specs.TypedLists.{typed_view};
 ghost use Rattle.pddl_domain.specs.Declarations.{type_view};
@@ -8,6 +8,7 @@ ghost use Rattle.pddl_task.specs.Names.{is_in, repeated, item_of};
 ghost use Rattle.pddl_task.specs.Types.{root, says_nothing, types_of, pairs, is_under, is_subtype, is_cyclic, fits};
 ghost use Rattle.pddl_task.specs.Faults.{primitives_of, first_alone};
 ghost use Rattle.pddl_faults.specs.Passes.{Passes};
+ghost use Rattle.pddl_forest.specs.Rounds.{AreOffRounds};
 ghost use Rattle.pddl_types.specs.KnownNames.{object_in};
 ghost use Rattle.pddl_types.specs.ObjectCounts.{AreCountsOf, AddUp};
 ghost use Rattle.pddl_types.specs.TypeTables.{IsTableOf, IsTypeTable, AreNumbered, with_name, name_at, parent_place, climbs};
@@ -18,7 +19,7 @@ use crate::type_counts::{TypeCounts, type_counts};
 use indexmap::IndexMap;
 use pddl_domain::DeclaredType;
 use pddl_faults::{Hashed, LinkFault};
-use pddl_forest::Preorder;
+use pddl_forest::{Preorder, off_rounds};
 use pddl_formula::{TypeNames, Typed};
 use std::alloc::{AllocError, Allocator};
 use std::marker::Model;
@@ -33,10 +34,13 @@ pub struct Types<'m, 'a, A: Allocator, B: Allocator> {
     declared: &'m [DeclaredType<A>],
     parents: IndexMap<&'m [u8], usize, Hashed, &'a B>,
     order: Option<Preorder<'a, B>>,
+    /// Where places are not numbered, a number for each, other than 0 only where no way from parent to parent leads back to it.
+    off_rounds: Vec<usize, &'a B>,
 }
 
 impl<'m, 'a, A: Allocator, B: Allocator> Model for Types<'m, 'a, A, B> {
     ghost use Rattle.std.specs.Prelude.{List, map};
+    ghost use Rattle.pddl_forest.specs.Rounds.{AreOffRounds};
     ghost use Rattle.pddl_domain.specs.Declarations.{TypeValue, type_view};
     ghost use Rattle.pddl_types.specs.TypeTables.{IsTypeTable, AreNumbered};
 
@@ -44,7 +48,8 @@ impl<'m, 'a, A: Allocator, B: Allocator> Model for Types<'m, 'a, A, B> {
 
     ghost view = { λ t. map type_view t.declared.now };
 
-    ghost invariant = { λ t. IsTypeTable (map type_view t.declared.now) t.parents.entries × AreNumbered t.parents.entries t.order };
+    ghost invariant = { λ t. IsTypeTable (map type_view t.declared.now) t.parents.entries × AreNumbered t.parents.entries t.order
+        × AreOffRounds (map (λ r. r.1) t.parents.entries) t.off_rounds.items };
 }
 
 /// The place of a type in the table; it is put there under `object` where it does not stand yet.
@@ -108,6 +113,22 @@ fn parent_of<'m, 'a, B: Allocator>(
     }
 }
 
+/// The places of the parents, in the table's order.
+///
+/// Fails where memory for them is refused.
+fn parent_places<'m, 'a, B: Allocator>(
+    alloc: &'a B,
+    parents: &IndexMap<&'m [u8], usize, Hashed, &'a B>,
+) -> Result<Vec<usize, &'a B>, AllocError>
+    ensures { IfOk result (λ places. places.items ≡ map (λ r. r.1) parents.now.entries) }
+{
+    let mut places = Vec::with_capacity(alloc, parents.len())?;
+    for place in 0..parents.len() {
+        places.push(parent_of(parents, place))?;
+    }
+    Ok(places)
+}
+
 /// The places of a table, numbered where all are below `object`.
 ///
 /// Fails where memory for the numbers is refused.
@@ -117,11 +138,26 @@ fn numbered<'m, 'a, B: Allocator>(
 ) -> Result<Option<Preorder<'a, B>>, AllocError>
     ensures { IfOk result (λ order. AreNumbered parents.now.entries order) }
 {
-    let mut places = Vec::with_capacity(alloc, parents.len())?;
-    for place in 0..parents.len() {
-        places.push(parent_of(parents, place))?;
-    }
+    let places = parent_places(alloc, parents)?;
     Preorder::of(alloc, places)
+}
+
+/// Numbers for the places of a table that is not numbered, other than 0 only where no way from parent to parent leads back to the place; none where it
+/// is numbered.
+///
+/// Fails where memory for them is refused.
+fn places_off_rounds<'m, 'a, B: Allocator>(
+    alloc: &'a B,
+    parents: &IndexMap<&'m [u8], usize, Hashed, &'a B>,
+    is_numbered: bool,
+) -> Result<Vec<usize, &'a B>, AllocError>
+    ensures { IfOk result (λ numbers. AreOffRounds (map (λ r. r.1) parents.now.entries) numbers.items) }
+{
+    if is_numbered {
+        return Ok(Vec::new(alloc));
+    }
+    let places = parent_places(alloc, parents)?;
+    off_rounds(alloc, &places)
 }
 
 /// Whether one place is come to from another, from parent to parent.
@@ -174,10 +210,12 @@ impl<'m, 'a, A: Allocator, B: Allocator> Types<'m, 'a, A, B> {
         put_under_object(&mut parents, declared)?;
         put_under_parents(&mut parents, declared)?;
         let order = numbered(alloc, &parents)?;
+        let off_rounds = places_off_rounds(alloc, &parents, order.is_some())?;
         Ok(Types {
             declared,
             parents,
             order,
+            off_rounds,
         })
     }
 
@@ -325,8 +363,18 @@ impl<'m, 'a, A: Allocator, B: Allocator> Types<'m, 'a, A, B> {
         }
     }
 
-    /// Whether a declared type is above itself.
-    fn is_cyclic(&self, declared: &DeclaredType<A>) -> bool
+    /// Whether a type was found not to be above itself, which is told of each such type where places are not numbered.
+    fn is_off_rounds(&self, name: &[u8]) -> bool
+        ensures { result ≡ true → is_cyclic (pairs self.now) name.now ≡ false }
+    {
+        match self.parents.get_index_of(name) {
+            Some(place) => place < self.off_rounds.len() && self.off_rounds[place] != 0,
+            None => false,
+        }
+    }
+
+    /// Whether a declared type is come to again from its parent, which is looked at by a climb.
+    fn goes_round(&self, declared: &DeclaredType<A>) -> bool
         requires once { repeated [] (map item_of self.now) ≡ [] }
         requires listed { Contains self.now (type_view declared.now) }
         ensures { result ≡ is_cyclic (pairs self.now) declared.now.name }
@@ -335,7 +383,20 @@ impl<'m, 'a, A: Allocator, B: Allocator> Types<'m, 'a, A, B> {
             && self.is_under(declared.parent.as_bytes(), declared.name.as_bytes())
     }
 
-    /// No declared type is above itself. In a domain without a cycle all places are numbered, which shows it.
+    /// Whether a declared type is above itself.
+    fn is_cyclic(&self, declared: &DeclaredType<A>) -> bool
+        requires once { repeated [] (map item_of self.now) ≡ [] }
+        requires listed { Contains self.now (type_view declared.now) }
+        ensures { result ≡ is_cyclic (pairs self.now) declared.now.name }
+    {
+        if self.is_off_rounds(declared.name.as_bytes()) {
+            return false;
+        }
+        self.goes_round(declared)
+    }
+
+    /// No declared type is above itself. In a domain without a cycle all places are numbered, which shows it; else one climb finds the first that is, since
+    /// those that are not are told.
     pub fn cycle(&self) -> Result<(), LinkFault<'m>>
         ensures { Passes 22 (first_alone (filter (is_cyclic (pairs self.now)) (map item_of self.now))) result }
     {

@@ -32,3 +32,7 @@ pub record Passes (ps last old new : List ℕ) (place number : ℕ) : Type 0 whe
 -- what is below the places of smaller numbers is passed
 abbrev pub ArePassed : List ℕ → List ℕ → List ℕ → List ℕ → ℕ → Type 0
 ArePassed ps first last passed j = (k : ℕ) → k < length ps → k ≢ 0 → number_at first k < j → number_at last k ≤ number_at passed (parent_of ps k)
+
+-- a place is taken away before its parent, where that is: by turns from 1 on, 0 for what is not taken
+abbrev pub IsTakenBehind : List ℕ → List ℕ → ℕ → Type 0
+IsTakenBehind ps turns i = number_at turns (parent_of ps i) ≢ 0 → (number_at turns i ≢ 0) × (number_at turns i < number_at turns (parent_of ps i))

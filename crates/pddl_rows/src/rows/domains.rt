@@ -67,6 +67,14 @@ file  t9999 - t0) (:constants c - t0) (:predicates (p ?x - t9999)) (:action n :e
 | link: fault 22 TypeCycle t0
 once refused domain
 
+# No climb from each type of a chain to what lies above it.
+row a ring of types above a long chain
+part (define (domain d) (:types
+series 99999  t#0 - t#1
+file  t99999 - t99998))
+| link: fault 22 TypeCycle t99998
+once refused domain
+
 # Variables, each spoken of once: no work is the square of their number.
 row an action of many parameters
 part (define (domain d) (:types a) (:predicates (p ?x - a)) (:action n :parameters (

@@ -2,7 +2,7 @@ use Rattle.std.proofs.Common.{ap, ◌∙◌}
 use Rattle.pddl_domain.specs.Declarations.{type_view}
 use Rattle.pddl_task.specs.Types.{pairs, is_under}
 use Rattle.pddl_types.proofs.CyclicTypes.{cyclic_then, cyclic_else}
-use Rattle.pddl_types.proofs.types.Types.is_cyclic.Goals as goal
+use Rattle.pddl_types.proofs.types.Types.goes_round.Goals as goal
 
 pub returns-then-not-says_nothing : goal.returns-then-not-says_nothing
 returns-then-not-says_nothing g c =
