@@ -3,4 +3,5 @@ pub mod PartLaws
 mod SlotLaws
 pub mod ProblemTexts
 mod ItemTurns
+mod InitTurns
 mod Results

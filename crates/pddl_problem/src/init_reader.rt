@@ -1,6 +1,7 @@
 //! Items of `:init` and metrics read from items.
 
-ghost use Rattle.std.specs.Prelude.{◌≡◌, [], IfOk, map, option_map, codes};
+ghost use Rattle.std.specs.Prelude.{◌≡◌, ◌++◌, [], IfOk, map, option_map, codes};
+ghost use Rattle.std.specs.Bool.{then_some};
 ghost use Rattle.pddl_tree.specs.ItemTrees.{item_tree, item_trees};
 ghost use Rattle.pddl_tree.specs.Inner.TreeReading.{name_at, all_of};
 ghost use Rattle.pddl_formula.specs.Inner.Reading.{only};
@@ -9,6 +10,7 @@ ghost use Rattle.pddl_problem.specs.Inits.{holds, fails, fact_view, function_vie
 ghost use Rattle.pddl_problem.specs.Inner.ProblemReading.{fact_of_list, fact_at, ground_call, ground_function_at, value_of, init_of_list, init_at, direction_at, metric_of};
 
 use crate::problem::{Direction, Fact, GroundFunction, InitItem, Metric};
+use pddl_build::{both, list_if_right, push_found};
 use pddl_effect::number_of;
 use pddl_formula::{Head, head_of, is_word_item, name_of, names_of, predicate_of};
 use pddl_text::Item;
@@ -132,13 +134,10 @@ fn value_of<'a, B: Allocator>(
     let [function, number] = items else {
         return Ok(None);
     };
-    let Some(function) = ground_function_of(alloc, function)? else {
-        return Ok(None);
-    };
-    let Some(number) = number_of(number) else {
-        return Ok(None);
-    };
-    Ok(Some(InitItem::Value(function, number)))
+    match both(ground_function_of(alloc, function), Ok(number_of(number)))? {
+        Some((function, number)) => Ok(Some(InitItem::Value(function, number))),
+        None => Ok(None),
+    }
 }
 
 /// The item of `:init` of a list of these items.
@@ -192,13 +191,24 @@ pub fn inits_of<'a, B: Allocator>(
     ensures { IfOk result (λ inits. option_map (λ v. map init_view v.items) inits ≡ all_of (map init_at (item_trees items.now))) }
 {
     let mut inits = Vec::with_capacity(alloc, items.len())?;
+    let all = add_inits(alloc, &mut inits, items);
+    list_if_right(inits, all)
+}
+
+/// Adds what some items of `:init` say, one each; true exactly where each of them can stand there.
+fn add_inits<'a, B: Allocator>(
+    alloc: &'a B,
+    inits: &mut Vec<InitItem<&'a B>, &'a B>,
+    items: &[Item<'_, &'a B>],
+) -> Result<bool, AllocError>
+    ensures { IfOk result (λ all. then_some all (map init_view inits.new.items) ≡ option_map (λ more. map init_view inits.old.items ++ more) (all_of (map init_at (item_trees items.now)))) }
+{
     for item in items {
-        let Some(init) = init_of(alloc, item)? else {
-            return Ok(None);
-        };
-        inits.push(init)?;
+        if !push_found(inits, init_of(alloc, item))? {
+            return Ok(false);
+        }
     }
-    Ok(Some(inits))
+    Ok(true)
 }
 
 /// The direction of a metric that an item is.
@@ -227,14 +237,14 @@ pub fn metric_of<'a, B: Allocator>(
     let [direction, function] = items else {
         return Ok(None);
     };
-    let Some(direction) = direction_of(direction) else {
-        return Ok(None);
-    };
-    let Some(function) = ground_function_of(alloc, function)? else {
-        return Ok(None);
-    };
-    Ok(Some(Metric {
-        direction,
-        function,
-    }))
+    match both(
+        Ok(direction_of(direction)),
+        ground_function_of(alloc, function),
+    )? {
+        Some((direction, function)) => Ok(Some(Metric {
+            direction,
+            function,
+        })),
+        None => Ok(None),
+    }
 }

@@ -1,15 +1,12 @@
-use Rattle.std.proofs.Common.{◌<◌, length, map, ap, ◌∙◌, arith}
-use Rattle.std.proofs.lemmas.List.{map_push}
-use Rattle.pddl_tree.specs.ItemTrees.{item_tree}
-use Rattle.pddl_formula.proofs.Turns.{each_on}
+use Rattle.std.proofs.Common.{map, ap}
+use Rattle.pddl_tree.specs.ItemTrees.{item_trees}
+use Rattle.pddl_tree.specs.Inner.TreeReading.{all_of}
+use Rattle.pddl_formula.proofs.Fills.{filled}
 use Rattle.pddl_problem.specs.Inits.{init_view}
 use Rattle.pddl_problem.specs.Inner.ProblemReading.{init_at}
 use Rattle.pddl_problem.proofs.init_reader.inits_of.Goals as goal
 
-pub loop-item-preserved : goal.loop-item-preserved
-loop-item-preserved g c =
-    let l = c.loop-item in
-    let lt : l.item-index < length c.args.items.now = omega arith in
-    each_on init_at c.args.items.now l.item-index c.item-item.result (map init_view l.inits.items) _ lt (map init_view c.push.new.self.items) (init_view c.in-Some.init) l.invariant
-    ((rw c.in-Some.is at c.in_ok-init.ensures) ∙ ap (λ item. init_at (item_tree item)) c.item-item.is)
-    (ap (map init_view) c.in_ok-push.ensures.items ∙ map_push init_view l.inits.items c.in-Some.init)
+pub returns : goal.returns
+returns g c =
+    rw c.list_if_right.ensures
+    (filled (map init_view) c.add_inits-all.new.inits c.add_inits-all.result (all_of (map init_at (item_trees c.args.items.now))) c.in_ok-inits.inits.items (ap (map init_view) c.in_ok-inits.ensures.items) c.add_inits-all.ensures)
