@@ -2,3 +2,4 @@ pub mod FaultLines
 pub mod OneOutcome
 pub mod Left
 pub mod OneCheck
+pub mod PlanFiles

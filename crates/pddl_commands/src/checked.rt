@@ -92,8 +92,7 @@ fn check_problem<'d, 'a, A: Allocator, B: Allocator>(
 ) -> Result<(), LinkFault<'d>>
     ensures { Verdict (faults (domain_view domain.now) (problem_view problem.now)) result }
 {
-    link(alloc, domain, problem)?;
-    Ok(())
+    link(alloc, domain, problem).and(Ok(()))
 }
 
 /// What is printed for a problem with its domain, and the outcome.
@@ -118,7 +117,11 @@ pub fn checked_domain<'a, B: Allocator>(
     ensures { IfOk result (λ answer. IsDomainChecked text.now answer.0.items answer.1) }
 {
     match read_domain(alloc, text) {
-        Ok(domain) => judged_domain(alloc, &domain),
+        Ok(domain) => {
+            let answer = judged_domain(alloc, &domain);
+            drop(domain);
+            answer
+        }
         Err(fault) => refused_domain(alloc, text, &fault),
     }
 }
@@ -132,7 +135,11 @@ pub fn checked_problem<'a, B: Allocator>(
     ensures { IfOk result (λ answer. ForProblem (IsProblemJudged (domain_view domain.now)) text.now answer.0.items answer.1) }
 {
     match read_problem(alloc, text) {
-        Ok(problem) => judged_problem(alloc, domain, &problem),
+        Ok(problem) => {
+            let answer = judged_problem(alloc, domain, &problem);
+            drop(problem);
+            answer
+        }
         Err(fault) => refused_problem(alloc, text, &fault),
     }
 }

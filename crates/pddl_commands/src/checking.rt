@@ -82,7 +82,11 @@ fn read_both<'a, B: Allocator, S: Source, T: Source>(
 {
     match read_file(alloc, Kind::Domain, domain)? {
         Content::Text(text) => match read_domain(alloc, &text) {
-            Ok(read) => read_problem_checked(alloc, &read, problem),
+            Ok(read) => {
+                let answer = read_problem_checked(alloc, &read, problem);
+                drop(read);
+                answer
+            }
             Err(fault) => {
                 let refused = refused_domain(alloc, &text, &fault)?;
                 Ok(refused)

@@ -106,7 +106,11 @@ pub(crate) fn formatted_domain<'a, B: Allocator>(
     ensures { IfOk result (λ answer. IsFormatted Kind.Domain text.now answer.0.items answer.1) }
 {
     match read_domain(alloc, text) {
-        Ok(domain) => good(domain_text(alloc, &domain)),
+        Ok(domain) => {
+            let printed = domain_text(alloc, &domain);
+            drop(domain);
+            good(printed)
+        }
         Err(fault) => refused_domain(alloc, text, &fault),
     }
 }
@@ -119,7 +123,11 @@ pub(crate) fn formatted_problem<'a, B: Allocator>(
     ensures { IfOk result (λ answer. IsFormatted Kind.Problem text.now answer.0.items answer.1) }
 {
     match read_problem(alloc, text) {
-        Ok(problem) => good(problem_text(alloc, &problem)),
+        Ok(problem) => {
+            let printed = problem_text(alloc, &problem);
+            drop(problem);
+            good(printed)
+        }
         Err(fault) => refused_problem(alloc, text, &fault),
     }
 }

@@ -168,8 +168,9 @@ pub fn read_plan_file<'a, B: Allocator, S: Source>(
     ensures stands { (given : List ℕ) × Consumes (S.remaining source.old) (S.remaining source.new) given }
 {
     let mut file = PlanFile::new(alloc);
-    match feed_all(&mut file, source) {
-        Ok(()) => Ok(ended(alloc, file)?),
+    let fed = feed_all(&mut file, source);
+    match fed.and(Ok(file)) {
+        Ok(file) => Ok(ended(alloc, file)?),
         Err(SourceFault::TooLong) => Ok(PlanContent::Refused(too_long(alloc, Kind::Plan)?)),
         Err(SourceFault::Memory) => Err(RunFault::Memory),
         Err(SourceFault::ReadFailed) => Err(RunFault::ReadFailed),
