@@ -99,7 +99,9 @@ fn judged_steps<'r, 'm, 'a, 'b, A: Allocator, B: Allocator, C: Allocator, D: All
     ensures { IfOk result (λ answer. AreStepsJudged (printing_of wanted) (task_of_files task.now) steps.now answer.0.items answer.1) }
 {
     let verdict = validate(alloc, task, steps, BitStore::new(alloc))?;
-    shown(alloc, task, steps, &verdict, wanted)
+    let answer = shown(alloc, task, steps, &verdict, wanted);
+    drop(verdict);
+    answer
 }
 
 /// What is printed for a plan with a task, and the outcome.
@@ -112,7 +114,11 @@ fn judged_in<'r, 'm, 'a, A: Allocator, B: Allocator, C: Allocator, D: Allocator>
     ensures { IfOk result (λ answer. IsJudgedIn (printing_of wanted) (task_of_files task.now) (plan_view plan.now) answer.0.items answer.1) }
 {
     match link_plan(alloc, task, plan) {
-        Ok(steps) => judged_steps(alloc, task, &steps, wanted),
+        Ok(steps) => {
+            let answer = judged_steps(alloc, task, &steps, wanted);
+            drop(steps);
+            answer
+        }
         Err(fault) => refused_steps(alloc, fault),
     }
 }
@@ -130,7 +136,11 @@ pub(crate) fn judged_plan<'r, A: Allocator, B: Allocator, C: Allocator>(
     ensures { IfOk result (λ answer. IsPlanJudged (printing_of wanted) (domain_view domain.now) (problem_view problem.now) (plan_view plan.now) answer.0.items answer.1) }
 {
     match link(alloc, domain, problem) {
-        Ok(task) => judged_in(alloc, &task, plan, wanted),
+        Ok(task) => {
+            let answer = judged_in(alloc, &task, plan, wanted);
+            drop(task);
+            answer
+        }
         Err(fault) => refused_link(alloc, &fault),
     }
 }

@@ -42,7 +42,11 @@ fn read_plan_checked<'a, B: Allocator, S: Source>(
     ensures stands { (given : List ℕ) × Consumes (S.remaining plan.old) (S.remaining plan.new) given }
 {
     match read_plan_file(alloc, plan)? {
-        PlanContent::Plan(read) => Ok(judged_plan(alloc, domain, problem, &read, wanted)?),
+        PlanContent::Plan(read) => {
+            let answer = judged_plan(alloc, domain, problem, &read, wanted);
+            drop(read);
+            Ok(answer?)
+        }
         PlanContent::Refused(line) => Ok((line, Outcome::Refused)),
     }
 }
@@ -72,7 +76,11 @@ fn read_problem_and_plan<'a, B: Allocator, S: Source, T: Source>(
 {
     match read_file(alloc, Kind::Problem, problem)? {
         Content::Text(text) => match read_problem(alloc, &text) {
-            Ok(read) => read_plan_checked(alloc, domain, &read, plan, wanted),
+            Ok(read) => {
+                let answer = read_plan_checked(alloc, domain, &read, plan, wanted);
+                drop(read);
+                answer
+            }
             Err(fault) => {
                 let refused = refused_problem(alloc, &text, &fault)?;
                 Ok(refused)
@@ -112,7 +120,11 @@ pub(crate) fn read_each<'a, B: Allocator, S: Source, T: Source, U: Source>(
 {
     match read_file(alloc, Kind::Domain, domain)? {
         Content::Text(text) => match read_domain(alloc, &text) {
-            Ok(read) => read_problem_and_plan(alloc, &read, problem, plan, wanted),
+            Ok(read) => {
+                let answer = read_problem_and_plan(alloc, &read, problem, plan, wanted);
+                drop(read);
+                answer
+            }
             Err(fault) => {
                 let refused = refused_domain(alloc, &text, &fault)?;
                 Ok(refused)

@@ -8,5 +8,5 @@ use Rattle.pddl_plan_commands.proofs.judging.judged_plan.Goals as goal
 
 pub returns-in-Ok : goal.returns-in-Ok
 returns-in-Ok g c =
-    IfOk-weaker c.judged_in.result _ _
-    (λ answer judged. inr (c.in-Ok.ensures.verdict, subst (λ files. IsJudgedIn (printing_of c.args.wanted) (task_in files) (plan_view c.args.plan.now) answer.0.items answer.1) c.in-Ok.ensures.task judged)) c.judged_in.ensures
+    IfOk-weaker c.judged_in-answer.result _ _
+    (λ answer judged. inr (c.in-Ok.ensures.verdict, subst (λ files. IsJudgedIn (printing_of c.args.wanted) (task_in files) (plan_view c.args.plan.now) answer.0.items answer.1) c.in-Ok.ensures.task judged)) c.judged_in-answer.ensures

@@ -42,17 +42,17 @@ pub returns-in-Ok-clause-answer : goal.returns-in-Ok-clause-answer
 returns-in-Ok-clause-answer g c =
     let content = subst (IsContent Domain (g.S.Source.remaining c.args.domain.now) (g.S.Source.at_end c.read_file.new.source)) c.in-Text.is c.in_ok-text.ensures.content in
     let spells = subst (λ text. SpellsDomain (domain_view c.in-Ok.read) text) c.deref.ensures.value c.in-Ok.ensures.domain in
-    IfOk-weaker c.read_problem_and_plan.result _ _
-    (λ answer judged. (c.in-Text.text.items, judged.0, judged.1, content.0, judged.2, judged.3, inr (domain_view c.in-Ok.read, spells, judged.4))) c.read_problem_and_plan.ensures.answer
+    IfOk-weaker c.read_problem_and_plan-answer.result _ _
+    (λ answer judged. (c.in-Text.text.items, judged.0, judged.1, content.0, judged.2, judged.3, inr (domain_view c.in-Ok.read, spells, judged.4))) c.read_problem_and_plan-answer.ensures.answer
 
 pub returns-in-Ok-clause-judged_at_end : goal.returns-in-Ok-clause-judged_at_end
 returns-in-Ok-clause-judged_at_end g c =
     let content = subst (IsContent Domain (g.S.Source.remaining c.args.domain.now) (g.S.Source.at_end c.read_file.new.source)) c.in-Text.is c.in_ok-text.ensures.content in
-    IfOk-weaker c.read_problem_and_plan.result _ _
-    (λ answer ends judged. let both = ends judged in (content.1, both.0, both.1)) c.read_problem_and_plan.ensures.judged_at_end
+    IfOk-weaker c.read_problem_and_plan-answer.result _ _
+    (λ answer ends judged. let both = ends judged in (content.1, both.0, both.1)) c.read_problem_and_plan-answer.ensures.judged_at_end
 
 pub returns-in-Ok-clause-read : goal.returns-in-Ok-clause-read
 returns-in-Ok-clause-read g c =
     let content = subst (IsContent Domain (g.S.Source.remaining c.args.domain.now) (g.S.Source.at_end c.read_file.new.source)) c.in-Text.is c.in_ok-text.ensures.content in
-    IfOk-weaker c.read_problem_and_plan.result _ _
-    (λ answer read. (inl content.1, inr read.0, read.1)) c.read_problem_and_plan.ensures.read
+    IfOk-weaker c.read_problem_and_plan-answer.result _ _
+    (λ answer read. (inl content.1, inr read.0, read.1)) c.read_problem_and_plan-answer.ensures.read

@@ -35,4 +35,4 @@ returns-in-Ok-clause-problem_first g c none =
     absurd (no_problem_left remaining c.in-Text.text.items (problem_view c.in-Ok.read) content.0 (subst (λ text. SpellsProblem (problem_view c.in-Ok.read) text) c.deref.ensures.value c.in-Ok.ensures.problem) none)
 
 pub returns-in-Ok-clause-read_failed : goal.returns-in-Ok-clause-read_failed
-returns-in-Ok-clause-read_failed g c failed = inr (c.read_plan_checked.ensures.read_failed failed)
+returns-in-Ok-clause-read_failed g c failed = inr (c.read_plan_checked-answer.ensures.read_failed failed)
