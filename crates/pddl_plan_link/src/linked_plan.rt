@@ -107,5 +107,7 @@ pub fn link_plan<'m, 'a, 'b, A: Allocator, B: Allocator, C: Allocator, D: Alloca
         return Err(StepFault::PlanTooLong);
     }
     let tables = plan_tables(alloc, task)?;
-    link_in(&tables, plan)
+    let linked = link_in(&tables, plan);
+    drop(tables);
+    linked
 }

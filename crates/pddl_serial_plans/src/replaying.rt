@@ -53,8 +53,10 @@ where
     ensures { IsReplayed (task_of_files task.now) steps.now order.now result }
 {
     let _linked = task.domain();
-    let plan = compile_plan(alloc, task, steps)?;
     let groups = happenings(alloc, steps)?;
-    let replayed = pddl_serial::replay(alloc, &plan, &groups, order, store)?;
+    let plan = compile_plan(alloc, task, steps)?;
+    let run = pddl_serial::replay(alloc, &plan, &groups, order, store);
+    drop(plan);
+    let replayed = run?;
     end_of(replayed)
 }

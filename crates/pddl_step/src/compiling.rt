@@ -83,5 +83,7 @@ where
     ensures steps { IfOk result (λ plan. plan_steps plan ≡ steps.now) }
 {
     let lookups = task_lookups(alloc, task)?;
-    compile_by(alloc, &lookups, task, steps)
+    let compiled = compile_by(alloc, &lookups, task, steps);
+    drop(lookups);
+    compiled
 }

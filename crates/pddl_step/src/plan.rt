@@ -128,7 +128,9 @@ where
     fn start(&self, store: &mut S) -> Result<S::Set, AllocError> {
         let atoms = initial_atoms(self.alloc, self.task)?;
         let mut set = store.empty();
-        add_atoms(store, &mut set, &atoms)?;
+        let added = add_atoms(store, &mut set, &atoms);
+        drop(atoms);
+        added?;
         Ok(set)
     }
 

@@ -5,4 +5,4 @@ pub returns-then-len-gt-MOST_STEPS-clause-verdict : goal.returns-then-len-gt-MOS
 returns-then-len-gt-MOST_STEPS-clause-verdict g c = (refl, omega (arith, c.len.ensures.value, c.if-len-gt-MOST_STEPS.true))
 
 pub returns : goal.returns
-returns g c = rw (← c.in_ok-tables.ensures.task) c.link_in.ensures
+returns g c = rw (← c.in_ok-tables.ensures.task) c.link_in-linked.ensures

@@ -17,13 +17,13 @@ happenings-requires g c =
     let files = files_of c.args.task.now in
     ((steps_are_sound files.domain files.problem c.domain-linked.ensures.linked c.args.steps.now).0 c.requires).short
 
-pub replay-requires-clause-count : goal.replay-requires-clause-count
-replay-requires-clause-count g c =
+pub replay-run-requires-clause-count : goal.replay-run-requires-clause-count
+replay-run-requires-clause-count g c =
     let files = files_of c.args.task.now in
     subst (λ l. length l ≤ 1000000) (sym c.in_ok-plan.ensures.steps) ((steps_are_sound files.domain files.problem c.domain-linked.ensures.linked c.args.steps.now).0 c.requires).short
 
-pub replay-requires-clause-each : goal.replay-requires-clause-each
-replay-requires-clause-each g c =
+pub replay-run-requires-clause-each : goal.replay-run-requires-clause-each
+replay-run-requires-clause-each g c =
     let same : c.deref.result.now ≡ c.in_ok-groups.groups.items = search rules in
     subst (λ l. HaveEachOnce (length l) (groups_of c.deref.result.now)) (sym c.in_ok-plan.ensures.steps)
     (subst (λ hs. HaveEachOnce (length c.args.steps.now) (groups_of hs)) (sym same) c.in_ok-groups.ensures.each)
