@@ -31,7 +31,11 @@ fn add_linked<A: Allocator, B: Allocator, T: OfTask>(
     lines: &mut Lines<'_, B>,
 ) -> Outcome {
     match link(alloc, domain, problem) {
-        Ok(task) => listed.add(alloc, &task, files, lines),
+        Ok(task) => {
+            let outcome = listed.add(alloc, &task, files, lines);
+            drop(task);
+            outcome
+        }
         Err(fault) => add_link_fault(fault, lines),
     }
 }
@@ -62,7 +66,11 @@ fn add_with_problem<'a, B: Allocator, T: OfTask>(
     lines: &mut Lines<'_, B>,
 ) -> Outcome {
     match read_problem(alloc, files.second) {
-        Ok(problem) => add_linked_again(alloc, listed, domain, &problem, files, lines),
+        Ok(problem) => {
+            let outcome = add_linked_again(alloc, listed, domain, &problem, files, lines);
+            drop(problem);
+            outcome
+        }
         Err(fault) => add_file_fault(&fault, lines),
     }
 }
@@ -75,7 +83,11 @@ pub fn add_task<B: Allocator, T: OfTask>(
     lines: &mut Lines<'_, B>,
 ) -> Outcome {
     match read_domain(alloc, files.first) {
-        Ok(domain) => add_with_problem(alloc, listed, &domain, files, lines),
+        Ok(domain) => {
+            let outcome = add_with_problem(alloc, listed, &domain, files, lines);
+            drop(domain);
+            outcome
+        }
         Err(fault) => add_file_fault(&fault, lines),
     }
 }

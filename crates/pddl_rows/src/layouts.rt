@@ -85,7 +85,11 @@ fn write_domain_file<B: Allocator, W: Sink>(
     out: &mut W,
 ) -> Result<Outcome, RunFault> {
     match read_domain(alloc, text) {
-        Ok(domain) => write_domain_text(alloc, layout, &domain, out),
+        Ok(domain) => {
+            let written = write_domain_text(alloc, layout, &domain, out);
+            drop(domain);
+            written
+        }
         Err(_) => Err(RunFault::Memory),
     }
 }
@@ -98,7 +102,11 @@ fn write_problem_file<B: Allocator, W: Sink>(
     out: &mut W,
 ) -> Result<Outcome, RunFault> {
     match read_problem(alloc, text) {
-        Ok(problem) => write_problem_text(alloc, layout, &problem, out),
+        Ok(problem) => {
+            let written = write_problem_text(alloc, layout, &problem, out);
+            drop(problem);
+            written
+        }
         Err(_) => Err(RunFault::Memory),
     }
 }
@@ -111,7 +119,11 @@ fn write_plan_file<B: Allocator, W: Sink>(
     out: &mut W,
 ) -> Result<Outcome, RunFault> {
     match read_plan(alloc, text) {
-        Ok(plan) => write_plan_text(alloc, layout, &plan, out),
+        Ok(plan) => {
+            let written = write_plan_text(alloc, layout, &plan, out);
+            drop(plan);
+            written
+        }
         Err(_) => Err(RunFault::Memory),
     }
 }

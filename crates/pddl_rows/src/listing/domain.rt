@@ -84,7 +84,11 @@ fn add_parts<A: Allocator, B: Allocator>(domain: &Domain<A>, lines: &mut Lines<'
 /// Adds the parts of the domain that a text spells.
 pub fn add_domain<B: Allocator>(alloc: &B, text: &[u8], lines: &mut Lines<'_, B>) -> Outcome {
     match read_domain(alloc, text) {
-        Ok(domain) => add_parts(&domain, lines),
+        Ok(domain) => {
+            let outcome = add_parts(&domain, lines);
+            drop(domain);
+            outcome
+        }
         Err(fault) => add_file_fault(&fault, lines),
     }
 }

@@ -42,7 +42,11 @@ fn add_read<A: Allocator, B: Allocator>(
     lines: &mut Lines<'_, B>,
 ) -> Outcome {
     match read {
-        Ok(plan) => add_steps(&plan, lines),
+        Ok(plan) => {
+            let outcome = add_steps(&plan, lines);
+            drop(plan);
+            outcome
+        }
         Err(fault) => add_read_fault(&fault, lines),
     }
 }

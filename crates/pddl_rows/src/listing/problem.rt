@@ -76,7 +76,11 @@ fn add_parts<A: Allocator, B: Allocator>(
 /// Adds the parts of the problem that a text spells.
 pub fn add_problem<B: Allocator>(alloc: &B, text: &[u8], lines: &mut Lines<'_, B>) -> Outcome {
     match read_problem(alloc, text) {
-        Ok(problem) => add_parts(&problem, lines),
+        Ok(problem) => {
+            let outcome = add_parts(&problem, lines);
+            drop(problem);
+            outcome
+        }
         Err(fault) => add_file_fault(&fault, lines),
     }
 }
