@@ -101,7 +101,7 @@ fn shares<'a, B: Allocator, S: AtomStore<&'a Refusing<B>>>(
             store.common(first, second)?
         }
     };
-    assert!(rt; is_least_marked(shared, marks, atoms));
+    assert!(rt; is_least_marked(&shared, marks, atoms));
     Ok(())
 }
 
@@ -139,7 +139,9 @@ fn sorted_store_refused_in_turn(rt: HostRuntime) -> Result<(), Fail> {
         let Ok(atoms) = samples(&alloc, 70) else {
             continue;
         };
-        keeps_its_sets(&rt, &alloc, &mut SortedStore::new(&alloc), &atoms)?;
+        let kept = keeps_its_sets(&rt, &alloc, &mut SortedStore::new(&alloc), &atoms);
+        drop(atoms);
+        kept?;
         if !alloc.has_refused() {
             break;
         }
@@ -158,7 +160,9 @@ fn bit_store_refused_in_turn(rt: HostRuntime) -> Result<(), Fail> {
         let Ok(atoms) = samples(&alloc, 70) else {
             continue;
         };
-        keeps_its_sets(&rt, &alloc, &mut BitStore::new(&alloc), &atoms)?;
+        let kept = keeps_its_sets(&rt, &alloc, &mut BitStore::new(&alloc), &atoms);
+        drop(atoms);
+        kept?;
         if !alloc.has_refused() {
             break;
         }

@@ -70,12 +70,12 @@ pub fn lists_marked<A: Allocator>(list: &[Atom<A>], marks: u128, atoms: &[Atom<A
 
 /// Whether an atom is the least that is marked, or there is none and no atom is marked.
 pub fn is_least_marked<A: Allocator>(
-    found: Option<Atom<A>>,
+    found: &Option<Atom<A>>,
     marks: u128,
     atoms: &[Atom<A>],
 ) -> bool {
     match (found, atoms.get(marks.trailing_zeros() as usize)) {
-        (Some(atom), Some(least)) => atom == *least,
+        (Some(atom), Some(least)) => *atom == *least,
         (None, _) => marks == 0,
         _ => false,
     }

@@ -1,6 +1,6 @@
 use super::operations::{Operation, done, marks_after};
 use super::samples::{has_marked, is_least_marked, lists_marked, mark, sample, samples};
-use crate::{merge, two_sets};
+use crate::{Merged, merge, two_sets};
 use pddl_state::{Atom, AtomStore, BitStore, SortedStore};
 use std::alloc::{AllocError, Allocator};
 use std::process::Abort;
@@ -37,7 +37,7 @@ fn agrees<A: Allocator, S: AtomStore<A>>(
     assert!(rt; lists_marked(&store.list(second)?, in_second, atoms));
     assert_eq!(rt; store.disjoint(first, second), in_first & in_second == 0);
     let shared = store.common(first, second)?;
-    assert!(rt; is_least_marked(shared, in_first & in_second, atoms));
+    assert!(rt; is_least_marked(&shared, in_first & in_second, atoms));
     Ok(())
 }
 
@@ -73,32 +73,54 @@ fn both_stores_keep_to_the_marks(rt: HostRuntime) -> Result<(), Fail> {
     Ok(())
 }
 
-// The sets of atoms 7 and of 7 and 60 are merged with those of 60 and of 60 and 3.
-fn merges<A: Allocator + Copy, S: AtomStore<A>>(
+// Whether two sets had the first marks in common, of which the least is told, and one got the second from the other and has the third.
+fn shows<A: Allocator>(merged: &Merged<A>, marks: (u128, u128, u128), atoms: &[Atom<A>]) -> bool {
+    let (shared, added, all) = marks;
+    is_least_marked(&merged.shared, shared, atoms)
+        && lists_marked(&merged.added, added, atoms)
+        && lists_marked(&merged.all, all, atoms)
+}
+
+// A set is merged with another, which shows these marks.
+fn merges_to<A: Allocator, S: AtomStore<A>>(
     rt: &impl Abort,
-    alloc: A,
-    store: &mut S,
-) -> Result<(), AllocError> {
-    let atoms = samples(alloc, 70)?;
-    let sixty = sample(alloc, 60)?;
-    let (mut one, mut two) = two_sets(store, &sample(alloc, 7)?, &sixty)?;
-    let (more, most) = two_sets(store, &sixty, &sample(alloc, 3)?)?;
-    let merged = merge(store, &mut one, &more)?;
-    assert!(rt; merged.shared.is_none());
-    assert!(rt; lists_marked(&merged.added, mark(60), &atoms));
-    assert!(rt; lists_marked(&merged.all, mark(7) | mark(60), &atoms));
-    let merged = merge(store, &mut two, &most)?;
-    assert!(rt; is_least_marked(merged.shared, mark(60), &atoms));
-    assert!(rt; lists_marked(&merged.added, mark(3), &atoms));
-    assert!(rt; lists_marked(&merged.all, mark(3) | mark(7) | mark(60), &atoms));
+    store: &S,
+    set: &mut S::Set,
+    more: &S::Set,
+    marks: (u128, u128, u128),
+    atoms: &[Atom<A>],
+) -> Result<(), AllocError>
+    requires set_own { S.owns store.now set.old }
+    requires more_own { S.owns store.now more.now }
+{
+    let merged = merge(store, set, more)?;
+    let is_right = shows(&merged, marks, atoms);
+    drop(merged);
+    assert!(rt; is_right);
     Ok(())
+}
+
+// The sets of atoms 7 and of 7 and 60 are merged with those of 60 and of 60 and 3.
+fn merges<A: Allocator, S: AtomStore<A>>(
+    rt: &impl Abort,
+    store: &mut S,
+    atoms: &[Atom<A>],
+) -> Result<(), AllocError> {
+    assert!(rt; atoms.len() == 70);
+    let (mut one, mut two) = two_sets(store, &atoms[7], &atoms[60])?;
+    let (more, most) = two_sets(store, &atoms[60], &atoms[3])?;
+    let marks = (0, mark(60), mark(7) | mark(60));
+    merges_to(rt, store, &mut one, &more, marks, atoms)?;
+    let marks = (mark(60), mark(3), mark(3) | mark(7) | mark(60));
+    merges_to(rt, store, &mut two, &most, marks, atoms)
 }
 
 #[test]
 fn both_stores_serve_a_caller(rt: HostRuntime) -> Result<(), Fail> {
     let alloc = rt.alloc();
-    merges(&rt, alloc, &mut SortedStore::new(alloc))?;
-    merges(&rt, alloc, &mut BitStore::new(alloc))?;
+    let atoms = samples(alloc, 70)?;
+    merges(&rt, &mut SortedStore::new(alloc), &atoms)?;
+    merges(&rt, &mut BitStore::new(alloc), &atoms)?;
     Ok(())
 }
 
