@@ -13,7 +13,7 @@ use crate::number::{digits_len, value_of};
 use crate::token::TokenKind;
 
 /// What stands at the front of a text.
-#[derive(Clone, Copy, Debug, PartialEq, Eq)]
+#[derive(Clone, Copy)]
 pub enum Next {
     /// A blank or a comment.
     Gap { len: usize },

@@ -14,7 +14,7 @@ use crate::word_list::WordList;
 use std::alloc::Allocator;
 
 /// What stands behind the parts that were read.
-#[derive(Clone, Copy, Debug)]
+#[derive(Clone, Copy)]
 pub enum Progress {
     /// Nothing, or a word's beginning.
     Words,
@@ -27,7 +27,7 @@ pub enum Progress {
 }
 
 /// Why reading stopped, and at which place.
-#[derive(Clone, Copy, Debug)]
+#[derive(Clone, Copy)]
 pub struct Stop {
     pub progress: Progress,
     pub at: usize,
