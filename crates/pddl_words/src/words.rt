@@ -84,12 +84,20 @@ fn with_argument<'a>(
     command.arg(argument)
 }
 
+/// A command without its words, by its name, what it does in a line, and what its help says behind its words.
+fn described<'a>(
+    alloc: Global,
+    name: &'a str,
+    about: &'a str,
+    after: &'a str,
+) -> Result<Command<'a>, AllocError> {
+    Ok(Command::new(alloc, name).about(about).after_help(after))
+}
+
 /// The command `domain FILE`.
 fn domain_command<'a>(alloc: Global) -> Result<Command<'a>, AllocError> {
-    let command = Command::new(alloc, "domain")
-        .about(help::ABOUT_DOMAIN)
-        .after_help(help::AFTER_DOMAIN);
-    with_argument(Ok(command), wanted(alloc, "FILE", help::FILE))
+    let command = described(alloc, "domain", help::ABOUT_DOMAIN, help::AFTER_DOMAIN);
+    with_argument(command, wanted(alloc, "FILE", help::FILE))
 }
 
 /// The job of the words after `domain`, where they are its own.
@@ -109,10 +117,8 @@ fn with_two_files<'a>(
 
 /// The command `problem DOMAIN PROBLEM`.
 fn problem_command<'a>(alloc: Global) -> Result<Command<'a>, AllocError> {
-    let command = Command::new(alloc, "problem")
-        .about(help::ABOUT_PROBLEM)
-        .after_help(help::AFTER_PROBLEM);
-    with_two_files(alloc, Ok(command))
+    let command = described(alloc, "problem", help::ABOUT_PROBLEM, help::AFTER_PROBLEM);
+    with_two_files(alloc, command)
 }
 
 /// The job of the words after `problem`, where they are its own.
@@ -141,10 +147,8 @@ fn three_files<'a>(matches: &ArgMatches<'a>) -> Option<(&'a str, &'a str, &'a st
 
 /// The command `plan DOMAIN PROBLEM PLAN`.
 fn plan_command<'a>(alloc: Global) -> Result<Command<'a>, AllocError> {
-    let command = Command::new(alloc, "plan")
-        .about(help::ABOUT_PLAN)
-        .after_help(help::AFTER_PLAN);
-    with_three_files(alloc, Ok(command))
+    let command = described(alloc, "plan", help::ABOUT_PLAN, help::AFTER_PLAN);
+    with_three_files(alloc, command)
 }
 
 /// The job of the words after `plan`, where they are its own.
@@ -157,22 +161,28 @@ fn plan_job<'a>(matches: &ArgMatches<'a>) -> Option<Job<'a>> {
     })
 }
 
-/// The command `serial DOMAIN PROBLEM PLAN [--reverse] [--groups N]`.
-fn serial_command<'a>(alloc: Global) -> Result<Command<'a>, AllocError> {
-    let reverse = Arg::new(alloc, "reverse")
+/// The option `--reverse`.
+fn reverse_option<'a>(alloc: Global) -> Arg<'a> {
+    Arg::new(alloc, "reverse")
         .long("reverse")
         .action(ArgAction::SetTrue)
-        .help(help::REVERSE);
-    let groups = Arg::new(alloc, "groups")
+        .help(help::REVERSE)
+}
+
+/// The option `--groups N`.
+fn groups_option<'a>(alloc: Global) -> Arg<'a> {
+    Arg::new(alloc, "groups")
         .long("groups")
         .value_name("N")
         .value_parser(value_parser!(u32).range(1..=MOST_IN_A_GROUP))
-        .help(help::GROUPS);
-    let command = Command::new(alloc, "serial")
-        .about(help::ABOUT_SERIAL)
-        .after_help(help::AFTER_SERIAL);
-    let command = with_argument(Ok(command), reverse);
-    let command = with_argument(command, groups);
+        .help(help::GROUPS)
+}
+
+/// The command `serial DOMAIN PROBLEM PLAN [--reverse] [--groups N]`.
+fn serial_command<'a>(alloc: Global) -> Result<Command<'a>, AllocError> {
+    let command = described(alloc, "serial", help::ABOUT_SERIAL, help::AFTER_SERIAL);
+    let command = with_argument(command, reverse_option(alloc));
+    let command = with_argument(command, groups_option(alloc));
     with_three_files(alloc, command)
 }
 
@@ -188,16 +198,18 @@ fn serial_job<'a>(matches: &ArgMatches<'a>) -> Option<Job<'a>> {
     })
 }
 
-/// The command `format KIND FILE`.
-fn format_command<'a>(alloc: Global) -> Result<Command<'a>, AllocError> {
-    let kind = Arg::new(alloc, "KIND")
+/// The word that says what a file holds.
+fn kind_argument<'a>(alloc: Global) -> Arg<'a> {
+    Arg::new(alloc, "KIND")
         .required(true)
         .value_parser(KINDS.as_slice())
-        .help(help::KIND);
-    let command = Command::new(alloc, "format")
-        .about(help::ABOUT_FORMAT)
-        .after_help(help::AFTER_FORMAT);
-    let command = with_argument(Ok(command), kind);
+        .help(help::KIND)
+}
+
+/// The command `format KIND FILE`.
+fn format_command<'a>(alloc: Global) -> Result<Command<'a>, AllocError> {
+    let command = described(alloc, "format", help::ABOUT_FORMAT, help::AFTER_FORMAT);
+    let command = with_argument(command, kind_argument(alloc));
     with_argument(command, wanted(alloc, "FILE", help::FILE))
 }
 
