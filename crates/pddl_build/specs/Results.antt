@@ -18,6 +18,12 @@ both_of (Ok first) (Ok second) = Ok (option_zip first second)
 both_of (Ok first) (Err e) = Err e
 both_of (Err e) second = Err e
 
+-- two values, where both were made
+abbrev pub both_made : {T U E : Type 0} → Result T E → Result U E → Result (T × U) E
+both_made (Ok x) (Ok y) = Ok (x, y)
+both_made (Ok x) (Err e) = Err e
+both_made (Err e) second = Err e
+
 -- the value in a box, unless memory for the box was refused
 abbrev pub Boxes : {T A E : Type 0} → Result (Option T) E → Result (Option (Box T A)) E → Type 0
 Boxes (Ok (Some x)) result = IfOk result (λ found. option_map (λ b. b.value) found ≡ Some x)

@@ -1,7 +1,7 @@
 //! Parts as they were read, put together.
 
 ghost use Rattle.std.specs.Prelude.{◌≡◌};
-ghost use Rattle.pddl_build.specs.Results.{right_of, both_of, Boxes, BothBoxed, BothInBoxes};
+ghost use Rattle.pddl_build.specs.Results.{right_of, both_of, both_made, Boxes, BothBoxed, BothInBoxes};
 
 use std::alloc::{AllocError, Allocator};
 
@@ -36,6 +36,20 @@ pub fn both<T: Drop, U: Drop, E: Drop>(
     ensures { result ≡ both_of first second }
 {
     Ok(first?.zip(second?))
+}
+
+/// Two values, where both were made.
+///
+/// Fails as the first failed, or else as the second did.
+pub fn both_made<T: Drop, U: Drop, E: Drop>(
+    first: Result<T, E>,
+    second: Result<U, E>,
+) -> Result<(T, U), E>
+    ensures { result ≡ both_made first second }
+{
+    let first = first?;
+    let second = second?;
+    Ok((first, second))
 }
 
 /// The value in a box, or `None` where it is missing.

@@ -1,4 +1,3 @@
-pub mod BothMade
 pub mod Numbers
 pub mod NameNumbers
 pub mod NamedActions

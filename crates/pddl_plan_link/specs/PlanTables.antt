@@ -1,5 +1,5 @@
 -- Tables that a plan's steps are looked up in hold what linked files declare (own).
-use Rattle.std.specs.Prelude.{◌≡◌, Result, Ok, Err}
+use Rattle.std.specs.Prelude.{◌≡◌}
 use Rattle.pddl_task.specs.Linked.{IsLinked}
 use Rattle.pddl_task.specs.Tasks.{TaskValue}
 use Rattle.pddl_state.specs.Atoms.{AtomValue}
@@ -10,12 +10,6 @@ use Rattle.pddl_tables.specs.Lookups.{task_in, price_in}
 use Rattle.pddl_tables.specs.Prices.{price_at}
 use Rattle.pddl_plan_link.specs.StepTables.{AreActionsOf}
 use Rattle.pddl_plan_link.specs.declared.tables.PlanTables.{PlanTables}
-
--- two values, where both were made
-abbrev pub both_made : {T U E : Type 0} → Result T E → Result U E → Result (T × U) E
-both_made (Ok x) (Ok y) = Ok (x, y)
-both_made (Ok x) (Err e) = Err e
-both_made (Err e) second = Err e
 
 -- tables hold a task and its costs
 pub record AreCostTables {A B C : Type 0} (task : TaskValue) (l : TaskLookups A B C) (p : TaskPrices C) : Type 0 where

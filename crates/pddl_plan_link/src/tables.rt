@@ -2,9 +2,10 @@
 
 ghost use Rattle.std.specs.Prelude.{◌≡◌, IfOk};
 ghost use Rattle.pddl_tables.specs.Link.LinkedTasks.{task_of_files};
-ghost use Rattle.pddl_plan_link.specs.PlanTables.{both_made, AreCostTables, ArePlanTables};
+ghost use Rattle.pddl_plan_link.specs.PlanTables.{AreCostTables, ArePlanTables};
 
 use crate::action_table::{Actions, actions_by_name};
+use pddl_build::both_made;
 use pddl_tables::pddl_link::{SlotTops, Task};
 use pddl_tables::{TaskLookups, TaskPrices, task_lookups, task_prices};
 use std::alloc::{AllocError, Allocator};
@@ -18,18 +19,6 @@ pub(crate) struct PlanTables<'t, 'm, 'a, 'c, A: Allocator, B: Allocator, C: Allo
     pub tops: SlotTops<'m, 'c, C>,
     pub lookups: TaskLookups<'t, 'm, 'a, 'c, A, B, C>,
     pub prices: TaskPrices<'c, C>,
-}
-
-/// Two values, or what kept the first of them that was not made from being made.
-fn both_made<T: Drop, U: Drop>(
-    first: Result<T, AllocError>,
-    second: Result<U, AllocError>,
-) -> Result<(T, U), AllocError>
-    ensures { result ≡ both_made first second }
-{
-    let first = first?;
-    let second = second?;
-    Ok((first, second))
 }
 
 /// What costs are looked up in.

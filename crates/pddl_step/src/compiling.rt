@@ -11,6 +11,7 @@ ghost use Rattle.pddl_step.specs.HeldPlans.{plan_task, plan_steps};
 
 use crate::actions::used_actions;
 use crate::plan::CompiledPlan;
+use pddl_build::both_made;
 use pddl_compiled::{Condition, Lookups, Scope, compile_condition};
 use pddl_formula::Formula;
 use pddl_plan_steps::pddl_link::Task;
@@ -50,9 +51,10 @@ where
     ensures task { IfOk result (λ plan. plan_task plan ≡ task_of_files task.now) }
     ensures steps { IfOk result (λ plan. plan_steps plan ≡ steps.now) }
 {
-    let prices = task_prices(alloc, lookups)?;
     let actions = used_actions(alloc, lookups, task, steps)?;
-    let goal = compile_closed(alloc, lookups, task.goal())?;
+    let prices = task_prices(alloc, lookups);
+    let goal = compile_closed(alloc, lookups, task.goal());
+    let (prices, goal) = both_made(prices, goal)?;
     Ok(CompiledPlan {
         alloc,
         task,

@@ -7,7 +7,7 @@ use Rattle.pddl_tables.specs.Link.LinkedTasks.{files_of, task_of_files}
 use Rattle.pddl_plan_link.specs.StepTables.{named_action, named_in}
 use Rattle.pddl_plan_link.specs.PlanTables.{AreCostTables}
 use Rattle.pddl_plan_link.proofs.NamedActions.{once_in_files}
-use Rattle.pddl_plan_link.proofs.BothMade.{first_of_both, first_made, second_made}
+use Rattle.pddl_build.proofs.BothMade.{first_of_both, first_made, second_made}
 use Rattle.pddl_plan_link.proofs.tables.plan_tables.Goals as goal
 
 pub actions_by_name-actions-requires : goal.actions_by_name-actions-requires
