@@ -9,7 +9,7 @@ use Rattle.pddl_effect.specs.declared.amount.Amount.{Amount}
 use Rattle.pddl_effect.specs.Effects.{EffectValue, effect_view, effects_of}
 use Rattle.pddl_effect.specs.declared.effect.Effect.{Effect}
 use Rattle.pddl_effect.specs.declared.effect.Effect.TheVariants.{And, Forall, When, Add, Del, Increase}
-use Rattle.pddl_effect.proofs.EffectTurns.{view_and, view_forall, view_when, view_add, view_del, view_increase}
+use Rattle.pddl_effect.proofs.Views.{view_and, view_forall, view_when, view_add, view_del, view_increase}
 use Rattle.pddl_task.specs.Names.{Name}
 use Rattle.pddl_task.specs.GroundSize.{capped, quantifier_size, formula_size, effect_size, effects_size}
 use Rattle.pddl_types.proofs.Capped.{one_more, both_more, quantified}

@@ -8,7 +8,7 @@ use Rattle.pddl_formula.specs.declared.term.Atom.{Atom}
 use Rattle.pddl_formula.specs.declared.term.Term.{Term}
 use Rattle.pddl_formula.specs.declared.formula.Formula.TheVariants as cases
 use Rattle.pddl_formula.specs.declared.formula.Formula.TheVariants.{Not, Imply, And, Or, Exists, Forall}
-use Rattle.pddl_formula.proofs.TurnsOfFormulas.{view_atom, view_equal, view_not, view_imply, view_and, view_or, view_exists, view_forall}
+use Rattle.pddl_formula.proofs.Views.{view_atom, view_equal, view_not, view_imply, view_and, view_or, view_exists, view_forall}
 use Rattle.pddl_task.specs.Names.{Name}
 use Rattle.pddl_faults.proofs.ListPasses.{views_drop}
 use Rattle.pddl_task.specs.GroundSize.{capped, quantifier_size, formula_size, formulas_size}

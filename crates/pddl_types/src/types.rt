@@ -24,6 +24,15 @@ use pddl_formula::{TypeNames, Typed};
 use std::alloc::{AllocError, Allocator};
 use std::marker::Model;
 
+/// What is told of the places of a table by their parents.
+#[derive(Drop)]
+struct Places<'a, B: Allocator> {
+    /// The places in pre-order, where all are below `object`.
+    order: Option<Preorder<'a, B>>,
+    /// Else a number for each place, other than 0 only where no way from parent to parent leads back to it.
+    off_rounds: Vec<usize, &'a B>,
+}
+
 /// The types of a domain, each with the place of its parent in the table; `object` is at place 0, and is its own parent where no
 /// other is declared. Where all are below `object`, as in each domain without a cycle, their places are numbered in pre-order, and what is under what
 /// is told by two comparisons.
@@ -33,9 +42,7 @@ use std::marker::Model;
 pub struct Types<'m, 'a, A: Allocator, B: Allocator> {
     declared: &'m [DeclaredType<A>],
     parents: IndexMap<&'m [u8], usize, Hashed, &'a B>,
-    order: Option<Preorder<'a, B>>,
-    /// Where places are not numbered, a number for each, other than 0 only where no way from parent to parent leads back to it.
-    off_rounds: Vec<usize, &'a B>,
+    places: Places<'a, B>,
 }
 
 impl<'m, 'a, A: Allocator, B: Allocator> Model for Types<'m, 'a, A, B> {
@@ -48,8 +55,8 @@ impl<'m, 'a, A: Allocator, B: Allocator> Model for Types<'m, 'a, A, B> {
 
     ghost view = { λ t. map type_view t.declared.now };
 
-    ghost invariant = { λ t. IsTypeTable (map type_view t.declared.now) t.parents.entries × AreNumbered t.parents.entries t.order
-        × AreOffRounds (map (λ r. r.1) t.parents.entries) t.off_rounds.items };
+    ghost invariant = { λ t. IsTypeTable (map type_view t.declared.now) t.parents.entries × AreNumbered t.parents.entries t.places.order
+        × AreOffRounds (map (λ r. r.1) t.parents.entries) t.places.off_rounds.items };
 }
 
 /// The place of a type in the table; it is put there under `object` where it does not stand yet.
@@ -98,6 +105,23 @@ fn put_under_parents<'m, 'a, A: Allocator, B: Allocator>(
         parents.insert(declared_type.name.as_bytes(), place)?;
     }
     Ok(())
+}
+
+/// The table of declared types, each with the place of its parent.
+///
+/// Fails where memory for it is refused.
+fn parent_table<'m, 'a, A: Allocator, B: Allocator>(
+    alloc: &'a B,
+    declared: &'m [DeclaredType<A>],
+) -> Result<IndexMap<&'m [u8], usize, Hashed, &'a B>, AllocError>
+    requires { repeated [] (map item_of (map type_view declared.now)) ≡ [] }
+    ensures { IfOk result (λ parents. IsTypeTable (map type_view declared.now) parents.entries) }
+{
+    let mut parents: IndexMap<&'m [u8], usize, Hashed, &'a B> = IndexMap::new(alloc);
+    parents.insert(b"object".as_slice(), 0)?;
+    put_under_object(&mut parents, declared)?;
+    put_under_parents(&mut parents, declared)?;
+    Ok(parents)
 }
 
 /// The place of the parent of the type at a place.
@@ -160,6 +184,21 @@ fn places_off_rounds<'m, 'a, B: Allocator>(
     off_rounds(alloc, &places)
 }
 
+/// What is told of the places of a table.
+///
+/// Fails where memory for it is refused.
+fn places_of_parents<'m, 'a, B: Allocator>(
+    alloc: &'a B,
+    parents: &IndexMap<&'m [u8], usize, Hashed, &'a B>,
+) -> Result<Places<'a, B>, AllocError>
+    ensures order { IfOk result (λ places. AreNumbered parents.now.entries places.order) }
+    ensures off_rounds { IfOk result (λ places. AreOffRounds (map (λ r. r.1) parents.now.entries) places.off_rounds.items) }
+{
+    let order = numbered(alloc, parents)?;
+    let off_rounds = places_off_rounds(alloc, parents, order.is_some())?;
+    Ok(Places { order, off_rounds })
+}
+
 /// Whether one place is come to from another, from parent to parent.
 fn climbs<'m, 'a, B: Allocator>(
     parents: &IndexMap<&'m [u8], usize, Hashed, &'a B>,
@@ -205,17 +244,12 @@ impl<'m, 'a, A: Allocator, B: Allocator> Types<'m, 'a, A, B> {
         requires { repeated [] (map item_of (map type_view declared.now)) ≡ [] }
         ensures { IfOk result (λ types. types ≡ map type_view declared.now) }
     {
-        let mut parents: IndexMap<&'m [u8], usize, Hashed, &'a B> = IndexMap::new(alloc);
-        parents.insert(b"object".as_slice(), 0)?;
-        put_under_object(&mut parents, declared)?;
-        put_under_parents(&mut parents, declared)?;
-        let order = numbered(alloc, &parents)?;
-        let off_rounds = places_off_rounds(alloc, &parents, order.is_some())?;
+        let parents = parent_table(alloc, declared)?;
+        let places = places_of_parents(alloc, &parents)?;
         Ok(Types {
             declared,
             parents,
-            order,
-            off_rounds,
+            places,
         })
     }
 
@@ -237,7 +271,7 @@ impl<'m, 'a, A: Allocator, B: Allocator> Types<'m, 'a, A, B> {
             None => false,
             Some(from) => match self.parents.get_index_of(over) {
                 None => false,
-                Some(to) => match &self.order {
+                Some(to) => match &self.places.order {
                     Some(order) => order.is_under(from, to),
                     None => climbs(&self.parents, from, to),
                 },
@@ -267,7 +301,7 @@ impl<'m, 'a, A: Allocator, B: Allocator> Types<'m, 'a, A, B> {
 
     /// The number of a type in the order in which tops come, or 0 where it has none. Nothing is promised of it.
     fn number(&self, name: &[u8]) -> usize {
-        match &self.order {
+        match &self.places.order {
             Some(order) => match self.parents.get_index_of(name) {
                 Some(place) => order.number(place),
                 None => 0,
@@ -343,7 +377,7 @@ impl<'m, 'a, A: Allocator, B: Allocator> Types<'m, 'a, A, B> {
     ) -> Result<TypeCounts<'m, 'a, B>, AllocError>
         ensures { IfOk result (λ counts. AreCountsOf self.now (map object_in objects.now.entries) counts.entries) }
     {
-        match &self.order {
+        match &self.places.order {
             Some(order) => type_counts(alloc, &self.parents, order, objects),
             None => Ok(IndexMap::new(alloc)),
         }
@@ -354,7 +388,7 @@ impl<'m, 'a, A: Allocator, B: Allocator> Types<'m, 'a, A, B> {
     pub fn tops<N: Allocator>(&self, types: &TypeNames<N>) -> Option<Vec<usize, &'a B>>
         ensures { IfSome result (λ steps. AddUp self.now types.now steps.items) }
     {
-        match &self.order {
+        match &self.places.order {
             Some(order) => match tops(&self.parents, order, types) {
                 Ok(found) => found,
                 Err(_) => None,
@@ -368,7 +402,8 @@ impl<'m, 'a, A: Allocator, B: Allocator> Types<'m, 'a, A, B> {
         ensures { result ≡ true → is_cyclic (pairs self.now) name.now ≡ false }
     {
         match self.parents.get_index_of(name) {
-            Some(place) => place < self.off_rounds.len() && self.off_rounds[place] != 0,
+            Some(place) => place < self.places.off_rounds.len()
+                && self.places.off_rounds[place] != 0,
             None => false,
         }
     }
@@ -400,7 +435,7 @@ impl<'m, 'a, A: Allocator, B: Allocator> Types<'m, 'a, A, B> {
     pub fn cycle(&self) -> Result<(), LinkFault<'m>>
         ensures { Passes 22 (first_alone (filter (is_cyclic (pairs self.now)) (map item_of self.now))) result }
     {
-        if self.order.is_some() {
+        if self.places.order.is_some() {
             return Ok(());
         }
         for declared in self.declared {

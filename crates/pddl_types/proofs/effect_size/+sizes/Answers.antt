@@ -1,11 +1,15 @@
 use Rattle.std.proofs.Common.{ap, ◌∙◌, sym, subst, ◌+◌, ◌<◌, ◌≤◌, List, length, get_or, drop, map, arith}
 use Rattle.std.proofs.lemmas.List.{drop_all}
+use denote.Param.Weighed.{most}
 use Rattle.pddl_effect.specs.declared.effect.Effect.{Effect}
 use Rattle.pddl_effect.specs.Effects.{effect_view, effects_of}
 use Rattle.pddl_task.specs.GroundSize.{capped, effect_size, effects_size}
 use Rattle.pddl_types.proofs.Capped.{within, one_added, all_added}
 use Rattle.pddl_faults.proofs.ViewTurns.{effects-drop}
 use Rattle.pddl_types.proofs.EffectSizes.{size_of_all, size_of_each, size_of_when, size_of_add, size_of_del, size_of_increase}
+use Rattle.pddl_formula.proofs.Depths.{among}
+use Rattle.pddl_effect.proofs.effect.Effect.TheLaws.{the_size}
+use Rattle.pddl_effect.proofs.Depths.{under_all, under_each, under_when}
 use Rattle.pddl_types.proofs.effect_size.+sizes.Goals as goal
 
 pub effect_ground_size-returns-in-And : goal.effect_ground_size-returns-in-And
@@ -80,3 +84,19 @@ effect_ground_sizes-sum-total-requires-clause-first g t c = c.loop-effect.invari
 
 pub effect_ground_sizes-sum-total-requires-clause-second : goal.effect_ground_sizes-sum-total-requires-clause-second
 effect_ground_sizes-sum-total-requires-clause-second g t c = within c.effect_ground_size.result _ c.effect_ground_size.ensures
+
+pub effect_ground_size-effect_ground_sizes-requires : goal.effect_ground_size-effect_ground_sizes-requires
+effect_ground_size-effect_ground_sizes-requires g t c κs within = (omega (arith, under_all g.row.A g.A.Allocator g.A.laws c.args.effect.now c.in-And.parts c.in-And.is, c.decreases), within)
+
+pub effect_ground_size-effect_ground_size-requires : goal.effect_ground_size-effect_ground_size-requires
+effect_ground_size-effect_ground_size-requires g t c κs within = (omega (arith, under_each g.row.A g.A.Allocator g.A.laws c.args.effect.now c.deref-in-Forall.result.now c.in-Forall.variables c.in-Forall.inner c.in-Forall.is c.deref-in-Forall.ensures, c.decreases), within)
+
+pub effect_ground_size-effect_ground_size-inner-requires : goal.effect_ground_size-effect_ground_size-inner-requires
+effect_ground_size-effect_ground_size-inner-requires g t c κs within = (omega (arith, under_when g.row.A g.A.Allocator g.A.laws c.args.effect.now c.deref-in-When.result.now c.in-When.condition c.in-When.inner c.in-When.is c.deref-in-When.ensures, c.decreases), within)
+
+pub effect_ground_sizes-effect_ground_size-requires : goal.effect_ground_sizes-effect_ground_size-requires
+effect_ground_sizes-effect_ground_size-requires g t c κs within =
+    let depth = the_size g.row.A g.A.Allocator g.A.laws in
+    let slice = c.deref-effect-items.result.now in
+    let same = ap (most depth) c.deref-effect-items.ensures.value in
+    (omega (arith, among depth slice c.loop-effect.effect-index c.effect-item.result c.loop-effect-test.true c.effect-item.is, same, c.decreases), within)

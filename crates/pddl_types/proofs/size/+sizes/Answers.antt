@@ -1,10 +1,12 @@
-use Rattle.std.proofs.Common.{ap, ◌∙◌, sym, ◌+◌, drop, map, arith}
+use Rattle.std.proofs.Common.{ap, ◌∙◌, sym, ◌+◌, drop, map, refl, arith}
 use Rattle.std.proofs.lemmas.List.{drop_all}
 use Rattle.pddl_formula.specs.Formulas.{formula_view, formulas_of}
 use Rattle.pddl_task.specs.GroundSize.{capped, formula_size, formulas_size}
 use Rattle.pddl_types.proofs.Capped.{within, one_added, all_added}
 use Rattle.pddl_faults.proofs.ViewTurns.{formulas-drop}
 use Rattle.pddl_types.proofs.Sizes.{size_of_atom, size_of_equal, size_of_not, size_of_imply, size_of_and, size_of_or, size_of_exists, size_of_forall}
+use Rattle.pddl_formula.proofs.formula.Formula.TheLaws.{the_size}
+use Rattle.pddl_formula.proofs.Depths.{under_not, under_imply, under_and, under_or, under_exists, under_forall, among}
 use Rattle.pddl_types.proofs.size.+sizes.Goals as goal
 
 pub ground_size-returns-in-Atom : goal.ground_size-returns-in-Atom
@@ -90,3 +92,27 @@ ground_sizes-sum-total-requires-clause-first g t c = c.loop-formula.invariant.lo
 
 pub ground_sizes-sum-total-requires-clause-second : goal.ground_sizes-sum-total-requires-clause-second
 ground_sizes-sum-total-requires-clause-second g t c = within c.ground_size.result _ c.ground_size.ensures
+
+pub ground_size-ground_size-requires : goal.ground_size-ground_size-requires
+ground_size-ground_size-requires g t c κs within = (omega (arith, under_not g.row.A g.A.Allocator g.A.laws c.args.formula.now c.deref.result.now c.in-Not.inner c.in-Not.is c.deref.ensures, c.decreases), within)
+
+pub ground_size-ground_size-first-requires : goal.ground_size-ground_size-first-requires
+ground_size-ground_size-first-requires g t c κs within = (omega (arith, (under_imply g.row.A g.A.Allocator g.A.laws c.args.formula.now c.deref-in-Imply.result.now c.in-Imply.second.value c.in-Imply.first c.in-Imply.second c.in-Imply.is c.deref-in-Imply.ensures refl).0, c.decreases), within)
+
+pub ground_size-ground_size-second-requires : goal.ground_size-ground_size-second-requires
+ground_size-ground_size-second-requires g t c κs within = (omega (arith, (under_imply g.row.A g.A.Allocator g.A.laws c.args.formula.now c.deref-in-Imply.result.now c.deref-in-Imply-2.result.now c.in-Imply.first c.in-Imply.second c.in-Imply.is c.deref-in-Imply.ensures c.deref-in-Imply-2.ensures).1, c.decreases), within)
+
+pub ground_size-ground_sizes-requires : goal.ground_size-ground_sizes-requires
+ground_size-ground_sizes-requires g t c κs within = (omega (arith, under_and g.row.A g.A.Allocator g.A.laws c.args.formula.now c.deref-in-And.result.now c.in-And.parts c.in-And.is c.deref-in-And.ensures.value, c.decreases), within)
+
+pub ground_size-ground_sizes-requires-in-Or : goal.ground_size-ground_sizes-requires-in-Or
+ground_size-ground_sizes-requires-in-Or g t c κs within = (omega (arith, under_or g.row.A g.A.Allocator g.A.laws c.args.formula.now c.deref-in-Or.result.now c.in-Or.parts c.in-Or.is c.deref-in-Or.ensures.value, c.decreases), within)
+
+pub ground_size-ground_size-requires-in-Exists : goal.ground_size-ground_size-requires-in-Exists
+ground_size-ground_size-requires-in-Exists g t c κs within = (omega (arith, under_exists g.row.A g.A.Allocator g.A.laws c.args.formula.now c.deref-in-Exists-2.result.now c.in-Exists.variables c.in-Exists.inner c.in-Exists.is c.deref-in-Exists-2.ensures, c.decreases), within)
+
+pub ground_size-ground_size-requires-in-Forall : goal.ground_size-ground_size-requires-in-Forall
+ground_size-ground_size-requires-in-Forall g t c κs within = (omega (arith, under_forall g.row.A g.A.Allocator g.A.laws c.args.formula.now c.deref-in-Forall-2.result.now c.in-Forall.variables c.in-Forall.inner c.in-Forall.is c.deref-in-Forall-2.ensures, c.decreases), within)
+
+pub ground_sizes-ground_size-requires : goal.ground_sizes-ground_size-requires
+ground_sizes-ground_size-requires g t c κs within = (omega (arith, among (λ f. the_size g.row.A g.A.Allocator g.A.laws f) c.args.formulas.now c.loop-formula.formula-index c.formula-item.result c.loop-formula-test.true c.formula-item.is, c.decreases), within)

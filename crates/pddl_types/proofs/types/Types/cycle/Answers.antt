@@ -12,7 +12,7 @@ pub returns-then-is_some : goal.returns-then-is_some
 returns-then-is_some g c =
     let rows = c.self.inside.parents.entries in
     no_cycle (map type_view c.self.inside.declared.now) c.args.self.now rows c.self.view_is c.self.invariant.0
-    (below_where_numbered rows c.self.inside.order c.self.invariant.1 (sym c.is_some.ensures ∙ c.if-is_some.true))
+    (below_where_numbered rows c.self.inside.places.order c.self.invariant.1 (sym c.is_some.ensures ∙ c.if-is_some.true))
 
 pub returns-then-is_cyclic : goal.returns-then-is_cyclic
 returns-then-is_cyclic g c =

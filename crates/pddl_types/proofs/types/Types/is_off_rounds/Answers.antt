@@ -11,7 +11,7 @@ pub returns-then-place-len : goal.returns-then-place-len
 returns-then-place-len g c told =
     let declared = map type_view c.self.inside.declared.now in
     let rows = c.self.inside.parents.entries in
-    let numbers = c.self.inside.off_rounds.items in
+    let numbers = c.self.inside.places.off_rounds.items in
     let place = c.in-Some.place in
     let found = found_place rows c.args.name place (sym c.in-Some.ensures.index) in
     let numbered : number_at numbers place ≢ 0 = λ none.
