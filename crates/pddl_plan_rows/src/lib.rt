@@ -5,16 +5,13 @@
 //! of `tests.rt` says how many rows it has. What a row wants is worked out by hand from the definitions, and never taken from the
 //! program.
 //!
-//! A listing reads, links and executes the plan in the third file. What depends on a store of atoms is listed over
-//! both stores, and printed once where they agree. A row by the command `plan` is run once more by `list verdicts`, so that both
+//! What a row can list, `pddl_plan_listing` says. A row by the command `plan` is run once more by `list verdicts`, so that both
 //! stores give its line. What `serial`, `serial reverse` and `groups N` print is, by `again`, the plan of the next ending, which is
-//! valid at the same cost. Numbers of steps and places are from 0 in listings; a fourth file asks of them, line by line.
+//! valid at the same cost.
 #![tactic(auto)]
 
 #[cfg(test)]
 mod command;
-#[cfg(test)]
-mod listing;
 #[cfg(test)]
 mod rows;
 #[cfg(test)]

@@ -1,9 +1,9 @@
 //! Atoms.
 
 use pddl_commands::Outcome;
-use pddl_plan_commands::pddl_link::Task;
-use pddl_plan_commands::pddl_plan_link::initial_atoms;
 use pddl_row_driver::Lines;
+use pddl_serial_plans::pddl_link::Task;
+use pddl_serial_plans::pddl_plan_link::initial_atoms;
 use pddl_state::{Atom, AtomStore};
 use std::alloc::Allocator;
 

@@ -1,9 +1,9 @@
 //! Happenings.
 
 use pddl_commands::Outcome;
-use pddl_plan_commands::pddl_plan_link::Steps;
-use pddl_plan_commands::pddl_valid::{Happening, happenings};
 use pddl_row_driver::Lines;
+use pddl_serial_plans::pddl_plan_link::Steps;
+use pddl_serial_plans::pddl_valid::{Happening, happenings};
 use std::alloc::Allocator;
 
 /// The most steps of a linked plan.

@@ -1,17 +1,17 @@
 //! What the steps of a plan and its goal are in the state that it starts in.
 
 ghost use Rattle.std.specs.Prelude.{◌≡◌, ◌<◌};
-ghost use Rattle.pddl_plan_commands.specs.Link.LinkedTasks.{task_of_files};
-ghost use Rattle.pddl_plan_commands.specs.PlanLink.LinkedSteps.{AreLinkedSteps};
+ghost use Rattle.pddl_serial_plans.specs.Link.LinkedTasks.{task_of_files};
+ghost use Rattle.pddl_serial_plans.specs.PlanLink.LinkedSteps.{AreLinkedSteps};
 
-use super::atoms::add_set;
-use crate::command::Asked;
+use crate::atoms::add_set;
+use crate::listed::Asked;
 use pddl_commands::Outcome;
 use pddl_judge::Course;
-use pddl_plan_commands::pddl_link::Task;
-use pddl_plan_commands::pddl_plan_link::Steps;
-use pddl_plan_commands::pddl_step::compile_plan;
 use pddl_row_driver::Lines;
+use pddl_serial_plans::pddl_link::Task;
+use pddl_serial_plans::pddl_plan_link::Steps;
+use pddl_serial_plans::pddl_step::compile_plan;
 use pddl_state::AtomStore;
 use std::alloc::{AllocError, Allocator};
 use std::fmt::Debug;

@@ -1,5 +1,5 @@
 use Rattle.std.proofs.Common.{sym, ap, ◌∙◌, length}
-use Rattle.pddl_plan_rows.proofs.listing.courses.add_compiled.Goals as goal
+use Rattle.pddl_plan_listing.proofs.courses.add_compiled.Goals as goal
 
 -- the plan has as many steps as were compiled
 pub add_started-requires : goal.add_started-requires

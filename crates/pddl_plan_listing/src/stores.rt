@@ -1,16 +1,16 @@
 //! Listings over both stores of atoms.
 
-ghost use Rattle.pddl_plan_commands.specs.Link.LinkedTasks.{task_of_files};
-ghost use Rattle.pddl_plan_commands.specs.PlanLink.LinkedSteps.{AreLinkedSteps};
+ghost use Rattle.pddl_serial_plans.specs.Link.LinkedTasks.{task_of_files};
+ghost use Rattle.pddl_serial_plans.specs.PlanLink.LinkedSteps.{AreLinkedSteps};
 
-use super::courses::add_course;
-use super::ends::add_verdict;
-use super::made::add_made;
-use crate::command::Stored;
+use crate::courses::add_course;
+use crate::ends::add_verdict;
+use crate::listed::Stored;
+use crate::made::add_made;
 use pddl_commands::Outcome;
-use pddl_plan_commands::pddl_link::Task;
-use pddl_plan_commands::pddl_plan_link::Steps;
 use pddl_row_driver::Lines;
+use pddl_serial_plans::pddl_link::Task;
+use pddl_serial_plans::pddl_plan_link::Steps;
 use pddl_state::{AtomStore, BitStore, SortedStore};
 use std::alloc::Allocator;
 

@@ -1,19 +1,10 @@
 //! What calls below the commands answer of plans, in lines.
 
-mod atoms;
-mod courses;
-mod ends;
-mod made;
-mod moments;
-mod plan;
-mod replays;
-mod steps;
-mod stores;
-
-use crate::command::Listed;
+use crate::listed::Listed;
+use crate::{atoms, plan};
 use pddl_commands::{Outcome, RunFault};
-use pddl_plan_commands::pddl_link::Task;
 use pddl_row_driver::{Files, Lines, Memory, OfTask, add_task, write_lines};
+use pddl_serial_plans::pddl_link::Task;
 use pddl_text::Sink;
 use std::alloc::Allocator;
 

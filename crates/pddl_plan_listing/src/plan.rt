@@ -1,17 +1,17 @@
 //! Linked plans.
 
-ghost use Rattle.pddl_plan_commands.specs.Link.LinkedTasks.{task_of_files};
-ghost use Rattle.pddl_plan_commands.specs.PlanLink.LinkedSteps.{AreLinkedSteps};
+ghost use Rattle.pddl_serial_plans.specs.Link.LinkedTasks.{task_of_files};
+ghost use Rattle.pddl_serial_plans.specs.PlanLink.LinkedSteps.{AreLinkedSteps};
 
-use super::moments::add_happenings;
-use super::replays::add_replays;
-use super::steps::{add_step_fault, add_steps};
-use super::stores::add_over_both;
-use crate::command::OfPlan;
+use crate::listed::OfPlan;
+use crate::moments::add_happenings;
+use crate::replays::add_replays;
+use crate::steps::{add_step_fault, add_steps};
+use crate::stores::add_over_both;
 use pddl_commands::Outcome;
-use pddl_plan_commands::pddl_link::Task;
-use pddl_plan_commands::pddl_plan_link::{Steps, link_plan};
 use pddl_row_driver::{Files, Lines, add_read_fault};
+use pddl_serial_plans::pddl_link::Task;
+use pddl_serial_plans::pddl_plan_link::{Steps, link_plan};
 use pddl_tree::{Plan, read_plan};
 use std::alloc::Allocator;
 

@@ -1,4 +1,4 @@
-use Rattle.pddl_plan_rows.proofs.listing.courses.add_steps.Given as goal
+use Rattle.pddl_plan_listing.proofs.courses.add_steps.Given as goal
 
 -- the state is the store's own
 abbrev pub invariant-loop-step : goal.invariant-loop-step
