@@ -1,10 +1,12 @@
 -- Texts are checked in one way.
 use Rattle.std.proofs.Common.{◌≡◌, ℕ, List, [], refl, sym, subst, ◌∙◌, ◌⊎◌, inl, inr}
 use Rattle.std.specs.Prelude.{codes, None}
-use Rattle.pddl_domain.specs.Domains.{DomainValue, SpellsDomain}
-use Rattle.pddl_domain.proofs.DomainTextLaws.{one_domain, no_fault_in_domain}
-use Rattle.pddl_problem.specs.Problems.{ProblemValue, SpellsProblem}
-use Rattle.pddl_problem.proofs.ProblemTexts.{one_problem, no_fault as no_fault_in_problem}
+use Rattle.pddl_domain.specs.Domains.{DomainValue}
+use Rattle.pddl_domain_reader.specs.DomainTexts.{SpellsDomain}
+use Rattle.pddl_domain_reader.proofs.DomainTextLaws.{one_domain, no_fault_in_domain}
+use Rattle.pddl_problem.specs.Problems.{ProblemValue}
+use Rattle.pddl_problem_reader.specs.ProblemTexts.{SpellsProblem}
+use Rattle.pddl_problem_reader.proofs.ProblemTexts.{one_problem, no_fault as no_fault_in_problem}
 use Rattle.pddl_task.specs.Linked.{Fault, faults, domain_faults, NoneStands}
 use Rattle.pddl_task.proofs.LowestFault.{one_lowest, none_stand}
 use Rattle.pddl_kind.specs.declared.Kind.TheVariants.{Domain, Problem}

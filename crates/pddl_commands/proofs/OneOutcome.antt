@@ -10,10 +10,10 @@ use Rattle.pddl_tree.proofs.PlanTextLaws.{one_plan, one_plan_fault, no_fault_in_
 use Rattle.pddl_file.specs.declared.fault.FileFault.{FileFault}
 use Rattle.pddl_file.specs.declared.fault.FileFault.TheVariants as files
 use Rattle.pddl_file.specs.Places.{file_place}
-use Rattle.pddl_domain.specs.Domains.{SpellsDomain, DomainStands}
-use Rattle.pddl_domain.proofs.DomainTextLaws.{one_domain, one_domain_fault, no_fault_in_domain}
-use Rattle.pddl_problem.specs.Problems.{SpellsProblem, ProblemStands}
-use Rattle.pddl_problem.proofs.ProblemTexts.{one_problem, one_fault as one_problem_fault, no_fault as no_fault_in_problem}
+use Rattle.pddl_domain_reader.specs.DomainTexts.{SpellsDomain, DomainStands}
+use Rattle.pddl_domain_reader.proofs.DomainTextLaws.{one_domain, one_domain_fault, no_fault_in_domain}
+use Rattle.pddl_problem_reader.specs.ProblemTexts.{SpellsProblem, ProblemStands}
+use Rattle.pddl_problem_reader.proofs.ProblemTexts.{one_problem, one_fault as one_problem_fault, no_fault as no_fault_in_problem}
 use Rattle.pddl_layout.specs.PlanLayout.{plan_text}
 use Rattle.pddl_file_layout.specs.DomainLayout.{domain_text}
 use Rattle.pddl_file_layout.specs.ProblemLayout.{problem_text}

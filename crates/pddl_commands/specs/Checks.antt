@@ -1,7 +1,9 @@
 -- What `domain` and `problem` print for the texts of their files, and how they end. Own.
 use Rattle.std.specs.Prelude.{◌≡◌, ◌⊎◌, ℕ, List, [], ◌++◌, codes, Option, Some, None}
-use Rattle.pddl_domain.specs.Domains.{DomainValue, SpellsDomain}
-use Rattle.pddl_problem.specs.Problems.{ProblemValue, SpellsProblem}
+use Rattle.pddl_domain.specs.Domains.{DomainValue}
+use Rattle.pddl_domain_reader.specs.DomainTexts.{SpellsDomain}
+use Rattle.pddl_problem.specs.Problems.{ProblemValue}
+use Rattle.pddl_problem_reader.specs.ProblemTexts.{SpellsProblem}
 use Rattle.pddl_task.specs.Names.{Name}
 use Rattle.pddl_task.specs.Linked.{Fault, faults, domain_faults, IsLowest, IsLinked, IsGood}
 use Rattle.pddl_kind.specs.declared.Kind.TheVariants.{Domain, Problem}

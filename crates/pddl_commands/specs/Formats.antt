@@ -8,8 +8,8 @@ use Rattle.pddl_tree.specs.PlanTexts.{SpellsPlan, PlanStands}
 use Rattle.pddl_file.specs.declared.fault.FileFault.{FileFault}
 use Rattle.pddl_file.specs.declared.fault.FileFault.TheVariants as files
 use Rattle.pddl_file.specs.Places.{file_place}
-use Rattle.pddl_domain.specs.Domains.{SpellsDomain, DomainStands}
-use Rattle.pddl_problem.specs.Problems.{SpellsProblem, ProblemStands}
+use Rattle.pddl_domain_reader.specs.DomainTexts.{SpellsDomain, DomainStands}
+use Rattle.pddl_problem_reader.specs.ProblemTexts.{SpellsProblem, ProblemStands}
 use Rattle.pddl_layout.specs.PlanLayout.{plan_text}
 use Rattle.pddl_file_layout.specs.DomainLayout.{domain_text}
 use Rattle.pddl_file_layout.specs.ProblemLayout.{problem_text}

@@ -12,9 +12,11 @@ use crate::fault_names::link_fault_name;
 use crate::formatted::{Formatted, refused_domain, refused_problem};
 use crate::line::fault_line;
 use crate::outcome::Outcome;
-use pddl_domain::{Domain, read_domain};
+use pddl_domain::Domain;
+use pddl_domain_reader::read_domain;
 use pddl_link::{LinkFault, check_domain, link};
-use pddl_problem::{Problem, read_problem};
+use pddl_problem::Problem;
+use pddl_problem_reader::read_problem;
 use std::alloc::{AllocError, Allocator};
 
 /// The line of a good domain or problem.

@@ -1,8 +1,8 @@
 //! What `format` prints.
 
 ghost use Rattle.std.specs.Prelude.{◌≡◌, ◌≢◌, ◌≤◌, ◌<◌, ℕ, List, Some, length, IfOk};
-ghost use Rattle.pddl_domain.specs.Domains.{DomainStands};
-ghost use Rattle.pddl_problem.specs.Problems.{ProblemStands};
+ghost use Rattle.pddl_domain_reader.specs.DomainTexts.{DomainStands};
+ghost use Rattle.pddl_problem_reader.specs.ProblemTexts.{ProblemStands};
 ghost use Rattle.pddl_layout.specs.PlanLayout.{plan_text};
 ghost use Rattle.pddl_text.specs.declared.fault.TextFault.TheVariants.{Memory};
 ghost use Rattle.pddl_tree.specs.Plans.{plan_view};
@@ -18,12 +18,12 @@ ghost use Rattle.pddl_commands.specs.Lines.{file_fault_name, IsFaultLine};
 use crate::fault_names::{file_fault_name, text_fault_name};
 use crate::line::{fault_line, fault_line_at, position_of};
 use crate::outcome::Outcome;
-use pddl_domain::read_domain;
+use pddl_domain_reader::read_domain;
 use pddl_file::FileFault;
 use pddl_file_layout::{domain_text, problem_text};
 use pddl_kind::Kind;
 use pddl_layout::plan_text;
-use pddl_problem::read_problem;
+use pddl_problem_reader::read_problem;
 use pddl_text::{LONGEST, TextFault};
 use pddl_tree::Plan;
 use std::alloc::{AllocError, Allocator};

@@ -25,7 +25,7 @@ FunctionValue = WithType Signature (List (List ℕ))
 
 -- a declared type of the program without where it lies in memory
 abbrev pub type_view : {A : _} → DeclaredType A → TypeValue
-type_view t = record { item = t.name; of = t.parent }
+type_view t = record { item = t.name; of = t.parent.value }
 
 -- a declared predicate, likewise
 abbrev pub predicate_view : {A : _} → DeclaredPredicate A → Signature

@@ -1,4 +1,3 @@
 pub mod Declarations
 pub mod Actions
 pub mod Domains
-pub mod Inner

@@ -4,13 +4,14 @@ use pddl_effect::Effect;
 use pddl_formula::{Formula, Predicate, TypeName, TypeNames, Typed};
 use pddl_tree::Name;
 use std::alloc::Allocator;
+use std::rc::Rc;
 
-/// A declared type and its parent.
+/// A declared type and its parent, which the types of a group share.
 #[derive(Drop)]
 #[derive_where(Debug)]
 pub struct DeclaredType<A: Allocator> {
     pub name: TypeName<A>,
-    pub parent: TypeName<A>,
+    pub parent: Rc<TypeName<A>, A>,
 }
 
 /// A declared predicate and its parameters, which are variables (without `?`).

@@ -1,15 +1,6 @@
-//! Domains, and their reader from texts.
-//!
-//! The reader answers a domain exactly where the text spells one, and then that one; else the first fault.
+//! Domains, and the values that contracts see in them. Their reader stands in `pddl_domain_reader`.
 #![tactic(auto)]
 
-mod action_reader;
-mod declaration_reader;
 mod domain;
-mod domain_reader;
-mod section_reader;
 
 pub use domain::{Action, DeclaredFunction, DeclaredPredicate, DeclaredType, Domain};
-pub use domain_reader::{
-    domain_fault_in_text, no_fault_in_domain, one_domain, one_domain_fault, read_domain,
-};

@@ -1,6 +1,2 @@
-pub mod AmountLaws
-pub mod EffectLaws
-pub mod EffectTurns
-pub mod IncreaseTestLaws
-pub mod IncreaseTurns
-pub mod AmountTurns
+pub mod Depths
+pub mod Views

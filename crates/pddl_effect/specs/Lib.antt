@@ -1,3 +1,2 @@
 pub mod StaticNames
 pub mod Effects
-pub mod Inner

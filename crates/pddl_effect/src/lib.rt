@@ -1,16 +1,8 @@
-//! Effects of PDDL, and their readers from items.
-//!
-//! A reader answers a value exactly where the items spell one, and then that one.
+//! Effects of PDDL, and the values that contracts see in them. Their readers stand in `pddl_effect_reader`.
 #![tactic(auto)]
 
 mod amount;
-mod amount_reader;
 mod effect;
-mod effect_reader;
-mod increase;
 
 pub use amount::{Amount, FunctionTerm, StaticFunction};
-pub use amount_reader::{amount_of, function_term_of, number_of};
 pub use effect::Effect;
-pub use effect_reader::{effect_of, one_effect, whole_effect_of};
-pub use increase::{is_increase, is_total_cost};

@@ -12,8 +12,8 @@ use Rattle.pddl_tree.proofs.Options.{if_some, test_cases}
 use Rattle.pddl_tree.proofs.TreeLists.{list_of_trees_of, trees_of_list_of}
 use Rattle.pddl_tree.proofs.Readers.{Reads, same_bytes}
 use Rattle.pddl_effect.specs.Effects.{AmountValue, IsIncrease}
-use Rattle.pddl_effect.specs.Inner.EffectReading.{increase_of}
-use Rattle.pddl_effect.proofs.AmountLaws.{increase_sound, increase_complete}
+use Rattle.pddl_effect_reader.specs.Inner.EffectReading.{increase_of}
+use Rattle.pddl_effect_reader.proofs.AmountLaws.{increase_sound, increase_complete}
 use Rattle.pddl_file.specs.Keywords.{IsHeaded}
 use Rattle.pddl_file.specs.Marks.{IsText, IsNumberWord, BeginsWith, IsMarked}
 use Rattle.pddl_file.specs.Inner.WordReading.{key_at, types_key, plain_mark, number_by, is_number_first, unless_increase, name_mark, name_mark_by, or_else, head_mark, list_mark, mark_in, mark_at}

@@ -18,8 +18,8 @@ use Rattle.pddl_tree.specs.Inner.TreeReading.{is_word_at, word_by}
 use Rattle.pddl_tree.proofs.Readers.{word_sound}
 use Rattle.pddl_tree.proofs.TreeLists.{list_of_trees_of, item_tree_list, item_tree_word}
 use Rattle.pddl_effect.specs.Effects.{AmountValue, IsIncrease}
-use Rattle.pddl_effect.specs.Inner.EffectReading.{increase_of}
-use Rattle.pddl_effect.proofs.AmountLaws.{increase_sound}
+use Rattle.pddl_effect_reader.specs.Inner.EffectReading.{increase_of}
+use Rattle.pddl_effect_reader.proofs.AmountLaws.{increase_sound}
 use Rattle.pddl_sections.specs.Sections.{lists_in}
 use Rattle.pddl_sections.specs.Inner.Verdicts.{mark_or, first_mark}
 use Rattle.pddl_sections.proofs.Turns.{lists_from, mark_list}

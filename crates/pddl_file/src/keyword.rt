@@ -6,7 +6,7 @@ ghost use Rattle.pddl_tree.specs.ItemTrees.{item_tree, item_trees};
 ghost use Rattle.pddl_file.specs.Keywords.{key_text, IsHeaded};
 ghost use Rattle.pddl_file.specs.Inner.WordReading.{key_of, head_key, list_key, key_at, nothing_seen, has_seen, with_seen};
 
-use pddl_formula::is_word;
+use pddl_formula_reader::is_word;
 use pddl_text::{Item, TokenKind};
 use std::alloc::Allocator;
 

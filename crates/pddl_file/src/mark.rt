@@ -9,8 +9,8 @@ ghost use Rattle.pddl_sections.specs.Inner.Verdicts.{first_mark};
 ghost use Rattle.pddl_file.specs.Marks.{mark_word};
 ghost use Rattle.pddl_file.specs.Inner.WordReading.{plain_mark, is_number_first, list_mark, mark_in};
 
-use pddl_effect::is_increase;
-use pddl_formula::{is_word, is_word_item};
+use pddl_effect_reader::is_increase;
+use pddl_formula_reader::{is_word, is_word_item};
 use pddl_text::{Item, Span, TokenKind};
 use std::alloc::Allocator;
 

@@ -12,12 +12,12 @@ use Rattle.pddl_formula.specs.declared.formula.Formula.TheVariants as cases
 use Rattle.pddl_formula.specs.declared.formula.Formula.TheVariants.{Equal, Not, Imply, And, Or, Exists, Forall}
 use Rattle.pddl_formula.specs.TypedLists.{typed_view}
 use Rattle.pddl_formula.specs.Formulas.{FormulaValue, formula_view, formulas_of}
-use Rattle.pddl_formula.proofs.TurnsOfFormulas.{view_atom, view_equal, view_not, view_imply, view_and, view_or, view_exists, view_forall}
+use Rattle.pddl_formula.proofs.Views.{view_atom, view_equal, view_not, view_imply, view_and, view_or, view_exists, view_forall}
 use Rattle.pddl_effect.specs.declared.effect.Effect.{Effect}
 use Rattle.pddl_effect.specs.declared.amount.Amount.{Amount}
 use Rattle.pddl_effect.specs.declared.effect.Effect.TheVariants as outcome
 use Rattle.pddl_effect.specs.Effects.{EffectValue, amount_view, effect_view, effects_of}
-use Rattle.pddl_effect.proofs.EffectTurns as turns
+use Rattle.pddl_effect.proofs.Views as views
 use Rattle.pddl_file_layout.proofs.SectionTexts.{both}
 use Rattle.pddl_file_layout.specs.FormulaValues.{is_term, is_atom, is_typed, is_formula, are_formulas, is_amount, is_effect, are_effects}
 use Rattle.pddl_file_layout.specs.Inner.Texts.{spaced_by, term_text, atom_text, typed_text, variables_text, formula_text, formulas_text, amount_text, effect_text, effects_text}
@@ -167,51 +167,51 @@ module _ {A : Type 0} where
   pub all_text : (e : Effect A) (parts : List (Effect A)) (v : Vec (Effect A) A) → e ≡ outcome.And v → parts ≡ v.items → codes "(and" ++ (spaced_by effect_text (map effect_view parts) ++ codes ")") ≡ effect_text (effect_view e)
   all_text e parts v is parts_are =
       ap (λ (x : List (Effect A)). codes "(and" ++ (spaced_by effect_text (map effect_view x) ++ codes ")")) parts_are
-      ∙ (ap (λ (x : List ℕ). codes "(and" ++ (x ++ codes ")")) (sym (effects_spaced (map effect_view v.items))) ∙ (ap effect_text (sym (turns.view_and v)) ∙ effect_shown is))
+      ∙ (ap (λ (x : List ℕ). codes "(and" ++ (x ++ codes ")")) (sym (effects_spaced (map effect_view v.items))) ∙ (ap effect_text (sym (views.view_and v)) ∙ effect_shown is))
 
   pub each_text : (e inner : Effect A) (xs : List (Typed A)) (v : Vec (Typed A) A) (p : Box (Effect A) A) → e ≡ outcome.Forall v p → xs ≡ v.items → inner ≡ p.value
       → codes "(forall " ++ (variables_text (map typed_view xs) ++ (codes " " ++ (effect_text (effect_view inner) ++ codes ")"))) ≡ effect_text (effect_view e)
   each_text e inner xs v p is xs_are inner_is =
       ap₂ (λ (x : List (Typed A)) (y : Effect A). codes "(forall " ++ (variables_text (map typed_view x) ++ (codes " " ++ (effect_text (effect_view y) ++ codes ")")))) xs_are inner_is
-      ∙ (ap effect_text (sym (turns.view_forall v p)) ∙ effect_shown is)
+      ∙ (ap effect_text (sym (views.view_forall v p)) ∙ effect_shown is)
 
   pub when_text : (e inner : Effect A) (f : Formula A) (p : Box (Effect A) A) → e ≡ outcome.When f p → inner ≡ p.value
       → codes "(when " ++ (formula_text (formula_view f) ++ (codes " " ++ (effect_text (effect_view inner) ++ codes ")"))) ≡ effect_text (effect_view e)
   when_text e inner f p is inner_is =
       ap (λ (y : Effect A). codes "(when " ++ (formula_text (formula_view f) ++ (codes " " ++ (effect_text (effect_view y) ++ codes ")")))) inner_is
-      ∙ (ap effect_text (sym (turns.view_when f p)) ∙ effect_shown is)
+      ∙ (ap effect_text (sym (views.view_when f p)) ∙ effect_shown is)
 
   pub del_text : (e : Effect A) (a : Atom A) → e ≡ outcome.Del a → codes "(not " ++ (atom_text (atom_view a) ++ codes ")") ≡ effect_text (effect_view e)
-  del_text e a is = ap effect_text (sym (turns.view_del a)) ∙ effect_shown is
+  del_text e a is = ap effect_text (sym (views.view_del a)) ∙ effect_shown is
 
   pub add_text : (e : Effect A) (a : Atom A) → e ≡ outcome.Add a → atom_text (atom_view a) ≡ effect_text (effect_view e)
-  add_text e a is = ap effect_text (sym (turns.view_add a)) ∙ effect_shown is
+  add_text e a is = ap effect_text (sym (views.view_add a)) ∙ effect_shown is
 
   pub increase_text : (e : Effect A) (a : Amount A) → e ≡ outcome.Increase a → codes "(increase (total-cost) " ++ (amount_text (amount_view a) ++ codes ")") ≡ effect_text (effect_view e)
-  increase_text e a is = ap effect_text (sym (turns.view_increase a)) ∙ effect_shown is
+  increase_text e a is = ap effect_text (sym (views.view_increase a)) ∙ effect_shown is
 
   effect_fits : {e o : Effect A} {v : EffectValue} → e ≡ o → effect_view o ≡ v → is_effect v ≡ true → is_effect (effect_view e) ≡ true
   effect_fits is view good = ap (λ (x : Effect A). is_effect (effect_view x)) is ∙ (ap is_effect view ∙ good)
 
   pub all_good : (e : Effect A) (parts : List (Effect A)) (v : Vec (Effect A) A) → e ≡ outcome.And v → parts ≡ v.items → list_all is_effect (map effect_view parts) ≡ true → is_effect (effect_view e) ≡ true
   all_good e parts v is parts_are good =
-      effect_fits is (turns.view_and v) (effects_good (map effect_view v.items) ∙ (ap (λ (x : List (Effect A)). list_all is_effect (map effect_view x)) (sym parts_are) ∙ good))
+      effect_fits is (views.view_and v) (effects_good (map effect_view v.items) ∙ (ap (λ (x : List (Effect A)). list_all is_effect (map effect_view x)) (sym parts_are) ∙ good))
 
   pub each_good : (e inner : Effect A) (xs : List (Typed A)) (v : Vec (Typed A) A) (p : Box (Effect A) A) → e ≡ outcome.Forall v p → xs ≡ v.items → inner ≡ p.value
       → list_all is_typed (map typed_view xs) ≡ true → is_effect (effect_view inner) ≡ true → is_effect (effect_view e) ≡ true
   each_good e inner xs v p is xs_are inner_is typed good =
-      effect_fits is (turns.view_forall v p) (both (list_all is_typed (map typed_view v.items)) (is_effect (effect_view p.value)) (typed_good xs v.items xs_are typed) (effect_fits (sym inner_is) refl good))
+      effect_fits is (views.view_forall v p) (both (list_all is_typed (map typed_view v.items)) (is_effect (effect_view p.value)) (typed_good xs v.items xs_are typed) (effect_fits (sym inner_is) refl good))
 
   pub when_good : (e inner : Effect A) (f : Formula A) (p : Box (Effect A) A) → e ≡ outcome.When f p → inner ≡ p.value → is_formula (formula_view f) ≡ true → is_effect (effect_view inner) ≡ true
       → is_effect (effect_view e) ≡ true
   when_good e inner f p is inner_is condition good =
-      effect_fits is (turns.view_when f p) (both (is_formula (formula_view f)) (is_effect (effect_view p.value)) condition (effect_fits (sym inner_is) refl good))
+      effect_fits is (views.view_when f p) (both (is_formula (formula_view f)) (is_effect (effect_view p.value)) condition (effect_fits (sym inner_is) refl good))
 
   pub add_good : (e : Effect A) (a : Atom A) → e ≡ outcome.Add a → is_atom (atom_view a) ≡ true → is_effect (effect_view e) ≡ true
-  add_good e a is good = effect_fits is (turns.view_add a) good
+  add_good e a is good = effect_fits is (views.view_add a) good
 
   pub del_good : (e : Effect A) (a : Atom A) → e ≡ outcome.Del a → is_atom (atom_view a) ≡ true → is_effect (effect_view e) ≡ true
-  del_good e a is good = effect_fits is (turns.view_del a) good
+  del_good e a is good = effect_fits is (views.view_del a) good
 
   pub increase_good : (e : Effect A) (a : Amount A) → e ≡ outcome.Increase a → is_amount (amount_view a) ≡ true → is_effect (effect_view e) ≡ true
-  increase_good e a is good = effect_fits is (turns.view_increase a) good
+  increase_good e a is good = effect_fits is (views.view_increase a) good

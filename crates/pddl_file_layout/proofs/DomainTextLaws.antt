@@ -12,7 +12,8 @@ use Rattle.pddl_tree.specs.Names.{is_name}
 use Rattle.pddl_formula.specs.Reserved.{is_predicate, is_type_name, is_type}
 use Rattle.pddl_domain.specs.Declarations.{TypeValue, Signature, FunctionValue}
 use Rattle.pddl_domain.specs.Actions.{ActionValue}
-use Rattle.pddl_domain.specs.Domains.{DomainValue, SpellsDomain}
+use Rattle.pddl_domain.specs.Domains.{DomainValue}
+use Rattle.pddl_domain_reader.specs.DomainTexts.{SpellsDomain}
 use Rattle.pddl_sections.specs.Sections.{AllOf}
 use Rattle.pddl_file_layout.specs.FormulaValues.{is_typed, is_formula, is_effect}
 use Rattle.pddl_file_layout.specs.FormulaTrees.{name_tree, variable_tree, dash, type_tree, typed_trees, variables_tree, formula_tree, effect_tree}
@@ -21,7 +22,7 @@ use Rattle.pddl_file_layout.specs.Inner.DomainPieces.{name_word, keyword_word, s
 use Rattle.pddl_file_layout.proofs.FormulaTreeLaws.{and_parts}
 use Rattle.pddl_file_layout.proofs.WritableTrees.{all_blank, keyword_writable, section_writable, all_pass, name_formed, keyword_formed, all_writable, all_append, all_of_each, all_of_lists, name_writable, variable_writable, flag_writable, dash_writable, predicate_writable, type_name_writable, type_writable, typed_writable, variables_writable, formula_writable, effect_writable}
 use Rattle.pddl_file_layout.proofs.PiecesOfLines.{map_same, words_append, group_text, group_tokens, group_written, section_text, section_tokens, section_written, end_written}
-use Rattle.pddl_domain.proofs.DomainTextLaws.{one_domain}
+use Rattle.pddl_domain_reader.proofs.DomainTextLaws.{one_domain}
 use Rattle.pddl_file_layout.proofs.DomainTreeLaws.{domain_spelled}
 use Rattle.pddl_file_layout.proofs.GoodDomains.{domain_good}
 

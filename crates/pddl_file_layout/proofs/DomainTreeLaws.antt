@@ -14,7 +14,8 @@ use Rattle.pddl_file.specs.Keywords.{IsHeaded}
 use Rattle.pddl_file.specs.Flags.{IsFlag}
 use Rattle.pddl_domain.specs.Declarations.{TypeValue, Signature, FunctionValue, AreTypes, IsPredicateSignature, AreFunctions}
 use Rattle.pddl_domain.specs.Actions.{ActionValue, parameters, precondition, effect, IsAction}
-use Rattle.pddl_domain.specs.Domains.{DomainValue, Part, requirements, types, constants, predicates, functions, action, requirements_in, types_in, constants_in, predicates_in, functions_in, actions_in, part_key, IsPart, domain_rules, AreDomain}
+use Rattle.pddl_domain.specs.Domains.{DomainValue}
+use Rattle.pddl_domain_reader.specs.DomainTexts.{Part, requirements, types, constants, predicates, functions, action, requirements_in, types_in, constants_in, predicates_in, functions_in, actions_in, part_key, IsPart, domain_rules, AreDomain}
 use Rattle.pddl_file_layout.specs.FormulaValues.{is_typed, is_formula, is_effect}
 use Rattle.pddl_file_layout.specs.FormulaTrees.{name_tree, variable_tree, type_tree, typed_trees, variables_tree, formula_tree, effect_tree}
 use Rattle.pddl_file_layout.specs.Inner.PartLists.{part_list}

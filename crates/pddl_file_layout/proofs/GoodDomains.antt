@@ -13,7 +13,8 @@ use Rattle.pddl_effect.specs.Effects.{conjunction as all_effects, no_effects}
 use Rattle.pddl_file.specs.Flags.{IsFlag}
 use Rattle.pddl_domain.specs.Declarations.{TypeValue, Signature, FunctionValue, AreTypes, IsPredicateSignature, IsFunctionSignature, number, AreFunctions}
 use Rattle.pddl_domain.specs.Actions.{ActionValue, Field, parameters, precondition, effect, parameters_in, preconditions_in, effects_in, OnlyOr, IsField, AreFields, IsAction}
-use Rattle.pddl_domain.specs.Domains.{DomainValue, Part, requirements, types, constants, predicates, functions, action, requirements_in, types_in, constants_in, predicates_in, functions_in, actions_in, IsContent, IsPart, AreDomain}
+use Rattle.pddl_domain.specs.Domains.{DomainValue}
+use Rattle.pddl_domain_reader.specs.DomainTexts.{Part, requirements, types, constants, predicates, functions, action, requirements_in, types_in, constants_in, predicates_in, functions_in, actions_in, IsContent, IsPart, AreDomain}
 use Rattle.pddl_file_layout.specs.FormulaValues.{is_typed, is_formula, is_effect}
 use Rattle.pddl_file_layout.specs.DomainLayout.{is_declared_type, is_declared_predicate, is_declared_function, is_action, is_domain}
 use Rattle.pddl_file_layout.proofs.GoodFormulas.{all_append, name_good, predicate_good, type_name_good, type_good, list_good, typed_names_good, typed_variables_good, variables_good, condition_good, whole_effect_good}

@@ -16,7 +16,7 @@ use Rattle.pddl_formula.specs.Reserved.{reserved, is_none_of, is_predicate, is_t
 use Rattle.pddl_formula.specs.Terms.{TermValue, name, variable, AtomValue, IsTerm, IsPredicate, IsAtom}
 use Rattle.pddl_formula.specs.TypedLists.{WithType, TypedValue, IsTypeName, IsType, primitive, either, OfType, IsTypedList, untyped, typed, object, IsVariableList}
 use Rattle.pddl_formula.specs.Formulas.{FormulaValue, atom, equal, negation, implication, conjunction, disjunction, existential, universal, FormulaValues, no_formulas, formula, IsFormula, AreFormulas, IsCondition}
-use Rattle.pddl_formula.proofs.TermLaws.{none_of_complete}
+use Rattle.pddl_formula_reader.proofs.TermLaws.{none_of_complete}
 use Rattle.pddl_effect.specs.StaticNames.{is_static_function}
 use Rattle.pddl_effect.specs.Effects as effects
 use Rattle.pddl_effect.specs.Effects.{FunctionTermValue, AmountValue, number, function, EffectValue, EffectValues, no_effects, effect, conditional, addition, deletion, increase, IsFunctionTerm, IsAmount, IsEffect, AreEffects, IsWholeEffect}

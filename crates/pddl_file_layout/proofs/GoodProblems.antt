@@ -11,7 +11,8 @@ use Rattle.pddl_tree.proofs.Readers.{each_good}
 use Rattle.pddl_formula.specs.Reserved.{is_predicate}
 use Rattle.pddl_file.specs.Flags.{IsFlag}
 use Rattle.pddl_problem.specs.Inits.{GroundValue, InitValue, holds, fails, value, MetricValue, IsFact, IsGroundFunction, IsInit}
-use Rattle.pddl_problem.specs.Problems.{ProblemValue, Part, domain, requirements, objects, init, goal, metric, domains_in, requirements_in, objects_in, init_in, goals_in, metrics_in, IsContent, IsPart, AreProblem}
+use Rattle.pddl_problem.specs.Problems.{ProblemValue}
+use Rattle.pddl_problem_reader.specs.ProblemTexts.{Part, domain, requirements, objects, init, goal, metric, domains_in, requirements_in, objects_in, init_in, goals_in, metrics_in, IsContent, IsPart, AreProblem}
 use Rattle.pddl_file_layout.specs.FormulaValues.{is_typed, is_formula}
 use Rattle.pddl_file_layout.specs.ProblemLayout.{is_fact, is_ground_function, is_init, is_metric, is_problem}
 use Rattle.pddl_file_layout.proofs.GoodFormulas.{all_append, name_good, predicate_good, typed_names_good, number_good, condition_good}

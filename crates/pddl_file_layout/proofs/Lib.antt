@@ -15,4 +15,3 @@ pub mod LineTexts
 pub mod Printed
 pub mod Arms
 pub mod SectionTexts
-pub mod Depths

@@ -14,7 +14,8 @@ use Rattle.pddl_formula.specs.Reserved.{is_predicate}
 use Rattle.pddl_problem.specs.declared.problem.Direction.{Direction}
 use Rattle.pddl_problem.specs.declared.problem.Direction.TheVariants as directions
 use Rattle.pddl_problem.specs.Inits.{GroundValue, InitValue, holds, fails, value, MetricValue, direction_word}
-use Rattle.pddl_problem.specs.Problems.{ProblemValue, SpellsProblem}
+use Rattle.pddl_problem.specs.Problems.{ProblemValue}
+use Rattle.pddl_problem_reader.specs.ProblemTexts.{SpellsProblem}
 use Rattle.pddl_sections.specs.Sections.{AllOf}
 use Rattle.pddl_file_layout.specs.FormulaTrees.{name_tree, typed_trees}
 use Rattle.pddl_file_layout.specs.DomainLayout.{keyword_tree, flag_tree, section_trees, section_line}
@@ -23,7 +24,7 @@ use Rattle.pddl_file_layout.specs.Inner.DomainPieces.{name_word, section_pieces,
 use Rattle.pddl_file_layout.proofs.FormulaTreeLaws.{and_parts}
 use Rattle.pddl_file_layout.proofs.WritableTrees.{all_blank, all_writable, all_append, all_of_each, name_writable, flag_writable, equal_writable, number_writable, predicate_writable, typed_writable, formula_writable, keyword_writable, section_writable, name_formed}
 use Rattle.pddl_file_layout.proofs.PiecesOfLines.{map_same, group_text, group_tokens, group_written, section_text, section_tokens, section_written, end_written}
-use Rattle.pddl_problem.proofs.ProblemTexts.{one_problem}
+use Rattle.pddl_problem_reader.proofs.ProblemTexts.{one_problem}
 use Rattle.pddl_file_layout.proofs.GoodProblems.{problem_good}
 use Rattle.pddl_file_layout.proofs.ProblemTreeLaws.{IsGood, good_parts, problem_spelled}
 

@@ -20,7 +20,8 @@ use Rattle.pddl_file.specs.Flags.{IsFlag}
 use Rattle.pddl_problem.specs.declared.problem.Direction.{Direction}
 use Rattle.pddl_problem.specs.declared.problem.Direction.TheVariants as directions
 use Rattle.pddl_problem.specs.Inits.{GroundValue, InitValue, holds, fails, value, MetricValue, IsFact, IsGroundFunction, IsInit, direction_word}
-use Rattle.pddl_problem.specs.Problems.{ProblemValue, Part, domain, requirements, objects, init, goal, metric, domains_in, requirements_in, objects_in, init_in, goals_in, metrics_in, part_key, IsPart, problem_rules, required, AreProblem}
+use Rattle.pddl_problem.specs.Problems.{ProblemValue}
+use Rattle.pddl_problem_reader.specs.ProblemTexts.{Part, domain, requirements, objects, init, goal, metric, domains_in, requirements_in, objects_in, init_in, goals_in, metrics_in, part_key, IsPart, problem_rules, required, AreProblem}
 use Rattle.pddl_file_layout.specs.FormulaValues.{is_typed, is_formula}
 use Rattle.pddl_file_layout.specs.FormulaTrees.{name_tree, number_tree, equal_sign, typed_trees, formula_tree}
 use Rattle.pddl_file_layout.specs.Inner.PartLists.{part_list}

@@ -1,8 +1,2 @@
-pub mod TermLaws
-pub mod TypedListLaws
-pub mod HeadLaws
-pub mod FormulaLaws
-pub mod Turns
-pub mod Fills
-pub mod TypedTurns
-pub mod TurnsOfFormulas
+pub mod Depths
+pub mod Views

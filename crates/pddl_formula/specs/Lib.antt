@@ -2,4 +2,3 @@ pub mod Reserved
 pub mod Terms
 pub mod TypedLists
 pub mod Formulas
-pub mod Inner

@@ -41,17 +41,6 @@ impl<A: Allocator> TypeName<A> {
         }
     }
 
-    /// The same type in memory of another allocator.
-    ///
-    /// Fails where memory for the name's bytes is refused.
-    pub fn copy<B: Allocator>(&self, alloc: B) -> Result<TypeName<B>, AllocError>
-        ensures { IfOk result (λ copy. copy ≡ self.now) }
-    {
-        Ok(TypeName {
-            name: self.name.copy(alloc)?,
-        })
-    }
-
     /// The type's bytes, in lower case.
     pub fn as_bytes(&self) -> &[u8]
         ensures value { result.now ≡ self.now }

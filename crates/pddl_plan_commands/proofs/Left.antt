@@ -1,7 +1,8 @@
 -- What a reader of a problem has left to give, where it is known.
 use Rattle.std.proofs.Common.{◌≡◌, ℕ, List, subst}
 use Rattle.std.specs.Prelude.{Option, Some, None}
-use Rattle.pddl_problem.specs.Problems.{ProblemValue, SpellsProblem}
+use Rattle.pddl_problem.specs.Problems.{ProblemValue}
+use Rattle.pddl_problem_reader.specs.ProblemTexts.{SpellsProblem}
 use Rattle.pddl_commands.specs.Formats.{IsLeft}
 use Rattle.pddl_plan_commands.specs.PlanChecks.{IsNoProblem}
 

@@ -8,11 +8,13 @@ use Rattle.std.specs.declared.cmp.Ordering.TheVariants.{Less, Equal, Greater}
 use Rattle.pddl_tree.specs.Plans.{PlanValue}
 use Rattle.pddl_tree.specs.PlanTexts.{SpellsPlan}
 use Rattle.pddl_tree.proofs.PlanTextLaws.{one_plan, no_fault_in_plan}
-use Rattle.pddl_domain.specs.Domains.{DomainValue, SpellsDomain}
-use Rattle.pddl_domain.proofs.DomainTextLaws.{one_domain}
+use Rattle.pddl_domain.specs.Domains.{DomainValue}
+use Rattle.pddl_domain_reader.specs.DomainTexts.{SpellsDomain}
+use Rattle.pddl_domain_reader.proofs.DomainTextLaws.{one_domain}
 use Rattle.pddl_problem.specs.Inits.{GroundValue}
-use Rattle.pddl_problem.specs.Problems.{ProblemValue, SpellsProblem}
-use Rattle.pddl_problem.proofs.ProblemTexts.{one_problem}
+use Rattle.pddl_problem.specs.Problems.{ProblemValue}
+use Rattle.pddl_problem_reader.specs.ProblemTexts.{SpellsProblem}
+use Rattle.pddl_problem_reader.proofs.ProblemTexts.{one_problem}
 use Rattle.pddl_task.specs.Linked.{faults, IsLinked}
 use Rattle.pddl_task.specs.Tasks.{TaskValue, task_of}
 use Rattle.pddl_state.specs.Atoms.{AtomValue, atom_cmp}

@@ -5,7 +5,8 @@ use Rattle.pddl_tree.specs.Plans.{PlanValue}
 use Rattle.pddl_tree.specs.PlanTexts.{SpellsPlan}
 use Rattle.pddl_domain.specs.Domains.{DomainValue}
 use Rattle.pddl_problem.specs.Inits.{GroundValue}
-use Rattle.pddl_problem.specs.Problems.{ProblemValue, SpellsProblem}
+use Rattle.pddl_problem.specs.Problems.{ProblemValue}
+use Rattle.pddl_problem_reader.specs.ProblemTexts.{SpellsProblem}
 use Rattle.pddl_task.specs.Linked.{faults, IsLinked}
 use Rattle.pddl_task.specs.Tasks.{TaskValue, task_of}
 use Rattle.pddl_state.specs.Atoms.{atom_cmp}

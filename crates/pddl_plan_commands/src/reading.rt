@@ -18,8 +18,10 @@ use pddl_commands::{
     Content, Formatted, Kind, Outcome, PlanContent, RunFault, read_file, read_plan_file,
     refused_domain, refused_problem,
 };
-use pddl_domain::{Domain, read_domain};
-use pddl_problem::{Problem, read_problem};
+use pddl_domain::Domain;
+use pddl_domain_reader::read_domain;
+use pddl_problem::Problem;
+use pddl_problem_reader::read_problem;
 use pddl_text::Source;
 use std::alloc::Allocator;
 

@@ -1,3 +1,2 @@
 pub mod Inits
 pub mod Problems
-pub mod Inner

@@ -1,15 +1,6 @@
-//! Problems, and their reader from texts.
-//!
-//! The reader answers a problem exactly where the text spells one, and then that one; else the first fault.
+//! Problems, and the values that contracts see in them. Their reader stands in `pddl_problem_reader`.
 #![tactic(auto)]
 
-mod init_reader;
 mod problem;
-mod problem_reader;
-mod section;
-mod section_reader;
 
 pub use problem::{Direction, Fact, GroundFunction, InitItem, Metric, Problem};
-pub use problem_reader::{
-    no_fault_in_problem, one_problem, one_problem_fault, problem_fault_in_text, read_problem,
-};

@@ -5,8 +5,10 @@ use crate::lines::Lines;
 use crate::row::Files;
 use pddl_commands::Outcome;
 use pddl_commands::pddl_link::{Task, link};
-use pddl_domain::{Domain, read_domain};
-use pddl_problem::{Problem, read_problem};
+use pddl_domain::Domain;
+use pddl_domain_reader::read_domain;
+use pddl_problem::Problem;
+use pddl_problem_reader::read_problem;
 use std::alloc::Allocator;
 
 /// What is listed of a task.

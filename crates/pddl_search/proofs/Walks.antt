@@ -7,7 +7,7 @@ use Rattle.pddl_formula.specs.Formulas.{formula_view, formulas_of}
 use Rattle.pddl_formula.specs.declared.type_names.Typed.{Typed}
 use Rattle.pddl_formula.specs.declared.formula.Formula.{Formula}
 use Rattle.pddl_formula.specs.declared.formula.Formula.TheVariants.{Imply, Exists, Forall}
-use Rattle.pddl_formula.proofs.TurnsOfFormulas.{view_imply, view_exists, view_forall}
+use Rattle.pddl_formula.proofs.Views.{view_imply, view_exists, view_forall}
 use Rattle.pddl_formula.specs.Terms.{term_view}
 use Rattle.pddl_formula.specs.declared.term.Term.{Term}
 use Rattle.pddl_effect.specs.Effects.{amount_view, effect_view, effects_of}
@@ -16,7 +16,7 @@ use Rattle.pddl_effect.specs.declared.amount.Amount.TheVariants as amounts
 use Rattle.pddl_effect.specs.declared.amount.FunctionTerm.{FunctionTerm}
 use Rattle.pddl_effect.specs.declared.effect.Effect.{Effect}
 use Rattle.pddl_effect.specs.declared.effect.Effect.TheVariants as effects
-use Rattle.pddl_effect.proofs.EffectTurns as turns
+use Rattle.pddl_effect.proofs.Views as views
 use Rattle.pddl_domain.specs.declared.domain.Action.{Action}
 use Rattle.pddl_domain.specs.Actions.{action_view}
 use Rattle.pddl_task.proofs.Lists.{append-none}
@@ -70,12 +70,12 @@ module _ {A F : Type 0} (w : Place → List F) (b : List TypedValue) where
       → e ≡ effects.Forall xs x → items ≡ xs.items → inner ≡ x.value → bound ≡ map typed_view items
       → effect_faults w (effect_view e) b ≡ w (at b (binds (map typed_view items))) ++ effect_faults w (effect_view inner) (binding bound b)
   faults_each e xs x items inner bound is same value seen =
-      ap (λ k. effect_faults w (effect_view k) b) is ∙ ap (λ k. effect_faults w k b) (turns.view_forall xs x) ∙ read_bound (λ k vs. effect_faults w (effect_view k) vs) xs.items items x.value inner bound same value seen
+      ap (λ k. effect_faults w (effect_view k) b) is ∙ ap (λ k. effect_faults w k b) (views.view_forall xs x) ∙ read_bound (λ k vs. effect_faults w (effect_view k) vs) xs.items items x.value inner bound same value seen
 
   pub faults_when : (e : Effect A) (f : Formula A) (x : Box (Effect A) A) (g : Effect A) → e ≡ effects.When f x → g ≡ x.value
       → effect_faults w (effect_view e) b ≡ faults_in w (formula_view f) b ++ effect_faults w (effect_view g) b
   faults_when e f x g is same =
-      ap (λ k. effect_faults w (effect_view k) b) is ∙ ap (λ k. effect_faults w k b) (turns.view_when f x)
+      ap (λ k. effect_faults w (effect_view k) b) is ∙ ap (λ k. effect_faults w k b) (views.view_when f x)
       ∙ flat_map-append w (places_in (formula_view f) b) (effect_places (effect_view x.value) b)
       ∙ ap (λ k. faults_in w (formula_view f) b ++ effect_faults w (effect_view k) b) (sym same)
 

@@ -7,7 +7,7 @@ use Rattle.pddl_text.specs.declared.token.TokenKind.TheVariants.{Name, Keyword, 
 use Rattle.pddl_text.specs.Trees.{Tree, leaf, node, list_of}
 use Rattle.pddl_tree.specs.Names.{folded, name_of}
 use Rattle.pddl_effect.specs.Effects.{AmountValue}
-use Rattle.pddl_effect.specs.Inner.EffectReading.{increase_of}
+use Rattle.pddl_effect_reader.specs.Inner.EffectReading.{increase_of}
 use Rattle.pddl_file.specs.declared.keyword.SectionKeyword.{SectionKeyword}
 use Rattle.pddl_file.specs.declared.keyword.SectionKeyword.TheVariants as keys
 use Rattle.pddl_file.specs.declared.keyword.Seen.{Seen}

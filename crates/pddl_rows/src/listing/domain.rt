@@ -2,7 +2,8 @@
 
 use super::types::{add_typed, add_types};
 use pddl_commands::Outcome;
-use pddl_domain::{Action, DeclaredFunction, DeclaredPredicate, DeclaredType, Domain, read_domain};
+use pddl_domain::{Action, DeclaredFunction, DeclaredPredicate, DeclaredType, Domain};
+use pddl_domain_reader::read_domain;
 use pddl_row_driver::{Lines, add_file_fault};
 use pddl_tree::Name;
 use std::alloc::Allocator;

@@ -4,7 +4,8 @@ use super::domain::{add_name, add_requirements};
 use super::plan::add_each;
 use super::types::add_typed;
 use pddl_commands::Outcome;
-use pddl_problem::{Direction, Fact, GroundFunction, InitItem, Metric, Problem, read_problem};
+use pddl_problem::{Direction, Fact, GroundFunction, InitItem, Metric, Problem};
+use pddl_problem_reader::read_problem;
 use pddl_row_driver::{Lines, add_file_fault};
 use std::alloc::Allocator;
 

@@ -1,5 +1,5 @@
 use Rattle.std.proofs.Common.{◌∙◌, refl, sym, subst, inl}
-use Rattle.pddl_domain.specs.Domains.{DomainStands}
+use Rattle.pddl_domain_reader.specs.DomainTexts.{DomainStands}
 use Rattle.pddl_kind.specs.declared.Kind.TheVariants.{Domain}
 use Rattle.pddl_commands.specs.Contents.{IsContent}
 use Rattle.pddl_commands.specs.Formats.{IsRefused}

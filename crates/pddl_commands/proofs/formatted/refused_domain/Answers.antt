@@ -1,6 +1,6 @@
 use Rattle.std.specs.Prelude.{[], codes}
 use Rattle.pddl_file.proofs.FaultPlaces.{file_inside}
-use Rattle.pddl_domain.specs.Domains.{domain_rules}
+use Rattle.pddl_domain_reader.specs.DomainTexts.{domain_rules}
 use Rattle.pddl_commands.proofs.formatted.refused_domain.Goals as goal
 
 pub refused_file-requires : goal.refused_file-requires

@@ -1,6 +1,6 @@
 use Rattle.std.specs.Prelude.{codes}
 use Rattle.pddl_file.proofs.FaultPlaces.{file_inside}
-use Rattle.pddl_problem.specs.Problems.{problem_rules, required}
+use Rattle.pddl_problem_reader.specs.ProblemTexts.{problem_rules, required}
 use Rattle.pddl_commands.proofs.formatted.refused_problem.Goals as goal
 
 pub refused_file-requires : goal.refused_file-requires

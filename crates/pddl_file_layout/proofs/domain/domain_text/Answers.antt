@@ -1,6 +1,7 @@
 use Rattle.std.proofs.Common.{◌≡◌, List, ℕ, ◌++◌, length, sym, ap, subst, ◌∙◌, arith}
 use Rattle.std.specs.Prelude.{Some}
-use Rattle.pddl_domain.specs.Domains.{domain_view, SpellsDomain}
+use Rattle.pddl_domain.specs.Domains.{domain_view}
+use Rattle.pddl_domain_reader.specs.DomainTexts.{SpellsDomain}
 use Rattle.pddl_file_layout.specs.DomainLayout.{domain_text}
 use Rattle.pddl_file_layout.proofs.Printed.{wrote}
 use Rattle.pddl_file_layout.proofs.DomainTextLaws.{domain_reads_back}

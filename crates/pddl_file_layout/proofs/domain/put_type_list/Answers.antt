@@ -1,3 +1,4 @@
+use Rattle.std.proofs.Common.{ap, sym, ◌∙◌}
 use Rattle.pddl_domain.specs.Declarations.{type_view}
 use Rattle.pddl_formula.specs.Reserved.{is_type_name}
 use Rattle.pddl_file_layout.specs.DomainLayout.{is_declared_type}
@@ -13,9 +14,9 @@ loop-declared-preserved g c =
     let x = c.declared-item.result in
     record {
       printed = spaced_on type_view declared_type_text c.args.types.now l.declared-index x lt c.declared-item.is l.invariant.printed c.put.ensures
-          (puts_on (puts_as c.as_bytes.ensures.value c.put-in-loop-declared.ensures) (puts_on c.put-in-loop-declared-2.ensures (puts_as c.as_bytes-in-loop-declared.ensures.value c.put-in-loop-declared-3.ensures)));
+          (puts_on (puts_as c.as_bytes.ensures.value c.put-in-loop-declared.ensures) (puts_on c.put-in-loop-declared-2.ensures (puts_as (c.as_bytes-in-loop-declared.ensures.value ∙ c.deref.ensures) c.put-in-loop-declared-3.ensures)));
       good = passes_on type_view is_declared_type c.args.types.now l.declared-index x lt c.declared-item.is l.invariant.good
-          (both (is_type_name x.name) (is_type_name x.parent) c.as_bytes.ensures.type_name c.as_bytes-in-loop-declared.ensures.type_name);
+          (both (is_type_name x.name) (is_type_name x.parent.value) c.as_bytes.ensures.type_name (sym (ap is_type_name c.deref.ensures) ∙ c.as_bytes-in-loop-declared.ensures.type_name));
     }
 
 pub returns-clause-printed : goal.returns-clause-printed

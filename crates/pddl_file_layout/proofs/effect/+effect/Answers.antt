@@ -7,7 +7,8 @@ use Rattle.pddl_file_layout.specs.Inner.Texts.{effect_text}
 use Rattle.pddl_file_layout.proofs.Printed.{puts_nothing, puts_on, puts_as, spaced_on, passes_on, spaced_whole, whole_passes}
 use Rattle.pddl_file_layout.proofs.Arms.{all_text, each_text, when_text, add_text, del_text, increase_text, all_good, each_good, when_good, add_good, del_good, increase_good}
 use Rattle.pddl_effect.proofs.effect.Effect.TheLaws.{the_size}
-use Rattle.pddl_file_layout.proofs.Depths.{under_each, under_when, under_all, among}
+use Rattle.pddl_formula.proofs.Depths.{among}
+use Rattle.pddl_effect.proofs.Depths.{under_each, under_when, under_all}
 use Rattle.pddl_file_layout.proofs.effect.+effect.Goals as goal
 
 pub put_effect-returns-in-And-clause-printed : goal.put_effect-returns-in-And-clause-printed

@@ -5,7 +5,7 @@ use Rattle.pddl_file_layout.specs.Inner.Texts.{formula_text}
 use Rattle.pddl_file_layout.proofs.Printed.{puts_nothing, puts_on, puts_as, spaced_on, passes_on, spaced_whole, whole_passes}
 use Rattle.pddl_file_layout.proofs.Arms.{atom_shown, equal_text, not_text, imply_text, and_text, or_text, exists_text, forall_text, atom_good, equal_good, not_good, imply_good, and_good, or_good, exists_good, forall_good}
 use Rattle.pddl_formula.proofs.formula.Formula.TheLaws.{the_size}
-use Rattle.pddl_file_layout.proofs.Depths.{under_not, under_imply, under_and, under_or, under_exists, under_forall, among}
+use Rattle.pddl_formula.proofs.Depths.{under_not, under_imply, under_and, under_or, under_exists, under_forall, among}
 use Rattle.pddl_file_layout.proofs.formula.+formula.Goals as goal
 
 pub put_formula-returns-in-Equal-clause-printed : goal.put_formula-returns-in-Equal-clause-printed

@@ -1,6 +1,7 @@
 use Rattle.std.proofs.Common.{◌≡◌, List, ℕ, ◌++◌, length, sym, ap, subst, ◌∙◌, arith}
 use Rattle.std.specs.Prelude.{Some}
-use Rattle.pddl_problem.specs.Problems.{problem_view, SpellsProblem}
+use Rattle.pddl_problem.specs.Problems.{problem_view}
+use Rattle.pddl_problem_reader.specs.ProblemTexts.{SpellsProblem}
 use Rattle.pddl_file_layout.specs.ProblemLayout.{problem_text}
 use Rattle.pddl_file_layout.proofs.Printed.{wrote}
 use Rattle.pddl_file_layout.proofs.ProblemTextLaws.{problem_reads_back}

@@ -1,6 +1,7 @@
 use Rattle.std.proofs.Common.{◌∙◌, refl, sym, subst, inl, inr}
 use Rattle.std.proofs.lemmas.Result.{IfOk-weaker}
-use Rattle.pddl_domain.specs.Domains.{domain_view, SpellsDomain, DomainStands}
+use Rattle.pddl_domain.specs.Domains.{domain_view}
+use Rattle.pddl_domain_reader.specs.DomainTexts.{SpellsDomain, DomainStands}
 use Rattle.pddl_kind.specs.declared.Kind.TheVariants.{Domain}
 use Rattle.pddl_commands.specs.Contents.{IsContent}
 use Rattle.pddl_commands.specs.Formats.{IsRefused}

@@ -1,5 +1,6 @@
 use Rattle.std.proofs.Common.{◌∙◌, refl, sym, subst, inl, inr}
-use Rattle.pddl_problem.specs.Problems.{problem_view, SpellsProblem, ProblemStands}
+use Rattle.pddl_problem.specs.Problems.{problem_view}
+use Rattle.pddl_problem_reader.specs.ProblemTexts.{SpellsProblem, ProblemStands}
 use Rattle.pddl_kind.specs.declared.Kind.TheVariants.{Problem}
 use Rattle.pddl_commands.specs.Contents.{IsContent}
 use Rattle.pddl_commands.specs.Formats.{IsRefused}

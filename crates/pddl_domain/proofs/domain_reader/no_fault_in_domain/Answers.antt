@@ -1,5 +1,0 @@
-use Rattle.pddl_domain.proofs.DomainTextLaws as laws
-use Rattle.pddl_domain.proofs.domain_reader.no_fault_in_domain.Goals as goal
-
-pub returns : goal.returns
-returns c = laws.no_fault_in_domain

@@ -1,5 +1,0 @@
-use Rattle.pddl_domain.proofs.DomainTextLaws as laws
-use Rattle.pddl_domain.proofs.domain_reader.one_domain_fault.Goals as goal
-
-pub returns : goal.returns
-returns c = laws.one_domain_fault

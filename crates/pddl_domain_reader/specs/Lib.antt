@@ -1,0 +1,2 @@
+pub mod DomainTexts
+pub mod Inner

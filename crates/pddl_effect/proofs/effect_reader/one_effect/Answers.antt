@@ -1,5 +1,0 @@
-use Rattle.pddl_effect.proofs.EffectLaws as laws
-use Rattle.pddl_effect.proofs.effect_reader.one_effect.Goals as goal
-
-pub returns : goal.returns
-returns c = laws.one_effect

@@ -1,8 +1,0 @@
-use Rattle.pddl_formula.proofs.FormulaLaws.{formula_reads, condition_reads}
-use Rattle.pddl_formula.proofs.laws.formulas_as_spelled.Goals as goal
-
-pub returns : goal.returns
-returns c = record {
-  formulas = λ t f. (formula_reads.sound t f, formula_reads.complete t f);
-  conditions = λ t f. (condition_reads.sound t f, condition_reads.complete t f);
-}

@@ -1,8 +1,0 @@
-use Rattle.pddl_formula.proofs.HeadLaws.{head_of_word, head_of_equal, equal_head}
-use Rattle.pddl_formula.proofs.laws.heads_as_spelled.Goals as goal
-
-pub returns : goal.returns
-returns c = record {
-  words = λ t word. head_of_word word t;
-  equal = λ t. (equal_head t, head_of_equal t);
-}

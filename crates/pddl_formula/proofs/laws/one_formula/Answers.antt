@@ -1,5 +1,0 @@
-use Rattle.pddl_formula.proofs.FormulaLaws.{one_formula}
-use Rattle.pddl_formula.proofs.laws.one_formula.Goals as goal
-
-pub returns : goal.returns
-returns c = one_formula

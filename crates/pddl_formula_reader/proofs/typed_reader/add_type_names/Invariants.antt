@@ -1,0 +1,11 @@
+use Rattle.std.proofs.Common.{◌≡◌, drop, map}
+use Rattle.pddl_tree.specs.ItemTrees.{item_trees}
+use Rattle.pddl_tree.specs.Inner.TreeReading.{all_of}
+use Rattle.pddl_tree.proofs.Options.{with_front}
+use Rattle.pddl_formula_reader.specs.Inner.Reading.{type_name_at}
+use Rattle.pddl_formula_reader.proofs.typed_reader.add_type_names.Given as goal
+
+-- those so far, and those of the items that are left
+abbrev pub invariant-loop-item : goal.invariant-loop-item
+invariant-loop-item g l =
+    with_front l.names.items (all_of (map type_name_at (item_trees (drop l.item-index l.items)))) ≡ with_front l.initial.names.items (all_of (map type_name_at (item_trees l.items)))

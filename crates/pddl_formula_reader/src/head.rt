@@ -1,0 +1,72 @@
+//! What the first item of a list says of the list.
+
+ghost use Rattle.std.specs.Prelude.{◌≡◌};
+ghost use Rattle.std.specs.Str.{bytes_eq};
+ghost use Rattle.pddl_tree.specs.Names.{folded};
+ghost use Rattle.pddl_tree.specs.ItemTrees.{item_tree};
+ghost use Rattle.pddl_formula_reader.specs.Inner.Reading.{head_at, word_head};
+
+use pddl_text::{Item, TokenKind};
+use std::alloc::Allocator;
+
+/// A word that is reserved for formulas and effects, another name, `=`, or none of these.
+#[derive(Clone, Copy, Debug)]
+pub enum Head {
+    And,
+    Or,
+    Not,
+    Imply,
+    Exists,
+    Forall,
+    When,
+    Increase,
+    Name,
+    Equal,
+    Nothing,
+}
+
+/// What an item is as the head of a list.
+pub fn head_of<A: Allocator>(item: &Item<'_, A>) -> Head
+    ensures { result ≡ head_at (item_tree item.now) }
+{
+    match item {
+        Item::Word(token) => match token.kind {
+            TokenKind::Name => word_head(token.text),
+            TokenKind::Equal => Head::Equal,
+            _ => Head::Nothing,
+        },
+        Item::List(_, _) => Head::Nothing,
+    }
+}
+
+fn word_head(text: &[u8]) -> Head
+    ensures { result ≡ word_head (folded text.now) }
+{
+    if is_word(text, b"and") {
+        Head::And
+    } else if is_word(text, b"or") {
+        Head::Or
+    } else if is_word(text, b"not") {
+        Head::Not
+    } else if is_word(text, b"imply") {
+        Head::Imply
+    } else if is_word(text, b"exists") {
+        Head::Exists
+    } else if is_word(text, b"forall") {
+        Head::Forall
+    } else if is_word(text, b"when") {
+        Head::When
+    } else if is_word(text, b"increase") {
+        Head::Increase
+    } else {
+        Head::Name
+    }
+}
+
+/// Whether a text is the word, letter case aside.
+pub fn is_word(text: &[u8], word: &[u8]) -> bool
+    requires { folded word.now ≡ word.now }
+    ensures { result ≡ bytes_eq (folded text.now) word.now }
+{
+    text.eq_ignore_ascii_case(word)
+}

@@ -1,5 +1,0 @@
-use Rattle.pddl_problem.proofs.ProblemTexts as laws
-use Rattle.pddl_problem.proofs.problem_reader.one_problem.Goals as goal
-
-pub returns : goal.returns
-returns c = laws.one_problem

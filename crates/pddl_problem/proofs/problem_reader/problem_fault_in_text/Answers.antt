@@ -1,7 +1,0 @@
-use Rattle.std.specs.Prelude.{codes}
-use Rattle.pddl_file.proofs.FaultPlaces.{file_inside}
-use Rattle.pddl_problem.specs.Problems.{problem_rules, required}
-use Rattle.pddl_problem.proofs.problem_reader.problem_fault_in_text.Goals as goal
-
-pub returns : goal.returns
-returns c = file_inside problem_rules (codes "problem") required

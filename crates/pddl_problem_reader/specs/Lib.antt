@@ -1,0 +1,2 @@
+pub mod ProblemTexts
+pub mod Inner
