@@ -89,6 +89,9 @@ for count in 5000 20000; do
 done
 
 for count in 25000 100000; do
+    python3 "$here/files.py" below "$count" >"$folder/domain" || exit 1
+    # its canonical text names the parent once for each type, and is too long
+    printf '%-24s %8d  %17s   %s\n' "domain, $count types below" "$(wc -c <"$folder/domain")" - "$(seconds "$program" domain "$folder/domain")"
     python3 "$here/files.py" ring "$count" >"$folder/domain" || exit 1
     # its types are above themselves, which is status 2
     printf '%-24s %8d  %s   %s\n' "domain, ring on $count types" "$(wc -c <"$folder/domain")" \
