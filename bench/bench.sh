@@ -90,7 +90,7 @@ done
 
 for count in 25000 100000; do
     python3 "$here/files.py" below "$count" >"$folder/domain" || exit 1
-    # its canonical text names the parent once for each type, and is too long
+    # its canonical text names the parent once for each type, which makes gigabytes
     printf '%-24s %8d  %17s   %s\n' "domain, $count types below" "$(wc -c <"$folder/domain")" - "$(seconds "$program" domain "$folder/domain")"
     python3 "$here/files.py" ring "$count" >"$folder/domain" || exit 1
     # its types are above themselves, which is status 2
