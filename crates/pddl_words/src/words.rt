@@ -6,6 +6,7 @@ ghost use Rattle.clap.specs.Values.{kind_of};
 use crate::help;
 use clap::error::ErrorKind;
 use clap::{Arg, ArgAction, ArgMatches, Command, Error, value_parser};
+use pddl_build::both_made;
 use pddl_kind::Kind;
 use std::alloc::{AllocError, Global};
 use std::convert::AsStr;
@@ -61,15 +62,6 @@ fn kind_named(word: &str) -> Option<Kind> {
     }
 }
 
-/// Two values, where both could be made.
-fn pair<T: Drop, U: Drop>(
-    first: Result<T, AllocError>,
-    second: Result<U, AllocError>,
-) -> Result<(T, U), AllocError> {
-    let first = first?;
-    Ok((first, second?))
-}
-
 /// A word that a command wants, by its name and its line of help.
 fn wanted<'a>(alloc: Global, name: &'a str, about: &'a str) -> Arg<'a> {
     Arg::new(alloc, name).required(true).help(about)
@@ -80,7 +72,7 @@ fn with_argument<'a>(
     command: Result<Command<'a>, AllocError>,
     argument: Arg<'a>,
 ) -> Result<Command<'a>, AllocError> {
-    let (command, argument) = pair(command, Ok(argument))?;
+    let (command, argument) = both_made(command, Ok(argument))?;
     command.arg(argument)
 }
 
@@ -234,7 +226,7 @@ fn with_command<'a>(
     program: Result<Command<'a>, AllocError>,
     command: Result<Command<'a>, AllocError>,
 ) -> Result<Command<'a>, AllocError> {
-    let (program, command) = pair(program, command)?;
+    let (program, command) = both_made(program, command)?;
     program.subcommand(command)
 }
 
