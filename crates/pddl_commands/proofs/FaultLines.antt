@@ -5,7 +5,7 @@ use Rattle.std.specs.List.{AllPass, fold}
 use Rattle.std.specs.Fmt.{decimal}
 use Rattle.std.proofs.lemmas.List.Sums.{fold-append}
 use Rattle.std.proofs.lemmas.List.Elements.{All-head, All-tail}
-use Rattle.pddl_text.specs.Bytes.{is_line_byte}
+use Rattle.pddl_token.specs.Bytes.{is_line_byte}
 use Rattle.pddl_text.specs.declared.place.Pos.{Pos}
 use Rattle.pddl_text.specs.Positions.{AreLines, IsBehind}
 use Rattle.pddl_commands.specs.Inner.Faults.{shown_position}

@@ -2,7 +2,7 @@
 
 ghost use Rattle.std.specs.Prelude.{◌≡◌, ◌≢◌, ◌⊎◌, ℕ, List, true, IfOk, OnOk, IsErrOf, Ok};
 ghost use Rattle.std.specs.Io.KnownBytes.{Appends, Consumes, Keeps};
-ghost use Rattle.pddl_text.specs.Device.{AppendsBeginning, HasFailed};
+ghost use Rattle.pddl_device.specs.Device.{AppendsBeginning, HasFailed};
 ghost use Rattle.pddl_domain.specs.Domains.{domain_view};
 ghost use Rattle.pddl_commands.specs.declared.outcome.Outcome.{Outcome};
 ghost use Rattle.pddl_commands.specs.Contents.{IsRead};
@@ -13,10 +13,10 @@ use crate::checked::{checked_domain, checked_problem};
 use crate::formatted::{Formatted, refused_domain};
 use crate::outcome::{Outcome, RunFault};
 use crate::reading::{Content, read_file};
+use pddl_device::{Sink, Source, write_text};
 use pddl_domain::Domain;
 use pddl_domain_reader::read_domain;
 use pddl_kind::Kind;
-use pddl_text::{Sink, Source, write_text};
 use std::alloc::Allocator;
 
 /// What `domain` prints for a reader's text, and the outcome. No writer plays a part.

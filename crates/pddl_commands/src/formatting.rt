@@ -2,7 +2,7 @@
 
 ghost use Rattle.std.specs.Prelude.{◌≡◌, ℕ, List, true, IfOk, OnOk, IsErrOf, Ok};
 ghost use Rattle.std.specs.Io.KnownBytes.{Appends, Consumes, Keeps};
-ghost use Rattle.pddl_text.specs.Device.{AppendsBeginning, HasFailed};
+ghost use Rattle.pddl_device.specs.Device.{AppendsBeginning, HasFailed};
 ghost use Rattle.pddl_kind.specs.declared.Kind.{Kind};
 ghost use Rattle.pddl_commands.specs.declared.outcome.Outcome.{Outcome};
 ghost use Rattle.pddl_commands.specs.Contents.{IsRead};
@@ -12,8 +12,8 @@ use crate::formatted::{Formatted, formatted_domain, formatted_plan, formatted_pr
 use crate::outcome::{Outcome, RunFault};
 use crate::plan_file::{PlanContent, read_plan_file};
 use crate::reading::{Content, read_file};
+use pddl_device::{Sink, Source, write_text};
 use pddl_kind::Kind;
-use pddl_text::{Sink, Source, write_text};
 use std::alloc::Allocator;
 
 /// What is printed for a reader's text as a domain's, and the outcome. No writer plays a part.

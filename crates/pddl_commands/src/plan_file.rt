@@ -2,7 +2,7 @@
 
 ghost use Rattle.std.specs.Prelude.{◌≡◌, ◌<◌, ◌++◌, [], ◌↔◌, ℕ, List, true, length, IfOk, OnOk, IsErrOf, Err};
 ghost use Rattle.std.specs.Io.KnownBytes.{Consumes};
-ghost use Rattle.pddl_text.specs.Device.{HasFailed};
+ghost use Rattle.pddl_device.specs.Device.{HasFailed};
 ghost use Rattle.pddl_text.specs.LineStarts.{line_starts};
 ghost use Rattle.pddl_tree.specs.PlanTexts.{PlanStands};
 ghost use Rattle.pddl_commands.specs.Contents.{IsPlanOf, IsPlanContent, IsPlanFile, HasCome};
@@ -13,8 +13,9 @@ use crate::fault_names::fault_name;
 use crate::formatted::too_long;
 use crate::line::{fault_line_at, position_in};
 use crate::outcome::RunFault;
+use pddl_device::{Source, SourceFault};
 use pddl_kind::Kind;
-use pddl_text::{LONGEST, Places, Source, SourceFault, TextFault};
+use pddl_text::{LONGEST, Places, TextFault};
 use pddl_tree::{Plan, PlanReader, ReadFault};
 use std::alloc::{AllocError, Allocator};
 

@@ -2,13 +2,14 @@
 
 ghost use Rattle.std.specs.Prelude.{◌≡◌, ℕ, List, IfOk, OnOk, IsErrOf};
 ghost use Rattle.std.specs.Io.KnownBytes.{Consumes};
-ghost use Rattle.pddl_text.specs.Device.{HasFailed};
+ghost use Rattle.pddl_device.specs.Device.{HasFailed};
 ghost use Rattle.pddl_commands.specs.Contents.{IsContent};
 
 use crate::formatted::too_long;
 use crate::outcome::RunFault;
+use pddl_device::{Source, SourceFault, read_all};
 use pddl_kind::Kind;
-use pddl_text::{LONGEST, Source, SourceFault, read_all};
+use pddl_text::LONGEST;
 use std::alloc::Allocator;
 
 /// What a file that was read holds.

@@ -1,8 +1,8 @@
 -- Actions, and the trees that spell them (Kovacs, `<action-def>`; that the fields stand in any order is own).
 use Rattle.std.specs.Prelude.{◌≡◌, ℕ, List, [], ◌∷◌, map, codes}
 use Rattle.std.specs.List.{flat_map}
-use Rattle.pddl_text.specs.Trees.{Tree}
-use Rattle.pddl_tree.specs.Words.{SpellsName, IsKeyword}
+use Rattle.pddl_token.specs.Trees.{Tree}
+use Rattle.pddl_token.specs.TreeWords.{SpellsName, IsKeyword}
 use Rattle.pddl_formula.specs.TypedLists.{TypedValue, typed_view, IsVariableList}
 use Rattle.pddl_formula.specs.Formulas.{FormulaValue, conjunction, no_formulas, formula_view, IsCondition}
 use Rattle.pddl_effect.specs.Effects.{EffectValue, conjunction as all_effects, no_effects, effect_view, IsWholeEffect}

@@ -1,7 +1,7 @@
 -- Declarations of a domain, and the trees that spell them (Kovacs, `<types-def>`, `<predicates-def>`, `<functions-def>`).
 use Rattle.std.specs.Prelude.{◌≡◌, ℕ, List, [], ◌∷◌, map, codes}
-use Rattle.pddl_text.specs.Trees.{Tree}
-use Rattle.pddl_tree.specs.Words.{list, SpellsName}
+use Rattle.pddl_token.specs.Trees.{Tree}
+use Rattle.pddl_token.specs.TreeWords.{list, SpellsName}
 use Rattle.pddl_formula.specs.Terms.{IsPredicate}
 use Rattle.pddl_formula.specs.TypedLists.{WithType, TypedValue, typed_view, IsTypeName, IsType, IsTypedList, AreTypedVariables}
 use Rattle.pddl_domain.specs.declared.domain.DeclaredType.{DeclaredType}

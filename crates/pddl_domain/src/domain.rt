@@ -2,7 +2,7 @@
 
 use pddl_effect::Effect;
 use pddl_formula::{Formula, Predicate, TypeName, TypeNames, Typed};
-use pddl_tree::Name;
+use pddl_token::Name;
 use std::alloc::Allocator;
 use std::rc::Rc;
 

@@ -3,8 +3,8 @@ use Rattle.std.proofs.Common.{◌≡◌, ℕ, List, [], ◌∷◌, refl, sym, ap
 use Rattle.std.specs.Prelude.{Some, option_map, option_and_then}
 use Rattle.std.specs.List.{flat_map}
 use Rattle.std.specs.Str.{bytes_eq}
-use Rattle.pddl_text.specs.Trees.{Tree, leaf, node}
-use Rattle.pddl_tree.specs.Words.{IsKeyword}
+use Rattle.pddl_token.specs.Trees.{Tree, leaf, node}
+use Rattle.pddl_token.specs.TreeWords.{IsKeyword}
 use Rattle.pddl_tree.specs.Inner.TreeReading.{name_at, keyword_by, is_keyword_at}
 use Rattle.pddl_tree.proofs.Options.{map_some, bind_some, both_some, test_cases}
 use Rattle.pddl_tree.proofs.Readers.{name_reads, keyword_sound}

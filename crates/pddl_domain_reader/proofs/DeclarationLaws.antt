@@ -1,8 +1,8 @@
 -- Declarations are read as they are spelled.
 use Rattle.std.proofs.Common.{◌≡◌, ℕ, false, List, [], ◌∷◌, refl, ap, ◌∙◌, subst, codes}
 use Rattle.std.specs.Prelude.{Option, Some, option_map}
-use Rattle.pddl_text.specs.Trees.{Tree, leaf, node, list_of}
-use Rattle.pddl_tree.specs.Words.{list, SpellsName}
+use Rattle.pddl_token.specs.Trees.{Tree, leaf, node, list_of}
+use Rattle.pddl_token.specs.TreeWords.{list, SpellsName}
 use Rattle.pddl_tree.specs.Inner.TreeReading.{name_at, is_dash}
 use Rattle.pddl_tree.proofs.Options.{map_some, bind_some}
 use Rattle.pddl_tree.proofs.TreeLists.{list_of_trees_of, trees_of_list_of}

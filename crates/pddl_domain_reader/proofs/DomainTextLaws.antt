@@ -2,7 +2,7 @@
 use Rattle.std.proofs.Common.{◌≡◌, ℕ, List, sym, ap, ◌∙◌, subst, codes}
 use Rattle.std.specs.Prelude.{◌≢◌, []}
 use Rattle.pddl_text.specs.declared.fault.TextFault.TheVariants.{Memory}
-use Rattle.pddl_text.specs.Trees.{Placed}
+use Rattle.pddl_token.specs.Trees.{Placed}
 use Rattle.pddl_text.specs.Texts.{HasItems}
 use Rattle.pddl_text.proofs.TextItems.{one_items}
 use Rattle.pddl_sections.proofs.FileLaws.{one_file}

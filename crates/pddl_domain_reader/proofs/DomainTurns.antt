@@ -6,8 +6,8 @@ use Rattle.std.proofs.lemmas.List.{append-nil}
 use Rattle.std.proofs.lemmas.Grind.{flat_map-append}
 use Rattle.pddl_text.specs.declared.item.Item.{Item}
 use Rattle.pddl_text.specs.Items.{item_view, items_view}
-use Rattle.pddl_text.specs.Trees.{Tree, Placed}
-use Rattle.pddl_tree.specs.Words.{list}
+use Rattle.pddl_token.specs.Trees.{Tree, Placed}
+use Rattle.pddl_token.specs.TreeWords.{list}
 use Rattle.pddl_tree.specs.ItemTrees.{item_tree, item_trees}
 use Rattle.pddl_tree.proofs.TreeLists.{list_of_trees_of}
 use Rattle.pddl_tree.proofs.Options.{map_some}

@@ -1,8 +1,8 @@
 -- Sections of a domain are read as they are spelled.
 use Rattle.std.proofs.Common.{◌≡◌, List, [], ◌∷◌, map, refl, sym, ap, ◌∙◌, subst}
 use Rattle.std.specs.Prelude.{Option, Some, None, option_map}
-use Rattle.pddl_text.specs.Trees.{Tree, leaf, node, list_of}
-use Rattle.pddl_tree.specs.Words.{list}
+use Rattle.pddl_token.specs.Trees.{Tree, leaf, node, list_of}
+use Rattle.pddl_token.specs.TreeWords.{list}
 use Rattle.pddl_tree.specs.Inner.TreeReading.{all_of}
 use Rattle.pddl_tree.proofs.Options.{map_some}
 use Rattle.pddl_tree.proofs.TreeLists.{list_of_trees_of, trees_of_list_of}

@@ -2,9 +2,9 @@
 -- in any order is own).
 use Rattle.std.specs.Prelude.{◌≡◌, ℕ, List, [], ◌∷◌, codes}
 use Rattle.std.specs.List.{flat_map}
-use Rattle.pddl_text.specs.Trees.{Tree, Placed}
+use Rattle.pddl_token.specs.Trees.{Tree, Placed}
 use Rattle.pddl_text.specs.Texts.{HasItems}
-use Rattle.pddl_tree.specs.Words.{Each}
+use Rattle.pddl_token.specs.TreeWords.{Each}
 use Rattle.pddl_formula.specs.TypedLists.{TypedValue, AreTypedNames}
 use Rattle.pddl_sections.specs.Sections.{Rules}
 use Rattle.pddl_sections.specs.Files.{IsFile}

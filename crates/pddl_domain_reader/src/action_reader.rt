@@ -19,7 +19,7 @@ use pddl_effect_reader::whole_effect_of;
 use pddl_formula::{Formula, Typed};
 use pddl_formula_reader::{condition_of, is_keyword_item, name_of, variables_of};
 use pddl_text::Item;
-use pddl_tree::Name;
+use pddl_token::Name;
 use std::alloc::{AllocError, Allocator};
 
 /// The fields of an action that stood so far.

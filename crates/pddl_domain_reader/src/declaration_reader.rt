@@ -14,7 +14,7 @@ use pddl_formula_reader::{
     is_dash, name_of, predicate_of, type_name_of, type_of, typed_variables_of,
 };
 use pddl_text::Item;
-use pddl_tree::Name;
+use pddl_token::Name;
 use std::alloc::{AllocError, Allocator};
 use std::rc::Rc;
 

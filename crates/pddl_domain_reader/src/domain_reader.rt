@@ -17,7 +17,7 @@ use pddl_domain::Domain;
 use pddl_file::FileFault;
 use pddl_sections::open_file;
 use pddl_text::{Item, LONGEST, items_of};
-use pddl_tree::Name;
+use pddl_token::Name;
 use std::alloc::Allocator;
 
 /// The domain of this name that has nothing.

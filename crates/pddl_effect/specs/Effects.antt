@@ -1,8 +1,8 @@
 -- Effects, and the trees that spell them (Kovacs, `<effect>`, with `:conditional-effects` and `:action-costs`; that effects nest
 -- freely is own).
 use Rattle.std.specs.Prelude.{◌≡◌, ◌≢◌, ◌⊎◌, ℕ, List, [], ◌∷◌, map, codes}
-use Rattle.pddl_text.specs.Trees.{Tree}
-use Rattle.pddl_tree.specs.Words.{list, IsWord, SpellsName, Each, SpellsNumber}
+use Rattle.pddl_token.specs.Trees.{Tree}
+use Rattle.pddl_token.specs.TreeWords.{list, IsWord, SpellsName, Each, SpellsNumber}
 use Rattle.pddl_formula.specs.Terms.{TermValue, AtomValue, term_view, atom_view, IsTerm, IsAtom}
 use Rattle.pddl_formula.specs.TypedLists.{TypedValue, typed_view, IsVariableList}
 use Rattle.pddl_formula.specs.Formulas.{FormulaValue, formula_view, IsFormula}

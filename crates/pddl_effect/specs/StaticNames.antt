@@ -1,7 +1,7 @@
 -- Names of functions that no effect changes.
 use Rattle.std.specs.Prelude.{ℕ, List, Bool, ◌&&◌, not, Option, Some, None, if◌then◌else◌, codes}
 use Rattle.std.specs.Str.{bytes_eq}
-use Rattle.pddl_tree.specs.Names.{is_name}
+use Rattle.pddl_token.specs.Names.{is_name}
 
 -- the name of a function whose values stay as a problem gives them: a name other than `total-cost`, which alone is increased (own)
 abbrev pub is_static_function : List ℕ → Bool

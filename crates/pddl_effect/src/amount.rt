@@ -4,8 +4,7 @@ ghost use Rattle.std.specs.Prelude.{◌≡◌, IsTrue};
 ghost use Rattle.pddl_effect.specs.StaticNames.{is_static_function, static_function_of};
 
 use pddl_formula::Term;
-use pddl_text::Fixed;
-use pddl_tree::Name;
+use pddl_token::{Fixed, Name};
 use std::alloc::Allocator;
 use std::marker::Model;
 

@@ -2,12 +2,12 @@
 use Rattle.std.proofs.Common.{◌≡◌, ◌≢◌, inl, inr, ℕ, true, List, [], ◌∷◌, map, refl, sym, ap, ◌∙◌, subst, codes}
 use Rattle.std.specs.Prelude.{Option, Some, None, option_map, option_and_then}
 use Rattle.std.specs.Str.{bytes_eq}
-use Rattle.pddl_text.specs.declared.token.TokenKind.{TokenKind}
-use Rattle.pddl_text.specs.declared.token.TokenKind.TheVariants.{Open, Close, Name, Variable, Keyword, Number, Dash, Equal, Colon, Bracket, Compare, Arithmetic}
-use Rattle.pddl_text.specs.Number.{value_of}
-use Rattle.pddl_text.specs.Trees.{Tree, leaf, node, list_of}
+use Rattle.pddl_token.specs.declared.token.TokenKind.{TokenKind}
+use Rattle.pddl_token.specs.declared.token.TokenKind.TheVariants.{Open, Close, Name, Variable, Keyword, Number, Dash, Equal, Colon, Bracket, Compare, Arithmetic}
+use Rattle.pddl_token.specs.Number.{value_of}
+use Rattle.pddl_token.specs.Trees.{Tree, leaf, node, list_of}
 use Rattle.pddl_tree.specs.Inner.PlanReading.{moment_by}
-use Rattle.pddl_tree.specs.Words.{list, IsWord, SpellsNumber}
+use Rattle.pddl_token.specs.TreeWords.{list, IsWord, SpellsNumber}
 use Rattle.pddl_tree.specs.Inner.TreeReading.{name_at, all_of}
 use Rattle.pddl_tree.proofs.Options.{map_some, bind_some, if_some, unless_some}
 use Rattle.pddl_tree.proofs.TreeLists.{list_of_trees_of, trees_of_list_of}

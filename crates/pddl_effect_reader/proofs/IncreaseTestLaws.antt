@@ -5,14 +5,14 @@ use Rattle.std.specs.List.{list_all}
 use Rattle.std.specs.Char.{to_ascii_lowercase}
 use Rattle.std.specs.Str.{bytes_eq}
 use Rattle.std.proofs.lemmas.Bool.{eqb-true, not-true}
-use Rattle.pddl_text.specs.declared.token.TokenKind.{TokenKind}
-use Rattle.pddl_text.specs.declared.token.TokenKind.TheVariants.{Open, Close, Name, Variable, Keyword, Number, Dash, Equal, Colon, Bracket, Compare, Arithmetic}
-use Rattle.pddl_text.specs.Number.{value_of}
-use Rattle.pddl_text.specs.Spelling.{Word}
-use Rattle.pddl_text.specs.Trees.{Tree, leaf, node, list_of}
-use Rattle.pddl_text.proofs.Tests.{both_true}
-use Rattle.pddl_tree.specs.Names.{folded, is_name, is_first_byte, is_later_byte}
-use Rattle.pddl_tree.specs.Words.{list, SpellsName, Each}
+use Rattle.pddl_token.specs.declared.token.TokenKind.{TokenKind}
+use Rattle.pddl_token.specs.declared.token.TokenKind.TheVariants.{Open, Close, Name, Variable, Keyword, Number, Dash, Equal, Colon, Bracket, Compare, Arithmetic}
+use Rattle.pddl_token.specs.Number.{value_of}
+use Rattle.pddl_token.specs.Spelling.{Word}
+use Rattle.pddl_token.specs.Trees.{Tree, leaf, node, list_of}
+use Rattle.pddl_token.proofs.Tests.{both_true}
+use Rattle.pddl_token.specs.Names.{folded, is_name, is_first_byte, is_later_byte}
+use Rattle.pddl_token.specs.TreeWords.{list, SpellsName, Each}
 use Rattle.pddl_tree.specs.Inner.TreeReading.{is_word_at}
 use Rattle.pddl_tree.proofs.Readers.{equal_bytes, other_bytes, word_sound, word_complete}
 use Rattle.pddl_tree.proofs.TreeLists.{list_of_trees_of, trees_of_list_of}

@@ -4,7 +4,7 @@ ghost use Rattle.std.specs.Prelude.{◌≡◌, ℕ, [], IfOk, MatchOption, optio
 ghost use Rattle.pddl_build.specs.Results.{map_found, both_of};
 ghost use Rattle.pddl_tree.specs.ItemTrees.{item_tree, item_trees};
 ghost use Rattle.pddl_tree.specs.Inner.TreeReading.{name_at};
-ghost use Rattle.pddl_tree.specs.Words.{SpellsNumber};
+ghost use Rattle.pddl_token.specs.TreeWords.{SpellsNumber};
 ghost use Rattle.pddl_formula_reader.specs.Inner.Reading.{term_at};
 ghost use Rattle.pddl_effect.specs.Effects.{FunctionTermValue, AmountValue, function_term_view, amount_view, IsFunctionTerm, IsAmount};
 ghost use Rattle.pddl_effect.specs.StaticNames.{static_function_of};
@@ -14,7 +14,8 @@ use pddl_build::both;
 use pddl_effect::{Amount, FunctionTerm, StaticFunction};
 use pddl_formula::Term;
 use pddl_formula_reader::{name_of, terms_of};
-use pddl_text::{Fixed, Item, TokenKind, value_of};
+use pddl_text::Item;
+use pddl_token::{Fixed, TokenKind, value_of};
 use std::alloc::{AllocError, Allocator};
 
 /// The number that an item spells, or `None` where it spells none, or one that is out of range (the range is own).

@@ -1,7 +1,7 @@
 //! Effects read from items.
 
 ghost use Rattle.std.specs.Prelude.{◌≡◌, [], Option, Some, IfOk, MatchOption, map, option_map};
-ghost use Rattle.pddl_text.specs.Trees.{Tree};
+ghost use Rattle.pddl_token.specs.Trees.{Tree};
 ghost use Rattle.pddl_tree.specs.ItemTrees.{item_tree, item_trees};
 ghost use Rattle.pddl_tree.specs.Inner.TreeReading.{all_of};
 ghost use Rattle.pddl_build.specs.Results.{map_found, both_of, Pushed};

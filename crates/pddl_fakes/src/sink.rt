@@ -2,7 +2,7 @@
 
 ghost use Rattle.std.specs.Prelude.{◌≡◌, ◌<◌, [], Some};
 
-use pddl_text::{DeviceFault, Sink};
+use pddl_device::{DeviceFault, Sink};
 use std::alloc::Allocator;
 
 /// How a writer fails.

@@ -2,7 +2,7 @@
 
 ghost use Rattle.std.specs.Prelude.{◌≡◌, ◌<◌, Some, false};
 
-use pddl_text::{DeviceFault, Source};
+use pddl_device::{DeviceFault, Source};
 
 /// A reader of a text, which gives at most so many bytes at a time and fails at one of its reads.
 #[derive(Debug, Drop)]

@@ -5,8 +5,7 @@ ghost use Rattle.pddl_formula.specs.Terms.{term_view};
 ghost use Rattle.pddl_faults.specs.Parts.{term_in, term_name, terms_in};
 
 use pddl_formula::{Term, Typed};
-use pddl_text::Fixed;
-use pddl_tree::Name;
+use pddl_token::{Fixed, Name};
 use std::alloc::Allocator;
 
 /// A term, lent by its name.

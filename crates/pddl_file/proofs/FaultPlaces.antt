@@ -1,8 +1,8 @@
 -- A fault of a file stands in its text.
 use Rattle.std.proofs.Common.{◌≡◌, ℕ, ◌≤◌, List, [], ◌∷◌, ◌++◌, length, ap, subst, arith}
 use Rattle.std.specs.Prelude.{Some}
-use Rattle.pddl_text.specs.declared.token.Span.{Span}
-use Rattle.pddl_text.specs.Trees.{Placed, placed_leaf, placed_node, PlacedList, no_placed, placed_tree, placed_of}
+use Rattle.pddl_token.specs.declared.token.Span.{Span}
+use Rattle.pddl_token.specs.Trees.{Placed, placed_leaf, placed_node, PlacedList, no_placed, placed_tree, placed_of}
 use Rattle.pddl_text.proofs.FaultPlaces.{StartsIn, AllStartIn, items_inside, IsInside, text_inside}
 use Rattle.pddl_tree.specs.PlanFaults.{span_of}
 use Rattle.pddl_tree.proofs.FaultPlaces.{starts_by, rest_of}

@@ -3,7 +3,7 @@ use Rattle.std.proofs.Common.{◌≡◌, ℕ, List, refl, sym, ap, ◌∙◌, su
 use Rattle.std.specs.Prelude.{◌≢◌, ◌⊎◌}
 use Rattle.pddl_text.specs.declared.fault.TextFault.{TextFault}
 use Rattle.pddl_text.specs.declared.fault.TextFault.TheVariants.{Memory}
-use Rattle.pddl_text.specs.Trees.{Placed}
+use Rattle.pddl_token.specs.Trees.{Placed}
 use Rattle.pddl_text.specs.Texts.{HasItems, TextStands}
 use Rattle.pddl_text.proofs.TextItems.{one_items}
 use Rattle.pddl_text.proofs.TextFaults.{one_text_fault, no_fault_in_items}

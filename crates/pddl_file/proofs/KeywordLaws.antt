@@ -3,12 +3,12 @@ use Rattle.std.proofs.Common.{◌≡◌, ℕ, true, false, List, [], ◌∷◌, 
 use Rattle.std.specs.Prelude.{Some, ◌⊎◌, ◌==◌, IsTrue}
 use Rattle.std.proofs.lemmas.Bool.{eqb-true}
 use Rattle.std.specs.Str.{bytes_eq}
-use Rattle.pddl_text.specs.declared.token.TokenKind.{TokenKind}
-use Rattle.pddl_text.specs.declared.token.TokenKind.TheVariants.{Open, Close, Name, Variable, Keyword, Number, Dash, Equal, Colon, Bracket, Compare, Arithmetic}
-use Rattle.pddl_text.specs.Spelling.{Word}
-use Rattle.pddl_text.specs.Trees.{Tree, leaf, node, trees_of, list_of}
-use Rattle.pddl_tree.specs.Names.{folded, is_name, name_of}
-use Rattle.pddl_tree.specs.Words.{list, IsKeyword}
+use Rattle.pddl_token.specs.declared.token.TokenKind.{TokenKind}
+use Rattle.pddl_token.specs.declared.token.TokenKind.TheVariants.{Open, Close, Name, Variable, Keyword, Number, Dash, Equal, Colon, Bracket, Compare, Arithmetic}
+use Rattle.pddl_token.specs.Spelling.{Word}
+use Rattle.pddl_token.specs.Trees.{Tree, leaf, node, trees_of, list_of}
+use Rattle.pddl_token.specs.Names.{folded, is_name, name_of}
+use Rattle.pddl_token.specs.TreeWords.{list, IsKeyword}
 use Rattle.pddl_tree.proofs.Options.{if_some, test_cases}
 use Rattle.pddl_tree.proofs.TreeLists.{list_of_trees_of, trees_of_list_of}
 use Rattle.pddl_tree.proofs.Readers.{Reads, same_bytes, name_of_some, name_of_is}

@@ -2,12 +2,12 @@
 use Rattle.std.proofs.Common.{◌≡◌, ℕ, Bool, true, List, [], ◌∷◌, refl, sym, ap, ◌∙◌, subst, codes, inl, inr}
 use Rattle.std.specs.Prelude.{Option, Some, None, ◌⊎◌, if◌then◌else◌}
 use Rattle.std.specs.Str.{bytes_eq}
-use Rattle.pddl_text.specs.declared.token.TokenKind.{TokenKind}
-use Rattle.pddl_text.specs.declared.token.TokenKind.TheVariants.{Open, Close, Name, Variable, Keyword, Number, Dash, Equal, Colon, Bracket, Compare, Arithmetic}
-use Rattle.pddl_text.specs.Spelling.{Word}
-use Rattle.pddl_text.specs.Trees.{Tree, leaf, node, list_of}
-use Rattle.pddl_tree.specs.Names.{folded}
-use Rattle.pddl_tree.specs.Words.{list, IsWord}
+use Rattle.pddl_token.specs.declared.token.TokenKind.{TokenKind}
+use Rattle.pddl_token.specs.declared.token.TokenKind.TheVariants.{Open, Close, Name, Variable, Keyword, Number, Dash, Equal, Colon, Bracket, Compare, Arithmetic}
+use Rattle.pddl_token.specs.Spelling.{Word}
+use Rattle.pddl_token.specs.Trees.{Tree, leaf, node, list_of}
+use Rattle.pddl_token.specs.Names.{folded}
+use Rattle.pddl_token.specs.TreeWords.{list, IsWord}
 use Rattle.pddl_tree.proofs.Options.{if_some, test_cases}
 use Rattle.pddl_tree.proofs.TreeLists.{list_of_trees_of, trees_of_list_of}
 use Rattle.pddl_tree.proofs.Readers.{Reads, same_bytes}

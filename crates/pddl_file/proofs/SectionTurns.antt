@@ -1,9 +1,9 @@
 -- What the code that reads sections answers, from one section to the whole file, for any readers of sections.
 use Rattle.std.proofs.Common.{◌≡◌, ℕ, ◌+◌, ◌<◌, ◌≤◌, Bool, true, false, List, [], ◌∷◌, ◌++◌, length, get_or, drop, Option, Some, None, Ok, Err, sym, ap, ◌∙◌}
 use Rattle.std.specs.Prelude.{if◌then◌else◌}
-use Rattle.pddl_text.specs.declared.token.Span.{Span}
+use Rattle.pddl_token.specs.declared.token.Span.{Span}
 use Rattle.pddl_text.specs.declared.item.Item.{Item}
-use Rattle.pddl_text.specs.Trees.{Placed}
+use Rattle.pddl_token.specs.Trees.{Placed}
 use Rattle.pddl_text.specs.Items.{item_view, items_view}
 use Rattle.pddl_tree.specs.ItemTrees.{item_tree}
 use Rattle.pddl_tree.specs.PlanFaults.{span_of}

@@ -2,17 +2,17 @@
 use Rattle.std.proofs.Common.{◌≡◌, ℕ, ◌≤◌, Bool, true, false, List, [], ◌∷◌, length, get_or, drop, Vec, Option, Some, None, refl, sym, ap, ◌∙◌, subst, arith, codes}
 use Rattle.std.specs.Bool.{then_some}
 use Rattle.std.specs.Prelude.{IsTrue, MatchOption, ◌↔◌, flat_map, not, if◌then◌else◌}
-use Rattle.pddl_text.specs.declared.token.Span.{Span}
-use Rattle.pddl_text.specs.declared.token.TokenKind.{TokenKind}
-use Rattle.pddl_text.specs.declared.token.TokenKind.TheVariants.{Open, Close, Name, Variable, Keyword, Number, Dash, Equal, Colon, Bracket, Compare, Arithmetic}
+use Rattle.pddl_token.specs.declared.token.Span.{Span}
+use Rattle.pddl_token.specs.declared.token.TokenKind.{TokenKind}
+use Rattle.pddl_token.specs.declared.token.TokenKind.TheVariants.{Open, Close, Name, Variable, Keyword, Number, Dash, Equal, Colon, Bracket, Compare, Arithmetic}
 use Rattle.pddl_text.specs.declared.item.Item.{Item}
 use Rattle.pddl_text.specs.declared.item.Item.TheVariants.{List as Group, Word as Leaf}
-use Rattle.pddl_text.specs.declared.token.Token.{Token}
-use Rattle.pddl_text.specs.Spelling.{view}
-use Rattle.pddl_text.specs.Trees.{Tree, leaf, unplaced}
+use Rattle.pddl_token.specs.declared.token.Token.{Token}
+use Rattle.pddl_token.specs.Spelling.{view}
+use Rattle.pddl_token.specs.Trees.{Tree, leaf, unplaced}
 use Rattle.pddl_text.specs.Items.{item_view, items_view}
-use Rattle.pddl_tree.specs.Names.{folded}
-use Rattle.pddl_tree.specs.Words.{list, IsWord}
+use Rattle.pddl_token.specs.Names.{folded}
+use Rattle.pddl_token.specs.TreeWords.{list, IsWord}
 use Rattle.pddl_tree.specs.ItemTrees.{item_tree, item_trees}
 use Rattle.pddl_tree.specs.Inner.TreeReading.{is_word_at, word_by}
 use Rattle.pddl_tree.proofs.Readers.{word_sound}

@@ -1,6 +1,6 @@
 -- What is wrong with a text that is no domain, or no problem. Own.
 use Rattle.std.specs.Prelude.{◌≡◌, ℕ, List}
-use Rattle.pddl_text.specs.Trees.{Placed}
+use Rattle.pddl_token.specs.Trees.{Placed}
 use Rattle.pddl_text.specs.Texts.{HasItems, TextStands}
 use Rattle.pddl_sections.specs.Sections.{Rules, faulty, unsupported, twice}
 use Rattle.pddl_sections.specs.Files.{FileFault as WhatFault, head, at_section, missing, HasFault}

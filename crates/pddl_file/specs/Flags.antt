@@ -1,8 +1,8 @@
 -- Flags of `:requirements`.
 use Rattle.std.specs.Prelude.{◌≡◌, ℕ, List, ◌++◌, IsTrue, codes}
-use Rattle.pddl_text.specs.declared.token.TokenKind.TheVariants.{Keyword}
-use Rattle.pddl_text.specs.Trees.{Tree, leaf, node}
-use Rattle.pddl_tree.specs.Names.{folded, is_name}
+use Rattle.pddl_token.specs.declared.token.TokenKind.TheVariants.{Keyword}
+use Rattle.pddl_token.specs.Trees.{Tree, leaf, node}
+use Rattle.pddl_token.specs.Names.{folded, is_name}
 
 -- a keyword, by its name without the colon (Kovacs, `<require-key>`; that any keyword is a flag is own)
 abbrev pub IsFlag : List ℕ → Tree → Type 0

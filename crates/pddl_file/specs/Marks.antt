@@ -1,9 +1,9 @@
 -- Lists that are refused by name, where their section spells nothing: features of PDDL that are left out. Own.
 use Rattle.std.specs.Prelude.{◌≡◌, ℕ, List, ◌∷◌, codes}
-use Rattle.pddl_text.specs.declared.token.TokenKind.TheVariants.{Number}
-use Rattle.pddl_text.specs.Trees.{Tree, leaf, node}
-use Rattle.pddl_tree.specs.Names.{folded}
-use Rattle.pddl_tree.specs.Words.{list, IsWord}
+use Rattle.pddl_token.specs.declared.token.TokenKind.TheVariants.{Number}
+use Rattle.pddl_token.specs.Trees.{Tree, leaf, node}
+use Rattle.pddl_token.specs.Names.{folded}
+use Rattle.pddl_token.specs.TreeWords.{list, IsWord}
 use Rattle.pddl_effect.specs.Effects.{AmountValue, IsIncrease}
 use Rattle.pddl_file.specs.Keywords.{IsHeaded}
 use Rattle.pddl_file.specs.declared.keyword.SectionKeyword.TheVariants as keys

@@ -7,7 +7,8 @@ ghost use Rattle.pddl_file.specs.Places.{file_place};
 
 use crate::keyword::SectionKeyword;
 use crate::mark::Mark;
-use pddl_text::{Span, TextFault};
+use pddl_text::TextFault;
+use pddl_token::Span;
 use std::alloc::{AllocError, AllocFailed};
 use thiserror::Error;
 

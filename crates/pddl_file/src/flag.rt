@@ -5,8 +5,8 @@ ghost use Rattle.pddl_tree.specs.ItemTrees.{item_tree, item_trees};
 ghost use Rattle.pddl_tree.specs.Inner.TreeReading.{all_of};
 ghost use Rattle.pddl_file.specs.Inner.WordReading.{flag_name, flag_at};
 
-use pddl_text::{Item, TokenKind};
-use pddl_tree::Name;
+use pddl_text::Item;
+use pddl_token::{Name, TokenKind};
 use std::alloc::{AllocError, Allocator};
 
 /// The flag that an item spells, by its name without `:`, or `None` where it spells none (Kovacs, `<require-key>`; that any

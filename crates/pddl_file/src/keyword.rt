@@ -1,13 +1,14 @@
 //! Keywords of sections, and which of them stood.
 
 ghost use Rattle.std.specs.Prelude.{◌≡◌, MatchOption};
-ghost use Rattle.pddl_tree.specs.Names.{folded};
+ghost use Rattle.pddl_token.specs.Names.{folded};
 ghost use Rattle.pddl_tree.specs.ItemTrees.{item_tree, item_trees};
 ghost use Rattle.pddl_file.specs.Keywords.{key_text, IsHeaded};
 ghost use Rattle.pddl_file.specs.Inner.WordReading.{key_of, head_key, list_key, key_at, nothing_seen, has_seen, with_seen};
 
 use pddl_formula_reader::is_word;
-use pddl_text::{Item, TokenKind};
+use pddl_text::Item;
+use pddl_token::TokenKind;
 use std::alloc::Allocator;
 
 /// The keyword of a section of a domain or a problem (Kovacs, BNF definition of PDDL 3.1).

@@ -1,8 +1,8 @@
 //! What holds of trees that are flags, begin sections, or are refused by name, whatever code reads them.
 
 ghost use Rattle.std.specs.Prelude.{◌≡◌, ◌↔◌, ℕ, List, Some};
-ghost use Rattle.pddl_text.specs.Trees.{Tree};
-ghost use Rattle.pddl_tree.specs.Words.{IsKeyword};
+ghost use Rattle.pddl_token.specs.Trees.{Tree};
+ghost use Rattle.pddl_token.specs.TreeWords.{IsKeyword};
 ghost use Rattle.pddl_file.specs.declared.keyword.SectionKeyword.{SectionKeyword};
 ghost use Rattle.pddl_file.specs.declared.mark.Mark.{Mark};
 ghost use Rattle.pddl_file.specs.Flags.{IsFlag};

@@ -2,7 +2,7 @@
 
 ghost use Rattle.std.specs.Prelude.{◌≡◌, flat_map};
 ghost use Rattle.pddl_text.specs.Items.{item_view, items_view};
-ghost use Rattle.pddl_tree.specs.Names.{folded};
+ghost use Rattle.pddl_token.specs.Names.{folded};
 ghost use Rattle.pddl_tree.specs.ItemTrees.{item_trees};
 ghost use Rattle.pddl_sections.specs.Sections.{lists_in};
 ghost use Rattle.pddl_sections.specs.Inner.Verdicts.{first_mark};
@@ -11,7 +11,8 @@ ghost use Rattle.pddl_file.specs.Inner.WordReading.{plain_mark, is_number_first,
 
 use pddl_effect_reader::is_increase;
 use pddl_formula_reader::{is_word, is_word_item};
-use pddl_text::{Item, Span, TokenKind};
+use pddl_text::Item;
+use pddl_token::{Span, TokenKind};
 use std::alloc::Allocator;
 
 /// A word that marks a list as a feature of PDDL that is left out.

@@ -2,9 +2,9 @@
 use Rattle.std.proofs.Common.{◌≡◌, ℕ, ◌+◌, ◌≤◌, ◌<◌, List, [], ◌∷◌, ◌++◌, map, refl, sym, ap, ◌∙◌, subst, arith, inl, inr, codes}
 use Rattle.std.specs.Prelude.{◌⊎◌, Some}
 use Rattle.std.specs.List.{flat_map}
-use Rattle.pddl_text.specs.declared.token.Span.{Span}
-use Rattle.pddl_text.specs.Trees.{Tree, Placed, placed_leaf, placed_node, placed_of, erased, all_erased}
-use Rattle.pddl_tree.specs.Words.{list, Each, IsWord}
+use Rattle.pddl_token.specs.declared.token.Span.{Span}
+use Rattle.pddl_token.specs.Trees.{Tree, Placed, placed_leaf, placed_node, placed_of, erased, all_erased}
+use Rattle.pddl_token.specs.TreeWords.{list, Each, IsWord}
 use Rattle.pddl_tree.specs.Inner.PlanReading.{placed_items}
 use Rattle.pddl_tree.proofs.TreeLists.{all_erased_list}
 use Rattle.pddl_sections.specs.Sections.{AnyOf, AllOf}

@@ -1,14 +1,14 @@
 -- The canonical text of a domain reads back as the domain.
 use Rattle.std.proofs.Common.{◌≡◌, ℕ, ◌≤◌, true, ◌&&◌, List, [], ◌∷◌, ◌++◌, length, map, refl, sym, ap, ap₂, ◌∙◌, subst, codes, append_assoc, append-nil}
 use Rattle.std.specs.List.{flat_map, list_all}
-use Rattle.pddl_text.specs.Spelling.{Word}
-use Rattle.pddl_text.specs.Trees.{Tree, Placed, no_trees, tree, trees_of}
+use Rattle.pddl_token.specs.Spelling.{Word}
+use Rattle.pddl_token.specs.Trees.{Tree, Placed, no_trees, tree, trees_of}
 use Rattle.pddl_text.specs.Pieces.{Piece, token, blanks, pieces_text, tokens_of, AreWritten, opening_word, closing_word, tree_words, trees_words, IsWritable, IsWithin, tree_pieces, tree_text}
 use Rattle.pddl_text.specs.Texts.{HasItems, ReadsAs}
 use Rattle.pddl_text.proofs.Written.{pieces_append, written_append, tokens_append, tree_written, tree_tokens}
 use Rattle.pddl_text.proofs.Listed.{reads_back}
 use Rattle.pddl_text.proofs.Levels.{levels_as_read}
-use Rattle.pddl_tree.specs.Names.{is_name}
+use Rattle.pddl_token.specs.Names.{is_name}
 use Rattle.pddl_formula.specs.Reserved.{is_predicate, is_type_name, is_type}
 use Rattle.pddl_domain.specs.Declarations.{TypeValue, Signature, FunctionValue}
 use Rattle.pddl_domain.specs.Actions.{ActionValue}

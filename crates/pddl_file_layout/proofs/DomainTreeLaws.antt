@@ -1,9 +1,9 @@
 -- The canonical tree of a domain spells it.
 use Rattle.std.proofs.Common.{◌≡◌, ℕ, true, ◌&&◌, List, [], ◌∷◌, ◌++◌, map, refl, sym, ap, ◌∙◌, subst, codes, inl, append_assoc, append-nil, arith}
 use Rattle.std.specs.List.{list_all}
-use Rattle.pddl_text.specs.Trees.{Tree, Placed, erased}
-use Rattle.pddl_tree.specs.Names.{is_name}
-use Rattle.pddl_tree.specs.Words.{list, Each}
+use Rattle.pddl_token.specs.Trees.{Tree, Placed, erased}
+use Rattle.pddl_token.specs.Names.{is_name}
+use Rattle.pddl_token.specs.TreeWords.{list, Each}
 use Rattle.pddl_formula.specs.Reserved.{is_predicate, is_type_name, is_type}
 use Rattle.pddl_formula.specs.TypedLists.{TypedValue, untyped}
 use Rattle.pddl_sections.specs.Sections.{Fits}

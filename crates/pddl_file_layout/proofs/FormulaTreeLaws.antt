@@ -6,11 +6,11 @@ use Rattle.std.proofs.lemmas.Bool.Decides.{nat_tests}
 use Rattle.std.specs.List.{list_all}
 use Rattle.std.specs.Str.{bytes_eq}
 use Rattle.std.specs.Char.{to_ascii_lowercase}
-use Rattle.pddl_text.specs.Number.{largest}
-use Rattle.pddl_text.specs.Trees.{Tree}
-use Rattle.pddl_text.proofs.NumberTexts.{reads_as_it}
-use Rattle.pddl_tree.specs.Names.{folded, is_first_byte, is_later_byte, is_name}
-use Rattle.pddl_tree.specs.Words.{list, IsWord, SpellsName, SpellsVariable, Each}
+use Rattle.pddl_token.specs.Number.{largest}
+use Rattle.pddl_token.specs.Trees.{Tree}
+use Rattle.pddl_token.proofs.NumberTexts.{reads_as_it}
+use Rattle.pddl_token.specs.Names.{folded, is_first_byte, is_later_byte, is_name}
+use Rattle.pddl_token.specs.TreeWords.{list, IsWord, SpellsName, SpellsVariable, Each}
 use Rattle.pddl_tree.proofs.Readers.{equal_bytes}
 use Rattle.pddl_formula.specs.Reserved.{reserved, is_none_of, is_predicate, is_type_name, is_type}
 use Rattle.pddl_formula.specs.Terms.{TermValue, name, variable, AtomValue, IsTerm, IsPredicate, IsAtom}

@@ -2,9 +2,9 @@
 use Rattle.std.proofs.Common.{◌≡◌, ℕ, Bool, true, false, ◌&&◌, List, [], ◌∷◌, map, refl, ap, ◌∙◌, codes}
 use Rattle.std.specs.List.{flat_map, list_all}
 use Rattle.std.proofs.lemmas.Bool.{and_from}
-use Rattle.pddl_text.specs.Trees.{Tree, leaf, node, Placed, erased}
-use Rattle.pddl_tree.specs.Names.{is_name}
-use Rattle.pddl_tree.specs.Words.{Each}
+use Rattle.pddl_token.specs.Trees.{Tree, leaf, node, Placed, erased}
+use Rattle.pddl_token.specs.Names.{is_name}
+use Rattle.pddl_token.specs.TreeWords.{Each}
 use Rattle.pddl_tree.proofs.Readers.{each_good}
 use Rattle.pddl_formula.specs.Reserved.{is_predicate, is_type_name, is_type}
 use Rattle.pddl_formula.specs.TypedLists.{IsTypeName, IsType}

@@ -5,12 +5,12 @@ use Rattle.std.specs.List.{list_all}
 use Rattle.std.proofs.lemmas.Bool.Decides.{nat_tests}
 use Rattle.std.specs.Str.{bytes_eq}
 use Rattle.std.proofs.lemmas.Bool.{and_from}
-use Rattle.pddl_text.specs.Number.{largest}
-use Rattle.pddl_text.specs.Trees.{Tree, leaf, node}
-use Rattle.pddl_text.proofs.Tests.{both_true}
-use Rattle.pddl_text.proofs.Values.{value_in_range}
-use Rattle.pddl_tree.specs.Names.{is_name}
-use Rattle.pddl_tree.specs.Words.{SpellsName, SpellsVariable, SpellsNumber}
+use Rattle.pddl_token.specs.Number.{largest}
+use Rattle.pddl_token.specs.Trees.{Tree, leaf, node}
+use Rattle.pddl_token.proofs.Tests.{both_true}
+use Rattle.pddl_token.proofs.Values.{value_in_range}
+use Rattle.pddl_token.specs.Names.{is_name}
+use Rattle.pddl_token.specs.TreeWords.{SpellsName, SpellsVariable, SpellsNumber}
 use Rattle.pddl_tree.proofs.Readers.{other_bytes, each_good}
 use Rattle.pddl_formula.specs.Reserved.{reserved, is_none_of, is_predicate, is_type_name, is_type}
 use Rattle.pddl_formula.specs.Terms.{TermValue, name, variable, AtomValue, IsTerm, IsPredicate, IsAtom}

@@ -3,10 +3,10 @@ use Rattle.std.proofs.Common.{◌≡◌, Bool, true, false, ◌&&◌, List, [], 
 use Rattle.std.specs.Prelude.{nat_le, Option, Some, None, option_to_list}
 use Rattle.std.specs.List.{flat_map, list_all}
 use Rattle.std.proofs.lemmas.Bool.{and_from}
-use Rattle.pddl_text.specs.Number.{largest}
-use Rattle.pddl_text.specs.Trees.{Tree, Placed, erased}
-use Rattle.pddl_tree.specs.Names.{is_name}
-use Rattle.pddl_tree.specs.Words.{SpellsName, Each}
+use Rattle.pddl_token.specs.Number.{largest}
+use Rattle.pddl_token.specs.Trees.{Tree, Placed, erased}
+use Rattle.pddl_token.specs.Names.{is_name}
+use Rattle.pddl_token.specs.TreeWords.{SpellsName, Each}
 use Rattle.pddl_tree.proofs.Readers.{each_good}
 use Rattle.pddl_formula.specs.Reserved.{is_predicate}
 use Rattle.pddl_file.specs.Flags.{IsFlag}

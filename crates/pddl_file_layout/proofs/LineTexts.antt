@@ -3,9 +3,9 @@ use Rattle.std.proofs.Common.{◌≡◌, ℕ, List, [], ◌∷◌, ◌++◌, map
 use Rattle.std.specs.Prelude.{Option, Some, None}
 use Rattle.std.specs.List.{flat_map}
 use Rattle.std.proofs.lemmas.Grind.{flat_map-append}
-use Rattle.pddl_text.specs.Trees.{Tree}
+use Rattle.pddl_token.specs.Trees.{Tree}
 use Rattle.pddl_text.specs.Pieces.{tree_text}
-use Rattle.pddl_tree.specs.Words.{list}
+use Rattle.pddl_token.specs.TreeWords.{list}
 use Rattle.pddl_formula.specs.TypedLists.{TypedValue}
 use Rattle.pddl_domain.specs.Declarations.{TypeValue, Signature, FunctionValue}
 use Rattle.pddl_domain.specs.Actions.{ActionValue}

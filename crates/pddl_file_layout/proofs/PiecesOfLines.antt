@@ -1,8 +1,8 @@
 -- Lines of a canonical text: their bytes, their words, and that they can be written.
 use Rattle.std.proofs.Common.{◌≡◌, ℕ, List, [], ◌∷◌, ◌++◌, map, refl, sym, ap, ap₂, ◌∙◌, subst, codes, append_assoc, append-nil}
 use Rattle.std.specs.List.{flat_map}
-use Rattle.pddl_text.specs.Spelling.{Word}
-use Rattle.pddl_text.specs.Trees.{Tree, trees_of}
+use Rattle.pddl_token.specs.Spelling.{Word}
+use Rattle.pddl_token.specs.Trees.{Tree, trees_of}
 use Rattle.pddl_text.specs.Pieces.{Piece, blanks, pieces_text, tokens_of, AreWritten, tree_words, trees_words, IsWritable, tree_pieces}
 use Rattle.pddl_text.proofs.Written.{pieces_append, written_append, tokens_append, tree_written, tree_tokens}
 use Rattle.pddl_sections.specs.Sections.{AllOf}

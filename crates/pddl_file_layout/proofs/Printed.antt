@@ -5,8 +5,8 @@ use Rattle.std.specs.List.{flat_map, list_all}
 use Rattle.std.specs.Io.KnownBytes.{Appends}
 use Rattle.std.proofs.lemmas.List.{take_more, take_all}
 use Rattle.std.proofs.lemmas.Grind.{flat_map-append}
-use Rattle.pddl_text.specs.Device.{AppendsBeginning, HasFailed}
-use Rattle.pddl_text.proofs.Known.{appends_more, beginning_of_more, beginning_after}
+use Rattle.pddl_device.specs.Device.{AppendsBeginning, HasFailed}
+use Rattle.pddl_device.proofs.Known.{appends_more, beginning_of_more, beginning_after}
 use Rattle.pddl_file_layout.specs.Inner.Printing.{PutsBy, Puts}
 use Rattle.pddl_file_layout.specs.Inner.Texts.{spaced_by}
 

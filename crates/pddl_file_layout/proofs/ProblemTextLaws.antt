@@ -2,14 +2,14 @@
 use Rattle.std.proofs.Common.{◌≡◌, ℕ, ◌≤◌, true, List, [], ◌∷◌, ◌++◌, length, map, refl, sym, ap, ◌∙◌, subst, codes, append-nil}
 use Rattle.std.specs.Prelude.{nat_le, Option, Some, None}
 use Rattle.std.specs.List.{list_all}
-use Rattle.pddl_text.specs.Number.{largest}
-use Rattle.pddl_text.specs.Spelling.{Word}
-use Rattle.pddl_text.specs.Trees.{Tree, Placed, no_trees, tree, trees_of}
+use Rattle.pddl_token.specs.Number.{largest}
+use Rattle.pddl_token.specs.Spelling.{Word}
+use Rattle.pddl_token.specs.Trees.{Tree, Placed, no_trees, tree, trees_of}
 use Rattle.pddl_text.specs.Pieces.{pieces_text, tokens_of, AreWritten, opening_word, closing_word, tree_words, trees_words, IsWritable, IsWithin}
 use Rattle.pddl_text.specs.Texts.{HasItems, ReadsAs}
 use Rattle.pddl_text.proofs.Listed.{reads_back}
 use Rattle.pddl_text.proofs.Levels.{levels_as_read}
-use Rattle.pddl_tree.specs.Names.{is_name}
+use Rattle.pddl_token.specs.Names.{is_name}
 use Rattle.pddl_formula.specs.Reserved.{is_predicate}
 use Rattle.pddl_problem.specs.declared.problem.Direction.{Direction}
 use Rattle.pddl_problem.specs.declared.problem.Direction.TheVariants as directions

@@ -3,11 +3,11 @@ use Rattle.std.proofs.Common.{◌≡◌, ℕ, true, ◌&&◌, List, [], ◌∷�
 use Rattle.std.specs.Prelude.{nat_le, Option, Some, None, option_to_list}
 use Rattle.std.specs.List.{flat_map, list_all}
 use Rattle.std.proofs.lemmas.Bool.{leb-true}
-use Rattle.pddl_text.specs.Number.{largest}
-use Rattle.pddl_text.specs.Trees.{Tree, Placed, erased}
-use Rattle.pddl_text.proofs.NumberTexts.{reads_as_it}
-use Rattle.pddl_tree.specs.Names.{is_name}
-use Rattle.pddl_tree.specs.Words.{list, IsWord, SpellsName, Each}
+use Rattle.pddl_token.specs.Number.{largest}
+use Rattle.pddl_token.specs.Trees.{Tree, Placed, erased}
+use Rattle.pddl_token.proofs.NumberTexts.{reads_as_it}
+use Rattle.pddl_token.specs.Names.{is_name}
+use Rattle.pddl_token.specs.TreeWords.{list, IsWord, SpellsName, Each}
 use Rattle.pddl_formula.specs.Reserved.{is_predicate}
 use Rattle.pddl_formula.specs.TypedLists.{TypedValue}
 use Rattle.pddl_formula.specs.Formulas.{FormulaValue}

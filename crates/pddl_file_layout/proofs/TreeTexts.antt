@@ -1,15 +1,15 @@
 -- The text of a tree, piece by piece.
 use Rattle.std.proofs.Common.{◌≡◌, ℕ, List, [], ◌∷◌, ◌++◌, map, refl, sym, ap, ap₂, ◌∙◌, codes, append_assoc, append-nil}
-use Rattle.pddl_text.specs.Trees.{Tree, trees_of}
+use Rattle.pddl_token.specs.Trees.{Tree, trees_of}
 use Rattle.pddl_text.specs.Pieces.{token, closing_word, pieces_text, tree_pieces, later_pieces, tree_text}
 use Rattle.pddl_text.proofs.Written.{pieces_append}
-use Rattle.pddl_tree.specs.Words.{list}
+use Rattle.pddl_token.specs.TreeWords.{list}
 use Rattle.pddl_formula.specs.Terms.{TermValue, name, variable, AtomValue}
 use Rattle.pddl_formula.specs.TypedLists.{TypedValue}
 use Rattle.pddl_formula.specs.Formulas.{FormulaValue, atom, equal, negation, implication, conjunction, disjunction, existential, universal, FormulaValues, no_formulas, formula}
 use Rattle.pddl_effect.specs.Effects as effects
 use Rattle.pddl_effect.specs.Effects.{FunctionTermValue, AmountValue, number, function, EffectValue, EffectValues, no_effects, effect, conditional, addition, deletion, increase}
-use Rattle.pddl_text.specs.NumberText.{number_text}
+use Rattle.pddl_token.specs.NumberText.{number_text}
 use Rattle.pddl_file_layout.specs.FormulaTrees.{name_tree, variable_tree, equal_sign, dash, term_tree, atom_tree, type_tree, typed_trees, variables_tree, formula_tree, formula_trees, function_term_tree, amount_tree, effect_tree, effect_trees}
 use Rattle.pddl_file_layout.specs.Inner.Texts.{spaced_by, word_text, term_text, atom_text, type_text, typed_text, variables_text, formula_text, formulas_text, function_term_text, amount_text, effect_text, effects_text}
 

@@ -7,14 +7,14 @@ use Rattle.std.specs.Str.{bytes_eq}
 use Rattle.std.proofs.lemmas.Bool.{leb-true}
 use Rattle.std.proofs.lemmas.Bool.Decides.{nat_tests}
 use Rattle.std.proofs.lemmas.List.Elements.{All-nil, All-cons}
-use Rattle.pddl_text.specs.Bytes.{is_word_byte}
-use Rattle.pddl_text.specs.Words.{IsName}
-use Rattle.pddl_text.specs.Number.{largest, value_of}
-use Rattle.pddl_text.specs.NumberText.{number_text}
-use Rattle.pddl_text.specs.Trees.{Tree, trees_of}
+use Rattle.pddl_token.specs.Bytes.{is_word_byte}
+use Rattle.pddl_token.specs.Words.{IsName}
+use Rattle.pddl_token.specs.Number.{largest, value_of}
+use Rattle.pddl_token.specs.NumberText.{number_text}
+use Rattle.pddl_token.specs.Trees.{Tree, trees_of}
 use Rattle.pddl_text.specs.Pieces.{IsWellFormed, IsWritable, AreWritable}
-use Rattle.pddl_text.proofs.NumberTexts.{reads_as_it}
-use Rattle.pddl_tree.specs.Names.{is_first_byte, is_later_byte, is_name}
+use Rattle.pddl_token.proofs.NumberTexts.{reads_as_it}
+use Rattle.pddl_token.specs.Names.{is_first_byte, is_later_byte, is_name}
 use Rattle.pddl_formula.specs.Reserved.{reserved, is_none_of, is_predicate, is_type_name, is_type}
 use Rattle.pddl_formula.specs.Terms.{TermValue, name, variable, AtomValue}
 use Rattle.pddl_formula.specs.TypedLists.{TypedValue}

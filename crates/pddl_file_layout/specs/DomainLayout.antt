@@ -1,11 +1,11 @@
 -- The canonical trees and the canonical text of a domain (own).
 use Rattle.std.specs.Prelude.{ℕ, List, [], ◌∷◌, ◌++◌, map, Bool, ◌&&◌, codes}
 use Rattle.std.specs.List.{flat_map, list_all}
-use Rattle.pddl_text.specs.declared.token.TokenKind.TheVariants.{Keyword}
+use Rattle.pddl_token.specs.declared.token.TokenKind.TheVariants.{Keyword}
 use Rattle.pddl_text.specs.Pieces.{tree_text}
-use Rattle.pddl_text.specs.Trees.{Tree, leaf}
-use Rattle.pddl_tree.specs.Names.{is_name}
-use Rattle.pddl_tree.specs.Words.{list}
+use Rattle.pddl_token.specs.Trees.{Tree, leaf}
+use Rattle.pddl_token.specs.Names.{is_name}
+use Rattle.pddl_token.specs.TreeWords.{list}
 use Rattle.pddl_formula.specs.Reserved.{is_predicate, is_type_name, is_type}
 use Rattle.pddl_domain.specs.Declarations.{TypeValue, Signature, FunctionValue}
 use Rattle.pddl_domain.specs.Actions.{ActionValue}

@@ -1,10 +1,10 @@
 -- The canonical trees of terms, typed lists, formulas and effects: the one way in which they are printed (own).
 use Rattle.std.specs.Prelude.{ℕ, List, [], ◌∷◌, ◌++◌, map, codes}
 use Rattle.std.specs.List.{flat_map}
-use Rattle.pddl_text.specs.declared.token.TokenKind.TheVariants.{Name, Variable, Number, Dash, Equal}
-use Rattle.pddl_text.specs.NumberText.{number_text}
-use Rattle.pddl_text.specs.Trees.{Tree, leaf}
-use Rattle.pddl_tree.specs.Words.{list}
+use Rattle.pddl_token.specs.declared.token.TokenKind.TheVariants.{Name, Variable, Number, Dash, Equal}
+use Rattle.pddl_token.specs.NumberText.{number_text}
+use Rattle.pddl_token.specs.Trees.{Tree, leaf}
+use Rattle.pddl_token.specs.TreeWords.{list}
 use Rattle.pddl_formula.specs.Terms.{TermValue, name, variable, AtomValue}
 use Rattle.pddl_formula.specs.TypedLists.{TypedValue}
 use Rattle.pddl_formula.specs.Formulas.{FormulaValue, atom, equal, negation, implication, conjunction, disjunction, existential, universal, FormulaValues, no_formulas, formula}

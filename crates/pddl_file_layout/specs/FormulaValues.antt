@@ -2,8 +2,8 @@
 -- text spells is one of them.
 use Rattle.std.specs.Prelude.{Bool, true, ◌&&◌, nat_le}
 use Rattle.std.specs.List.{list_all}
-use Rattle.pddl_text.specs.Number.{largest}
-use Rattle.pddl_tree.specs.Names.{is_name}
+use Rattle.pddl_token.specs.Number.{largest}
+use Rattle.pddl_token.specs.Names.{is_name}
 use Rattle.pddl_formula.specs.Reserved.{is_predicate, is_type}
 use Rattle.pddl_formula.specs.Terms.{TermValue, name, variable, AtomValue}
 use Rattle.pddl_formula.specs.TypedLists.{TypedValue}

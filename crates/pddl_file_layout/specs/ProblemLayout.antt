@@ -1,10 +1,10 @@
 -- The canonical trees and the canonical text of a problem (own).
 use Rattle.std.specs.Prelude.{ℕ, List, [], ◌∷◌, ◌++◌, map, Bool, true, ◌&&◌, nat_le, Option, Some, None, codes}
 use Rattle.std.specs.List.{flat_map, list_all}
-use Rattle.pddl_text.specs.Number.{largest}
-use Rattle.pddl_text.specs.Trees.{Tree}
-use Rattle.pddl_tree.specs.Names.{is_name}
-use Rattle.pddl_tree.specs.Words.{list}
+use Rattle.pddl_token.specs.Number.{largest}
+use Rattle.pddl_token.specs.Trees.{Tree}
+use Rattle.pddl_token.specs.Names.{is_name}
+use Rattle.pddl_token.specs.TreeWords.{list}
 use Rattle.pddl_formula.specs.Reserved.{is_predicate}
 use Rattle.pddl_problem.specs.Inits.{GroundValue, InitValue, holds, fails, value, MetricValue, direction_word}
 use Rattle.pddl_problem.specs.Problems.{ProblemValue}

@@ -3,7 +3,7 @@
 ghost use Rattle.std.specs.Prelude.{◌≡◌, ◌≤◌, IsTrue, IfOk, OnOk, OnErr, map, vec_len, codes};
 ghost use Rattle.std.specs.List.{list_all, flat_map};
 ghost use Rattle.std.specs.Io.KnownBytes.{Appends};
-ghost use Rattle.pddl_text.specs.Device.{AppendsBeginning, HasFailed};
+ghost use Rattle.pddl_device.specs.Device.{AppendsBeginning, HasFailed};
 ghost use Rattle.pddl_text.specs.Lists.{deepest};
 ghost use Rattle.pddl_text.specs.Pieces.{IsWithin};
 ghost use Rattle.pddl_domain.specs.Declarations.{Signature, type_view, predicate_view, function_view};
@@ -18,8 +18,9 @@ use crate::effect::put_effect;
 use crate::formula::{put_formula, put_type, put_typed_list, put_variables};
 use crate::printing::put;
 use crate::section::{put_objects, put_requirements};
+use pddl_device::{Sink, ToWrite, WriteFault};
 use pddl_domain::{Action, DeclaredFunction, DeclaredPredicate, DeclaredType, Domain};
-use pddl_text::{LONGEST, Sink, ToWrite, WriteFault};
+use pddl_text::LONGEST;
 use std::alloc::{AllocError, Allocator};
 
 /// Writes declared types, each behind a space and with its parent.

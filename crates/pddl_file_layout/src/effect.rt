@@ -9,8 +9,8 @@ ghost use Rattle.pddl_file_layout.specs.Inner.Texts.{spaced_by, function_term_te
 
 use crate::formula::{put_atom, put_formula, put_terms, put_variables};
 use crate::printing::{put, put_number};
+use pddl_device::Sink;
 use pddl_effect::{Amount, Effect, FunctionTerm};
-use pddl_text::Sink;
 use std::alloc::Allocator;
 
 /// Writes a function of terms, in parentheses also where it has none.

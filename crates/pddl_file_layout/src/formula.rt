@@ -2,7 +2,7 @@
 
 ghost use Rattle.std.specs.Prelude.{IsTrue, map};
 ghost use Rattle.std.specs.List.{list_all};
-ghost use Rattle.pddl_tree.specs.Names.{is_name};
+ghost use Rattle.pddl_token.specs.Names.{is_name};
 ghost use Rattle.pddl_formula.specs.Reserved.{is_type};
 ghost use Rattle.pddl_formula.specs.Terms.{term_view, atom_view};
 ghost use Rattle.pddl_formula.specs.TypedLists.{typed_view};
@@ -12,9 +12,9 @@ ghost use Rattle.pddl_file_layout.specs.Inner.Printing.{Puts};
 ghost use Rattle.pddl_file_layout.specs.Inner.Texts.{spaced_by, word_text, term_text, atom_text, type_text, typed_text, variables_text, formula_text};
 
 use crate::printing::put;
+use pddl_device::Sink;
 use pddl_formula::{Atom, Formula, Term, TypeName, TypeNames, Typed};
-use pddl_text::Sink;
-use pddl_tree::Name;
+use pddl_token::Name;
 use std::alloc::Allocator;
 
 /// Writes names, each behind a space.

@@ -4,7 +4,7 @@ ghost use Rattle.std.specs.Prelude.{◌≡◌, ◌≤◌, ◌↔◌, ℕ, List, 
 ghost use Rattle.pddl_text.specs.Lists.{deepest};
 ghost use Rattle.pddl_text.specs.Pieces.{IsWithin};
 ghost use Rattle.pddl_text.specs.Texts.{HasItems};
-ghost use Rattle.pddl_text.specs.Trees.{Placed};
+ghost use Rattle.pddl_token.specs.Trees.{Placed};
 ghost use Rattle.pddl_formula.specs.Formulas.{FormulaValue, IsFormula};
 ghost use Rattle.pddl_effect.specs.Effects.{EffectValue, IsEffect};
 ghost use Rattle.pddl_domain.specs.Domains.{DomainValue};

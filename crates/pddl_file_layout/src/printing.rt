@@ -4,12 +4,13 @@
 //! and whoever began looks at it once, at the end.
 
 ghost use Rattle.std.specs.Prelude.{◌≤◌};
-ghost use Rattle.pddl_text.specs.Number.{largest};
-ghost use Rattle.pddl_text.specs.NumberText.{number_text};
+ghost use Rattle.pddl_token.specs.Number.{largest};
+ghost use Rattle.pddl_token.specs.NumberText.{number_text};
 ghost use Rattle.pddl_file_layout.specs.Inner.Printing.{Puts};
 
+use pddl_device::{Sink, write_text};
 use pddl_layout::write_number;
-use pddl_text::{Fixed, Sink, write_text};
+use pddl_token::Fixed;
 
 /// Writes a piece of a text.
 pub fn put<W: Sink>(out: &mut W, failed: &mut bool, piece: &[u8])

@@ -3,7 +3,7 @@
 ghost use Rattle.std.specs.Prelude.{◌≡◌, ◌≤◌, IsTrue, IfOk, OnOk, OnErr, map, vec_len, option_map};
 ghost use Rattle.std.specs.List.{list_all};
 ghost use Rattle.std.specs.Io.KnownBytes.{Appends};
-ghost use Rattle.pddl_text.specs.Device.{AppendsBeginning, HasFailed};
+ghost use Rattle.pddl_device.specs.Device.{AppendsBeginning, HasFailed};
 ghost use Rattle.pddl_text.specs.Lists.{deepest};
 ghost use Rattle.pddl_text.specs.Pieces.{IsWithin};
 ghost use Rattle.pddl_problem.specs.Inits.{fact_view, function_view, init_view, direction_word, metric_view};
@@ -16,8 +16,9 @@ ghost use Rattle.pddl_file_layout.specs.Inner.Texts.{spaced_by, ground_text, ini
 use crate::formula::{put_formula, put_names};
 use crate::printing::{put, put_number};
 use crate::section::{put_objects, put_requirements};
+use pddl_device::{Sink, ToWrite, WriteFault};
 use pddl_problem::{Direction, Fact, GroundFunction, InitItem, Metric, Problem};
-use pddl_text::{LONGEST, Sink, ToWrite, WriteFault};
+use pddl_text::LONGEST;
 use std::alloc::{AllocError, Allocator};
 
 /// Writes a predicate and its objects.

@@ -2,7 +2,7 @@
 
 ghost use Rattle.std.specs.Prelude.{IsTrue, map, codes};
 ghost use Rattle.std.specs.List.{list_all};
-ghost use Rattle.pddl_tree.specs.Names.{is_name};
+ghost use Rattle.pddl_token.specs.Names.{is_name};
 ghost use Rattle.pddl_formula.specs.TypedLists.{typed_view};
 ghost use Rattle.pddl_file_layout.specs.FormulaValues.{is_typed};
 ghost use Rattle.pddl_file_layout.specs.Inner.Printing.{Puts};
@@ -10,9 +10,9 @@ ghost use Rattle.pddl_file_layout.specs.Inner.Texts.{spaced_by, section_text, fl
 
 use crate::formula::put_typed_list;
 use crate::printing::put;
+use pddl_device::Sink;
 use pddl_formula::Typed;
-use pddl_text::Sink;
-use pddl_tree::Name;
+use pddl_token::Name;
 use std::alloc::Allocator;
 
 /// Writes flags, each behind a space.

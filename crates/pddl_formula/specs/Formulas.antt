@@ -1,7 +1,7 @@
 -- Formulas, and the trees that spell them (Kovacs, `<GD>`, without preferences and comparisons).
 use Rattle.std.specs.Prelude.{◌≡◌, ◌⊎◌, List, [], ◌∷◌, Vec, Box, map, codes}
-use Rattle.pddl_text.specs.Trees.{Tree}
-use Rattle.pddl_tree.specs.Words.{list, IsWord, IsEqualSign}
+use Rattle.pddl_token.specs.Trees.{Tree}
+use Rattle.pddl_token.specs.TreeWords.{list, IsWord, IsEqualSign}
 use Rattle.pddl_formula.specs.Terms.{TermValue, AtomValue, term_view, atom_view, IsTerm, IsAtom}
 use Rattle.pddl_formula.specs.TypedLists.{TypedValue, typed_view, IsVariableList}
 use Rattle.pddl_formula.specs.declared.type_names.Typed.{Typed}

@@ -1,7 +1,7 @@
 -- Terms, predicates and atoms, and the trees that spell them.
 use Rattle.std.specs.Prelude.{◌≡◌, ℕ, List, ◌∷◌, map}
-use Rattle.pddl_text.specs.Trees.{Tree}
-use Rattle.pddl_tree.specs.Words.{list, SpellsName, SpellsVariable, Each, IsNoneOf}
+use Rattle.pddl_token.specs.Trees.{Tree}
+use Rattle.pddl_token.specs.TreeWords.{list, SpellsName, SpellsVariable, Each, IsNoneOf}
 use Rattle.pddl_formula.specs.Reserved.{reserved}
 use Rattle.pddl_formula.specs.declared.term.Term.{Term}
 use Rattle.pddl_formula.specs.declared.term.Term.TheVariants as terms

@@ -1,7 +1,7 @@
 -- Types and typed lists (Kovacs, `<typed list (x)>`, `<type>`).
 use Rattle.std.specs.Prelude.{◌≡◌, ◌≢◌, ℕ, List, [], ◌∷◌, ◌++◌, codes}
-use Rattle.pddl_text.specs.Trees.{Tree}
-use Rattle.pddl_tree.specs.Words.{list, IsWord, IsDash, SpellsName, SpellsVariable, Each}
+use Rattle.pddl_token.specs.Trees.{Tree}
+use Rattle.pddl_token.specs.TreeWords.{list, IsWord, IsDash, SpellsName, SpellsVariable, Each}
 use Rattle.pddl_formula.specs.declared.type_names.Typed.{Typed}
 
 -- ---- values

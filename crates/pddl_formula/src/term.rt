@@ -3,7 +3,7 @@
 ghost use Rattle.std.specs.Prelude.{◌≡◌, IsTrue, not};
 ghost use Rattle.pddl_formula.specs.Reserved.{is_none_of, is_predicate, predicate_of, reserved};
 
-use pddl_tree::Name;
+use pddl_token::Name;
 use std::alloc::Allocator;
 use std::marker::Model;
 

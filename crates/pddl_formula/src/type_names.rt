@@ -4,7 +4,7 @@ ghost use Rattle.std.specs.Prelude.{◌≡◌, IfOk, IsTrue};
 ghost use Rattle.std.specs.List.{list_all};
 ghost use Rattle.pddl_formula.specs.Reserved.{is_type_name, type_name_of, is_type, type_of};
 
-use pddl_tree::Name;
+use pddl_token::Name;
 use std::alloc::{AllocError, Allocator};
 use std::marker::Model;
 use std::rc::Rc;

@@ -6,7 +6,7 @@ use Rattle.std.specs.Bool.{then_some}
 use Rattle.pddl_build.specs.Results.{right_of, PushesFound, Pushed}
 use Rattle.pddl_build.proofs.Parts.{pushed_some, pushed_none}
 use Rattle.pddl_text.specs.declared.item.Item.{Item}
-use Rattle.pddl_text.specs.Trees.{Tree}
+use Rattle.pddl_token.specs.Trees.{Tree}
 use Rattle.pddl_tree.specs.ItemTrees.{item_tree, item_trees}
 use Rattle.pddl_tree.specs.Inner.TreeReading.{all_of}
 use Rattle.pddl_tree.proofs.Options.{with_front, front_none}

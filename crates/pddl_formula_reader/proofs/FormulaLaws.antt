@@ -1,8 +1,8 @@
 -- The readers of formulas read what is spelled, and nothing else.
 use Rattle.std.proofs.Common.{◌≡◌, ℕ, List, [], ◌∷◌, map, refl, sym, ap, ap₂, ◌∙◌, subst, codes, inl, inr}
 use Rattle.std.specs.Prelude.{Option, Some, None, option_map}
-use Rattle.pddl_text.specs.Trees.{Tree, Trees, no_trees, tree, leaf, node, trees_of, list_of}
-use Rattle.pddl_tree.specs.Words.{list, IsWord}
+use Rattle.pddl_token.specs.Trees.{Tree, Trees, no_trees, tree, leaf, node, trees_of, list_of}
+use Rattle.pddl_token.specs.TreeWords.{list, IsWord}
 use Rattle.pddl_tree.specs.Inner.TreeReading.{all_of}
 use Rattle.pddl_tree.proofs.Options.{map_some, bind_some, both_some}
 use Rattle.pddl_tree.proofs.TreeLists.{list_of_trees_of, trees_of_list_of}

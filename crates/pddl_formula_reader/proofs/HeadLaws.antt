@@ -2,12 +2,12 @@
 use Rattle.std.proofs.Common.{◌≡◌, ◌≢◌, ℕ, false, List, refl, ap, subst, ◌∙◌, codes}
 use Rattle.std.proofs.lemmas.Bool.{cond_both}
 use Rattle.std.specs.Str.{bytes_eq}
-use Rattle.pddl_text.specs.declared.token.TokenKind.{TokenKind}
-use Rattle.pddl_text.specs.declared.token.TokenKind.TheVariants.{Open, Close, Name, Variable, Keyword, Number, Dash, Equal, Colon, Bracket, Compare, Arithmetic}
-use Rattle.pddl_text.specs.Spelling.{Word}
-use Rattle.pddl_text.specs.Trees.{Tree, leaf, node}
-use Rattle.pddl_tree.specs.Names.{folded}
-use Rattle.pddl_tree.specs.Words.{IsWord, IsEqualSign, IsNoneOf}
+use Rattle.pddl_token.specs.declared.token.TokenKind.{TokenKind}
+use Rattle.pddl_token.specs.declared.token.TokenKind.TheVariants.{Open, Close, Name, Variable, Keyword, Number, Dash, Equal, Colon, Bracket, Compare, Arithmetic}
+use Rattle.pddl_token.specs.Spelling.{Word}
+use Rattle.pddl_token.specs.Trees.{Tree, leaf, node}
+use Rattle.pddl_token.specs.Names.{folded}
+use Rattle.pddl_token.specs.TreeWords.{IsWord, IsEqualSign, IsNoneOf}
 use Rattle.pddl_tree.proofs.Readers.{same_bytes, equal_bytes, other_bytes}
 use Rattle.pddl_formula.specs.Reserved.{reserved}
 use Rattle.pddl_formula_reader.specs.Inner.Reading.{word_head, head_by, head_at}

@@ -3,8 +3,8 @@ use Rattle.std.proofs.Common.{◌≡◌, ℕ, ◌+◌, ◌-◌, ◌<◌, ◌≤�
 use Rattle.std.specs.Prelude.{Option, Some, None, option_and_then, if◌then◌else◌, codes}
 use Rattle.std.proofs.lemmas.List.{append-nil, drop_all, take_all}
 use Rattle.pddl_text.specs.declared.item.Item.{Item}
-use Rattle.pddl_text.specs.Trees.{Tree}
-use Rattle.pddl_tree.specs.Words.{list}
+use Rattle.pddl_token.specs.Trees.{Tree}
+use Rattle.pddl_token.specs.TreeWords.{list}
 use Rattle.pddl_tree.specs.ItemTrees.{item_tree, item_trees}
 use Rattle.pddl_tree.specs.Inner.PlanReading.{both}
 use Rattle.pddl_tree.specs.Inner.TreeReading.{all_of, is_word_at}

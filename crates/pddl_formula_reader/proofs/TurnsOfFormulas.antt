@@ -4,9 +4,9 @@ use Rattle.std.specs.Prelude.{Option, Some, None, option_map, option_and_then}
 use Rattle.std.specs.Option.{option_zip}
 use Rattle.std.proofs.lemmas.List.{take_all}
 use Rattle.pddl_text.specs.declared.item.Item.{Item}
-use Rattle.pddl_text.specs.Spelling.{Word}
-use Rattle.pddl_text.specs.Trees.{Tree, leaf, trees_of}
-use Rattle.pddl_tree.specs.Words.{list}
+use Rattle.pddl_token.specs.Spelling.{Word}
+use Rattle.pddl_token.specs.Trees.{Tree, leaf, trees_of}
+use Rattle.pddl_token.specs.TreeWords.{list}
 use Rattle.pddl_tree.specs.ItemTrees.{item_tree, item_trees}
 use Rattle.pddl_tree.proofs.TreeLists.{list_of_trees_of}
 use Rattle.pddl_formula.specs.Terms.{term_view, atom_view}

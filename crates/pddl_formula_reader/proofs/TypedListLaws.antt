@@ -2,8 +2,8 @@
 use Rattle.std.proofs.Common.{◌≡◌, ◌≢◌, ℕ, Bool, true, false, List, [], ◌∷◌, ◌++◌, map, refl, sym, ap, ap₂, ◌∙◌, subst, codes, append_assoc, append-nil, inl, inr}
 use Rattle.std.specs.Prelude.{Option, Some, option_map, option_and_then}
 use Rattle.std.specs.Str.{bytes_eq}
-use Rattle.pddl_text.specs.Trees.{Tree, leaf, node, list_of}
-use Rattle.pddl_tree.specs.Words.{list, IsWord, IsDash, SpellsName, SpellsVariable, Each}
+use Rattle.pddl_token.specs.Trees.{Tree, leaf, node, list_of}
+use Rattle.pddl_token.specs.TreeWords.{list, IsWord, IsDash, SpellsName, SpellsVariable, Each}
 use Rattle.pddl_tree.specs.Inner.TreeReading.{name_at, variable_at, is_word_at, is_dash, all_of}
 use Rattle.pddl_tree.proofs.Options.{map_some, bind_some, if_some, unless_some, test_cases}
 use Rattle.pddl_tree.proofs.TreeLists.{list_of_trees_of, trees_of_list_of}

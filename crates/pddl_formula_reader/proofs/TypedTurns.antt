@@ -5,7 +5,7 @@ use Rattle.std.specs.Bool.{then_some}
 use Rattle.pddl_build.specs.Results.{PushesFound}
 use Rattle.pddl_build.proofs.Parts.{pushed_some, pushed_none}
 use Rattle.pddl_text.specs.declared.item.Item.{Item}
-use Rattle.pddl_text.specs.Trees.{Tree}
+use Rattle.pddl_token.specs.Trees.{Tree}
 use Rattle.pddl_tree.specs.ItemTrees.{item_tree, item_trees}
 use Rattle.pddl_tree.specs.Inner.TreeReading.{is_dash}
 use Rattle.pddl_formula.specs.TypedLists.{WithType}

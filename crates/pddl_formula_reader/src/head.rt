@@ -2,11 +2,12 @@
 
 ghost use Rattle.std.specs.Prelude.{◌≡◌};
 ghost use Rattle.std.specs.Str.{bytes_eq};
-ghost use Rattle.pddl_tree.specs.Names.{folded};
+ghost use Rattle.pddl_token.specs.Names.{folded};
 ghost use Rattle.pddl_tree.specs.ItemTrees.{item_tree};
 ghost use Rattle.pddl_formula_reader.specs.Inner.Reading.{head_at, word_head};
 
-use pddl_text::{Item, TokenKind};
+use pddl_text::Item;
+use pddl_token::TokenKind;
 use std::alloc::Allocator;
 
 /// A word that is reserved for formulas and effects, another name, `=`, or none of these.

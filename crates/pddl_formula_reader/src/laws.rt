@@ -1,9 +1,9 @@
 //! What holds of trees that spell terms, typed lists and formulas, whatever code reads them.
 
 ghost use Rattle.std.specs.Prelude.{◌≡◌, ◌↔◌, ℕ, List, Some, true};
-ghost use Rattle.pddl_text.specs.Trees.{Tree};
+ghost use Rattle.pddl_token.specs.Trees.{Tree};
 ghost use Rattle.pddl_tree.specs.Inner.TreeReading.{name_at, variable_at, is_word_at, is_keyword_at, is_dash};
-ghost use Rattle.pddl_tree.specs.Words.{IsWord, IsKeyword, IsDash, IsEqualSign, SpellsName, SpellsVariable};
+ghost use Rattle.pddl_token.specs.TreeWords.{IsWord, IsKeyword, IsDash, IsEqualSign, SpellsName, SpellsVariable};
 ghost use Rattle.pddl_formula_reader.specs.declared.head.Head.TheVariants as heads;
 ghost use Rattle.pddl_formula.specs.Terms.{TermValue, AtomValue, IsTerm, IsPredicate, IsAtom};
 ghost use Rattle.pddl_formula.specs.TypedLists.{TypedValue, IsTypeName, IsType, AreTypedNames, AreTypedVariables, IsVariableList};

@@ -10,8 +10,8 @@ ghost use Rattle.pddl_formula_reader.specs.Inner.Reading.{term_at, predicate_at,
 
 use pddl_build::{list_if_right, push_found};
 use pddl_formula::{Atom, Predicate, Term};
-use pddl_text::{Item, TokenKind};
-use pddl_tree::Name;
+use pddl_text::Item;
+use pddl_token::{Name, TokenKind};
 use std::alloc::{AllocError, Allocator};
 
 /// The name that an item spells, or `None` where it spells none (Kovacs, `<name>`).

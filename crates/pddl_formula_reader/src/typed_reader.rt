@@ -2,7 +2,7 @@
 
 ghost use Rattle.std.specs.Prelude.{◌≡◌, [], ◌∷◌, ◌++◌, false, IsTrue, IfOk, OnOk, Err, MatchResult, Some, map, option_map, option_and_then};
 ghost use Rattle.std.specs.Bool.{then_some};
-ghost use Rattle.pddl_tree.specs.Names.{folded};
+ghost use Rattle.pddl_token.specs.Names.{folded};
 ghost use Rattle.pddl_tree.specs.ItemTrees.{item_tree, item_trees};
 ghost use Rattle.pddl_tree.specs.Inner.TreeReading.{all_of, is_word_at, is_keyword_at, is_dash};
 ghost use Rattle.pddl_formula.specs.Reserved.{type_of};
@@ -14,8 +14,8 @@ use crate::head::is_word;
 use crate::term_reader::{name_of, variable_of};
 use pddl_build::{list_if_right, push_found};
 use pddl_formula::{TypeName, TypeNames, Typed};
-use pddl_text::{Item, TokenKind};
-use pddl_tree::Name;
+use pddl_text::Item;
+use pddl_token::{Name, TokenKind};
 use std::alloc::{AllocError, Allocator};
 use std::mem::replace;
 

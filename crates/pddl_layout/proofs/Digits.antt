@@ -6,7 +6,7 @@ use Rattle.std.proofs.Math.ListN.{set}
 use Rattle.std.proofs.Math.Seq.{take-suc}
 use Rattle.std.proofs.lemmas.List.{drop-set}
 use Rattle.std.proofs.lemmas.Bool.Decides.{nat_tests}
-use Rattle.pddl_text.specs.NumberText.{padded, trimmed, pointed}
+use Rattle.pddl_token.specs.NumberText.{padded, trimmed, pointed}
 
 -- one more digit, from the right
 pub digit_on : (whole : List ℕ) (place rest : ℕ) (digits : List ℕ) → 0 < place → place ≤ length digits → whole ≡ padded place rest ++ drop place digits

@@ -7,26 +7,26 @@ use Rattle.std.proofs.lemmas.List.Elements.{All-nil, All-cons}
 use Rattle.std.proofs.lemmas.Grind.{flat_map-append}
 use Rattle.std.proofs.lemmas.Bool.Decides.{nat_tests}
 use Rattle.std.proofs.lemmas.Bool.{and_from, leb-true}
-use Rattle.pddl_text.specs.declared.token.TokenKind.TheVariants.{Close, Name, Number, Colon}
-use Rattle.pddl_text.specs.Bytes.{is_word_byte}
-use Rattle.pddl_text.specs.Words.{IsName}
-use Rattle.pddl_text.specs.Number.{largest, value_of}
-use Rattle.pddl_text.specs.NumberText.{number_text}
-use Rattle.pddl_text.specs.Spelling.{Word}
-use Rattle.pddl_text.specs.Trees.{Tree, leaf, node, Trees, no_trees, tree, list_of, erased}
+use Rattle.pddl_token.specs.declared.token.TokenKind.TheVariants.{Close, Name, Number, Colon}
+use Rattle.pddl_token.specs.Bytes.{is_word_byte}
+use Rattle.pddl_token.specs.Words.{IsName}
+use Rattle.pddl_token.specs.Number.{largest, value_of}
+use Rattle.pddl_token.specs.NumberText.{number_text}
+use Rattle.pddl_token.specs.Spelling.{Word}
+use Rattle.pddl_token.specs.Trees.{Tree, leaf, node, Trees, no_trees, tree, list_of, erased}
 use Rattle.pddl_text.specs.Pieces.{Piece, token, blanks, piece_text, pieces_text, tokens_of, AreWritten, tree_words, trees_words, AreWritable, AreWithin, tree_pieces, first_pieces, later_pieces}
 use Rattle.pddl_text.specs.Texts.{HasItems, ReadsAs}
 use Rattle.pddl_text.proofs.Written.{written_append, tokens_append, tree_written, tree_tokens}
 use Rattle.pddl_text.proofs.Listed.{reads_back}
-use Rattle.pddl_text.proofs.NumberTexts.{reads_as_it}
-use Rattle.pddl_text.proofs.Tests.{both_true}
-use Rattle.pddl_text.proofs.Values.{value_in_range}
+use Rattle.pddl_token.proofs.NumberTexts.{reads_as_it}
+use Rattle.pddl_token.proofs.Tests.{both_true}
+use Rattle.pddl_token.proofs.Values.{value_in_range}
 use Rattle.pddl_tree.specs.Building.{is_moment}
-use Rattle.pddl_tree.specs.Names.{is_first_byte, is_later_byte, is_name}
+use Rattle.pddl_token.specs.Names.{is_first_byte, is_later_byte, is_name}
 use Rattle.pddl_tree.specs.Plans.{StepValue, TimedValue, PlanValue, plain, timed, is_step, is_timed, is_plan, IsStep, AreTimed, AreSteps}
 use Rattle.pddl_tree.specs.PlanTexts.{SpellsPlan}
-use Rattle.pddl_tree.specs.Words.{SpellsName, SpellsNumber, Each}
-use Rattle.pddl_tree.proofs.FoldedNames.{name_folded}
+use Rattle.pddl_token.specs.TreeWords.{SpellsName, SpellsNumber, Each}
+use Rattle.pddl_token.proofs.FoldedNames.{name_folded}
 use Rattle.pddl_tree.proofs.PlanTextLaws.{one_plan}
 use Rattle.pddl_tree.proofs.Readers.{each_good}
 use Rattle.pddl_layout.specs.PlanLayout.{spaced, plain_line, timed_line, plan_text}

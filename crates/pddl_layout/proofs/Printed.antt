@@ -5,8 +5,8 @@ use Rattle.std.specs.List.{flat_map}
 use Rattle.std.specs.Io.KnownBytes.{Appends}
 use Rattle.std.proofs.lemmas.List.{append-nil, take_more, take-append-drop}
 use Rattle.std.proofs.lemmas.Grind.{flat_map-append}
-use Rattle.pddl_text.specs.Device.{HasFailed}
-use Rattle.pddl_text.proofs.Known.{appends_more, beginning_of_more, beginning_after}
+use Rattle.pddl_device.specs.Device.{HasFailed}
+use Rattle.pddl_device.proofs.Known.{appends_more, beginning_of_more, beginning_after}
 use Rattle.pddl_layout.specs.Printing.{Prints, Stops}
 
 -- nothing written is the empty text

@@ -1,7 +1,7 @@
 -- The canonical text of a plan (own; a plan file's form is VAL's).
 use Rattle.std.specs.Prelude.{ℕ, List, ◌++◌, codes}
 use Rattle.std.specs.List.{flat_map}
-use Rattle.pddl_text.specs.NumberText.{number_text}
+use Rattle.pddl_token.specs.NumberText.{number_text}
 use Rattle.pddl_tree.specs.Plans.{StepValue, TimedValue, PlanValue, plain, timed}
 
 -- a name behind a space

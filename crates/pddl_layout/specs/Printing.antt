@@ -1,7 +1,7 @@
 -- What a call that prints did to its writer.
 use Rattle.std.specs.Prelude.{◌≡◌, ℕ, List, Option, Result, Ok, Err}
 use Rattle.std.specs.Io.KnownBytes.{Appends}
-use Rattle.pddl_text.specs.Device.{AppendsBeginning, HasFailed}
+use Rattle.pddl_device.specs.Device.{AppendsBeginning, HasFailed}
 
 -- The writer took a beginning of the text, and a write failed (own). The bytes that the writer holds before and after,
 -- and its counts of failures before and after, come first.

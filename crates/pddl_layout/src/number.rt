@@ -2,14 +2,15 @@
 
 ghost use Rattle.std.specs.Prelude.{◌≡◌, ◌<◌, ◌≤◌, ℕ, OnOk, OnErr, length, take};
 ghost use Rattle.std.specs.Io.KnownBytes.{Appends};
-ghost use Rattle.pddl_text.specs.Device.{AppendsBeginning, HasFailed};
-ghost use Rattle.pddl_text.specs.Number.{largest};
-ghost use Rattle.pddl_text.specs.NumberText.{padded, trimmed, pointed, number_text};
+ghost use Rattle.pddl_device.specs.Device.{AppendsBeginning, HasFailed};
+ghost use Rattle.pddl_token.specs.Number.{largest};
+ghost use Rattle.pddl_token.specs.NumberText.{padded, trimmed, pointed, number_text};
 ghost use Rattle.pddl_layout.specs.Printing.{Prints};
 
 use crate::printing::put;
 use itoa::Buffer;
-use pddl_text::{Fixed, Sink, WriteFault};
+use pddl_device::{Sink, WriteFault};
+use pddl_token::Fixed;
 
 /// The billionths in one.
 const ONE: u64 = 1_000_000_000;

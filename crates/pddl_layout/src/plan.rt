@@ -4,14 +4,16 @@ ghost use Rattle.std.specs.Prelude.{◌≡◌, ◌<◌, ◌≤◌, ◌↔◌, �
 ghost use Rattle.pddl_tree.specs.Plans.{PlanValue, plan_view, steps_of, is_plan};
 ghost use Rattle.pddl_tree.specs.PlanTexts.{SpellsPlan};
 ghost use Rattle.std.specs.Io.KnownBytes.{Appends};
-ghost use Rattle.pddl_text.specs.Device.{AppendsBeginning, HasFailed};
+ghost use Rattle.pddl_device.specs.Device.{AppendsBeginning, HasFailed};
 ghost use Rattle.pddl_layout.specs.Printing.{Prints};
 ghost use Rattle.pddl_layout.specs.PlanLayout.{spaced, plain_line, plan_text};
 ghost use Rattle.pddl_layout.specs.Inner.PlanLines.{moment_text, line_at};
 
 use crate::number::put_number;
 use crate::printing::put;
-use pddl_text::{Fixed, LONGEST, Sink, ToWrite, WriteFault};
+use pddl_device::{Sink, ToWrite, WriteFault};
+use pddl_text::LONGEST;
+use pddl_token::Fixed;
 use pddl_tree::{Plan, Step};
 use std::alloc::{AllocError, Allocator};
 

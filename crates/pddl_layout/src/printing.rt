@@ -2,7 +2,7 @@
 
 ghost use Rattle.pddl_layout.specs.Printing.{Prints};
 
-use pddl_text::{Sink, WriteFault, write_text};
+use pddl_device::{Sink, WriteFault, write_text};
 
 /// Writes a piece of a text.
 pub fn put<W: Sink>(out: &mut W, piece: &[u8]) -> Result<(), WriteFault>

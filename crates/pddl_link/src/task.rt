@@ -17,7 +17,7 @@ use pddl_formula::{Formula, TypeNames};
 use pddl_names::Declared;
 use pddl_problem::Problem;
 use pddl_search::{Ground, Values};
-use pddl_tree::Name;
+use pddl_token::Name;
 use pddl_types::{
     FunctionNumbers, ObjectCounts, Objects, SlotTops, TypeCounts, Types, action_ground_size,
     fitting_objects, ground_size,

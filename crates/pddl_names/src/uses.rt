@@ -19,7 +19,7 @@ ghost use Rattle.pddl_names.specs.Uses.{IsFoundUpTo, fit_of, faults_of_use, faul
 
 use pddl_faults::{LentTerm, LinkFault, Part, Scope, Search, Terms, bound_type, lower};
 use pddl_formula::{Term, TypeNames, Typed};
-use pddl_text::Fixed;
+use pddl_token::Fixed;
 use pddl_types::{Known, Signatures, SlotTops, is_object};
 use std::alloc::Allocator;
 

@@ -1,7 +1,7 @@
 -- What a command on a domain, a problem and a plan promises of its readers and its writer. Own.
 use Rattle.std.specs.Prelude.{◌≡◌, ◌≢◌, ◌⊎◌, ℕ, List, Bool, true, Option, Result, IfOk, OnOk, IsErrOf}
 use Rattle.std.specs.Io.KnownBytes.{Appends, Consumes, Keeps}
-use Rattle.pddl_text.specs.Device.{AppendsBeginning, HasFailed}
+use Rattle.pddl_device.specs.Device.{AppendsBeginning, HasFailed}
 use Rattle.pddl_kind.specs.declared.Kind.TheVariants.{Domain, Problem, Plan}
 use Rattle.pddl_commands.specs.declared.outcome.Outcome.{Outcome}
 use Rattle.pddl_commands.specs.declared.outcome.Outcome.TheVariants.{Refused}

@@ -9,7 +9,7 @@ ghost use Rattle.pddl_plan_commands.specs.Runs.{IsRun, reader, writer};
 use crate::running::run;
 use crate::wanted::Wanted;
 use pddl_commands::{Outcome, RunFault};
-use pddl_text::{Sink, Source};
+use pddl_device::{Sink, Source};
 use std::alloc::Allocator;
 
 /// Validates a plan with its domain and its problem, and writes the verdict, or the fault of a file.

@@ -2,7 +2,7 @@
 
 ghost use Rattle.std.specs.Prelude.{◌≡◌, ◌≢◌, ◌⊎◌, ℕ, List, true, IfOk, OnOk, IsErrOf};
 ghost use Rattle.std.specs.Io.KnownBytes.{Consumes};
-ghost use Rattle.pddl_text.specs.Device.{HasFailed};
+ghost use Rattle.pddl_device.specs.Device.{HasFailed};
 ghost use Rattle.pddl_domain.specs.Domains.{domain_view};
 ghost use Rattle.pddl_problem.specs.Problems.{problem_view};
 ghost use Rattle.pddl_commands.specs.declared.outcome.Outcome.{Outcome};
@@ -18,11 +18,11 @@ use pddl_commands::{
     Content, Formatted, Kind, Outcome, PlanContent, RunFault, read_file, read_plan_file,
     refused_domain, refused_problem,
 };
+use pddl_device::Source;
 use pddl_domain::Domain;
 use pddl_domain_reader::read_domain;
 use pddl_problem::Problem;
 use pddl_problem_reader::read_problem;
-use pddl_text::Source;
 use std::alloc::Allocator;
 
 /// What is printed for a domain, a problem and a reader's text, and the outcome. No writer plays a part.

@@ -2,7 +2,7 @@
 
 ghost use Rattle.std.specs.Prelude.{◌≡◌, ◌≢◌, ◌⊎◌, ℕ, List, IfOk, OnOk, IsErrOf};
 ghost use Rattle.std.specs.Io.KnownBytes.{Appends, Consumes, Keeps};
-ghost use Rattle.pddl_text.specs.Device.{AppendsBeginning, HasFailed};
+ghost use Rattle.pddl_device.specs.Device.{AppendsBeginning, HasFailed};
 ghost use Rattle.pddl_commands.specs.declared.outcome.Outcome.{Outcome};
 ghost use Rattle.pddl_commands.specs.Checks.{IsNoDomain};
 ghost use Rattle.pddl_plan_commands.specs.PlanChecks.{IsNoProblem};
@@ -13,7 +13,7 @@ use crate::reading::read_each;
 use crate::wanted::Wanted;
 use crate::writing::write_whole;
 use pddl_commands::{Outcome, RunFault};
-use pddl_text::{Sink, Source};
+use pddl_device::{Sink, Source};
 use std::alloc::Allocator;
 
 /// Reads a domain, a problem and a plan, and writes what is printed for them.

@@ -7,8 +7,8 @@ ghost use Rattle.pddl_plan_commands.specs.Runs.{IsRun, reader, writer};
 use crate::running::run;
 use crate::wanted::Wanted;
 use pddl_commands::{Outcome, RunFault};
+use pddl_device::{Sink, Source};
 use pddl_serial_plans::Order;
-use pddl_text::{Sink, Source};
 use std::alloc::Allocator;
 use std::num::NonZeroU32;
 

@@ -2,11 +2,11 @@
 
 ghost use Rattle.std.specs.Prelude.{◌≡◌, OnOk, IsErrOf};
 ghost use Rattle.std.specs.Io.KnownBytes.{Appends};
-ghost use Rattle.pddl_text.specs.Device.{AppendsBeginning, HasFailed};
+ghost use Rattle.pddl_device.specs.Device.{AppendsBeginning, HasFailed};
 ghost use Rattle.pddl_commands.specs.declared.outcome.RunFault.{RunFault};
 
 use pddl_commands::RunFault;
-use pddl_text::{Sink, write_text};
+use pddl_device::{Sink, write_text};
 
 /// Writes a text.
 ///

@@ -15,7 +15,7 @@ ghost use Rattle.pddl_plan_link.specs.NumberedAtoms.{numbered, initial_atoms, na
 use pddl_problem::{Fact, InitItem};
 use pddl_state::Atom;
 use pddl_tables::pddl_link::Task;
-use pddl_tree::Name;
+use pddl_token::Name;
 use std::alloc::{AllocError, Allocator};
 
 /// The number of an object of the task.

@@ -3,7 +3,7 @@
 ghost use Rattle.std.specs.Prelude.{◌≡◌, ◌<◌, [], ◌∷◌, ◌++◌, length, slice_get, Some, option_map, OnOk};
 ghost use Rattle.pddl_plan_link.specs.StepParts.{lent_step};
 
-use pddl_text::Fixed;
+use pddl_token::Fixed;
 use std::alloc::{AllocError, Allocator};
 use std::marker::Model;
 

@@ -3,9 +3,9 @@
 use crate::listed::Listed;
 use crate::{atoms, plan};
 use pddl_commands::{Outcome, RunFault};
+use pddl_device::Sink;
 use pddl_row_driver::{Files, Lines, Memory, OfTask, add_task, write_lines};
 use pddl_serial_plans::pddl_link::Task;
-use pddl_text::Sink;
 use std::alloc::Allocator;
 
 impl OfTask for Listed {

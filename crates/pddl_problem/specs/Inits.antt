@@ -1,7 +1,7 @@
 -- Items of `:init`, metrics, and the trees that spell them (Kovacs, `<init-el>`, `<metric-spec>`, of which parts are left out).
 use Rattle.std.specs.Prelude.{◌≡◌, ℕ, List, [], ◌∷◌, codes}
-use Rattle.pddl_text.specs.Trees.{Tree}
-use Rattle.pddl_tree.specs.Words.{list, IsWord, IsEqualSign, SpellsName, Each, SpellsNumber}
+use Rattle.pddl_token.specs.Trees.{Tree}
+use Rattle.pddl_token.specs.TreeWords.{list, IsWord, IsEqualSign, SpellsName, Each, SpellsNumber}
 use Rattle.pddl_formula.specs.Terms.{IsPredicate}
 use Rattle.pddl_effect.specs.Effects.{IsCall}
 use Rattle.pddl_problem.specs.declared.problem.Fact.{Fact}

@@ -1,8 +1,7 @@
 //! Problems and what they say.
 
 use pddl_formula::{Formula, Predicate, Typed};
-use pddl_text::Fixed;
-use pddl_tree::Name;
+use pddl_token::{Fixed, Name};
 use std::alloc::Allocator;
 
 /// A predicate and the names of objects.

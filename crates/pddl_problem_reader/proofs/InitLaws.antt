@@ -1,8 +1,8 @@
 -- Items of `:init` and metrics are read as they are spelled.
 use Rattle.std.proofs.Common.{◌≡◌, ℕ, List, [], ◌∷◌, map, refl, ap, ◌∙◌, subst, codes, inl, inr}
 use Rattle.std.specs.Prelude.{Some, option_map}
-use Rattle.pddl_text.specs.Trees.{Tree, leaf, node, list_of}
-use Rattle.pddl_tree.specs.Words.{list, SpellsName, IsWord, Each}
+use Rattle.pddl_token.specs.Trees.{Tree, leaf, node, list_of}
+use Rattle.pddl_token.specs.TreeWords.{list, SpellsName, IsWord, Each}
 use Rattle.pddl_tree.specs.Inner.TreeReading.{name_at, is_word_at, all_of}
 use Rattle.pddl_tree.proofs.Options.{map_some, bind_some, test_cases}
 use Rattle.pddl_tree.proofs.TreeLists.{list_of_trees_of, trees_of_list_of}

@@ -2,8 +2,8 @@
 use Rattle.std.proofs.Common.{◌≡◌, ◌≤◌, ◌<◌, List, [], ◌∷◌, map, length, get_or, drop, refl, sym, ap, ◌∙◌, arith}
 use Rattle.std.specs.Prelude.{false, Option, Some, None, option_map}
 use Rattle.pddl_text.specs.declared.item.Item.{Item}
-use Rattle.pddl_text.specs.Trees.{Tree}
-use Rattle.pddl_tree.specs.Words.{list}
+use Rattle.pddl_token.specs.Trees.{Tree}
+use Rattle.pddl_token.specs.TreeWords.{list}
 use Rattle.pddl_tree.specs.ItemTrees.{item_tree, item_trees}
 use Rattle.pddl_tree.specs.Inner.TreeReading.{name_at}
 use Rattle.pddl_text.specs.Items.{item_view}

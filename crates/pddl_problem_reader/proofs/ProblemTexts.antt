@@ -3,7 +3,7 @@ use Rattle.std.proofs.Common.{◌≡◌, ℕ, List, [], ◌∷◌, Option, Some,
 use Rattle.std.specs.Prelude.{◌≢◌, option_to_list}
 use Rattle.std.specs.List.{flat_map}
 use Rattle.pddl_text.specs.declared.fault.TextFault.TheVariants.{Memory}
-use Rattle.pddl_text.specs.Trees.{Placed}
+use Rattle.pddl_token.specs.Trees.{Placed}
 use Rattle.pddl_text.specs.Texts.{HasItems}
 use Rattle.pddl_text.proofs.TextItems.{one_items}
 use Rattle.pddl_sections.specs.Sections.{AllOf}

@@ -19,7 +19,7 @@ use pddl_file::FileFault;
 use pddl_problem::Problem;
 use pddl_sections::open_file;
 use pddl_text::{Item, LONGEST, items_of};
-use pddl_tree::Name;
+use pddl_token::Name;
 use std::alloc::Allocator;
 
 /// What a section lists, or nothing where it did not stand.

@@ -8,7 +8,7 @@ ghost use Rattle.pddl_problem_reader.specs.Inner.Slots.{slots_view, no_slots, ha
 use pddl_file::SectionKeyword;
 use pddl_formula::{Formula, Typed};
 use pddl_problem::{InitItem, Metric};
-use pddl_tree::Name;
+use pddl_token::Name;
 use std::alloc::Allocator;
 
 /// The sections that stood, each at most once.

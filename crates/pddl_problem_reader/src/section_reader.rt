@@ -20,7 +20,7 @@ use pddl_formula::Formula;
 use pddl_formula_reader::{condition_of, name_of, typed_names_of};
 use pddl_sections::span_of;
 use pddl_text::Item;
-use pddl_tree::Name;
+use pddl_token::Name;
 use std::alloc::{AllocError, Allocator};
 
 /// The name of the domain that these items are, behind the keyword.

@@ -4,7 +4,8 @@ use crate::lines::Lines;
 use pddl_commands::Outcome;
 use pddl_commands::pddl_link::LinkFault;
 use pddl_file::FileFault;
-use pddl_text::{Span, TextFault};
+use pddl_text::TextFault;
+use pddl_token::Span;
 use pddl_tree::ReadFault;
 use std::alloc::Allocator;
 

@@ -2,7 +2,8 @@
 
 use crate::row::Memory;
 use pddl_commands::{Outcome, RunFault};
-use pddl_text::{Sink, Span, write_text};
+use pddl_device::{Sink, write_text};
+use pddl_token::Span;
 use std::alloc::{AllocError, Allocator};
 use std::fmt::{Debug, Display};
 use std::str;

@@ -1,13 +1,13 @@
 //! Files that are read and written, and their canonical texts, by the calls below `format`.
 
 use pddl_commands::{Kind, Outcome, RunFault};
+use pddl_device::{Sink, Source, SourceFault, WriteFault, read_all, write_text};
 use pddl_domain::Domain;
 use pddl_domain_reader::read_domain;
 use pddl_file_layout::{domain_text, problem_text, write_domain, write_problem};
 use pddl_layout::{plan_text, write_plan};
 use pddl_problem::Problem;
 use pddl_problem_reader::read_problem;
-use pddl_text::{Sink, Source, SourceFault, WriteFault, read_all, write_text};
 use pddl_tree::{Plan, read_plan};
 use std::alloc::{AllocError, Allocator};
 use std::str;

@@ -12,8 +12,8 @@ mod words;
 
 use crate::command::Listing;
 use pddl_commands::{Kind, Outcome, RunFault};
+use pddl_device::Sink;
 use pddl_row_driver::{Files, Lines, Memory, add_task, write_lines};
-use pddl_text::Sink;
 use std::alloc::Allocator;
 pub use values::Value;
 

@@ -9,7 +9,7 @@ ghost use Rattle.pddl_task.specs.Names.{same_names};
 ghost use Rattle.pddl_task.specs.Faults.{same_ground};
 ghost use Rattle.pddl_search.specs.Grounds.{names_in, ground_equiv, ground_is};
 
-use pddl_tree::Name;
+use pddl_token::Name;
 use std::alloc::Allocator;
 use std::hash::{Hash, Hasher};
 use std::marker::Model;

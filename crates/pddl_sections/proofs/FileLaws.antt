@@ -2,9 +2,9 @@
 use Rattle.std.proofs.Common.{◌≡◌, ◌⊎◌, inl, inr, ℕ, List, [], ◌∷◌, ◌++◌, map, Bool, true, false, Option, Some, None, refl, sym, ap, ◌∙◌, subst}
 use Rattle.std.specs.Prelude.{if◌then◌else◌, option_map, Result, Ok, Err, codes}
 use Rattle.std.proofs.lemmas.Bool.{false_from_ne_true}
-use Rattle.pddl_text.specs.declared.token.Span.{Span}
-use Rattle.pddl_text.specs.Trees.{Tree, leaf, node, list_of, Placed, placed_leaf, placed_node, PlacedList, no_placed, placed_tree, placed_of, erased}
-use Rattle.pddl_tree.specs.Words.{list}
+use Rattle.pddl_token.specs.declared.token.Span.{Span}
+use Rattle.pddl_token.specs.Trees.{Tree, leaf, node, list_of, Placed, placed_leaf, placed_node, PlacedList, no_placed, placed_tree, placed_of, erased}
+use Rattle.pddl_token.specs.TreeWords.{list}
 use Rattle.pddl_tree.specs.Inner.TreeReading.{is_word_at, name_at}
 use Rattle.pddl_tree.specs.Inner.PlanReading.{placed_items}
 use Rattle.pddl_tree.specs.PlanFaults.{span_of}

@@ -2,10 +2,10 @@
 use Rattle.std.proofs.Common.{◌≡◌, ℕ, ◌<◌, ◌≤◌, true, List, [], ◌∷◌, length, get_or, drop, take, ◌-◌, Vec, Option, Some, None, refl, sym, ap, ◌∙◌, arith}
 use Rattle.std.specs.Prelude.{codes}
 use Rattle.std.proofs.lemmas.List.{take_all, length-drop}
-use Rattle.pddl_text.specs.declared.token.Span.{Span}
+use Rattle.pddl_token.specs.declared.token.Span.{Span}
 use Rattle.pddl_text.specs.declared.item.Item.{Item}
 use Rattle.pddl_text.specs.declared.item.Item.TheVariants.{List as Group}
-use Rattle.pddl_text.specs.Trees.{Placed}
+use Rattle.pddl_token.specs.Trees.{Placed}
 use Rattle.pddl_text.specs.Items.{item_view, items_view}
 use Rattle.pddl_tree.specs.ItemTrees.{item_tree, item_trees}
 use Rattle.pddl_tree.specs.Inner.TreeReading.{is_word_at, name_at}

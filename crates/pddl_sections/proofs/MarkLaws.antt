@@ -1,7 +1,7 @@
 -- The first marked list is found, and nothing else.
 use Rattle.std.proofs.Common.{◌≡◌, ◌⊎◌, inl, inr, List, [], ◌∷◌, ◌++◌, Option, Some, None, refl, sym, ap, ◌∙◌}
-use Rattle.pddl_text.specs.declared.token.Span.{Span}
-use Rattle.pddl_text.specs.Trees.{Tree, Placed, erased}
+use Rattle.pddl_token.specs.declared.token.Span.{Span}
+use Rattle.pddl_token.specs.Trees.{Tree, Placed, erased}
 use Rattle.pddl_tree.specs.PlanFaults.{span_of}
 use Rattle.pddl_sections.specs.Sections.{Rules, AnyOf, HasMark}
 use Rattle.pddl_sections.specs.Inner.Verdicts.{mark_or, first_mark}

@@ -1,10 +1,10 @@
 -- The computed answer for sections is that of the relation: they fit, or they have exactly one first fault.
 use Rattle.std.proofs.Common.{◌≡◌, ◌⊎◌, inl, inr, List, [], ◌∷◌, ◌++◌, map, Bool, true, false, Option, Some, None, refl, sym, ap, ap₂, ◌∙◌, subst, append_assoc}
 use Rattle.std.proofs.lemmas.Bool.{false_from_ne_true}
-use Rattle.pddl_text.specs.declared.token.Span.{Span}
-use Rattle.pddl_text.specs.Trees.{Tree, Placed, erased}
+use Rattle.pddl_token.specs.declared.token.Span.{Span}
+use Rattle.pddl_token.specs.Trees.{Tree, Placed, erased}
 use Rattle.pddl_tree.specs.PlanFaults.{span_of}
-use Rattle.pddl_tree.specs.Words.{Each}
+use Rattle.pddl_token.specs.TreeWords.{Each}
 use Rattle.pddl_tree.proofs.Readers.{Reads}
 use Rattle.pddl_tree.proofs.Options.{test_cases}
 use Rattle.pddl_sections.specs.Sections.{Rules, SectionFault, faulty, unsupported, twice, AnyOf, Repeats, Fits, IsFault, FirstFault, lists_in}

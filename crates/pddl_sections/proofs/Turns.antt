@@ -2,13 +2,13 @@
 use Rattle.std.proofs.Common.{◌≡◌, ℕ, ◌+◌, ◌<◌, ◌≤◌, true, false, List, [], ◌∷◌, ◌++◌, length, get_or, drop, Vec, Option, Some, None, refl, sym, ap, ◌∙◌}
 use Rattle.std.specs.Prelude.{flat_map}
 use Rattle.std.proofs.lemmas.List.{drop_all}
-use Rattle.pddl_text.specs.declared.token.Span.{Span}
-use Rattle.pddl_text.specs.declared.token.Token.{Token}
+use Rattle.pddl_token.specs.declared.token.Span.{Span}
+use Rattle.pddl_token.specs.declared.token.Token.{Token}
 use Rattle.pddl_text.specs.declared.item.Item.{Item}
 use Rattle.pddl_text.specs.declared.item.Item.TheVariants.{List as Group, Word}
-use Rattle.pddl_text.specs.Trees.{Tree, Placed, placed_of, trees_of, erased, all_erased}
+use Rattle.pddl_token.specs.Trees.{Tree, Placed, placed_of, trees_of, erased, all_erased}
 use Rattle.pddl_text.specs.Items.{item_view, items_view}
-use Rattle.pddl_tree.specs.Words.{list}
+use Rattle.pddl_token.specs.TreeWords.{list}
 use Rattle.pddl_tree.specs.ItemTrees.{item_tree, item_trees}
 use Rattle.pddl_tree.specs.PlanFaults.{span_of}
 use Rattle.pddl_tree.proofs.TreeLists.{all_erased_list, items_erased}

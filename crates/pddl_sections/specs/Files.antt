@@ -2,9 +2,9 @@
 -- `<domain>` and `<problem>`, where WORD is `domain` or `problem`; that a file is one such list, and which fault comes first, is
 -- own.
 use Rattle.std.specs.Prelude.{◌≡◌, ℕ, List, [], ◌∷◌, ◌++◌, map, codes}
-use Rattle.pddl_text.specs.declared.token.Span.{Span}
-use Rattle.pddl_text.specs.Trees.{Tree, Placed, placed_node, placed_of, erased}
-use Rattle.pddl_tree.specs.Words.{list, IsWord, SpellsName}
+use Rattle.pddl_token.specs.declared.token.Span.{Span}
+use Rattle.pddl_token.specs.Trees.{Tree, Placed, placed_node, placed_of, erased}
+use Rattle.pddl_token.specs.TreeWords.{list, IsWord, SpellsName}
 use Rattle.pddl_tree.specs.PlanFaults.{span_of}
 use Rattle.pddl_sections.specs.Sections.{Rules, SectionFault, Fits, FirstFault, AnyOf, AllOf}
 

@@ -1,6 +1,6 @@
 -- What a file opens with, without where it lies in memory.
 use Rattle.std.specs.Prelude.{ℕ, List}
-use Rattle.pddl_text.specs.Trees.{Placed}
+use Rattle.pddl_token.specs.Trees.{Placed}
 use Rattle.pddl_text.specs.Items.{items_view}
 use Rattle.pddl_sections.specs.declared.head.Opening.{Opening}
 

@@ -2,9 +2,9 @@
 -- which values, which lists are refused by name. That a section's keyword says what it is, is Kovacs' (BNF definition of PDDL
 -- 3.1); that sections may stand in any order, that most stand at most once, and which fault comes first, is own.
 use Rattle.std.specs.Prelude.{◌≡◌, ◌⊎◌, List, [], ◌∷◌, ◌++◌, map}
-use Rattle.pddl_text.specs.declared.token.Span.{Span}
-use Rattle.pddl_text.specs.Trees.{Tree, Placed, placed_leaf, placed_node, PlacedList, no_placed, placed_tree, erased}
-use Rattle.pddl_tree.specs.Words.{Each}
+use Rattle.pddl_token.specs.declared.token.Span.{Span}
+use Rattle.pddl_token.specs.Trees.{Tree, Placed, placed_leaf, placed_node, PlacedList, no_placed, placed_tree, erased}
+use Rattle.pddl_token.specs.TreeWords.{Each}
 use Rattle.pddl_tree.specs.PlanFaults.{span_of}
 
 -- what holds, holds of one of these

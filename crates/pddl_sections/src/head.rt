@@ -2,7 +2,7 @@
 
 ghost use Rattle.std.specs.Prelude.{◌≡◌, List, IfOk, MatchResult, option_map};
 ghost use Rattle.pddl_text.specs.Items.{item_view, items_view};
-ghost use Rattle.pddl_tree.specs.Names.{folded};
+ghost use Rattle.pddl_token.specs.Names.{folded};
 ghost use Rattle.pddl_tree.specs.ItemTrees.{item_tree, item_trees};
 ghost use Rattle.pddl_tree.specs.Inner.TreeReading.{is_word_at, name_at};
 ghost use Rattle.pddl_tree.specs.PlanFaults.{span_of};
@@ -10,8 +10,8 @@ ghost use Rattle.pddl_sections.specs.Files.{IsOpened, HeadFault};
 ghost use Rattle.pddl_sections.specs.Inner.Answers.{title_of, title_at, opening_of, opening_at};
 ghost use Rattle.pddl_sections.specs.Openings.{opening_view};
 
-use pddl_text::{Item, Span, TokenKind};
-use pddl_tree::Name;
+use pddl_text::Item;
+use pddl_token::{Name, Span, TokenKind};
 use std::alloc::{AllocError, Allocator};
 
 /// What a file opens with: its name, and the items of its sections.

@@ -1,8 +1,8 @@
 //! What holds of the heads of files, whatever code reads them.
 
 ghost use Rattle.std.specs.Prelude.{◌≡◌, ℕ, List};
-ghost use Rattle.pddl_text.specs.Trees.{Placed};
-ghost use Rattle.pddl_text.specs.declared.token.Span.{Span};
+ghost use Rattle.pddl_token.specs.Trees.{Placed};
+ghost use Rattle.pddl_token.specs.declared.token.Span.{Span};
 ghost use Rattle.pddl_sections.specs.Files.{IsOpened, HeadFault};
 
 /// Items open at most one file: it has one name and one list of sections.

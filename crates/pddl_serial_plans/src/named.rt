@@ -11,8 +11,8 @@ ghost use Rattle.pddl_valid.specs.PlanLink.LinkedLaws.{name_at, named_step, IsLi
 ghost use Rattle.pddl_valid.specs.PlanLink.StepParts.{lent_step};
 ghost use Rattle.pddl_serial_plans.specs.NewSteps.{picked, at_moments, plain_plan, timed_plan};
 
-use pddl_text::Fixed;
-use pddl_tree::{Name, PlanBuilder};
+use pddl_token::{Fixed, Name};
+use pddl_tree::PlanBuilder;
 use pddl_valid::pddl_link::Task;
 use pddl_valid::pddl_plan_link::{LinkedStep, Steps};
 use std::alloc::{AllocError, Allocator};

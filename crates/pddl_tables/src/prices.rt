@@ -18,7 +18,7 @@ use pddl_evaluation::Prices;
 use pddl_link::Hashed;
 use pddl_problem::{GroundFunction, InitItem};
 use pddl_state::Atom;
-use pddl_tree::Name;
+use pddl_token::Name;
 use std::alloc::{AllocError, Allocator};
 
 /// Functions of objects by numbers, each with its cost.

@@ -7,8 +7,8 @@ use Rattle.std.proofs.lemmas.List.{append-nil, length-append, drop-append-le, ta
 use Rattle.std.proofs.lemmas.List.Elements.{All-cons}
 use Rattle.pddl_text.specs.declared.parts.Progress.{Progress}
 use Rattle.pddl_text.specs.declared.parts.Progress.TheVariants as progress
-use Rattle.pddl_text.specs.Bytes.{is_inner_byte, is_line_byte}
-use Rattle.pddl_text.specs.Spelling.{PlacedWord, Spells}
+use Rattle.pddl_token.specs.Bytes.{is_inner_byte, is_line_byte}
+use Rattle.pddl_token.specs.Spelling.{PlacedWord, Spells}
 use Rattle.pddl_text.specs.declared.fault.TextFault.{TextFault}
 use Rattle.pddl_text.specs.declared.fault.TextFault.TheVariants as faults
 use Rattle.pddl_text.specs.Faults.{IsStray, IsGlued, IsOutOfRange, IsFaulty, IsLeftmost, AreValued, Stands}
@@ -16,7 +16,7 @@ use Rattle.pddl_text.specs.Scanning.{LexedTo}
 use Rattle.pddl_text.specs.declared.plan_lexer.PlanLexer.{PlanLexer}
 use Rattle.pddl_text.specs.InPieces.{HasRead, EndsLine, SpellsPartly}
 use Rattle.pddl_text.specs.StandsFor.{StandsFor}
-use Rattle.pddl_text.proofs.Runs.{run_le}
+use Rattle.pddl_token.proofs.Runs.{run_le}
 use Rattle.pddl_text.proofs.Lexed.{lexed_to_end, one_spelling, no_other}
 use Rattle.pddl_text.proofs.Ended.{stops_in}
 

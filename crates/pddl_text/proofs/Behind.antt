@@ -7,7 +7,7 @@ use Rattle.std.proofs.lemmas.List.Sums.{sum_by-append}
 use Rattle.std.proofs.lemmas.Bool.Decides.{nat_tests}
 use Rattle.std.proofs.lemmas.List.Elements.{All-nil, All-push}
 use Rattle.pddl_text.specs.declared.place.Pos.{Pos}
-use Rattle.pddl_text.specs.Bytes.{is_line_byte}
+use Rattle.pddl_token.specs.Bytes.{is_line_byte}
 use Rattle.pddl_text.specs.Positions.{IsBehind}
 
 -- the position behind these bytes, and the beginning of its line

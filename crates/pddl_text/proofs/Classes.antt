@@ -5,10 +5,10 @@ use Rattle.std.proofs.lemmas.Bool.Decides.{nat_tests}
 use Rattle.std.specs.Prelude.{◌==◌, ◌||◌, ◌⊎◌, ◌≢◌, List, [], ◌∷◌}
 use Rattle.std.proofs.Common.{inl, inr}
 use Rattle.std.proofs.lemmas.Bool.{cond_both, eqb-true, or_cases}
-use Rattle.pddl_text.specs.declared.token.TokenKind.{TokenKind}
-use Rattle.pddl_text.specs.declared.token.TokenKind.TheVariants.{Open, Close, Number, Dash, Equal, Bracket, Arithmetic}
-use Rattle.pddl_text.specs.Words.{IsSpelling, MayFollow}
-use Rattle.pddl_text.specs.Bytes.{is_word_byte}
+use Rattle.pddl_token.specs.declared.token.TokenKind.{TokenKind}
+use Rattle.pddl_token.specs.declared.token.TokenKind.TheVariants.{Open, Close, Number, Dash, Equal, Bracket, Arithmetic}
+use Rattle.pddl_token.specs.Words.{IsSpelling, MayFollow}
+use Rattle.pddl_token.specs.Bytes.{is_word_byte}
 use Rattle.pddl_text.specs.Inner.ByteClass.{class_of, class_of_mark}
 use Rattle.pddl_text.specs.declared.bytes.ByteClass.{ByteClass}
 use Rattle.pddl_text.specs.declared.bytes.ByteClass.TheVariants.{Blank, Semicolon, Letter, Digit, Question, Colon, Angle, Lone, Other}

@@ -10,12 +10,12 @@ use Rattle.std.proofs.Common.{get_or, drop-cons, suc}
 use Rattle.std.proofs.Math.Numerals.{add-one}
 use Rattle.std.specs.List.{AllPass}
 use Rattle.std.proofs.lemmas.List.Elements.{All-cons}
-use Rattle.pddl_text.specs.declared.token.TokenKind.TheVariants.{Name}
+use Rattle.pddl_token.specs.declared.token.TokenKind.TheVariants.{Name}
 use Rattle.pddl_text.specs.declared.bytes.ByteClass.{ByteClass}
 use Rattle.pddl_text.specs.declared.bytes.ByteClass.TheVariants as classes
 use Rattle.pddl_text.specs.declared.next.Next.{Next}
 use Rattle.pddl_text.specs.declared.next.Next.TheVariants as next
-use Rattle.pddl_text.specs.Bytes.{is_line_byte, is_word_byte, is_inner_byte, begins, begins_decimals}
+use Rattle.pddl_token.specs.Bytes.{is_line_byte, is_word_byte, is_inner_byte, begins, begins_decimals}
 use Rattle.pddl_text.specs.Inner.ByteClass.{class_of}
 use Rattle.pddl_text.specs.Inner.Reading.{number_len, next_comment, next_number, next_by, next_of, Reads}
 use Rattle.pddl_text.specs.Inner.Parts.{IsEnded, ReadsOn, Settles}

@@ -5,16 +5,16 @@ use Rattle.std.specs.List.{AllPass, prefix_len}
 use Rattle.std.specs.Char.{is_ascii_alphabetic}
 use Rattle.std.proofs.lemmas.List.{append_assoc, take_at, length-append}
 use Rattle.std.proofs.lemmas.List.Elements.{All-cons}
-use Rattle.pddl_text.specs.declared.token.TokenKind.{TokenKind}
-use Rattle.pddl_text.specs.declared.token.TokenKind.TheVariants.{Open, Close, Name, Variable, Keyword, Number, Dash, Equal, Colon, Bracket, Compare, Arithmetic}
+use Rattle.pddl_token.specs.declared.token.TokenKind.{TokenKind}
+use Rattle.pddl_token.specs.declared.token.TokenKind.TheVariants.{Open, Close, Name, Variable, Keyword, Number, Dash, Equal, Colon, Bracket, Compare, Arithmetic}
 use Rattle.pddl_text.specs.declared.bytes.ByteClass.{ByteClass}
 use Rattle.pddl_text.specs.declared.bytes.ByteClass.TheVariants as classes
-use Rattle.pddl_text.specs.Bytes.{is_line_byte, is_word_byte, begins}
+use Rattle.pddl_token.specs.Bytes.{is_line_byte, is_word_byte, begins}
 use Rattle.pddl_text.specs.Inner.ByteClass.{class_of}
-use Rattle.pddl_text.specs.Words.{IsName, IsNumber, IsSpelling, MayFollow}
-use Rattle.pddl_text.specs.Spelling.{Part, gap, word, spelling, IsBlank, IsComment, IsPart}
+use Rattle.pddl_token.specs.Words.{IsName, IsNumber, IsSpelling, MayFollow}
+use Rattle.pddl_token.specs.Spelling.{Part, gap, word, spelling, IsBlank, IsComment, IsPart}
 use Rattle.pddl_text.specs.Inner.Reading.{number_len}
-use Rattle.pddl_text.proofs.Runs.{run_len}
+use Rattle.pddl_token.proofs.Runs.{run_len}
 use Rattle.pddl_text.proofs.Numbers.{number_nonempty, number_begins, number_len_is, ends_number}
 use Rattle.pddl_text.proofs.Classes.{class_of_blank, class_of_letter, class_of_digit, letter_is_word_byte}
 

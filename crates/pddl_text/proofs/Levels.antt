@@ -2,9 +2,9 @@
 use Rattle.std.proofs.Common.{◌≡◌, ℕ, suc, List, [], ◌∷◌, ◌++◌, map, refl, sym, ap, ◌∙◌}
 use Rattle.std.specs.Prelude.{◌≢◌}
 use Rattle.std.proofs.lemmas.List.{append_assoc, map-append}
-use Rattle.pddl_text.specs.declared.token.TokenKind.TheVariants.{Open, Close}
-use Rattle.pddl_text.specs.Spelling.{Word, PlacedWord, words_from}
-use Rattle.pddl_text.specs.Trees.{leaf, node, Trees, no_trees, tree, Placed, unplaced}
+use Rattle.pddl_token.specs.declared.token.TokenKind.TheVariants.{Open, Close}
+use Rattle.pddl_token.specs.Spelling.{Word, PlacedWord, words_from}
+use Rattle.pddl_token.specs.Trees.{leaf, node, Trees, no_trees, tree, Placed, unplaced}
 use Rattle.pddl_text.specs.Lists.{AreItems, none, plain, nested}
 use Rattle.pddl_text.specs.Pieces.{Piece, tokens_of, pieces_text, AreWritten, opening_word, closing_word, trees_words, AreWritable, AreWithin}
 use Rattle.pddl_text.specs.Texts.{HasItems}

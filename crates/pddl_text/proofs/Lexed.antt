@@ -7,13 +7,13 @@ use Rattle.std.proofs.lemmas.Bool.{cases_lt}
 use Rattle.std.proofs.lemmas.List.{append_assoc, append-nil, take-append-drop, drop-drop, drop_all, length-append, length-take-le, length-drop, flat_map_more}
 use Rattle.std.proofs.Math.Seq.{take-add}
 use Rattle.std.proofs.lemmas.List.Elements.{All-head, All-tail, All-cons, All-push}
-use Rattle.pddl_text.specs.declared.token.TokenKind.{TokenKind}
-use Rattle.pddl_text.specs.Bytes.{is_line_byte, begins}
-use Rattle.pddl_text.specs.Spelling.{PlacedWord, placed, Part, gap, word, spelling, IsOpenComment, IsPart, InTurn, words_from, SpelledUpTo, Spells}
+use Rattle.pddl_token.specs.declared.token.TokenKind.{TokenKind}
+use Rattle.pddl_token.specs.Bytes.{is_line_byte, begins}
+use Rattle.pddl_token.specs.Spelling.{PlacedWord, placed, Part, gap, word, spelling, IsOpenComment, IsPart, InTurn, words_from, SpelledUpTo, Spells}
 use Rattle.pddl_text.specs.Faults.{IsLongestNumber, IsFaulty, IsLeftmost, IsValued, AreValued}
 use Rattle.pddl_text.specs.Inner.Reading.{IsGapAt, IsWordAt, word_at}
 use Rattle.pddl_text.specs.Scanning.{LexedTo}
-use Rattle.pddl_text.proofs.Runs.{run_len}
+use Rattle.pddl_token.proofs.Runs.{run_len}
 use Rattle.pddl_text.proofs.Numbers.{number_begins}
 use Rattle.pddl_text.proofs.FirstPart.{first_part, part_first}
 use Rattle.pddl_text.proofs.OneReading.{text_of, part_nonempty, continues, IsValuedPart, no_fault}

@@ -1,4 +1,3 @@
-pub mod Runs
 pub mod Classes
 pub mod Numbers
 pub mod FirstPart
@@ -6,8 +5,6 @@ pub mod OneReading
 pub mod NextReads
 pub mod Lexed
 pub mod WordSpans
-pub mod Tests
-pub mod Values
 pub mod WordsHeld
 pub mod Nests
 pub mod FaultsBehind
@@ -19,8 +16,6 @@ pub mod TextItems
 pub mod ListFaults
 pub mod TextFaults
 pub mod Behind
-pub mod NumberTexts
-pub mod Known
 pub mod FaultPlaces
 pub mod Ended
 pub mod PartsRead

@@ -12,10 +12,10 @@ use Rattle.std.proofs.Math.Numerals.{one-add}
 use Rattle.std.proofs.lemmas.List.{append_assoc, append-nil, length-append, length-take-le, take-append-drop, take_more, get_or_append_left, get_or-take}
 use Rattle.std.proofs.lemmas.List.Elements.{All-nil, All-cons}
 use Rattle.pddl_text.specs.declared.place.Pos.{Pos}
-use Rattle.pddl_text.specs.Bytes.{begins}
+use Rattle.pddl_token.specs.Bytes.{begins}
 use Rattle.pddl_text.specs.Positions.{IsBehind}
 use Rattle.pddl_text.specs.LineStarts.{starts_from, LineStarts, line_starts, AreStarts}
-use Rattle.pddl_text.proofs.Runs.{run_len, run_passes}
+use Rattle.pddl_token.proofs.Runs.{run_len, run_passes}
 use Rattle.pddl_text.proofs.Behind.{Stands, at_start, line_end, line_goes_on}
 
 -- ---- joined bytes

@@ -2,9 +2,9 @@
 use Rattle.std.proofs.Common.{◌≡◌, ◌≤◌, ℕ, zero, suc, List, [], ◌∷◌, ◌++◌, length, map, refl, sym, ap, subst, ◌∙◌, arith}
 use Rattle.std.specs.Prelude.{◌≢◌}
 use Rattle.std.proofs.lemmas.List.{append-nil}
-use Rattle.pddl_text.specs.declared.token.TokenKind.TheVariants.{Open, Close}
-use Rattle.pddl_text.specs.Spelling.{Word, PlacedWord, words_from}
-use Rattle.pddl_text.specs.Trees.{Tree, leaf, node, Trees, no_trees, tree, list_of, Placed, placed_leaf, placed_node, placed_of, unplaced, erased, all_erased}
+use Rattle.pddl_token.specs.declared.token.TokenKind.TheVariants.{Open, Close}
+use Rattle.pddl_token.specs.Spelling.{Word, PlacedWord, words_from}
+use Rattle.pddl_token.specs.Trees.{Tree, leaf, node, Trees, no_trees, tree, list_of, Placed, placed_leaf, placed_node, placed_of, unplaced, erased, all_erased}
 use Rattle.pddl_text.specs.Lists.{span_over, AreItems, none, plain, nested}
 use Rattle.pddl_text.specs.Pieces.{Piece, tokens_of, pieces_text, AreWritten, opening_word, closing_word, tree_words, trees_words, IsWritable, AreWritable, IsWithin, AreWithin, tree_pieces, tree_text}
 use Rattle.pddl_text.specs.Texts.{ReadsAs}

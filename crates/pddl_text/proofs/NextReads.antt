@@ -7,18 +7,18 @@ use Rattle.std.proofs.Math.Numerals.{one-add, add-one}
 use Rattle.std.proofs.lemmas.Bool.{cond_both, false_from_ne_true, or_from, eqb-true, ltb-true, ltb-false}
 use Rattle.std.proofs.lemmas.List.{take_at, drop_at, take_all, take_more, length-append}
 use Rattle.std.proofs.lemmas.List.Sums.{prefix_len-le-length, prefix_len_stops}
-use Rattle.pddl_text.specs.declared.token.TokenKind.{TokenKind}
-use Rattle.pddl_text.specs.declared.token.TokenKind.TheVariants.{Open, Close, Name, Variable, Keyword, Number, Dash, Equal, Colon, Bracket, Compare, Arithmetic}
+use Rattle.pddl_token.specs.declared.token.TokenKind.{TokenKind}
+use Rattle.pddl_token.specs.declared.token.TokenKind.TheVariants.{Open, Close, Name, Variable, Keyword, Number, Dash, Equal, Colon, Bracket, Compare, Arithmetic}
 use Rattle.pddl_text.specs.declared.bytes.ByteClass.{ByteClass}
 use Rattle.pddl_text.specs.declared.bytes.ByteClass.TheVariants as classes
 use Rattle.pddl_text.specs.declared.next.Next.TheVariants as next
-use Rattle.pddl_text.specs.Bytes.{is_line_byte, is_word_byte, begins}
+use Rattle.pddl_token.specs.Bytes.{is_line_byte, is_word_byte, begins}
 use Rattle.pddl_text.specs.Inner.ByteClass.{class_of}
-use Rattle.pddl_text.specs.Words.{IsName, IsNumber, IsSpelling}
-use Rattle.pddl_text.specs.Number.{value_of}
+use Rattle.pddl_token.specs.Words.{IsName, IsNumber, IsSpelling}
+use Rattle.pddl_token.specs.Number.{value_of}
 use Rattle.pddl_text.specs.Faults.{IsStray, IsLongestNumber}
 use Rattle.pddl_text.specs.Inner.Reading.{number_len, next_comment, next_number, next_by, next_of, IsWordAt, Reads}
-use Rattle.pddl_text.proofs.Runs.{run_passes, run_stops}
+use Rattle.pddl_token.proofs.Runs.{run_passes, run_stops}
 use Rattle.pddl_text.proofs.Numbers.{number_begins, number_nonempty, number_len_is, number_at, is_longest}
 use Rattle.pddl_text.proofs.Classes.{class_of_blank, class_of_letter, class_of_digit, letter_is_word_byte, Says, class_says}
 

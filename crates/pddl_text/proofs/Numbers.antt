@@ -7,12 +7,12 @@ use Rattle.std.proofs.lemmas.List.{append_assoc, drop_at, drop-drop, length-appe
 use Rattle.std.proofs.lemmas.List.Elements.{All-head, All-tail}
 use Rattle.std.proofs.Math.Numerals.{one-add}
 use Rattle.std.proofs.lemmas.Bool.{cond-true, cond-false, cond_both, cases_Bool, false_from_ne_true, and_parts, eqb-true}
-use Rattle.pddl_text.specs.declared.token.TokenKind.TheVariants.{Number}
-use Rattle.pddl_text.specs.Bytes.{is_word_byte, begins, begins_decimals}
-use Rattle.pddl_text.specs.Words.{IsDigits, IsNumber, MayFollow}
+use Rattle.pddl_token.specs.declared.token.TokenKind.TheVariants.{Number}
+use Rattle.pddl_token.specs.Bytes.{is_word_byte, begins, begins_decimals}
+use Rattle.pddl_token.specs.Words.{IsDigits, IsNumber, MayFollow}
 use Rattle.pddl_text.specs.Faults.{IsLongestNumber}
 use Rattle.pddl_text.specs.Inner.Reading.{number_len}
-use Rattle.pddl_text.proofs.Runs.{run_len, run_le, run_passes, run_stops}
+use Rattle.pddl_token.proofs.Runs.{run_len, run_le, run_passes, run_stops}
 use Rattle.pddl_text.proofs.Classes.{digit_is_word_byte}
 
 -- what follows doesn't go on with the number

@@ -5,12 +5,12 @@ use Rattle.std.specs.List.{flat_map}
 use Rattle.std.specs.Char.{is_ascii_digit, is_ascii_whitespace}
 use Rattle.std.proofs.lemmas.Bool.{or_left}
 use Rattle.std.proofs.lemmas.List.{append_assoc, append_cancel_left, take_at, drop_at, length-append}
-use Rattle.pddl_text.specs.declared.token.TokenKind.{TokenKind}
-use Rattle.pddl_text.specs.declared.token.TokenKind.TheVariants.{Open, Close, Name, Variable, Keyword, Number, Dash, Equal, Colon, Bracket, Compare, Arithmetic}
-use Rattle.pddl_text.specs.Bytes.{is_word_byte, begins}
-use Rattle.pddl_text.specs.Words.{IsNumber, IsSpelling, MayFollow}
-use Rattle.pddl_text.specs.Spelling.{Word, Part, gap, word, spelling, IsPart, InTurn}
-use Rattle.pddl_text.specs.Number.{value_of}
+use Rattle.pddl_token.specs.declared.token.TokenKind.{TokenKind}
+use Rattle.pddl_token.specs.declared.token.TokenKind.TheVariants.{Open, Close, Name, Variable, Keyword, Number, Dash, Equal, Colon, Bracket, Compare, Arithmetic}
+use Rattle.pddl_token.specs.Bytes.{is_word_byte, begins}
+use Rattle.pddl_token.specs.Words.{IsNumber, IsSpelling, MayFollow}
+use Rattle.pddl_token.specs.Spelling.{Word, Part, gap, word, spelling, IsPart, InTurn}
+use Rattle.pddl_token.specs.Number.{value_of}
 use Rattle.pddl_text.specs.Faults.{IsStray, IsLongestNumber, IsFaulty, IsValued}
 use Rattle.pddl_text.specs.Inner.Reading.{number_len}
 use Rattle.pddl_text.proofs.Numbers.{EndsNumber, ends_number, number_nonempty, number_begins, number_len_is, number_len_ge}

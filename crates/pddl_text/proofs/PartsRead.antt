@@ -2,12 +2,12 @@
 use Rattle.std.proofs.Common.{◌≡◌, ℕ, ◌+◌, ◌≤◌, ◌<◌, List, [], ◌∷◌, ◌++◌, length, take, drop, sym, ap, subst, ◌∙◌, arith}
 use Rattle.std.proofs.Math.Seq.{drop-append-add}
 use Rattle.std.proofs.lemmas.List.{append_assoc, length-append, length-take-le, take-append-le, drop-append-le}
-use Rattle.pddl_text.specs.declared.token.TokenKind.{TokenKind}
+use Rattle.pddl_token.specs.declared.token.TokenKind.{TokenKind}
 use Rattle.pddl_text.specs.declared.next.Next.{Next}
 use Rattle.pddl_text.specs.declared.next.Next.TheVariants as next
 use Rattle.pddl_text.specs.declared.parts.Progress.{Progress}
 use Rattle.pddl_text.specs.declared.parts.Progress.TheVariants as progress
-use Rattle.pddl_text.specs.Spelling.{PlacedWord, IsOpenComment}
+use Rattle.pddl_token.specs.Spelling.{PlacedWord, IsOpenComment}
 use Rattle.pddl_text.specs.Faults.{IsStray, IsGlued, IsOutOfRange, IsLeftmost}
 use Rattle.pddl_text.specs.Inner.Reading.{Reads, IsGapAt, IsWordAt}
 use Rattle.pddl_text.specs.Scanning.{LexedTo}

@@ -8,14 +8,14 @@ use Rattle.std.proofs.lemmas.List.{append_assoc, append-nil, length-append, leng
 use Rattle.std.proofs.lemmas.List.Elements.{All-append, All-nil}
 use Rattle.pddl_text.specs.declared.parts.Progress.{Progress}
 use Rattle.pddl_text.specs.declared.parts.Progress.TheVariants as progress
-use Rattle.pddl_text.specs.Bytes.{is_inner_byte, is_line_byte}
-use Rattle.pddl_text.specs.Spelling.{PlacedWord, IsOpenComment, IsComment}
+use Rattle.pddl_token.specs.Bytes.{is_inner_byte, is_line_byte}
+use Rattle.pddl_token.specs.Spelling.{PlacedWord, IsOpenComment, IsComment}
 use Rattle.pddl_text.specs.Faults.{IsStray, IsGlued, IsOutOfRange, IsLeftmost}
 use Rattle.pddl_text.specs.Inner.Reading.{IsGapAt}
 use Rattle.pddl_text.specs.Scanning.{LexedTo}
 use Rattle.pddl_text.specs.Inner.Parts.{AnswersAt, IsEnded, Settles, StoppedAt}
 use Rattle.pddl_text.specs.InPieces.{IsBehindWords, HasRead}
-use Rattle.pddl_text.proofs.Runs.{run_passes}
+use Rattle.pddl_token.proofs.Runs.{run_passes}
 use Rattle.pddl_text.proofs.NextReads.{lf_at}
 use Rattle.pddl_text.proofs.Lexed.{gap_lexed, lexed_to_end, lexed_to_comment}
 use Rattle.pddl_text.proofs.Ended.{ended_behind}

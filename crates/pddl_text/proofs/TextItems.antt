@@ -1,7 +1,7 @@
 -- A text has one list of items.
 use Rattle.std.proofs.Common.{◌≡◌, ℕ, List, map, sym, ap, subst, ◌∙◌}
-use Rattle.pddl_text.specs.Spelling.{PlacedWord, Spells}
-use Rattle.pddl_text.specs.Trees.{Tree, Placed, erased}
+use Rattle.pddl_token.specs.Spelling.{PlacedWord, Spells}
+use Rattle.pddl_token.specs.Trees.{Tree, Placed, erased}
 use Rattle.pddl_text.specs.Lists.{AreItems}
 use Rattle.pddl_text.specs.Texts.{HasItems, ReadsAs}
 use Rattle.pddl_text.proofs.Lexed.{one_spelling}

@@ -4,7 +4,7 @@ use Rattle.std.specs.Prelude.{AllPairs}
 use Rattle.std.proofs.lemmas.List.{append_assoc, length-append, take_at, drop_at}
 use Rattle.std.proofs.lemmas.List.Elements.{All-nil, All-cons}
 use Rattle.std.proofs.lemmas.List.Kept.{AllPairs-cons}
-use Rattle.pddl_text.specs.Spelling.{Word, PlacedWord, placed, Part, gap, word, InTurn, words_from, Spells}
+use Rattle.pddl_token.specs.Spelling.{Word, PlacedWord, placed, Part, gap, word, InTurn, words_from, Spells}
 use Rattle.pddl_text.specs.Spans.{IsSlice, EndsBefore}
 use Rattle.pddl_text.proofs.OneReading.{part_nonempty, text_of}
 

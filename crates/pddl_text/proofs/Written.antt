@@ -6,13 +6,13 @@ use Rattle.std.specs.Char.{is_ascii_digit, is_ascii_alphabetic, is_ascii_whitesp
 use Rattle.std.proofs.lemmas.Bool.{false_from_ne_true}
 use Rattle.std.proofs.lemmas.List.{append_assoc, append-nil}
 use Rattle.std.proofs.lemmas.List.Elements.{All-head, All-tail, All-nil, All-cons}
-use Rattle.pddl_text.specs.declared.token.TokenKind.{TokenKind}
-use Rattle.pddl_text.specs.declared.token.TokenKind.TheVariants.{Open, Close, Name, Variable, Keyword, Number, Dash, Equal, Colon, Bracket, Compare, Arithmetic}
-use Rattle.pddl_text.specs.Bytes.{is_word_byte, begins, begins_decimals}
-use Rattle.pddl_text.specs.Words.{MayFollow}
-use Rattle.pddl_text.specs.Spelling.{Word, PlacedWord, placed, Part, gap, word, spelling, InTurn, words_from, Spells}
+use Rattle.pddl_token.specs.declared.token.TokenKind.{TokenKind}
+use Rattle.pddl_token.specs.declared.token.TokenKind.TheVariants.{Open, Close, Name, Variable, Keyword, Number, Dash, Equal, Colon, Bracket, Compare, Arithmetic}
+use Rattle.pddl_token.specs.Bytes.{is_word_byte, begins, begins_decimals}
+use Rattle.pddl_token.specs.Words.{MayFollow}
+use Rattle.pddl_token.specs.Spelling.{Word, PlacedWord, placed, Part, gap, word, spelling, InTurn, words_from, Spells}
 use Rattle.pddl_text.specs.Faults.{IsValued, AreValued}
-use Rattle.pddl_text.specs.Trees.{Tree, leaf, node, Trees, no_trees, tree, unplaced}
+use Rattle.pddl_token.specs.Trees.{Tree, leaf, node, Trees, no_trees, tree, unplaced}
 use Rattle.pddl_text.specs.Pieces.{Piece, token, blanks, piece_text, pieces_text, tokens_of, is_joining, IsApart, AreWritten, opening_word, closing_word, tree_words, trees_words, IsWritable, AreWritable, tree_pieces, first_pieces, later_pieces}
 use Rattle.pddl_text.proofs.Classes.{letter_is_word_byte}
 

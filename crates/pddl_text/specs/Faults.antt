@@ -1,14 +1,14 @@
 -- What is wrong at a place of a text, where no words spell it or a number has no value. Own: PDDL's definitions name no faults.
 use Rattle.std.specs.Prelude.{◌≡◌, ℕ, ◌<◌, ◌≤◌, ◌⊎◌, false, true, List, ◌++◌, length, take, drop, IsNone, IsSome, All, ◌==◌, ◌||◌}
 use Rattle.std.specs.Char.{is_ascii_whitespace}
-use Rattle.pddl_text.specs.declared.token.TokenKind.{TokenKind}
-use Rattle.pddl_text.specs.declared.token.TokenKind.TheVariants.{Number}
+use Rattle.pddl_token.specs.declared.token.TokenKind.{TokenKind}
+use Rattle.pddl_token.specs.declared.token.TokenKind.TheVariants.{Number}
 use Rattle.pddl_text.specs.declared.fault.TextFault.{TextFault}
 use Rattle.pddl_text.specs.declared.fault.TextFault.TheVariants as faults
-use Rattle.pddl_text.specs.Bytes.{is_word_byte, begins}
-use Rattle.pddl_text.specs.Words.{IsNumber, IsSpelling}
-use Rattle.pddl_text.specs.Number.{value_of}
-use Rattle.pddl_text.specs.Spelling.{PlacedWord, SpelledUpTo}
+use Rattle.pddl_token.specs.Bytes.{is_word_byte, begins}
+use Rattle.pddl_token.specs.Words.{IsNumber, IsSpelling}
+use Rattle.pddl_token.specs.Number.{value_of}
+use Rattle.pddl_token.specs.Spelling.{PlacedWord, SpelledUpTo}
 
 -- a byte that is no blank and no `;` begins no word
 pub record IsStray (rest : List ℕ) : Type 0 where

@@ -1,11 +1,11 @@
 -- A text of which only the first bytes have come, and the words that these settle. Own.
 use Rattle.std.specs.Prelude.{◌≡◌, ℕ, ◌≤◌, List, [], ◌∷◌, ◌++◌, length, drop}
 use Rattle.std.specs.List.{AllPass}
-use Rattle.pddl_text.specs.declared.token.Word.{Word}
+use Rattle.pddl_token.specs.declared.token.Word.{Word}
 use Rattle.pddl_text.specs.declared.parts.Progress.{Progress}
 use Rattle.pddl_text.specs.declared.parts.Progress.TheVariants as progress
-use Rattle.pddl_text.specs.Bytes.{is_inner_byte}
-use Rattle.pddl_text.specs.Spelling.{PlacedWord, SpelledUpTo, IsOpenComment}
+use Rattle.pddl_token.specs.Bytes.{is_inner_byte}
+use Rattle.pddl_token.specs.Spelling.{PlacedWord, SpelledUpTo, IsOpenComment}
 use Rattle.pddl_text.specs.Faults.{IsStray, IsGlued, IsOutOfRange, IsLeftmost}
 use Rattle.pddl_text.specs.Scanning.{LexedTo}
 

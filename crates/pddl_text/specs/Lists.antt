@@ -1,12 +1,12 @@
 -- Lists of words: which items they form (lists are those of Kovacs, BNF definition of PDDL 3.1; the limit of levels is own),
 -- and what is wrong where they form none (own).
 use Rattle.std.specs.Prelude.{◌≡◌, ◌≢◌, ◌≤◌, ◌⊎◌, ℕ, zero, suc, List, [], ◌∷◌, ◌++◌, length}
-use Rattle.pddl_text.specs.declared.token.TokenKind.TheVariants.{Open, Close}
-use Rattle.pddl_text.specs.declared.token.Span.{Span}
+use Rattle.pddl_token.specs.declared.token.TokenKind.TheVariants.{Open, Close}
+use Rattle.pddl_token.specs.declared.token.Span.{Span}
 use Rattle.pddl_text.specs.declared.fault.TextFault.{TextFault}
 use Rattle.pddl_text.specs.declared.fault.TextFault.TheVariants as faults
-use Rattle.pddl_text.specs.Spelling.{PlacedWord}
-use Rattle.pddl_text.specs.Trees.{Placed, placed_leaf, placed_node, placed_of}
+use Rattle.pddl_token.specs.Spelling.{PlacedWord}
+use Rattle.pddl_token.specs.Trees.{Placed, placed_leaf, placed_node, placed_of}
 
 -- from an opening to a closing
 abbrev pub span_over : PlacedWord → PlacedWord → Span

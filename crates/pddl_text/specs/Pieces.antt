@@ -2,13 +2,13 @@
 use Rattle.std.specs.Prelude.{◌≡◌, ◌≢◌, ℕ, zero, suc, Bool, false, List, [], ◌∷◌, ◌++◌, codes, ◌==◌, ◌||◌}
 use Rattle.std.specs.List.{AllPass, flat_map}
 use Rattle.std.specs.Char.{is_ascii_whitespace}
-use Rattle.pddl_text.specs.declared.token.TokenKind.{TokenKind}
-use Rattle.pddl_text.specs.declared.token.TokenKind.TheVariants.{Open, Close}
-use Rattle.pddl_text.specs.Bytes.{is_word_byte, begins}
-use Rattle.pddl_text.specs.Words.{IsSpelling}
-use Rattle.pddl_text.specs.Spelling.{Word}
+use Rattle.pddl_token.specs.declared.token.TokenKind.{TokenKind}
+use Rattle.pddl_token.specs.declared.token.TokenKind.TheVariants.{Open, Close}
+use Rattle.pddl_token.specs.Bytes.{is_word_byte, begins}
+use Rattle.pddl_token.specs.Words.{IsSpelling}
+use Rattle.pddl_token.specs.Spelling.{Word}
 use Rattle.pddl_text.specs.Faults.{IsValued}
-use Rattle.pddl_text.specs.Trees.{Tree, leaf, node, Trees, no_trees, tree}
+use Rattle.pddl_token.specs.Trees.{Tree, leaf, node, Trees, no_trees, tree}
 
 -- a word, or blanks
 pub data Piece : Type 0 where

@@ -2,7 +2,7 @@
 use Rattle.std.specs.Prelude.{◌≡◌, ℕ, ◌+◌, ◌⊎◌, List, [], ◌∷◌, ◌++◌, length, ◌==◌}
 use Rattle.std.specs.List.{AllPass, count_by}
 use Rattle.pddl_text.specs.declared.place.Pos.{Pos}
-use Rattle.pddl_text.specs.Bytes.{is_line_byte}
+use Rattle.pddl_token.specs.Bytes.{is_line_byte}
 
 -- no bytes, or bytes that an LF ends
 abbrev pub AreLines : List ℕ → Type 0

@@ -1,6 +1,6 @@
 -- Words read from the left. Own.
 use Rattle.std.specs.Prelude.{◌≤◌, ℕ, List, length, take, drop}
-use Rattle.pddl_text.specs.Spelling.{PlacedWord, SpelledUpTo}
+use Rattle.pddl_token.specs.Spelling.{PlacedWord, SpelledUpTo}
 use Rattle.pddl_text.specs.Faults.{AreValued}
 
 -- the words spell the text up to the place, and each number among them has a value

@@ -1,7 +1,7 @@
 -- Where the words of a text stand in it. Own: PDDL's definitions give words no places.
 use Rattle.std.specs.Prelude.{◌≡◌, ◌<◌, ◌≤◌, ℕ, List, length}
 use Rattle.std.specs.List.{slice_range}
-use Rattle.pddl_text.specs.Spelling.{PlacedWord}
+use Rattle.pddl_token.specs.Spelling.{PlacedWord}
 
 -- The word has a byte, and is the text's slice at its span.
 pub record IsSlice (text : List ℕ) (w : PlacedWord) : Type 0 where

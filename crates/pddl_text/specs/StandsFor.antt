@@ -1,7 +1,7 @@
 -- For which text a lexer in pieces stands, and for which words given. Own.
 use Rattle.std.specs.Prelude.{◌≡◌, ℕ, true, false, List, length}
 use Rattle.pddl_text.specs.declared.plan_lexer.PlanLexer.{PlanLexer}
-use Rattle.pddl_text.specs.Spelling.{PlacedWord}
+use Rattle.pddl_token.specs.Spelling.{PlacedWord}
 use Rattle.pddl_text.specs.InPieces.{HasRead}
 
 -- the pieces make the text, and the words were given of it

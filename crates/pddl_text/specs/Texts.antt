@@ -2,9 +2,9 @@
 use Rattle.std.specs.Prelude.{◌≡◌, ◌≤◌, ℕ, List, length, map}
 use Rattle.pddl_text.specs.declared.fault.TextFault.{TextFault}
 use Rattle.pddl_text.specs.declared.fault.TextFault.TheVariants as faults
-use Rattle.pddl_text.specs.Spelling.{PlacedWord, Spells}
+use Rattle.pddl_token.specs.Spelling.{PlacedWord, Spells}
 use Rattle.pddl_text.specs.Faults.{AreValued, longest, Stands}
-use Rattle.pddl_text.specs.Trees.{Tree, Placed, erased}
+use Rattle.pddl_token.specs.Trees.{Tree, Placed, erased}
 use Rattle.pddl_text.specs.Lists.{AreItems, deepest, ListStands}
 
 -- The text keeps the limit of length, and its words, each number among them with a value, form the items.

@@ -1,7 +1,7 @@
 -- Words side by side in one text.
 use Rattle.std.specs.Prelude.{◌≤◌, ◌+◌, ◌-◌, ℕ, List, slice_range}
 use Rattle.pddl_text.specs.declared.word_list.Mark.{Mark}
-use Rattle.pddl_text.specs.Spelling.{PlacedWord}
+use Rattle.pddl_token.specs.Spelling.{PlacedWord}
 
 -- the word of a mark
 abbrev pub mark_view : List ℕ → Mark → PlacedWord

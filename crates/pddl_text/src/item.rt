@@ -1,6 +1,6 @@
 //! Items: words, and lists of items.
 
-use crate::token::{Span, Token};
+use pddl_token::{Span, Token};
 use std::alloc::Allocator;
 
 /// A word that is no parenthesis, or a list of items with its span: from the first byte of its `(` to behind its `)`.

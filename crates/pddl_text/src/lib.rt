@@ -1,52 +1,36 @@
-//! The words, lists, numbers and places of PDDL texts.
+//! The words, lists and places of PDDL texts.
 //!
 //! [`lex`] gives the words of a text as tokens, [`lists`] the lists that tokens form, and [`items_of`] both at once.
-//! [`value_of`] gives the value of a number's text as a [`Fixed`], [`position`] the line and column of a place. A place
-//! is a number of bytes from the beginning of the text. Of a text that comes in pieces, of which none is kept, a
-//! [`PlanLexer`] gives the words and [`Places`] the positions.
+//! [`position`] gives the line and column of a place. A place is a number of bytes from the beginning of the text. Of a text that comes in pieces, of
+//! which none is kept, a [`PlanLexer`] gives the words and [`Places`] the positions.
 //!
-//! Each of these calls answers exactly what the definitions in `specs/` give, and else the fault that stands first:
-//! `Spelling` and `Words` (which words spell a text), `Number`, `Faults`, `Lists`, `Texts` (both together),
-//! `Positions`, and `StandsFor`, `InPieces` and `LineStarts` (texts in pieces). The functions with no body are laws on these definitions, for the crates above: a text has at most one
-//! reading and at most one fault, and texts and numbers written in canonical form read back.
+//! Each of these calls answers exactly what the definitions give, and else the fault that stands first: those of `pddl_token` say which words spell a text, and those in
+//! `specs/` the rest: `Faults`, `Lists`, `Texts` (both together), `Positions`, and `StandsFor`, `InPieces` and `LineStarts` (texts in pieces). The functions with no body are laws
+//! on these definitions, for the crates above: a text has at most one reading and at most one fault, and texts that are written in canonical form read back.
 #![tactic(auto)]
 
 mod bytes;
-mod device;
 mod fault;
-mod fixed;
 mod item;
 mod lexer;
 mod nesting;
 mod next;
-mod number;
 mod parts;
 mod pieces;
 mod piecewise;
 mod place;
 mod places;
 mod plan_lexer;
-mod reading;
-mod std_devices;
 mod texts;
-mod token;
 mod word_list;
-mod writing;
 
-pub use device::{DeviceFault, Sink, Source};
 pub use fault::TextFault;
-pub use fixed::{Fixed, LARGEST, number_reads_back};
 pub use item::Item;
 pub use lexer::{LONGEST, lex, one_spelling};
 pub use nesting::{DEEPEST, list_fault_behind, lists, one_nesting};
-pub use number::value_of;
 pub use pieces::{levels_as_read, pieces_read_back, tree_reads_back};
 pub use place::{Pos, position};
 pub use places::Places;
 pub use plan_lexer::PlanLexer;
-pub use reading::{SourceFault, read_all};
-pub use std_devices::{FromRead, ToWrite};
 pub use texts::{items_of, no_fault_in_items, one_items, one_reading, one_text_fault};
-pub use token::{Span, Token, TokenKind, Word};
 pub use word_list::WordList;
-pub use writing::{WriteFault, write_text};

@@ -3,14 +3,13 @@
 ghost use Rattle.std.specs.Prelude.{◌≡◌, ◌<◌, ◌≤◌, ℕ, List, length, ◌==◌};
 ghost use Rattle.std.specs.List.{prefix_len};
 ghost use Rattle.std.specs.Char.{is_ascii_digit, is_ascii_alphabetic};
-ghost use Rattle.pddl_text.specs.Bytes.{begins, is_line_byte, is_word_byte};
-ghost use Rattle.pddl_text.specs.Number.{value_of};
+ghost use Rattle.pddl_token.specs.Bytes.{begins, is_line_byte, is_word_byte};
+ghost use Rattle.pddl_token.specs.Number.{value_of};
 ghost use Rattle.pddl_text.specs.Inner.Reading.{number_len, next_comment, next_number, next_by, next_of, Reads};
 ghost use Rattle.pddl_text.specs.Inner.Parts.{Settles, ReadsOn};
 
 use crate::bytes::{ByteClass, class_of, is_line_byte, is_word_byte};
-use crate::number::{digits_len, value_of};
-use crate::token::TokenKind;
+use pddl_token::{TokenKind, digits_len, value_of};
 
 /// What stands at the front of a text.
 #[derive(Clone, Copy)]

@@ -2,15 +2,15 @@
 
 ghost use Rattle.std.specs.Prelude.{◌≡◌, ◌≤◌, ◌+◌, ◌++◌, ◌∷◌, [], ℕ, List, length, IfOk, IfErr};
 ghost use Rattle.pddl_text.specs.declared.fault.TextFault.TheVariants.{Memory};
-ghost use Rattle.pddl_text.specs.Spelling.{PlacedWord};
+ghost use Rattle.pddl_token.specs.Spelling.{PlacedWord};
 ghost use Rattle.pddl_text.specs.Scanning.{LexedTo};
 ghost use Rattle.pddl_text.specs.Inner.Parts.{Settles, StoppedAt};
 
 use crate::fault::TextFault;
 use crate::lexer::LONGEST;
 use crate::next::{Next, next_part};
-use crate::token::{Span, Token, TokenKind};
 use crate::word_list::WordList;
+use pddl_token::{Span, Token, TokenKind};
 use std::alloc::Allocator;
 
 /// What stands behind the parts that were read.

@@ -1,7 +1,7 @@
 //! Texts that are written read back.
 
 ghost use Rattle.std.specs.Prelude.{◌≡◌, ◌≤◌, List, [], ◌∷◌, length};
-ghost use Rattle.pddl_text.specs.Trees.{Tree, Trees, Placed, list_of};
+ghost use Rattle.pddl_token.specs.Trees.{Tree, Trees, Placed, list_of};
 ghost use Rattle.pddl_text.specs.Lists.{deepest};
 ghost use Rattle.pddl_text.specs.Pieces.{Piece, pieces_text, tokens_of, AreWritten, trees_words, IsWritable, AreWritable, IsWithin, AreWithin, tree_text};
 ghost use Rattle.pddl_text.specs.Texts.{HasItems, ReadsAs};

@@ -2,10 +2,10 @@
 
 ghost use Rattle.std.specs.Prelude.{◌≡◌, ◌≢◌, ◌≤◌, ◌<◌, ◌+◌, ◌++◌, [], ◌⊎◌, ℕ, List, length, take, drop, IfOk, IfErr, MatchOption, MatchResult};
 ghost use Rattle.std.specs.List.{AllPass, prefix_len};
-ghost use Rattle.pddl_text.specs.Bytes.{is_inner_byte};
+ghost use Rattle.pddl_token.specs.Bytes.{is_inner_byte};
 ghost use Rattle.pddl_text.specs.declared.parts.Progress.TheVariants as progress;
 ghost use Rattle.pddl_text.specs.declared.fault.TextFault.TheVariants.{Memory, TooLong, AlreadyFailed};
-ghost use Rattle.pddl_text.specs.Spelling.{PlacedWord, Spells};
+ghost use Rattle.pddl_token.specs.Spelling.{PlacedWord, Spells};
 ghost use Rattle.pddl_text.specs.Faults.{AreValued, Stands};
 ghost use Rattle.pddl_text.specs.Inner.Parts.{IsEnded, AnswersAt};
 ghost use Rattle.pddl_text.specs.InPieces.{HasRead};

@@ -2,7 +2,7 @@
 
 ghost use Rattle.std.specs.Prelude.{◌≡◌, ◌≢◌, ◌≤◌, ◌<◌, ◌++◌, [], ◌⊎◌, ℕ, List, length, map, IfOk, IfErr, OnOk, OnErr, MatchResult, ◌↔◌, Err};
 ghost use Rattle.pddl_text.specs.declared.fault.TextFault.TheVariants.{Memory, TooLong, AlreadyFailed};
-ghost use Rattle.pddl_text.specs.Spelling.{PlacedWord, Spells};
+ghost use Rattle.pddl_token.specs.Spelling.{PlacedWord, Spells};
 ghost use Rattle.pddl_text.specs.Faults.{AreValued, Stands};
 ghost use Rattle.pddl_text.specs.InPieces.{SpellsPartly, EndsLine, word_view};
 
@@ -10,8 +10,8 @@ use crate::fault::TextFault;
 use crate::lexer::LONGEST;
 use crate::parts::Progress;
 use crate::piecewise::{answer, read_last, read_piece};
-use crate::token::Word;
 use crate::word_list::WordList;
+use pddl_token::Word;
 use std::alloc::Allocator;
 
 /// The words of a text that comes in pieces: those that [`lex`](crate::lex) answers for the whole, however it is cut.

@@ -3,7 +3,7 @@
 ghost use Rattle.std.specs.Prelude.{◌≡◌, ◌≢◌, List, ℕ, IfOk, IfErr, MatchResult};
 ghost use Rattle.pddl_text.specs.declared.fault.TextFault.{TextFault};
 ghost use Rattle.pddl_text.specs.declared.fault.TextFault.TheVariants.{Memory};
-ghost use Rattle.pddl_text.specs.Trees.{Tree, Placed};
+ghost use Rattle.pddl_token.specs.Trees.{Tree, Placed};
 ghost use Rattle.pddl_text.specs.Items.{items_view};
 ghost use Rattle.pddl_text.specs.Texts.{HasItems, ReadsAs, TextStands};
 

@@ -1,11 +1,11 @@
 //! Words side by side in one buffer.
 
 ghost use Rattle.std.specs.Prelude.{◌≡◌, ◌≤◌, ◌<◌, ◌+◌, ◌++◌, ◌∷◌, [], Some, ℕ, List, length, map, slice_get, drop, IfOk, OnOk};
-ghost use Rattle.pddl_text.specs.Spelling.{PlacedWord, view};
+ghost use Rattle.pddl_token.specs.Spelling.{PlacedWord, view};
 ghost use Rattle.pddl_text.specs.InPieces.{word_view};
 ghost use Rattle.pddl_text.specs.WordLists.{IsMark, mark_view};
 
-use crate::token::{Span, Token, TokenKind, Word};
+use pddl_token::{Span, Token, TokenKind, Word};
 use std::alloc::{AllocError, Allocator};
 use std::marker::Model;
 
@@ -28,7 +28,7 @@ pub struct WordList<A: Allocator> {
 
 impl<A: Allocator> Model for WordList<A> {
     ghost use Rattle.std.specs.Prelude.{List, map, length, All};
-    ghost use Rattle.pddl_text.specs.Spelling.{PlacedWord};
+    ghost use Rattle.pddl_token.specs.Spelling.{PlacedWord};
     ghost use Rattle.pddl_text.specs.WordLists.{IsMark, mark_view};
 
     ghost Value = { List PlacedWord };

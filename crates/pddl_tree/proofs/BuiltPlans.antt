@@ -5,9 +5,9 @@ use Rattle.std.specs.List.{list_all}
 use Rattle.std.proofs.lemmas.Bool.Decides.{nat_tests}
 use Rattle.std.proofs.lemmas.List.{append-nil, length-append, length-drop, length-map, length-take-le, take-append-drop, drop-append-le, drop_all}
 use Rattle.std.proofs.lemmas.List.Folds.{drop_split, list_all-append}
-use Rattle.pddl_text.specs.Number.{largest}
-use Rattle.pddl_text.proofs.Tests.{both_true}
-use Rattle.pddl_tree.specs.Names.{is_name, name_of, folded}
+use Rattle.pddl_token.specs.Number.{largest}
+use Rattle.pddl_token.proofs.Tests.{both_true}
+use Rattle.pddl_token.specs.Names.{is_name, name_of, folded}
 use Rattle.pddl_tree.specs.Cuts.{cut, last_end, Rises}
 use Rattle.pddl_tree.specs.NameLists.{AddsName}
 use Rattle.pddl_tree.specs.Building.{Building, is_moment, AreStepsIn, AddsWord, ended, ended_at}

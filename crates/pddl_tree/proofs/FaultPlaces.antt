@@ -1,8 +1,8 @@
 -- A fault of a plan file stands in its text.
 use Rattle.std.proofs.Common.{◌≡◌, ℕ, ◌≤◌, List, [], ◌∷◌, ◌++◌, length, refl, sym, ap, subst, ◌∙◌, arith}
 use Rattle.std.specs.Prelude.{Some}
-use Rattle.pddl_text.specs.declared.token.Span.{Span}
-use Rattle.pddl_text.specs.Trees.{Placed, placed_leaf, placed_node, placed_of}
+use Rattle.pddl_token.specs.declared.token.Span.{Span}
+use Rattle.pddl_token.specs.Trees.{Placed, placed_leaf, placed_node, placed_of}
 use Rattle.pddl_text.specs.Texts.{HasItems}
 use Rattle.pddl_text.proofs.FaultPlaces.{StartsIn, AllStartIn, items_inside, IsInside, text_inside}
 use Rattle.pddl_tree.specs.declared.fault.ReadFault.{ReadFault}

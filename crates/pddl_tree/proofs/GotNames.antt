@@ -2,8 +2,8 @@
 use Rattle.std.proofs.Common.{◌≡◌, ℕ, Bool, true, false, List, [], ◌∷◌, ◌++◌, refl, ap, subst, ◌∙◌}
 use Rattle.std.specs.Prelude.{Option, Some, None}
 use Rattle.pddl_tree.specs.Building.{Building, AddsWord, with_names}
-use Rattle.pddl_tree.specs.Names.{is_name, name_of}
-use Rattle.pddl_tree.proofs.FoldedNames.{name_of_name}
+use Rattle.pddl_token.specs.Names.{is_name, name_of}
+use Rattle.pddl_token.proofs.FoldedNames.{name_of_name}
 
 -- a name that was added
 pub record GotName (o : Option (List ℕ)) (old new : Building) : Type 0 where

@@ -4,7 +4,6 @@ mod BuiltPlans
 mod LentSteps
 mod GotNames
 pub mod BuiltSteps
-pub mod FoldedNames
 pub mod Options
 pub mod TreeLists
 pub mod Readers

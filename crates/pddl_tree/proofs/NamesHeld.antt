@@ -4,7 +4,7 @@ use Rattle.std.specs.Prelude.{Result, Ok, Err, OnErr, slice_range, slice_index}
 use Rattle.std.specs.List.{list_all}
 use Rattle.std.proofs.lemmas.List.{length-append, length-take-le}
 use Rattle.std.proofs.Math.Seq.{drop-append_seam}
-use Rattle.pddl_tree.specs.Names.{folded, is_name, name_of}
+use Rattle.pddl_token.specs.Names.{folded, is_name, name_of}
 use Rattle.pddl_tree.specs.Cuts.{cut, last_end, Rises, start_of}
 use Rattle.pddl_tree.specs.NameLists.{AreNamesIn, AddsName}
 use Rattle.pddl_tree.proofs.CutLists.{last_end_pushed, rises_pushed, last_is, cut_kept, cut_taken, cut_pushed, added}

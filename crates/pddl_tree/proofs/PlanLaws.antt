@@ -3,20 +3,20 @@ use Rattle.std.proofs.Common.{◌≡◌, ℕ, Bool, true, false, List, [], ◌�
 use Rattle.std.specs.Prelude.{◌≢◌, ◌⊎◌, Option, Some, None, Result, Ok, Err, is_some, ◌&&◌}
 use Rattle.std.proofs.lemmas.Bool.{cond_both}
 use Rattle.std.proofs.lemmas.List.{append_assoc, append-nil}
-use Rattle.pddl_text.specs.declared.token.TokenKind.{TokenKind}
-use Rattle.pddl_text.specs.declared.token.TokenKind.TheVariants.{Name, Number, Colon, Bracket}
-use Rattle.pddl_text.specs.declared.token.Span.{Span}
-use Rattle.pddl_text.specs.Number.{value_of}
-use Rattle.pddl_text.specs.Spelling.{PlacedWord}
-use Rattle.pddl_text.specs.Trees.{list_of, Placed, placed_leaf, placed_node, PlacedList, no_placed, placed_tree, erased, all_erased}
-use Rattle.pddl_text.proofs.Tests.{both_true}
+use Rattle.pddl_token.specs.declared.token.TokenKind.{TokenKind}
+use Rattle.pddl_token.specs.declared.token.TokenKind.TheVariants.{Name, Number, Colon, Bracket}
+use Rattle.pddl_token.specs.declared.token.Span.{Span}
+use Rattle.pddl_token.specs.Number.{value_of}
+use Rattle.pddl_token.specs.Spelling.{PlacedWord}
+use Rattle.pddl_token.specs.Trees.{list_of, Placed, placed_leaf, placed_node, PlacedList, no_placed, placed_tree, erased, all_erased}
+use Rattle.pddl_token.proofs.Tests.{both_true}
 use Rattle.pddl_tree.specs.declared.fault.ReadFault.{ReadFault}
 use Rattle.pddl_tree.specs.declared.fault.ReadFault.TheVariants as faults
-use Rattle.pddl_tree.specs.Names.{folded, is_name}
+use Rattle.pddl_token.specs.Names.{folded, is_name}
 use Rattle.pddl_tree.specs.Plans.{StepValue, TimedValue, PlanValue, plain, timed, IsStep, IsColon, IsTimed, AreTimed, AreSteps, at_moments as with_moments}
 use Rattle.pddl_tree.specs.PlanFaults.{StepKind, alone, at_moments, other_kind, span_of, Follows, NoneFollows, IsNext, IsNextBracket, IsReached, IsMixed, IsDuration, IsNoStep}
 use Rattle.pddl_tree.specs.Inner.PlanReading.{name_by, name_at, both, names_at, step_of, placed_items, step_at, moment_by, moment_at, colon_by, is_colon, timed_of, timed_by, timed_at, bracket_by, is_bracket, no_step, timed_span, plain_fault, timed_fault, is_behind, where_some, plain_from, timed_from, plan_at, plan_behind}
-use Rattle.pddl_tree.specs.Words.{SpellsName, SpellsNumber, Each}
+use Rattle.pddl_token.specs.TreeWords.{SpellsName, SpellsNumber, Each}
 use Rattle.pddl_tree.proofs.PlanSteps.{plain_some, plain_none, timed_some, timed_none}
 
 -- ---- what a computed answer says of its parts

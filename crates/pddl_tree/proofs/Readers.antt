@@ -5,11 +5,11 @@ use Rattle.std.proofs.lemmas.Slice.Eq.{bytes_eq-Decides}
 use Rattle.std.proofs.lemmas.Bool.{eqb-true, and_from}
 use Rattle.std.specs.List.{list_all}
 use Rattle.std.specs.Str.{bytes_eq}
-use Rattle.pddl_text.specs.declared.token.TokenKind.{TokenKind}
-use Rattle.pddl_text.specs.declared.token.TokenKind.TheVariants.{Open, Close, Name, Variable, Keyword, Number, Dash, Equal, Colon, Bracket, Compare, Arithmetic}
-use Rattle.pddl_text.specs.Trees.{Tree, leaf, node}
-use Rattle.pddl_tree.specs.Names.{folded, is_name, name_of}
-use Rattle.pddl_tree.specs.Words.{IsWord, IsKeyword, IsDash, SpellsName, SpellsVariable, Each}
+use Rattle.pddl_token.specs.declared.token.TokenKind.{TokenKind}
+use Rattle.pddl_token.specs.declared.token.TokenKind.TheVariants.{Open, Close, Name, Variable, Keyword, Number, Dash, Equal, Colon, Bracket, Compare, Arithmetic}
+use Rattle.pddl_token.specs.Trees.{Tree, leaf, node}
+use Rattle.pddl_token.specs.Names.{folded, is_name, name_of}
+use Rattle.pddl_token.specs.TreeWords.{IsWord, IsKeyword, IsDash, SpellsName, SpellsVariable, Each}
 use Rattle.pddl_tree.specs.Inner.PlanReading.{name_by}
 use Rattle.pddl_tree.specs.Inner.TreeReading.{name_at, variable_name, variable_by, variable_at, word_by, is_word_at, keyword_by, is_keyword_at, dash_by, is_dash, all_of}
 use Rattle.pddl_tree.proofs.Options.{if_some, both_some}

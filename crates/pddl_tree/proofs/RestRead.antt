@@ -4,9 +4,9 @@ use Rattle.std.specs.Prelude.{◌⊎◌, ◌<◌, Result, Ok, Err, IfOk, IfErr, 
 use Rattle.std.proofs.lemmas.List.{append_assoc, append-nil, length-map}
 use Rattle.pddl_text.specs.declared.fault.TextFault.{TextFault}
 use Rattle.pddl_text.specs.declared.fault.TextFault.TheVariants as text_faults
-use Rattle.pddl_text.specs.Spelling.{PlacedWord, Spells}
+use Rattle.pddl_token.specs.Spelling.{PlacedWord, Spells}
 use Rattle.pddl_text.specs.Faults.{AreValued, Stands}
-use Rattle.pddl_text.specs.Trees.{Placed, erased}
+use Rattle.pddl_token.specs.Trees.{Placed, erased}
 use Rattle.pddl_text.specs.Lists.{AreItems, ListStands}
 use Rattle.pddl_text.specs.Texts.{HasItems, TextStands}
 use Rattle.pddl_text.proofs.Nests.{items_append}
@@ -18,7 +18,7 @@ use Rattle.pddl_tree.specs.declared.plan_words.Place.TheVariants.{Between}
 use Rattle.pddl_tree.specs.Building.{Building, nothing_built, without_names}
 use Rattle.pddl_tree.specs.Plans.{PlanValue, step_of_names, IsStep, AreTimed, plan_of, built_plan, steps_built, timed_built}
 use Rattle.pddl_tree.specs.PlanTexts.{SpellsPlan, PlanStands}
-use Rattle.pddl_tree.specs.Words.{Each}
+use Rattle.pddl_token.specs.TreeWords.{Each}
 use Rattle.pddl_tree.specs.Inner.PlanReading.{plan_at, plan_from, Refuses}
 use Rattle.pddl_tree.specs.Inner.StepWords.{AreBuilt, AreStepWords, ReadsTo, HasMoved}
 use Rattle.pddl_tree.proofs.BuiltSteps.{some_timed, plan_is_timed}

@@ -3,17 +3,17 @@ use Rattle.std.proofs.Common.{◌≡◌, ◌<◌, ◌≤◌, ◌+◌, ℕ, List,
 use Rattle.std.specs.Prelude.{◌≢◌, Option, Some, None, IfSome, slice_get}
 use Rattle.std.proofs.lemmas.Option.{get_or_from_slice_get}
 use Rattle.std.proofs.lemmas.List.{append_assoc, map_push, map-append, length-append, take-append-le, take-append-drop, drop-append-le, take_all, take_more, drop_all}
-use Rattle.pddl_text.specs.declared.token.TokenKind.TheVariants.{Open, Close, Name}
-use Rattle.pddl_text.specs.Spelling.{PlacedWord}
-use Rattle.pddl_text.specs.Trees.{Tree, Placed, placed_leaf, placed_node, placed_of, list_of, erased, all_erased}
+use Rattle.pddl_token.specs.declared.token.TokenKind.TheVariants.{Open, Close, Name}
+use Rattle.pddl_token.specs.Spelling.{PlacedWord}
+use Rattle.pddl_token.specs.Trees.{Tree, Placed, placed_leaf, placed_node, placed_of, list_of, erased, all_erased}
 use Rattle.pddl_text.specs.Lists.{span_over, AreItems, none, plain, nested}
 use Rattle.pddl_text.proofs.Nests.{items_append}
 use Rattle.pddl_tree.specs.declared.plan_words.Place.{Place}
 use Rattle.pddl_tree.specs.declared.plan_words.Place.TheVariants.{Between, Moment, Colon, Inside, Lost}
-use Rattle.pddl_tree.specs.Names.{name_of}
+use Rattle.pddl_token.specs.Names.{name_of}
 use Rattle.pddl_tree.specs.Building.{Building, ended, ended_at}
 use Rattle.pddl_tree.specs.Plans.{StepValue, TimedValue, step_of_names, IsStep, IsTimed, AreTimed, steps_built, timed_built}
-use Rattle.pddl_tree.specs.Words.{SpellsName, Each}
+use Rattle.pddl_token.specs.TreeWords.{SpellsName, Each}
 use Rattle.pddl_tree.specs.Inner.StepWords.{AreNames, AreBuilt, AreStepWords, ReadsTo, ReadsOn, ReadsWords, HasMoved}
 use Rattle.pddl_tree.proofs.BuiltSteps.{plain_pushed, moment_pushed, moments_pushed}
 use Rattle.pddl_tree.proofs.GotNames.{GotName}

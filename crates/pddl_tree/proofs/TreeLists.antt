@@ -1,13 +1,13 @@
 -- Trees, and items as the code holds them, as lists.
 use Rattle.std.proofs.Common.{◌≡◌, List, [], ◌∷◌, map, Vec, refl, ap, ◌∙◌}
-use Rattle.pddl_text.specs.declared.token.Span.{Span}
-use Rattle.pddl_text.specs.declared.token.Token.{Token}
+use Rattle.pddl_token.specs.declared.token.Span.{Span}
+use Rattle.pddl_token.specs.declared.token.Token.{Token}
 use Rattle.pddl_text.specs.declared.item.Item.{Item}
 use Rattle.pddl_text.specs.declared.item.Item.TheVariants.{List as Group, Word}
-use Rattle.pddl_text.specs.Spelling.{view}
-use Rattle.pddl_text.specs.Trees.{Tree, Trees, no_trees, tree, leaf, trees_of, list_of, Placed, placed_of, unplaced, erased, all_erased}
+use Rattle.pddl_token.specs.Spelling.{view}
+use Rattle.pddl_token.specs.Trees.{Tree, Trees, no_trees, tree, leaf, trees_of, list_of, Placed, placed_of, unplaced, erased, all_erased}
 use Rattle.pddl_text.specs.Items.{items_view}
-use Rattle.pddl_tree.specs.Words.{list}
+use Rattle.pddl_token.specs.TreeWords.{list}
 use Rattle.pddl_tree.specs.ItemTrees.{item_tree, item_trees}
 use Rattle.pddl_tree.proofs.PlanSteps.{item_view_list, item_view_word}
 

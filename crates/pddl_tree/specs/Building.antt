@@ -1,8 +1,8 @@
 -- A plan in making.
 use Rattle.std.specs.Prelude.{◌≡◌, ◌≤◌, ◌⊎◌, ℕ, Bool, true, false, nat_le, List, [], ◌∷◌, ◌++◌, Option, Some, None, length, IsTrue}
 use Rattle.std.specs.List.{list_all}
-use Rattle.pddl_text.specs.Number.{largest}
-use Rattle.pddl_tree.specs.Names.{is_name}
+use Rattle.pddl_token.specs.Number.{largest}
+use Rattle.pddl_token.specs.Names.{is_name}
 use Rattle.pddl_tree.specs.Cuts.{last_end, Rises}
 use Rattle.pddl_tree.specs.NameLists.{AddsName}
 

@@ -1,7 +1,7 @@
 -- Items as trees without places.
 use Rattle.std.specs.Prelude.{List, map}
 use Rattle.pddl_text.specs.declared.item.Item.{Item}
-use Rattle.pddl_text.specs.Trees.{Tree, erased}
+use Rattle.pddl_token.specs.Trees.{Tree, erased}
 use Rattle.pddl_text.specs.Items.{item_view}
 
 -- an item as a tree

@@ -1,11 +1,9 @@
-pub mod Names
 pub mod Cuts
 pub mod NameLists
 pub mod Building
 pub mod Plans
 pub mod Built
 pub mod StepParts
-pub mod Words
 pub mod ItemTrees
 pub mod Places
 pub mod PlanFaults

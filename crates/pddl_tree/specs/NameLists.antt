@@ -1,7 +1,7 @@
 -- Names side by side in one text.
 use Rattle.std.specs.Prelude.{◌≡◌, ◌≤◌, ℕ, List, [], ◌∷◌, ◌++◌, Bool, true, false, Option, Some, None, length, IsTrue}
 use Rattle.std.specs.List.{list_all}
-use Rattle.pddl_tree.specs.Names.{is_name}
+use Rattle.pddl_token.specs.Names.{is_name}
 use Rattle.pddl_tree.specs.Cuts.{cut, last_end, Rises}
 
 -- the parts of a text that end at these places are names; what stands behind the last is none yet

@@ -1,10 +1,10 @@
 -- What is wrong where items spell no plan. Own.
 use Rattle.std.specs.Prelude.{◌≡◌, ◌≢◌, List, [], ◌∷◌, ◌++◌, map}
-use Rattle.pddl_text.specs.declared.token.TokenKind.TheVariants.{Bracket}
-use Rattle.pddl_text.specs.declared.token.Span.{Span}
-use Rattle.pddl_text.specs.Trees.{Placed, placed_leaf, placed_node, erased}
+use Rattle.pddl_token.specs.declared.token.TokenKind.TheVariants.{Bracket}
+use Rattle.pddl_token.specs.declared.token.Span.{Span}
+use Rattle.pddl_token.specs.Trees.{Placed, placed_leaf, placed_node, erased}
 use Rattle.pddl_tree.specs.Plans.{StepValue, TimedValue, IsStep, IsTimed, AreTimed}
-use Rattle.pddl_tree.specs.Words.{Each}
+use Rattle.pddl_token.specs.TreeWords.{Each}
 
 -- the two kinds of steps: plain ones, and timed ones
 pub data StepKind : Type 0 where

@@ -1,6 +1,6 @@
 -- Which plan a text spells, and what is wrong where it spells none.
 use Rattle.std.specs.Prelude.{◌≤◌, ℕ, List, length, map}
-use Rattle.pddl_text.specs.Trees.{Placed, erased}
+use Rattle.pddl_token.specs.Trees.{Placed, erased}
 use Rattle.pddl_text.specs.Texts.{HasItems, TextStands}
 use Rattle.pddl_tree.specs.declared.fault.ReadFault.{ReadFault}
 use Rattle.pddl_tree.specs.declared.fault.ReadFault.TheVariants as faults

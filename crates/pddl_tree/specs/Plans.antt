@@ -1,12 +1,12 @@
 -- Plans, and the items that spell them, in the form of VAL's plan files.
 use Rattle.std.specs.Prelude.{◌≡◌, ◌<◌, ℕ, Bool, ◌&&◌, nat_lt, List, [], ◌∷◌, length, map, slice_get, Option, None, option_map}
 use Rattle.std.specs.List.{list_all}
-use Rattle.pddl_text.specs.declared.token.TokenKind.TheVariants.{Colon}
-use Rattle.pddl_text.specs.Trees.{Tree, leaf, node, list_of}
+use Rattle.pddl_token.specs.declared.token.TokenKind.TheVariants.{Colon}
+use Rattle.pddl_token.specs.Trees.{Tree, leaf, node, list_of}
 use Rattle.pddl_tree.specs.declared.plan.Plan.{Plan}
 use Rattle.pddl_tree.specs.Building.{Building, is_moment}
-use Rattle.pddl_tree.specs.Names.{is_name}
-use Rattle.pddl_tree.specs.Words.{SpellsName, SpellsNumber, Each}
+use Rattle.pddl_token.specs.Names.{is_name}
+use Rattle.pddl_token.specs.TreeWords.{SpellsName, SpellsNumber, Each}
 
 -- a step: an action's name and the names of objects
 pub record StepValue : Type 0 where

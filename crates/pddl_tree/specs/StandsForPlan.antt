@@ -1,6 +1,6 @@
 -- For which text a reader of plans stands. Own.
 use Rattle.std.specs.Prelude.{◌≡◌, ℕ, true, false, List, ◌++◌}
-use Rattle.pddl_text.specs.Spelling.{PlacedWord}
+use Rattle.pddl_token.specs.Spelling.{PlacedWord}
 use Rattle.pddl_text.specs.StandsFor.{StandsFor}
 use Rattle.pddl_tree.specs.declared.plan_reader.PlanReader.{PlanReader}
 use Rattle.pddl_tree.specs.Inner.StepWords.{ReadsTo}

@@ -5,7 +5,6 @@
 #![tactic(auto)]
 
 mod fault;
-mod name;
 mod name_list;
 mod plan;
 mod plan_builder;
@@ -15,7 +14,6 @@ mod plan_words;
 mod step;
 
 pub use fault::ReadFault;
-pub use name::Name;
 pub use plan::Plan;
 pub use plan_builder::PlanBuilder;
 pub use plan_reader::{

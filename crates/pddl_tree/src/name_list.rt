@@ -2,11 +2,11 @@
 
 ghost use Rattle.std.specs.Prelude.{◌≡◌, ◌<◌, ◌≤◌, ◌++◌, [], Some, take, IfOk, OnOk, OnErr, IsTrue, length, slice_get, slice_index, is_ok, if◌then◌else◌};
 ghost use Rattle.std.specs.List.{list_all};
-ghost use Rattle.pddl_tree.specs.Names.{folded, name_of, is_name};
+ghost use Rattle.pddl_token.specs.Names.{folded, name_of, is_name};
 ghost use Rattle.pddl_tree.specs.Cuts.{last_end, Rises, start_of};
 ghost use Rattle.pddl_tree.specs.NameLists.{AddsName};
 
-use crate::name::is_name;
+use pddl_token::is_name;
 use std::alloc::{AllocError, Allocator};
 use std::marker::Model;
 use std::ops::Range;

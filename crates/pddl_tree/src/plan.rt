@@ -5,7 +5,7 @@ ghost use Rattle.pddl_tree.specs.Plans.{is_plan, plan_view, steps_of, moment_at}
 
 use crate::plan_builder::PlanBuilder;
 use crate::step::Step;
-use pddl_text::Fixed;
+use pddl_token::Fixed;
 use std::alloc::Allocator;
 
 /// A plan, its steps in file order. All of them are plain, or each has a moment (own); a plan without steps is plain.

@@ -1,16 +1,15 @@
 //! Plans in making.
 
 ghost use Rattle.std.specs.Prelude.{◌≡◌, ◌<◌, [], ◌∷◌, Some, length, map, slice_get, nat_eq, nat_lt, IfOk, OnOk, OnErr};
-ghost use Rattle.pddl_tree.specs.Names.{name_of};
+ghost use Rattle.pddl_token.specs.Names.{name_of};
 ghost use Rattle.pddl_tree.specs.Building.{nothing_built, AddsWord, with_names, without_names, ended, ended_at};
 ghost use Rattle.pddl_tree.specs.Built.{IsBuilt};
 ghost use Rattle.pddl_tree.specs.Plans.{step_of_names, built_plan, plan_view};
 
-use crate::name::Name;
 use crate::name_list::{NameList, part_of, start_of};
 use crate::plan::Plan;
 use crate::step::Step;
-use pddl_text::Fixed;
+use pddl_token::{Fixed, Name};
 use std::alloc::{AllocError, Allocator};
 use std::marker::Model;
 

@@ -10,7 +10,8 @@ ghost use Rattle.pddl_tree.specs.Inner.PlanReading.{name_at, names_at, step_of, 
 
 use crate::fault::ReadFault;
 use crate::plan_builder::PlanBuilder;
-use pddl_text::{Fixed, Item, Span, TextFault, TokenKind, value_of};
+use pddl_text::{Item, TextFault};
+use pddl_token::{Fixed, Span, TokenKind, value_of};
 use std::alloc::{AllocError, Allocator};
 
 /// Adds the name that an item is, and answers whether it is one.

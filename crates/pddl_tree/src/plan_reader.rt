@@ -2,7 +2,7 @@
 
 ghost use Rattle.std.specs.Prelude.{◌≡◌, ◌≢◌, ◌≤◌, ◌<◌, ◌++◌, [], ◌⊎◌, ◌↔◌, Some, ℕ, false, List, length, IfOk, IfErr, OnOk, OnErr, MatchResult, Err};
 ghost use Rattle.pddl_text.specs.declared.fault.TextFault.TheVariants.{Memory, TooLong, AlreadyFailed};
-ghost use Rattle.pddl_text.specs.Spelling.{PlacedWord, Spells};
+ghost use Rattle.pddl_token.specs.Spelling.{PlacedWord, Spells};
 ghost use Rattle.pddl_text.specs.Faults.{AreValued};
 ghost use Rattle.pddl_text.specs.StandsFor.{IsGoing};
 ghost use Rattle.pddl_tree.specs.declared.fault.ReadFault.{ReadFault};

@@ -4,14 +4,15 @@
 //! items says.
 
 ghost use Rattle.std.specs.Prelude.{◌≡◌, ◌≢◌, ◌<◌, ◌≤◌, ◌+◌, ◌++◌, ◌∷◌, [], Some, None, List, length, IfOk, IfSome, OnOk};
-ghost use Rattle.pddl_text.specs.declared.token.TokenKind.TheVariants.{Close};
-ghost use Rattle.pddl_text.specs.Spelling.{PlacedWord, view};
+ghost use Rattle.pddl_token.specs.declared.token.TokenKind.TheVariants.{Close};
+ghost use Rattle.pddl_token.specs.Spelling.{PlacedWord, view};
 ghost use Rattle.pddl_tree.specs.Building.{Building};
 ghost use Rattle.pddl_tree.specs.declared.plan_words.Place.TheVariants as places;
 ghost use Rattle.pddl_tree.specs.Inner.StepWords.{ReadsTo, ReadsOn, ReadsWords, HasMoved};
 
 use crate::plan_builder::PlanBuilder;
-use pddl_text::{Fixed, Token, TokenKind, WordList, value_of};
+use pddl_text::WordList;
+use pddl_token::{Fixed, Token, TokenKind, value_of};
 use std::alloc::{AllocError, Allocator};
 
 /// What stands between the last whole step of a plan and the next word.

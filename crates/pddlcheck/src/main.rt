@@ -12,8 +12,8 @@ mod input;
 
 use input::{Opened, open};
 use pddl_commands::{Outcome, RunFault, check_domain_file, check_problem_file, format, status};
+use pddl_device::{FromRead, Sink, ToWrite};
 use pddl_plan_commands::{Order, check, serial, serial_groups};
-use pddl_text::{FromRead, Sink, ToWrite};
 use pddl_words::{Job, parse_words, words_status};
 use std::env::Env;
 use std::io::ErrorKind;

@@ -1,7 +1,7 @@
 -- The sections of a domain, computed from trees. No public contract names these.
 use Rattle.std.specs.Prelude.{ℕ, List, [], ◌∷◌, map, Option, Some, None, option_map, option_and_then, if◌then◌else◌, codes}
 use Rattle.std.specs.List.{flat_map}
-use Rattle.pddl_text.specs.Trees.{Tree, leaf, node, list_of}
+use Rattle.pddl_token.specs.Trees.{Tree, leaf, node, list_of}
 use Rattle.pddl_tree.specs.Inner.PlanReading.{both}
 use Rattle.pddl_tree.specs.Inner.TreeReading.{name_at, is_keyword_at, all_of}
 use Rattle.pddl_formula.specs.Formulas.{conjunction, no_formulas}

@@ -1,7 +1,7 @@
 -- How a domain is made of its sections, one after the other. No public contract names these.
 use Rattle.std.specs.Prelude.{◌≡◌, List, [], ◌∷◌, ◌++◌, Bool, Option, option_map, codes}
 use Rattle.std.specs.Bool.{then_some}
-use Rattle.pddl_text.specs.Trees.{Placed}
+use Rattle.pddl_token.specs.Trees.{Placed}
 use Rattle.pddl_sections.specs.Inner.Verdicts.{Turn, go, Verdict, fine, verdict}
 use Rattle.pddl_sections.specs.Inner.Answers.{Answer, right, file_answer}
 use Rattle.pddl_file.specs.declared.keyword.SectionKeyword.{SectionKeyword}

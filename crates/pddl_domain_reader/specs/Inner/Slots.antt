@@ -2,7 +2,7 @@
 use Rattle.std.specs.Prelude.{◌≡◌, ℕ, Bool, List, [], ◌∷◌, map, Option, Some, None, option_map, option_and_then}
 use Rattle.std.specs.Bool.{then_some}
 use Rattle.pddl_build.specs.Found.{filled}
-use Rattle.pddl_text.specs.Trees.{Tree}
+use Rattle.pddl_token.specs.Trees.{Tree}
 use Rattle.pddl_formula.specs.TypedLists.{TypedValue, typed_view}
 use Rattle.pddl_formula.specs.Formulas.{FormulaValue, conjunction, no_formulas, formula_view}
 use Rattle.pddl_effect.specs.Effects.{EffectValue, conjunction as all_effects, no_effects, effect_view}

@@ -3,11 +3,11 @@ use Rattle.std.specs.Prelude.{ℕ, List, [], ◌∷◌, Bool, false, ◌&&◌, �
 use Rattle.std.specs.Char.{to_ascii_lowercase}
 use Rattle.std.specs.List.{list_all}
 use Rattle.std.specs.Str.{bytes_eq}
-use Rattle.pddl_text.specs.declared.token.TokenKind.{TokenKind}
-use Rattle.pddl_text.specs.declared.token.TokenKind.TheVariants.{Name, Variable, Number}
-use Rattle.pddl_text.specs.Number.{value_of}
-use Rattle.pddl_text.specs.Trees.{Tree, leaf, node, list_of}
-use Rattle.pddl_tree.specs.Names.{folded, is_first_byte, is_later_byte}
+use Rattle.pddl_token.specs.declared.token.TokenKind.{TokenKind}
+use Rattle.pddl_token.specs.declared.token.TokenKind.TheVariants.{Name, Variable, Number}
+use Rattle.pddl_token.specs.Number.{value_of}
+use Rattle.pddl_token.specs.Trees.{Tree, leaf, node, list_of}
+use Rattle.pddl_token.specs.Names.{folded, is_first_byte, is_later_byte}
 use Rattle.pddl_tree.specs.Inner.TreeReading.{is_word_at}
 use Rattle.pddl_effect_reader.specs.Inner.EffectReading.{is_total_cost_at}
 

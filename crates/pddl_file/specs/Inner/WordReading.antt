@@ -2,10 +2,10 @@
 -- Flags and Marks.
 use Rattle.std.specs.Prelude.{ℕ, List, [], ◌∷◌, ◌==◌, Bool, true, false, Option, Some, None, if◌then◌else◌, codes}
 use Rattle.std.specs.Str.{bytes_eq}
-use Rattle.pddl_text.specs.declared.token.TokenKind.{TokenKind}
-use Rattle.pddl_text.specs.declared.token.TokenKind.TheVariants.{Name, Keyword, Number}
-use Rattle.pddl_text.specs.Trees.{Tree, leaf, node, list_of}
-use Rattle.pddl_tree.specs.Names.{folded, name_of}
+use Rattle.pddl_token.specs.declared.token.TokenKind.{TokenKind}
+use Rattle.pddl_token.specs.declared.token.TokenKind.TheVariants.{Name, Keyword, Number}
+use Rattle.pddl_token.specs.Trees.{Tree, leaf, node, list_of}
+use Rattle.pddl_token.specs.Names.{folded, name_of}
 use Rattle.pddl_effect.specs.Effects.{AmountValue}
 use Rattle.pddl_effect_reader.specs.Inner.EffectReading.{increase_of}
 use Rattle.pddl_file.specs.declared.keyword.SectionKeyword.{SectionKeyword}

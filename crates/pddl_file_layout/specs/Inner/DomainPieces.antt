@@ -1,10 +1,10 @@
 -- The canonical texts of domains and problems as words and blanks. No public contract names these.
 use Rattle.std.specs.Prelude.{ℕ, List, [], ◌∷◌, ◌++◌, codes}
 use Rattle.std.specs.List.{flat_map}
-use Rattle.pddl_text.specs.declared.token.TokenKind.TheVariants.{Name, Keyword}
+use Rattle.pddl_token.specs.declared.token.TokenKind.TheVariants.{Name, Keyword}
 use Rattle.pddl_text.specs.Pieces.{Piece, token, blanks, opening_word, closing_word, tree_pieces}
-use Rattle.pddl_text.specs.Spelling.{Word}
-use Rattle.pddl_text.specs.Trees.{Tree}
+use Rattle.pddl_token.specs.Spelling.{Word}
+use Rattle.pddl_token.specs.Trees.{Tree}
 use Rattle.pddl_domain.specs.Actions.{ActionValue}
 use Rattle.pddl_domain.specs.Domains.{DomainValue}
 use Rattle.pddl_file_layout.specs.FormulaTrees.{variables_tree, formula_tree, effect_tree}

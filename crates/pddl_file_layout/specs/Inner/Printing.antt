@@ -1,7 +1,7 @@
 -- What a call that prints did to its writer, where a write that failed is remembered. No public contract names these.
 use Rattle.std.specs.Prelude.{◌≡◌, ℕ, Bool, true, false, List, Option}
 use Rattle.std.specs.Io.KnownBytes.{Appends}
-use Rattle.pddl_text.specs.Device.{AppendsBeginning, HasFailed}
+use Rattle.pddl_device.specs.Device.{AppendsBeginning, HasFailed}
 
 -- The writer took the text, and no write failed; or it took a beginning of the text, and a write failed; or a write had failed
 -- before, and nothing was written. The bytes that the writer holds, its count of failures, and whether a write failed are given

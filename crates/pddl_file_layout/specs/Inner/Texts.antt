@@ -1,7 +1,7 @@
 -- The canonical texts as they are printed, piece by piece. No public contract names these.
 use Rattle.std.specs.Prelude.{ℕ, List, [], ◌∷◌, ◌++◌, Option, Some, None, codes}
 use Rattle.std.specs.List.{flat_map}
-use Rattle.pddl_text.specs.NumberText.{number_text}
+use Rattle.pddl_token.specs.NumberText.{number_text}
 use Rattle.pddl_formula.specs.Terms.{TermValue, name, variable, AtomValue}
 use Rattle.pddl_formula.specs.TypedLists.{TypedValue}
 use Rattle.pddl_formula.specs.Formulas.{FormulaValue, atom, equal, negation, implication, conjunction, disjunction, existential, universal, FormulaValues, no_formulas, formula}

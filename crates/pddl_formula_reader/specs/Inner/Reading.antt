@@ -2,10 +2,10 @@
 -- Formulas.
 use Rattle.std.specs.Prelude.{ℕ, List, [], ◌∷◌, ◌++◌, map, Bool, true, false, Option, Some, None, option_map, option_and_then, if◌then◌else◌, codes}
 use Rattle.std.specs.Str.{bytes_eq}
-use Rattle.pddl_text.specs.declared.token.TokenKind.{TokenKind}
-use Rattle.pddl_text.specs.declared.token.TokenKind.TheVariants.{Name, Variable, Equal}
-use Rattle.pddl_text.specs.Trees.{Tree, Trees, leaf, node, no_trees, tree, list_of}
-use Rattle.pddl_tree.specs.Names.{folded, name_of}
+use Rattle.pddl_token.specs.declared.token.TokenKind.{TokenKind}
+use Rattle.pddl_token.specs.declared.token.TokenKind.TheVariants.{Name, Variable, Equal}
+use Rattle.pddl_token.specs.Trees.{Tree, Trees, leaf, node, no_trees, tree, list_of}
+use Rattle.pddl_token.specs.Names.{folded, name_of}
 use Rattle.pddl_tree.specs.Inner.TreeReading.{name_at, variable_name, variable_at, is_word_at, is_dash, all_of}
 use Rattle.pddl_formula_reader.specs.declared.formula_reader.Quantifier.{Quantifier}
 use Rattle.pddl_formula_reader.specs.declared.formula_reader.Quantifier.TheVariants as quantifiers

@@ -1,6 +1,6 @@
 -- The sections of a problem, computed from trees. No public contract names these.
 use Rattle.std.specs.Prelude.{ℕ, List, [], ◌∷◌, map, Option, Some, None, option_map, option_and_then, if◌then◌else◌, codes}
-use Rattle.pddl_text.specs.Trees.{Tree, leaf, node, list_of}
+use Rattle.pddl_token.specs.Trees.{Tree, leaf, node, list_of}
 use Rattle.pddl_tree.specs.Inner.TreeReading.{name_at, is_word_at, all_of}
 use Rattle.pddl_formula_reader.specs.declared.head.Head.{Head}
 use Rattle.pddl_formula_reader.specs.declared.head.Head.TheVariants as heads

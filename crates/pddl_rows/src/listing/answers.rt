@@ -6,7 +6,7 @@ use pddl_commands::Outcome;
 use pddl_commands::pddl_link::Task;
 use pddl_formula::{TypeName, TypeNames};
 use pddl_row_driver::{Lines, text_of};
-use pddl_tree::Name;
+use pddl_token::Name;
 use std::alloc::Allocator;
 
 /// Adds a name, and the number of the object and of the predicate of that name.

@@ -5,7 +5,7 @@ use pddl_commands::Outcome;
 use pddl_domain::{Action, DeclaredFunction, DeclaredPredicate, DeclaredType, Domain};
 use pddl_domain_reader::read_domain;
 use pddl_row_driver::{Lines, add_file_fault};
-use pddl_tree::Name;
+use pddl_token::Name;
 use std::alloc::Allocator;
 
 /// Adds a line for a name, behind a word.

@@ -2,7 +2,8 @@
 
 use pddl_commands::Outcome;
 use pddl_row_driver::{Lines, add_read_fault};
-use pddl_tree::{Name, Plan, PlanReader, ReadFault, Step, read_plan};
+use pddl_token::Name;
+use pddl_tree::{Plan, PlanReader, ReadFault, Step, read_plan};
 use std::alloc::Allocator;
 
 /// Adds names.

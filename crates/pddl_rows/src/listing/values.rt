@@ -2,8 +2,8 @@
 
 use pddl_commands::Outcome;
 use pddl_row_driver::{Lines, text_of};
-use pddl_text::{Fixed, Pos, position, value_of};
-use pddl_tree::Name;
+use pddl_text::{Pos, position};
+use pddl_token::{Fixed, Name, value_of};
 use std::alloc::Allocator;
 
 /// What each line of a text is.

@@ -1,10 +1,9 @@
 //! Readers, writers and memory, where no row of a text can say what they do.
 
+use pddl_device::{FromRead, SourceFault, ToWrite, WriteFault, read_all, write_text};
 use pddl_fakes::{FakeSource, Refusing};
-use pddl_text::{
-    FromRead, Item, SourceFault, Span, TextFault, ToWrite, Token, TokenKind, WriteFault, lex,
-    lists, read_all, write_text,
-};
+use pddl_text::{Item, TextFault, lex, lists};
+use pddl_token::{Span, Token, TokenKind};
 use std::alloc::Global;
 use std::test::Fail;
 

@@ -1,7 +1,7 @@
 -- Reading sections one after the other, with the keywords that were seen, for the readers above. What it means stands in Sections.
 use Rattle.std.specs.Prelude.{List, [], ◌∷◌, ◌++◌, Bool, Option, Some, None, if◌then◌else◌}
-use Rattle.pddl_text.specs.declared.token.Span.{Span}
-use Rattle.pddl_text.specs.Trees.{Tree, Placed, erased}
+use Rattle.pddl_token.specs.declared.token.Span.{Span}
+use Rattle.pddl_token.specs.Trees.{Tree, Placed, erased}
 use Rattle.pddl_tree.specs.PlanFaults.{span_of}
 use Rattle.pddl_sections.specs.Sections.{SectionFault, faulty, unsupported, twice, lists_in}
 

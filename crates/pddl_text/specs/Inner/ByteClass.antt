@@ -3,7 +3,7 @@ use Rattle.std.specs.Prelude.{ℕ, ◌==◌, ◌||◌, if◌then◌else◌}
 use Rattle.std.specs.Char.{is_ascii_digit, is_ascii_alphabetic, is_ascii_whitespace}
 use Rattle.pddl_text.specs.declared.bytes.ByteClass.{ByteClass}
 use Rattle.pddl_text.specs.declared.bytes.ByteClass.TheVariants.{Blank, Semicolon, Letter, Digit, Question, Colon, Angle, Lone, Other}
-use Rattle.pddl_text.specs.declared.token.TokenKind.TheVariants as kinds
+use Rattle.pddl_token.specs.declared.token.TokenKind.TheVariants as kinds
 
 -- of a byte that is no blank, letter or digit
 abbrev pub class_of_mark : ℕ → ByteClass

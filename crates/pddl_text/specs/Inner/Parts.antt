@@ -4,8 +4,8 @@ use Rattle.pddl_text.specs.declared.next.Next.{Next}
 use Rattle.pddl_text.specs.declared.next.Next.TheVariants as nexts
 use Rattle.pddl_text.specs.declared.parts.Progress.{Progress}
 use Rattle.pddl_text.specs.declared.parts.Progress.TheVariants as progress
-use Rattle.pddl_text.specs.Bytes.{is_inner_byte}
-use Rattle.pddl_text.specs.Spelling.{PlacedWord, Spells, IsOpenComment}
+use Rattle.pddl_token.specs.Bytes.{is_inner_byte}
+use Rattle.pddl_token.specs.Spelling.{PlacedWord, Spells, IsOpenComment}
 use Rattle.pddl_text.specs.Faults.{AreValued, IsStray, IsGlued, IsOutOfRange, IsLeftmost}
 use Rattle.pddl_text.specs.Inner.Reading.{Reads}
 use Rattle.pddl_text.specs.Scanning.{LexedTo}

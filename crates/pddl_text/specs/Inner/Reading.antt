@@ -2,16 +2,16 @@
 use Rattle.std.specs.Prelude.{ℕ, ◌+◌, ◌<◌, ◌≤◌, List, [], ◌∷◌, length, take, drop, nat_lt, ◌==◌, is_some, if◌then◌else◌}
 use Rattle.std.specs.List.{prefix_len}
 use Rattle.std.specs.Char.{is_ascii_digit, is_ascii_alphabetic}
-use Rattle.pddl_text.specs.Bytes.{is_line_byte, is_word_byte, begins, begins_decimals}
+use Rattle.pddl_token.specs.Bytes.{is_line_byte, is_word_byte, begins, begins_decimals}
 use Rattle.pddl_text.specs.Inner.ByteClass.{class_of}
-use Rattle.pddl_text.specs.Number.{value_of}
+use Rattle.pddl_token.specs.Number.{value_of}
 use Rattle.pddl_text.specs.declared.bytes.ByteClass.{ByteClass}
 use Rattle.pddl_text.specs.declared.bytes.ByteClass.TheVariants.{Blank, Semicolon, Letter, Digit, Question, Colon, Angle, Lone, Other}
-use Rattle.pddl_text.specs.declared.token.TokenKind.TheVariants as kinds
+use Rattle.pddl_token.specs.declared.token.TokenKind.TheVariants as kinds
 use Rattle.pddl_text.specs.declared.next.Next.{Next}
 use Rattle.pddl_text.specs.declared.next.Next.TheVariants.{Gap, Word, OpenComment, Stray, Glued, OutOfRange}
-use Rattle.pddl_text.specs.declared.token.TokenKind.{TokenKind}
-use Rattle.pddl_text.specs.Spelling.{Word as Spelled, gap, word, IsPart, IsOpenComment}
+use Rattle.pddl_token.specs.declared.token.TokenKind.{TokenKind}
+use Rattle.pddl_token.specs.Spelling.{Word as Spelled, gap, word, IsPart, IsOpenComment}
 use Rattle.pddl_text.specs.Faults.{IsStray, IsGlued, IsOutOfRange, IsValued}
 
 -- the digits, with a point and digits where they follow

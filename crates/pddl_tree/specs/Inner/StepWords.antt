@@ -1,15 +1,15 @@
 -- Steps read word by word. No public contract names these.
 use Rattle.std.specs.Prelude.{◌≡◌, ◌<◌, ◌⊎◌, ℕ, List, [], ◌∷◌, ◌++◌, Option, Some, None, length, map, take, drop}
-use Rattle.pddl_text.specs.declared.token.TokenKind.TheVariants.{Open, Number, Colon as ColonSign}
-use Rattle.pddl_text.specs.Spelling.{PlacedWord}
-use Rattle.pddl_text.specs.Number.{value_of}
-use Rattle.pddl_text.specs.Trees.{Placed, placed_leaf, erased}
+use Rattle.pddl_token.specs.declared.token.TokenKind.TheVariants.{Open, Number, Colon as ColonSign}
+use Rattle.pddl_token.specs.Spelling.{PlacedWord}
+use Rattle.pddl_token.specs.Number.{value_of}
+use Rattle.pddl_token.specs.Trees.{Placed, placed_leaf, erased}
 use Rattle.pddl_text.specs.Lists.{AreItems, deepest}
 use Rattle.pddl_tree.specs.declared.plan_words.Place.{Place}
 use Rattle.pddl_tree.specs.declared.plan_words.Place.TheVariants.{Between, Moment, Colon, Inside, Lost}
 use Rattle.pddl_tree.specs.Building.{Building}
 use Rattle.pddl_tree.specs.Plans.{IsStep, AreTimed, steps_built, timed_built}
-use Rattle.pddl_tree.specs.Words.{SpellsName, Each}
+use Rattle.pddl_token.specs.TreeWords.{SpellsName, Each}
 
 -- ---- the step that is not ended
 

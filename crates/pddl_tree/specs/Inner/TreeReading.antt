@@ -1,10 +1,10 @@
 -- Words read from trees, for the readers above. What they mean stands in Words.
 use Rattle.std.specs.Prelude.{ℕ, List, [], ◌∷◌, ◌==◌, Bool, true, false, Option, Some, None, if◌then◌else◌}
 use Rattle.std.specs.Str.{bytes_eq}
-use Rattle.pddl_text.specs.declared.token.TokenKind.{TokenKind}
-use Rattle.pddl_text.specs.declared.token.TokenKind.TheVariants.{Name, Variable, Keyword, Dash}
-use Rattle.pddl_text.specs.Trees.{Tree, leaf, node}
-use Rattle.pddl_tree.specs.Names.{folded, name_of}
+use Rattle.pddl_token.specs.declared.token.TokenKind.{TokenKind}
+use Rattle.pddl_token.specs.declared.token.TokenKind.TheVariants.{Name, Variable, Keyword, Dash}
+use Rattle.pddl_token.specs.Trees.{Tree, leaf, node}
+use Rattle.pddl_token.specs.Names.{folded, name_of}
 use Rattle.pddl_tree.specs.Inner.PlanReading.{name_by, both}
 
 -- the name that a tree is

@@ -1,6 +1,6 @@
 use Rattle.std.proofs.Common.{rules, ◌++◌, take, length, length-append, ℕ, arith, inl, inr}
 use Rattle.std.proofs.lemmas.Bool.{cases_lt}
-use Rattle.pddl_text.proofs.Known.{consumes_more}
+use Rattle.pddl_device.proofs.Known.{consumes_more}
 use Rattle.pddl_commands.proofs.Left.{left_longer}
 use Rattle.pddl_commands.proofs.plan_file.feed_all.Goals as goal
 

@@ -1,6 +1,6 @@
 use Rattle.std.proofs.Common.{◌≡◌, true, map, sym, ap, subst, codes}
 use Rattle.std.specs.List.{flat_map, list_all}
-use Rattle.pddl_tree.specs.Names.{is_name}
+use Rattle.pddl_token.specs.Names.{is_name}
 use Rattle.pddl_formula.specs.TypedLists.{typed_view}
 use Rattle.pddl_domain.specs.Declarations.{type_view, predicate_view, function_view}
 use Rattle.pddl_domain.specs.Actions.{action_view}

@@ -1,6 +1,6 @@
 use Rattle.std.proofs.Common.{◌++◌, ℕ, List}
 use Rattle.std.specs.Prelude.{codes}
-use Rattle.pddl_tree.specs.Names.{is_name}
+use Rattle.pddl_token.specs.Names.{is_name}
 use Rattle.pddl_file_layout.proofs.Printed.{puts_on, puts_as, words_on, words_pass}
 use Rattle.pddl_file_layout.proofs.section.put_flags.Goals as goal
 

@@ -1,6 +1,6 @@
 use Rattle.std.proofs.Common.{map, sym, ◌∙◌, refl, arith}
-use Rattle.pddl_text.specs.Spelling.{view}
-use Rattle.pddl_text.specs.Trees.{unplaced}
+use Rattle.pddl_token.specs.Spelling.{view}
+use Rattle.pddl_token.specs.Trees.{unplaced}
 use Rattle.pddl_tree.specs.ItemTrees.{item_tree, item_trees}
 use Rattle.pddl_tree.proofs.TreeLists.{item_tree_list, item_tree_word}
 use Rattle.pddl_formula.specs.Formulas.{formula_view, atom, conjunction, disjunction, formulas_of}

@@ -1,7 +1,7 @@
 use Rattle.std.proofs.Common.{◌≡◌, ◌<◌, length, refl, ap, ◌∙◌, arith}
 use Rattle.std.proofs.lemmas.List.{length-map}
-use Rattle.pddl_text.specs.Spelling.{view}
-use Rattle.pddl_text.specs.Trees.{unplaced}
+use Rattle.pddl_token.specs.Spelling.{view}
+use Rattle.pddl_token.specs.Trees.{unplaced}
 use Rattle.pddl_tree.specs.ItemTrees.{item_tree, item_trees}
 use Rattle.pddl_tree.proofs.TreeLists.{item_tree_list, item_tree_word}
 use Rattle.pddl_formula_reader.specs.Inner.Reading.{condition_at, formula_at}

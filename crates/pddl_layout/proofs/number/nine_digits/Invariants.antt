@@ -1,5 +1,5 @@
 use Rattle.std.proofs.Common.{◌≡◌, ◌≤◌, ◌++◌, length, drop}
-use Rattle.pddl_text.specs.NumberText.{padded}
+use Rattle.pddl_token.specs.NumberText.{padded}
 use Rattle.pddl_layout.proofs.number.nine_digits.Given as goal
 
 -- the digits of the rest, and those that are written

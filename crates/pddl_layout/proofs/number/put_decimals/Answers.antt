@@ -1,6 +1,6 @@
 use Rattle.std.proofs.Common.{◌≡◌, ◌<◌, List, ℕ, ◌∷◌, [], length, take, sym, ap, subst, ◌∙◌, arith}
 use Rattle.std.proofs.lemmas.List.{length-take-le}
-use Rattle.pddl_text.specs.NumberText.{padded, trimmed, pointed}
+use Rattle.pddl_token.specs.NumberText.{padded, trimmed, pointed}
 use Rattle.pddl_layout.specs.Printing.{Prints}
 use Rattle.pddl_layout.proofs.Printed.{prints_on}
 use Rattle.pddl_layout.proofs.Digits.{pointed_some}

@@ -1,7 +1,7 @@
 use Rattle.std.proofs.Common.{◌≡◌, ◌/◌, ◌%◌, ℕ, ◌∙◌, ap}
 use Rattle.std.specs.Fmt.{decimal}
 use Rattle.std.proofs.lemmas.Result.{err_from_is_err_and}
-use Rattle.pddl_text.specs.NumberText.{padded, trimmed, pointed, number_text}
+use Rattle.pddl_token.specs.NumberText.{padded, trimmed, pointed, number_text}
 use Rattle.pddl_layout.proofs.Printed.{prints_on, stops_more, stops_as, wrote_as}
 use Rattle.pddl_layout.proofs.number.put_number.Goals as goal
 

@@ -1,5 +1,5 @@
 use Rattle.std.proofs.Common.{◌≡◌, ◌≤◌, length, take}
-use Rattle.pddl_text.specs.NumberText.{trimmed}
+use Rattle.pddl_token.specs.NumberText.{trimmed}
 use Rattle.pddl_layout.proofs.number.trimmed_len.Given as goal
 
 -- zeros alone stand behind the place

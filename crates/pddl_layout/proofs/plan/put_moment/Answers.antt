@@ -1,7 +1,7 @@
 use Rattle.std.proofs.Common.{refl}
 use Rattle.std.specs.Prelude.{codes}
 use Rattle.std.proofs.lemmas.Result.{err_from_is_err_and}
-use Rattle.pddl_text.specs.NumberText.{number_text}
+use Rattle.pddl_token.specs.NumberText.{number_text}
 use Rattle.pddl_layout.proofs.Printed.{nothing, prints_on, stops_more}
 use Rattle.pddl_layout.proofs.plan.put_moment.Goals as goal
 

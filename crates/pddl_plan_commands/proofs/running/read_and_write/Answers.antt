@@ -1,7 +1,7 @@
 use Rattle.std.proofs.Common.{rules, subst}
 use Rattle.std.specs.Prelude.{IsErrOf}
 use Rattle.std.specs.Io.KnownBytes.{Appends}
-use Rattle.pddl_text.specs.Device.{AppendsBeginning}
+use Rattle.pddl_device.specs.Device.{AppendsBeginning}
 use Rattle.pddl_commands.specs.declared.outcome.RunFault.TheVariants.{WriteFailed}
 use Rattle.pddl_plan_commands.proofs.running.read_and_write.Goals as goal
 

@@ -1,6 +1,6 @@
 use Rattle.std.proofs.Common.{◌≡◌, ℕ, List, take, drop, sym, ap, ◌∙◌, subst, arith, inl, inr}
 use Rattle.std.proofs.lemmas.List.{map_push, take-append-drop}
-use Rattle.pddl_text.specs.Spelling.{PlacedWord, Spells, IsOpenComment, view}
+use Rattle.pddl_token.specs.Spelling.{PlacedWord, Spells, IsOpenComment, view}
 use Rattle.pddl_text.specs.Faults.{IsStray, IsGlued, IsOutOfRange, IsFaulty, AreValued}
 use Rattle.pddl_text.specs.Inner.Reading.{IsGapAt, IsWordAt}
 use Rattle.pddl_text.specs.Scanning.{LexedTo}

@@ -1,9 +1,9 @@
 use Rattle.std.proofs.Common.{arith, subst, sym, ◌≡◌, ◌<◌, ℕ, List, length, take, ◌+◌, ◌≤◌}
 use Rattle.std.specs.List.{AllPass, prefix_len}
 use Rattle.std.proofs.lemmas.List.{take_all}
-use Rattle.pddl_text.proofs.Runs.{run_passes}
+use Rattle.pddl_token.proofs.Runs.{run_passes}
 use Rattle.std.proofs.lemmas.List.Sums.{prefix_len_stops}
-use Rattle.pddl_text.specs.Bytes.{is_inner_byte}
+use Rattle.pddl_token.specs.Bytes.{is_inner_byte}
 use Rattle.pddl_text.specs.Inner.Parts.{IsEnded}
 use Rattle.pddl_text.proofs.Ended.{ended_at}
 use Rattle.pddl_text.proofs.piecewise.first_end.Goals as goal

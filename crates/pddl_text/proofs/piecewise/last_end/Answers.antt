@@ -1,6 +1,6 @@
 use Rattle.std.proofs.Common.{arith, subst, sym, ◌≡◌, ◌<◌, ℕ, List, length, drop, ◌-◌, ◌≤◌, get_or, true, ◌∙◌}
 use Rattle.std.specs.List.{AllPass}
-use Rattle.pddl_text.specs.Bytes.{is_inner_byte}
+use Rattle.pddl_token.specs.Bytes.{is_inner_byte}
 use Rattle.pddl_text.proofs.Ended.{held_more}
 use Rattle.pddl_text.proofs.piecewise.last_end.Goals as goal
 

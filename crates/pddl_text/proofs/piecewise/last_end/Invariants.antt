@@ -1,6 +1,6 @@
 use Rattle.std.proofs.Common.{length, ◌≤◌, drop}
 use Rattle.std.specs.List.{AllPass}
-use Rattle.pddl_text.specs.Bytes.{is_inner_byte}
+use Rattle.pddl_token.specs.Bytes.{is_inner_byte}
 use Rattle.pddl_text.proofs.piecewise.last_end.Given as goal
 
 abbrev pub invariant-loop-len : goal.invariant-loop-len

@@ -1,6 +1,6 @@
 use Rattle.std.proofs.Common.{map, sym, ap, subst}
 use Rattle.std.proofs.lemmas.Result.{err_from_is_err_and}
-use Rattle.pddl_text.specs.Spelling.{view}
+use Rattle.pddl_token.specs.Spelling.{view}
 use Rattle.pddl_text.specs.Lists.{AreItems}
 use Rattle.pddl_text.proofs.TextItems.{items_form}
 use Rattle.pddl_text.proofs.texts.items_of.Goals as goal

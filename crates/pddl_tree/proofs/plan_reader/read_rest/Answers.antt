@@ -1,6 +1,6 @@
 use Rattle.std.proofs.Common.{◌≡◌, ap, sym, subst, ◌∙◌, map, List, arith}
 use Rattle.std.specs.Prelude.{Ok}
-use Rattle.pddl_text.specs.Spelling.{PlacedWord, view}
+use Rattle.pddl_token.specs.Spelling.{PlacedWord, view}
 use Rattle.pddl_text.specs.Items.{items_view}
 use Rattle.pddl_text.specs.Lists.{AreItems, ListStands}
 use Rattle.pddl_tree.specs.Plans.{PlanValue, plan_view}

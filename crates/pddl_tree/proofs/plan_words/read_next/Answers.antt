@@ -1,6 +1,6 @@
 use Rattle.std.proofs.Common.{ap, ◌∙◌}
 use Rattle.std.specs.Prelude.{Some}
-use Rattle.pddl_text.specs.Spelling.{view}
+use Rattle.pddl_token.specs.Spelling.{view}
 use Rattle.pddl_tree.proofs.StepsRead.{word_on, ended_before}
 use Rattle.pddl_tree.proofs.plan_words.read_next.Goals as goal
 

@@ -1,5 +1,5 @@
 use Rattle.std.proofs.Common.{◌∙◌, ◌++◌, List, drop, ap, subst}
-use Rattle.pddl_text.specs.Spelling.{PlacedWord}
+use Rattle.pddl_token.specs.Spelling.{PlacedWord}
 use Rattle.pddl_tree.specs.Inner.StepWords.{ReadsWords}
 use Rattle.pddl_tree.proofs.StepsRead.{none_moved, some_moved}
 use Rattle.pddl_tree.proofs.plan_words.read_on.Goals as goal

@@ -1,6 +1,6 @@
 use Rattle.std.proofs.Common.{◌<◌, length, take, subst, arith}
 use Rattle.std.proofs.lemmas.List.{length-take-le}
-use Rattle.pddl_text.specs.Spelling.{view}
+use Rattle.pddl_token.specs.Spelling.{view}
 use Rattle.pddl_tree.specs.Inner.StepWords.{ReadsWords}
 use Rattle.pddl_tree.proofs.StepsRead.{ended_less, next_word}
 use Rattle.pddl_tree.proofs.plan_words.read_words.Goals as goal

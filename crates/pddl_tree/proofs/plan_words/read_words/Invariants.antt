@@ -1,6 +1,6 @@
 use Rattle.std.proofs.Common.{◌≤◌, ◌-◌, List, length, take}
 use Rattle.std.specs.Prelude.{IfSome}
-use Rattle.pddl_text.specs.Spelling.{PlacedWord}
+use Rattle.pddl_token.specs.Spelling.{PlacedWord}
 use Rattle.pddl_tree.specs.Inner.StepWords.{ReadsTo, ReadsWords}
 use Rattle.pddl_tree.proofs.plan_words.read_words.Given as goal
 

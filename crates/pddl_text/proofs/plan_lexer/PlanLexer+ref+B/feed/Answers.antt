@@ -1,5 +1,5 @@
 use Rattle.std.proofs.Common.{◌++◌, List, sym, subst}
-use Rattle.pddl_text.specs.Spelling.{PlacedWord}
+use Rattle.pddl_token.specs.Spelling.{PlacedWord}
 use Rattle.pddl_text.specs.StandsFor.{StandsFor}
 use Rattle.pddl_text.proofs.AllGiven.{none_since, partly, lines, same_err}
 use Rattle.pddl_text.proofs.plan_lexer.PlanLexer+ref+B.feed.Goals as goal

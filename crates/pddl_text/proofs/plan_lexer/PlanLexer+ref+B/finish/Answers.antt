@@ -1,5 +1,5 @@
 use Rattle.std.proofs.Common.{◌++◌, List, sym, subst, arith}
-use Rattle.pddl_text.specs.Spelling.{PlacedWord, Spells}
+use Rattle.pddl_token.specs.Spelling.{PlacedWord, Spells}
 use Rattle.pddl_text.specs.Faults.{AreValued}
 use Rattle.pddl_text.proofs.AllGiven.{none_since, no_fault_in_words}
 use Rattle.pddl_text.proofs.Lexed.{one_spelling}

@@ -1,5 +1,5 @@
 use Rattle.std.proofs.Common.{ap, arith, ◌∙◌, ◌++◌, ◌∷◌, []}
-use Rattle.pddl_text.specs.Spelling.{view}
+use Rattle.pddl_token.specs.Spelling.{view}
 use Rattle.pddl_text.proofs.WordsHeld.{word_pushed}
 use Rattle.pddl_text.proofs.word_list.WordList.push.Goals as goal
 

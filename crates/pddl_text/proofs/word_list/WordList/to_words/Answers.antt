@@ -1,6 +1,6 @@
 use Rattle.std.proofs.Common.{arith, map, ap, ◌∙◌, ◌≡◌, ◌++◌, ◌∷◌, []}
 use Rattle.std.proofs.lemmas.List.{map_push}
-use Rattle.pddl_text.specs.Spelling.{view}
+use Rattle.pddl_token.specs.Spelling.{view}
 use Rattle.pddl_text.specs.InPieces.{word_view}
 use Rattle.pddl_text.proofs.WordsHeld.{words_on}
 use Rattle.pddl_text.proofs.word_list.WordList.to_words.Goals as goal

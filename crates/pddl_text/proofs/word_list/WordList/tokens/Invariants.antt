@@ -1,5 +1,5 @@
 use Rattle.std.proofs.Common.{◌≡◌, ◌≤◌, ◌-◌, ◌++◌, length, drop, map}
-use Rattle.pddl_text.specs.Spelling.{view}
+use Rattle.pddl_token.specs.Spelling.{view}
 use Rattle.pddl_text.proofs.word_list.WordList.tokens.Given as goal
 
 abbrev pub invariant-loop-number : goal.invariant-loop-number

@@ -1,6 +1,6 @@
 use Rattle.std.proofs.Common.{[], ◌++◌, ◌≡◌, ℕ, List, ◌∷◌, length, take, sym, ap, subst, ◌∙◌, arith}
 use Rattle.std.proofs.lemmas.List.{append-nil}
-use Rattle.pddl_tree.specs.Names.{folded, is_name}
+use Rattle.pddl_token.specs.Names.{folded, is_name}
 use Rattle.pddl_tree.specs.Cuts.{cut}
 use Rattle.pddl_tree.specs.NameLists.{AreNamesIn}
 use Rattle.pddl_tree.proofs.NamesHeld.{on_err, start_is, start_within, bytes_behind, same_names, still_held, names_more, held_more, not_added, name_added}

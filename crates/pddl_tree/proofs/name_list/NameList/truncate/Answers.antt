@@ -1,6 +1,6 @@
 use Rattle.std.proofs.Common.{take, ap, sym, subst, ◌∙◌, arith, IsTrue}
 use Rattle.std.specs.List.{list_all}
-use Rattle.pddl_tree.specs.Names.{is_name}
+use Rattle.pddl_token.specs.Names.{is_name}
 use Rattle.pddl_tree.specs.Cuts.{cut}
 use Rattle.pddl_tree.specs.NameLists.{AreNamesIn}
 use Rattle.pddl_tree.proofs.CutLists.{rises_first, end_first, cut_first}

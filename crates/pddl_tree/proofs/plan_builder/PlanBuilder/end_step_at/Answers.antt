@@ -1,5 +1,5 @@
 use Rattle.std.proofs.Common.{◌≡◌, ◌<◌, ◌≤◌, ℕ, List, [], ◌∷◌, ◌++◌, length, drop, ap, ◌∙◌, arith}
-use Rattle.pddl_text.specs.Number.{largest}
+use Rattle.pddl_token.specs.Number.{largest}
 use Rattle.pddl_tree.specs.Cuts.{cut, last_end}
 use Rattle.pddl_tree.specs.Building.{Building, ended_at}
 use Rattle.pddl_tree.proofs.BuiltPlans.{timed_held, timed_ended}

@@ -1,6 +1,6 @@
 use Rattle.std.proofs.Common.{[], List, refl, sym, subst}
 use Rattle.pddl_text.specs.StandsFor.{StandsFor}
-use Rattle.pddl_text.specs.Spelling.{PlacedWord}
+use Rattle.pddl_token.specs.Spelling.{PlacedWord}
 use Rattle.pddl_tree.proofs.RestRead.{nothing_read}
 use Rattle.pddl_tree.proofs.plan_reader.PlanReader+ref+B.new.Goals as goal
 

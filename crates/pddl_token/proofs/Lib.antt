@@ -1,0 +1,5 @@
+pub mod Runs
+pub mod Tests
+pub mod Values
+pub mod NumberTexts
+pub mod FoldedNames
