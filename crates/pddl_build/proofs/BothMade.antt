@@ -19,14 +19,3 @@ first_made first second x P is holds = subst (λ r. IfOk r (λ z. P z.0)) (sym i
 
 pub second_made : {T U E : Type 0} (first : Result T E) (second : Result U E) (x : T × U) (P : U → Type 0) → Ok x ≡ both_made first second → IfOk second P → P x.1
 second_made first second x P is holds = subst (λ r. IfOk r (λ z. P z.1)) (sym is) (second_of_both first second P holds)
-
--- the same of two that stand behind another
-pub second_first_made : {S T U E : Type 0} (zeroth : Result S E) (first : Result T E) (second : Result U E) (two : Result (T × U) E) (x : S × (T × U)) (P : T → Type 0)
-    → two ≡ both_made first second → Ok x ≡ both_made zeroth two → IfOk first P → P x.1.0
-second_first_made zeroth first second two x P are is holds =
-    second_made zeroth two x (λ z. P z.0) is (subst (λ r. IfOk r (λ z. P z.0)) (sym are) (first_of_both first second P holds))
-
-pub second_second_made : {S T U E : Type 0} (zeroth : Result S E) (first : Result T E) (second : Result U E) (two : Result (T × U) E) (x : S × (T × U)) (P : U → Type 0)
-    → two ≡ both_made first second → Ok x ≡ both_made zeroth two → IfOk second P → P x.1.1
-second_second_made zeroth first second two x P are is holds =
-    second_made zeroth two x (λ z. P z.1) is (subst (λ r. IfOk r (λ z. P z.1)) (sym are) (second_of_both first second P holds))

@@ -21,18 +21,6 @@ pub fn fill_found<T: Drop>(
     Ok(fill(slot, value))
 }
 
-/// [`fill_found`] of a list. (A call at `Vec<T, A>`, both of which hold references, has no proof today.)
-///
-/// Fails as the list failed.
-pub fn fill_list<T: Drop, A: Allocator>(
-    slot: &mut Option<Vec<T, A>>,
-    list: Result<Option<Vec<T, A>>, AllocError>,
-) -> Result<bool, AllocError>
-    ensures { FillsFound slot.old list slot.new result }
-{
-    fill_found(slot, list)
-}
-
 /// Makes a slot what was found; true exactly where there is a value.
 ///
 /// Fails as the value failed; the slot is then as it was.
@@ -46,7 +34,7 @@ pub fn set_found<T: Drop>(
     Ok(slot.is_some())
 }
 
-/// [`set_found`] of a list.
+/// [`set_found`] of a list. (A call at `Vec<T, A>`, both of which hold references, has no proof today.)
 ///
 /// Fails as the list failed; the slot is then as it was.
 pub fn set_list<T: Drop, A: Allocator>(

@@ -16,7 +16,7 @@ use crate::lookups::Lookups;
 use crate::scope::Scope;
 use crate::terms::places_of;
 use pddl_effect::{Amount, Effect};
-use pddl_formula::Typed;
+use pddl_formula::TypedList;
 use std::alloc::{AllocError, Allocator};
 
 /// A change for each of the objects of ranges, the outermost first.
@@ -105,7 +105,7 @@ pub fn compile_change<'f, 'b, A: Allocator, B: Allocator, L: Lookups<A, B>>(
 fn compile_quantified<'f, 'b, A: Allocator, B: Allocator, L: Lookups<A, B>>(
     alloc: &'b B,
     lookups: &L,
-    variables: &'f Vec<Typed<A>, A>,
+    variables: &'f TypedList<A>,
     inner: &'f Effect<A>,
     scope: &'f Scope<'f>,
 ) -> Result<Quantified<'b, Change<&'b B>, B>, AllocError>

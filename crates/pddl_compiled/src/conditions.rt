@@ -14,7 +14,7 @@ use crate::compiled::Condition;
 use crate::lookups::Lookups;
 use crate::scope::Scope;
 use crate::terms::{equality, places_of};
-use pddl_formula::{Formula, Typed};
+use pddl_formula::{Formula, TypedList};
 use std::alloc::{AllocError, Allocator};
 
 /// A condition that holds for some objects of ranges, the outermost first.
@@ -106,7 +106,7 @@ pub fn compile_condition<'f, 'b, A: Allocator, B: Allocator, L: Lookups<A, B>>(
 fn compile_quantified<'f, 'b, A: Allocator, B: Allocator, L: Lookups<A, B>>(
     alloc: &'b B,
     lookups: &L,
-    variables: &'f Vec<Typed<A>, A>,
+    variables: &'f TypedList<A>,
     inner: &'f Formula<A>,
     scope: &'f Scope<'f>,
 ) -> Result<Quantified<'b, Condition<&'b B>, B>, AllocError>

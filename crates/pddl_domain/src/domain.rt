@@ -1,7 +1,7 @@
 //! Domains and what they declare.
 
 use pddl_effect::Effect;
-use pddl_formula::{Formula, Predicate, TypeName, TypeNames, Typed};
+use pddl_formula::{Formula, Predicate, TypeName, TypeNames, TypedList};
 use pddl_token::Name;
 use std::alloc::Allocator;
 use std::rc::Rc;
@@ -19,7 +19,7 @@ pub struct DeclaredType<A: Allocator> {
 #[derive_where(Debug)]
 pub struct DeclaredPredicate<A: Allocator> {
     pub predicate: Predicate<A>,
-    pub parameters: Vec<Typed<A>, A>,
+    pub parameters: TypedList<A>,
 }
 
 /// A declared function, its parameters, and the type of its result.
@@ -27,7 +27,7 @@ pub struct DeclaredPredicate<A: Allocator> {
 #[derive_where(Debug)]
 pub struct DeclaredFunction<A: Allocator> {
     pub name: Name<A>,
-    pub parameters: Vec<Typed<A>, A>,
+    pub parameters: TypedList<A>,
     pub result: TypeNames<A>,
 }
 
@@ -36,7 +36,7 @@ pub struct DeclaredFunction<A: Allocator> {
 #[derive_where(Debug)]
 pub struct Action<A: Allocator> {
     pub name: Name<A>,
-    pub parameters: Vec<Typed<A>, A>,
+    pub parameters: TypedList<A>,
     pub precondition: Formula<A>,
     pub effect: Effect<A>,
 }
@@ -49,7 +49,7 @@ pub struct Domain<A: Allocator> {
     /// The flags of `:requirements`, without their colons.
     pub requirements: Vec<Name<A>, A>,
     pub types: Vec<DeclaredType<A>, A>,
-    pub constants: Vec<Typed<A>, A>,
+    pub constants: TypedList<A>,
     pub predicates: Vec<DeclaredPredicate<A>, A>,
     pub functions: Vec<DeclaredFunction<A>, A>,
     pub actions: Vec<Action<A>, A>,

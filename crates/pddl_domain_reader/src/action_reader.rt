@@ -12,11 +12,11 @@ ghost use Rattle.pddl_domain.specs.Actions.{parameters, precondition, effect, ac
 ghost use Rattle.pddl_domain_reader.specs.Inner.DomainReading.{field_at, action_of};
 ghost use Rattle.pddl_domain_reader.specs.Inner.Slots.{slots_view, no_slots, slots_from, AddsField, given_or, action_by};
 
-use pddl_build::{both, fill_found, fill_list, if_right};
+use pddl_build::{both, fill_found, if_right};
 use pddl_domain::Action;
 use pddl_effect::Effect;
 use pddl_effect_reader::whole_effect_of;
-use pddl_formula::{Formula, Typed};
+use pddl_formula::{Formula, TypedList};
 use pddl_formula_reader::{condition_of, is_keyword_item, name_of, variables_of};
 use pddl_text::Item;
 use pddl_token::Name;
@@ -25,7 +25,7 @@ use std::alloc::{AllocError, Allocator};
 /// The fields of an action that stood so far.
 #[derive(Drop)]
 struct Slots<A: Allocator> {
-    parameters: Option<Vec<Typed<A>, A>>,
+    parameters: Option<TypedList<A>>,
     precondition: Option<Formula<A>>,
     effect: Option<Effect<A>>,
 }
@@ -49,7 +49,7 @@ fn add_parameters<'a, B: Allocator>(
 ) -> Result<bool, AllocError>
     ensures { IfOk result (AddsField (option_map parameters (variables_at (item_tree item.now))) (slots_view slots.old) (slots_view slots.new)) }
 {
-    fill_list(&mut slots.parameters, variables_of(alloc, item))
+    fill_found(&mut slots.parameters, variables_of(alloc, item))
 }
 
 /// Adds the precondition that an item is.
@@ -125,15 +125,12 @@ fn slots_of<'a, B: Allocator>(
 }
 
 /// These parameters, or none.
-fn list_or_none<'a, B: Allocator>(
-    alloc: &'a B,
-    list: Option<Vec<Typed<&'a B>, &'a B>>,
-) -> Vec<Typed<&'a B>, &'a B>
+fn list_or_none<'a, B: Allocator>(alloc: &'a B, list: Option<TypedList<&'a B>>) -> TypedList<&'a B>
     ensures { map typed_view result.items ≡ given_or [] (option_map (λ v. map typed_view v.items) list.entry) }
 {
     match list {
         Some(list) => list,
-        None => Vec::new(alloc),
+        None => TypedList::new(alloc),
     }
 }
 

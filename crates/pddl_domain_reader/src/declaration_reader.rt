@@ -3,13 +3,13 @@
 ghost use Rattle.std.specs.Prelude.{◌≡◌, ◌∷◌, ◌++◌, [], IfOk, OnOk, Some, codes, map, option_map};
 ghost use Rattle.pddl_tree.specs.ItemTrees.{item_tree, item_trees};
 ghost use Rattle.pddl_tree.specs.Inner.TreeReading.{all_of};
-ghost use Rattle.pddl_formula_reader.specs.Inner.Reading.{of_type};
+ghost use Rattle.pddl_formula.specs.TypedLists.{of_type};
 ghost use Rattle.pddl_domain.specs.Declarations.{number, type_view, predicate_view, function_view};
 ghost use Rattle.pddl_domain_reader.specs.Inner.Signatures.{signature_view};
 ghost use Rattle.pddl_domain_reader.specs.Inner.DomainReading.{predicate_of_list, predicate_signature_at, function_of_list, function_signature_at, types_of, functions_of};
 
 use pddl_domain::{DeclaredFunction, DeclaredPredicate, DeclaredType};
-use pddl_formula::{TypeName, TypeNames, Typed};
+use pddl_formula::{TypeName, TypeNames, TypedList};
 use pddl_formula_reader::{
     is_dash, name_of, predicate_of, type_name_of, type_of, typed_variables_of,
 };
@@ -22,7 +22,7 @@ use std::rc::Rc;
 #[derive(Drop)]
 struct Signature<A: Allocator> {
     name: Name<A>,
-    parameters: Vec<Typed<A>, A>,
+    parameters: TypedList<A>,
 }
 
 /// The predicate that some items declare.

@@ -15,6 +15,7 @@ ghost use Rattle.pddl_domain_reader.specs.Inner.Sections.{domain_verdict, AddsPa
 use crate::section_reader::add_sections;
 use pddl_domain::Domain;
 use pddl_file::FileFault;
+use pddl_formula::TypedList;
 use pddl_sections::open_file;
 use pddl_text::{Item, LONGEST, items_of};
 use pddl_token::Name;
@@ -28,7 +29,7 @@ fn empty_domain<'a, B: Allocator>(alloc: &'a B, name: Name<&'a B>) -> Domain<&'a
         name,
         requirements: Vec::new(alloc),
         types: Vec::new(alloc),
-        constants: Vec::new(alloc),
+        constants: TypedList::new(alloc),
         predicates: Vec::new(alloc),
         functions: Vec::new(alloc),
         actions: Vec::new(alloc),

@@ -1,6 +1,7 @@
 //! Sections of a domain read from items.
 
 ghost use Rattle.std.specs.Prelude.{◌≡◌, Some, IfOk, IfErr, OnOk};
+ghost use Rattle.pddl_build.specs.Found.{AppendsFound};
 ghost use Rattle.pddl_text.specs.Items.{item_view, items_view};
 ghost use Rattle.pddl_tree.specs.ItemTrees.{item_tree, item_trees};
 ghost use Rattle.pddl_sections.specs.Inner.Verdicts.{turn};
@@ -14,10 +15,27 @@ use crate::declaration_reader::{declared_functions_of, declared_predicates_of, d
 use pddl_build::{append_found, push_found};
 use pddl_domain::Domain;
 use pddl_file::{FileFault, SectionKeyword, Seen, flags_of, head_keyword_of, keyword_of, refusal};
+use pddl_formula::TypedList;
 use pddl_formula_reader::typed_names_of;
 use pddl_sections::span_of;
 use pddl_text::Item;
 use std::alloc::{AllocError, Allocator};
+
+/// Puts typed names behind those of a list, if there are some to put there; true exactly where there are.
+///
+/// Fails as the names failed, and where memory for the list is refused; the list is then as it was.
+fn append_typed<A: Allocator>(
+    list: &mut TypedList<A>,
+    typed: Result<Option<TypedList<A>>, AllocError>,
+) -> Result<bool, AllocError>
+    ensures { AppendsFound list.old.items typed list.new.items result }
+{
+    let Some(typed) = typed? else {
+        return Ok(false);
+    };
+    list.append(typed)?;
+    Ok(true)
+}
 
 /// Adds what the items behind this keyword say; true exactly where they are a section.
 fn add_content<'a, B: Allocator>(
@@ -34,7 +52,7 @@ fn add_content<'a, B: Allocator>(
         }
         SectionKeyword::Types => append_found(&mut domain.types, declared_types_of(alloc, items)),
         SectionKeyword::Constants => {
-            append_found(&mut domain.constants, typed_names_of(alloc, items))
+            append_typed(&mut domain.constants, typed_names_of(alloc, items))
         }
         SectionKeyword::Predicates => {
             append_found(&mut domain.predicates, declared_predicates_of(alloc, items))

@@ -1,7 +1,7 @@
 //! Effects.
 
 use crate::amount::Amount;
-use pddl_formula::{Atom, Formula, Typed};
+use pddl_formula::{Atom, Formula, TypedList};
 use std::alloc::Allocator;
 
 /// What an action does to a state (Kovacs, `<effect>` with `:conditional-effects` and `:action-costs`; that effects nest
@@ -10,7 +10,7 @@ use std::alloc::Allocator;
 #[derive_where(Debug)]
 pub enum Effect<A: Allocator> {
     And(Vec<Effect<A>, A>),
-    Forall(Vec<Typed<A>, A>, Box<Effect<A>, A>),
+    Forall(TypedList<A>, Box<Effect<A>, A>),
     When(Formula<A>, Box<Effect<A>, A>),
     Add(Atom<A>),
     Del(Atom<A>),

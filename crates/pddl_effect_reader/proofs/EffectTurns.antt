@@ -1,5 +1,5 @@
 -- What effects of lists are.
-use Rattle.std.proofs.Common.{◌≡◌, ◌≤◌, ◌<◌, List, [], ◌∷◌, map, length, get_or, Vec, Box, refl, sym, ap, ap₂, ◌∙◌, arith}
+use Rattle.std.proofs.Common.{◌≡◌, ◌≤◌, ◌<◌, List, [], ◌∷◌, map, length, get_or, Vec, refl, sym, ap, ap₂, arith}
 use Rattle.std.specs.Prelude.{Bool, Some, None, if◌then◌else◌}
 use Rattle.pddl_token.specs.declared.token.Span.{Span}
 use Rattle.pddl_text.specs.declared.item.Item.{Item}
@@ -10,21 +10,12 @@ use Rattle.pddl_token.specs.TreeWords.{list}
 use Rattle.pddl_tree.specs.ItemTrees.{item_tree, item_trees}
 use Rattle.pddl_tree.proofs.TreeLists.{item_tree_list}
 use Rattle.pddl_formula_reader.specs.declared.head.Head.{Head}
-use Rattle.pddl_formula.specs.declared.type_names.Typed.{Typed}
-use Rattle.pddl_formula.specs.declared.term.Atom.{Atom}
-use Rattle.pddl_formula.specs.declared.formula.Formula.{Formula}
-use Rattle.pddl_formula.specs.Terms.{atom_view}
-use Rattle.pddl_formula.specs.TypedLists.{typed_view}
-use Rattle.pddl_formula.specs.Formulas.{formula_view}
 use Rattle.pddl_formula_reader.specs.Inner.Reading.{atom_at, head_at, behind, only}
-use Rattle.pddl_effect.specs.declared.amount.Amount.{Amount}
 use Rattle.pddl_effect.specs.declared.effect.Effect.{Effect}
-use Rattle.pddl_effect.specs.declared.effect.Effect.TheOpen.{Effect-F}
-use Rattle.pddl_effect.specs.declared.effect.Effect.TheVariants.{And, Forall, When, Add, Del, Increase, rolls-And, rolls-Forall, rolls-When, rolls-Add, rolls-Del, rolls-Increase}
-use Rattle.pddl_effect.specs.declared.effect.Effect.TheFolds.{fold-roll-Effect}
+use Rattle.pddl_effect.specs.declared.effect.Effect.TheVariants.{And}
 use Rattle.pddl_effect_reader.specs.declared.effect_reader.Scope.{Scope}
 use Rattle.pddl_effect_reader.specs.declared.effect_reader.Scope.TheVariants as scopes
-use Rattle.pddl_effect.specs.Effects.{EffectValue, conjunction, universal, conditional, addition, deletion, increase, effects_of, amount_view, effect_step, effect_view}
+use Rattle.pddl_effect.specs.Effects.{effect_view}
 use Rattle.pddl_effect_reader.specs.Inner.EffectReading.{scoped_of, scoped_by, increase_of, is_total_cost_at, amount_at, effect_by, effect_of_list, effect_at, whole_effect_at}
 use Rattle.pddl_effect.proofs.Views.{view_and}
 use Rattle.pddl_effect_reader.proofs.EffectLaws.{effect_at_leaf}

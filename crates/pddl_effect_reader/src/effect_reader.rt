@@ -14,7 +14,7 @@ use crate::amount_reader::amount_of;
 use crate::increase::is_total_cost;
 use pddl_build::{both, boxed, pushed};
 use pddl_effect::{Amount, Effect};
-use pddl_formula::{Atom, Formula, Typed};
+use pddl_formula::{Atom, Formula, TypedList};
 use pddl_formula_reader::{Head, atom_of, atom_of_list, formula_of, head_of, variables_of};
 use pddl_text::Item;
 use std::alloc::{AllocError, Allocator};
@@ -239,7 +239,7 @@ fn conjunction<A: Allocator>(
 }
 
 fn universal<A: Allocator>(
-    variables: Result<Option<Vec<Typed<A>, A>>, AllocError>,
+    variables: Result<Option<TypedList<A>>, AllocError>,
     body: Result<Option<Box<Effect<A>, A>>, AllocError>,
 ) -> Result<Option<Effect<A>>, AllocError>
     ensures { result ≡ map_found (λ p. cases.Forall p.0 p.1) (both_of variables body) }

@@ -31,5 +31,5 @@ abbrev pub part_in : {A : _} → Part A → places.Part
 part_in (Says p ts) = says (record { predicate = p.now; terms = terms_in ts })
 part_in (Calls f ts) = calls (record { function = f.now; terms = terms_in ts })
 part_in (Equates t u) = equates (term_view t.now) (term_view u.now)
-part_in (Binds xs) = binds (map typed_view xs.now)
+part_in (Binds xs) = binds (map typed_view xs.now.items)
 part_in (Counts f n) = counts f.now n

@@ -4,7 +4,7 @@ ghost use Rattle.std.specs.Prelude.{◌≡◌, ◌<◌, length, get_or};
 ghost use Rattle.pddl_formula.specs.Terms.{term_view};
 ghost use Rattle.pddl_faults.specs.Parts.{term_in, term_name, terms_in};
 
-use pddl_formula::{Term, Typed};
+use pddl_formula::{Term, TypedList};
 use pddl_token::{Fixed, Name};
 use std::alloc::Allocator;
 
@@ -31,7 +31,7 @@ pub enum Part<'d, A: Allocator> {
     Calls(&'d [u8], Terms<'d, A>),
     Equates(&'d Term<A>, &'d Term<A>),
     /// The variables of a quantifier, or parameters.
-    Binds(&'d [Typed<A>]),
+    Binds(&'d TypedList<A>),
     /// A number for a function.
     Counts(&'d [u8], Fixed),
 }

@@ -1,4 +1,5 @@
 pub mod Reserved
 pub mod Terms
 pub mod TypedLists
+pub mod Groups
 pub mod Formulas

@@ -1,5 +1,5 @@
 -- Types and typed lists (Kovacs, `<typed list (x)>`, `<type>`).
-use Rattle.std.specs.Prelude.{◌≡◌, ◌≢◌, ℕ, List, [], ◌∷◌, ◌++◌, codes}
+use Rattle.std.specs.Prelude.{◌≡◌, ◌≢◌, ℕ, List, [], ◌∷◌, ◌++◌, map, codes}
 use Rattle.pddl_token.specs.Trees.{Tree}
 use Rattle.pddl_token.specs.TreeWords.{list, IsWord, IsDash, SpellsName, SpellsVariable, Each}
 use Rattle.pddl_formula.specs.declared.type_names.Typed.{Typed}
@@ -18,6 +18,10 @@ TypedValue = WithType (List ℕ) (List (List ℕ))
 -- a name with its type without where they lie in memory
 abbrev pub typed_view : {A : _} → Typed A → TypedValue
 typed_view x = record { item = x.name; of = x.types }
+
+-- items of one type
+abbrev pub of_type : {X T : Type 0} → List X → T → List (WithType X T)
+of_type group type = map (λ x. record { item = x; of = type }) group
 
 -- ---- which trees spell them
 

@@ -1,7 +1,7 @@
 //! Formulas.
 
 use crate::term::{Atom, Term};
-use crate::type_names::Typed;
+use crate::typed_list::TypedList;
 use std::alloc::Allocator;
 
 /// A condition on states (Kovacs, `<GD>` without preferences and comparisons).
@@ -14,6 +14,6 @@ pub enum Formula<A: Allocator> {
     Imply(Box<Formula<A>, A>, Box<Formula<A>, A>),
     And(Vec<Formula<A>, A>),
     Or(Vec<Formula<A>, A>),
-    Exists(Vec<Typed<A>, A>, Box<Formula<A>, A>),
-    Forall(Vec<Typed<A>, A>, Box<Formula<A>, A>),
+    Exists(TypedList<A>, Box<Formula<A>, A>),
+    Forall(TypedList<A>, Box<Formula<A>, A>),
 }

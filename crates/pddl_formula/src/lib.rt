@@ -4,7 +4,9 @@
 mod formula;
 mod term;
 mod type_names;
+mod typed_list;
 
 pub use formula::Formula;
 pub use term::{Atom, Predicate, Term};
 pub use type_names::{TypeName, TypeNames, Typed};
+pub use typed_list::TypedList;

@@ -1,5 +1,5 @@
 -- What formulas of lists are.
-use Rattle.std.proofs.Common.{◌≡◌, ◌-◌, ◌≤◌, ◌<◌, List, [], ◌∷◌, map, length, get_or, take, drop, Vec, Box, refl, sym, ap, ap₂, ◌∙◌, arith}
+use Rattle.std.proofs.Common.{◌≡◌, ◌-◌, ◌≤◌, ◌<◌, List, [], ◌∷◌, map, length, get_or, take, drop, refl, sym, ap, ap₂, ◌∙◌, arith}
 use Rattle.std.specs.Prelude.{Option, Some, None, option_map, option_and_then}
 use Rattle.std.specs.Option.{option_zip}
 use Rattle.std.proofs.lemmas.List.{take_all}
@@ -9,20 +9,11 @@ use Rattle.pddl_token.specs.Trees.{Tree, leaf, trees_of}
 use Rattle.pddl_token.specs.TreeWords.{list}
 use Rattle.pddl_tree.specs.ItemTrees.{item_tree, item_trees}
 use Rattle.pddl_tree.proofs.TreeLists.{list_of_trees_of}
-use Rattle.pddl_formula.specs.Terms.{term_view, atom_view}
-use Rattle.pddl_formula.specs.Formulas.{FormulaValue, atom, equal, negation, implication, conjunction, disjunction, existential, universal, formula_step, formula_view, formulas_of}
-use Rattle.pddl_formula.specs.TypedLists.{TypedValue, typed_view}
+use Rattle.pddl_formula.specs.Formulas.{FormulaValue, atom}
+use Rattle.pddl_formula.specs.TypedLists.{TypedValue}
 use Rattle.pddl_formula_reader.specs.Inner.Reading.{term_at, atom_of_list, equality_of, head_at, formula_by, behind, only, two, quantified, variables_at, formula_at, formulas_at, formula_of_list, condition_at}
-use Rattle.pddl_formula.specs.declared.term.Term.{Term}
-use Rattle.pddl_formula.specs.declared.term.Atom.{Atom}
-use Rattle.pddl_formula.specs.declared.type_names.Typed.{Typed}
 use Rattle.pddl_formula_reader.specs.declared.head.Head.{Head}
 use Rattle.pddl_formula_reader.specs.declared.head.Head.TheVariants as heads
-use Rattle.pddl_formula.specs.declared.formula.Formula.{Formula}
-use Rattle.pddl_formula.specs.declared.formula.Formula.TheOpen.{Formula-F}
-use Rattle.pddl_formula.specs.declared.formula.Formula.TheVariants as cases
-use Rattle.pddl_formula.specs.declared.formula.Formula.TheVariants.{Not, Imply, And, Or, Exists, Forall, rolls-Not, rolls-Imply, rolls-And, rolls-Or, rolls-Exists, rolls-Forall}
-use Rattle.pddl_formula.specs.declared.formula.Formula.TheFolds.{fold-roll-Formula}
 
 formulas_at_trees_of : (ts : List Tree) → formulas_at (trees_of ts) ≡ map formula_at ts
 unfolding formulas_at

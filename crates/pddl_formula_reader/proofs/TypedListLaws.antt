@@ -9,8 +9,8 @@ use Rattle.pddl_tree.proofs.Options.{map_some, bind_some, if_some, unless_some, 
 use Rattle.pddl_tree.proofs.TreeLists.{list_of_trees_of, trees_of_list_of}
 use Rattle.pddl_tree.proofs.Readers.{Reads, name_reads, variable_reads, equal_bytes, other_bytes, word_sound, word_complete, dash_sound, dash_complete, each_sound, each_complete}
 use Rattle.pddl_formula.specs.Reserved.{type_name_of, type_of}
-use Rattle.pddl_formula.specs.TypedLists.{WithType, TypedValue, IsTypeName, IsType, primitive, either, OfType, IsGroup, IsTypedList, untyped, typed, object, AreTypedNames, AreTypedVariables, IsVariableList}
-use Rattle.pddl_formula_reader.specs.Inner.Reading.{type_name_at, either_of, type_at, of_type, nonempty, typed_from, typed_list, typed_names, typed_variables, variables_at}
+use Rattle.pddl_formula.specs.TypedLists.{WithType, TypedValue, IsTypeName, IsType, primitive, either, OfType, IsGroup, IsTypedList, untyped, typed, object, AreTypedNames, AreTypedVariables, IsVariableList, of_type}
+use Rattle.pddl_formula_reader.specs.Inner.Reading.{type_name_at, either_of, type_at, nonempty, typed_from, typed_list, typed_names, typed_variables, variables_at}
 
 -- ---- types
 

@@ -8,8 +8,8 @@ use Rattle.pddl_text.specs.declared.item.Item.{Item}
 use Rattle.pddl_token.specs.Trees.{Tree}
 use Rattle.pddl_tree.specs.ItemTrees.{item_tree, item_trees}
 use Rattle.pddl_tree.specs.Inner.TreeReading.{is_dash}
-use Rattle.pddl_formula.specs.TypedLists.{WithType}
-use Rattle.pddl_formula_reader.specs.Inner.Reading.{nonempty, of_type, typed_from}
+use Rattle.pddl_formula.specs.TypedLists.{WithType, of_type}
+use Rattle.pddl_formula_reader.specs.Inner.Reading.{nonempty, typed_from}
 use Rattle.pddl_formula_reader.proofs.Turns.{trees_from, trees_end}
 
 nonempty_some : {X : Type 0} (group : List X) → 0 < length group → nonempty group ≡ Some group

@@ -13,7 +13,7 @@ use crate::head::{Head, head_of};
 use crate::term_reader::{atom_of_list, term_of};
 use crate::typed_reader::variables_of;
 use pddl_build::{both, both_in_boxes, boxed, pushed};
-use pddl_formula::{Atom, Formula, Term, Typed};
+use pddl_formula::{Atom, Formula, Term, TypedList};
 use pddl_text::Item;
 use std::alloc::{AllocError, Allocator};
 
@@ -25,7 +25,7 @@ enum Quantifier {
 }
 
 /// Variables, and the formula that they are bound in.
-type Bound<A> = (Vec<Typed<A>, A>, Box<Formula<A>, A>);
+type Bound<A> = (TypedList<A>, Box<Formula<A>, A>);
 
 /// The formula that an item spells, or `None` where it spells none (Kovacs, `<GD>` without preferences and comparisons;
 /// that reserved words name no predicate is own).
@@ -188,7 +188,7 @@ fn quantified<'a, B: Allocator>(
 
 /// Variables, and the formula that they are bound in, if both were read.
 fn bind<A: Allocator>(
-    variables: Result<Option<Vec<Typed<A>, A>>, AllocError>,
+    variables: Result<Option<TypedList<A>>, AllocError>,
     body: Result<Option<Box<Formula<A>, A>>, AllocError>,
 ) -> Result<Option<Bound<A>>, AllocError>
     ensures { result ≡ both_of variables body }

@@ -6,14 +6,14 @@ ghost use Rattle.pddl_token.specs.Names.{folded};
 ghost use Rattle.pddl_tree.specs.ItemTrees.{item_tree, item_trees};
 ghost use Rattle.pddl_tree.specs.Inner.TreeReading.{all_of, is_word_at, is_keyword_at, is_dash};
 ghost use Rattle.pddl_formula.specs.Reserved.{type_of};
-ghost use Rattle.pddl_formula.specs.TypedLists.{object, typed_view};
-ghost use Rattle.pddl_formula_reader.specs.Inner.Reading.{type_name_at, either_of, type_at, of_type, typed_from, typed_list, typed_names, typed_variables, variables_at};
+ghost use Rattle.pddl_formula.specs.TypedLists.{object, typed_view, of_type};
+ghost use Rattle.pddl_formula_reader.specs.Inner.Reading.{type_name_at, either_of, type_at, typed_from, typed_list, typed_names, typed_variables, variables_at};
 ghost use Rattle.pddl_formula_reader.specs.Inner.Sorts.{item_at};
 
 use crate::head::is_word;
 use crate::term_reader::{name_of, variable_of};
-use pddl_build::{list_if_right, push_found};
-use pddl_formula::{TypeName, TypeNames, Typed};
+use pddl_build::{if_right, list_if_right, push_found};
+use pddl_formula::{TypeName, TypeNames, TypedList};
 use pddl_text::Item;
 use pddl_token::{Name, TokenKind};
 use std::alloc::{AllocError, Allocator};
@@ -197,27 +197,12 @@ fn listed_of<'a, B: Allocator>(
     }
 }
 
-/// Adds the names of a group, which share the type.
-fn add_group<A: Allocator>(
-    found: &mut Vec<Typed<A>, A>,
-    group: Vec<Name<A>, A>,
-    types: &TypeNames<A>,
-) -> Result<(), AllocError>
-    ensures { OnOk result (map typed_view found.new.items ≡ map typed_view found.old.items ++ of_type group.items types.now) }
-{
-    for name in group {
-        let types = types.share()?;
-        found.push(Typed { name, types })?;
-    }
-    Ok(())
-}
-
 /// Adds the names of a group, each with the type, if there is one; true exactly where there is one, and then the next group,
 /// which is empty, stands in its place.
 ///
 /// Fails as the type failed, and where memory for the names is refused.
 fn add_typed<A: Allocator>(
-    found: &mut Vec<Typed<A>, A>,
+    found: &mut TypedList<A>,
     group: &mut Vec<Name<A>, A>,
     next: Vec<Name<A>, A>,
     types: Result<Option<TypeNames<A>>, AllocError>,
@@ -231,7 +216,7 @@ fn add_typed<A: Allocator>(
     let Some(types) = types? else {
         return Ok(false);
     };
-    add_group(found, replace(group, next), &types)?;
+    found.add(replace(group, next), &types)?;
     Ok(true)
 }
 
@@ -240,7 +225,7 @@ fn add_typed<A: Allocator>(
 fn add_typed_list<'a, B: Allocator>(
     alloc: &'a B,
     sort: Sort,
-    found: &mut Vec<Typed<&'a B>, &'a B>,
+    found: &mut TypedList<&'a B>,
     group: &mut Vec<Name<&'a B>, &'a B>,
     items: &[Item<'_, &'a B>],
 ) -> Result<bool, AllocError>
@@ -273,13 +258,13 @@ fn typed_list_of<'a, B: Allocator>(
     alloc: &'a B,
     sort: Sort,
     items: &[Item<'_, &'a B>],
-) -> Result<Option<Vec<Typed<&'a B>, &'a B>>, AllocError>
+) -> Result<Option<TypedList<&'a B>>, AllocError>
     ensures { IfOk result (λ typed. option_map (λ v. map typed_view v.items) typed ≡ typed_list (item_at sort) type_at object (item_trees items.now)) }
 {
-    let mut found = Vec::new(alloc);
+    let mut found = TypedList::new(alloc);
     let mut group = Vec::new(alloc);
     let right = add_typed_list(alloc, sort, &mut found, &mut group, items);
-    list_if_right(found, right)
+    if_right(found, right)
 }
 
 /// The typed names that some items spell, or `None` where they spell none: constants or objects, those without a type
@@ -289,7 +274,7 @@ fn typed_list_of<'a, B: Allocator>(
 pub fn typed_names_of<'a, B: Allocator>(
     alloc: &'a B,
     items: &[Item<'_, &'a B>],
-) -> Result<Option<Vec<Typed<&'a B>, &'a B>>, AllocError>
+) -> Result<Option<TypedList<&'a B>>, AllocError>
     ensures { IfOk result (λ typed. option_map (λ v. map typed_view v.items) typed ≡ typed_names (item_trees items.now)) }
 {
     typed_list_of(alloc, Sort::Names, items)
@@ -302,7 +287,7 @@ pub fn typed_names_of<'a, B: Allocator>(
 pub fn typed_variables_of<'a, B: Allocator>(
     alloc: &'a B,
     items: &[Item<'_, &'a B>],
-) -> Result<Option<Vec<Typed<&'a B>, &'a B>>, AllocError>
+) -> Result<Option<TypedList<&'a B>>, AllocError>
     ensures { IfOk result (λ typed. option_map (λ v. map typed_view v.items) typed ≡ typed_variables (item_trees items.now)) }
 {
     typed_list_of(alloc, Sort::Variables, items)
@@ -314,7 +299,7 @@ pub fn typed_variables_of<'a, B: Allocator>(
 pub fn variables_of<'a, B: Allocator>(
     alloc: &'a B,
     item: &Item<'_, &'a B>,
-) -> Result<Option<Vec<Typed<&'a B>, &'a B>>, AllocError>
+) -> Result<Option<TypedList<&'a B>>, AllocError>
     ensures { IfOk result (λ typed. option_map (λ v. map typed_view v.items) typed ≡ variables_at (item_tree item.now)) }
 {
     match item {

@@ -1,10 +1,9 @@
 -- Types that are used and not known, part by part.
-use Rattle.std.proofs.Common.{◌≡◌, ℕ, ◌+◌, ◌<◌, List, [], ◌∷◌, ◌++◌, map, filter, not, length, get_or, drop, refl, sym, ap, ◌∙◌, append_assoc}
+use Rattle.std.proofs.Common.{◌≡◌, ℕ, ◌+◌, ◌<◌, List, [], ◌∷◌, ◌++◌, map, filter, not, length, get_or, drop, refl, ap, ◌∙◌, append_assoc}
 use Rattle.std.specs.List.{flat_map}
 use Rattle.std.proofs.lemmas.List.Concat.{flat_map-append}
 use Rattle.std.proofs.lemmas.List.Elements.{filter-append}
 use Rattle.pddl_formula.specs.TypedLists.{TypedValue, typed_view}
-use Rattle.pddl_formula.specs.declared.type_names.Typed.{Typed}
 use Rattle.pddl_domain.specs.declared.domain.DeclaredPredicate.{DeclaredPredicate}
 use Rattle.pddl_domain.specs.declared.domain.DeclaredFunction.{DeclaredFunction}
 use Rattle.pddl_domain.specs.Declarations.{TypeValue, predicate_view, function_view}
@@ -50,21 +49,19 @@ pub unknown-problem : (ts : List TypeValue) (p : ProblemValue)
 unknown-problem ts p = unknown-append ts p.objects (flat_map variables_at (problem_places p)) ∙ ap (λ ws. unknown_among ts p.objects ++ ws) (unknown-places ts (problem_places p))
 
 -- what is left of predicates: the first, and the rest
-pub predicates_left : {A : Type 0} (ts : List TypeValue) (xs : List (DeclaredPredicate A)) (i : ℕ) (d : DeclaredPredicate A) (items : List (Typed A)) → i < length xs → d ≡ get_or xs i d
-    → items ≡ d.parameters.items → unknown_among ts (flat_map parameters_of (map predicate_view (drop i xs)))
-    ≡ unknown_among ts (map typed_view items) ++ unknown_among ts (flat_map parameters_of (map predicate_view (drop (i + 1) xs)))
-predicates_left ts xs i d items h at same =
+pub predicates_left : {A : Type 0} (ts : List TypeValue) (xs : List (DeclaredPredicate A)) (i : ℕ) (d : DeclaredPredicate A) → i < length xs → d ≡ get_or xs i d
+    → unknown_among ts (flat_map parameters_of (map predicate_view (drop i xs)))
+    ≡ unknown_among ts (map typed_view d.parameters.items) ++ unknown_among ts (flat_map parameters_of (map predicate_view (drop (i + 1) xs)))
+predicates_left ts xs i d h at =
     let rest = flat_map parameters_of (map predicate_view (drop (i + 1) xs)) in
     ap (λ ys. unknown_among ts (flat_map parameters_of ys)) (views_drop predicate_view xs i d h at)
     ∙ unknown-append ts (map typed_view d.parameters.items) rest
-    ∙ ap (λ (ps : List (Typed _)). unknown_among ts (map typed_view ps) ++ unknown_among ts rest) (sym same)
 
 -- what is left of functions: the first, and the rest
-pub functions_left : {A : Type 0} (ts : List TypeValue) (xs : List (DeclaredFunction A)) (i : ℕ) (d : DeclaredFunction A) (items : List (Typed A)) → i < length xs → d ≡ get_or xs i d
-    → items ≡ d.parameters.items → unknown_among ts (flat_map parameters_of (map item_of (map function_view (drop i xs))))
-    ≡ unknown_among ts (map typed_view items) ++ unknown_among ts (flat_map parameters_of (map item_of (map function_view (drop (i + 1) xs))))
-functions_left ts xs i d items h at same =
+pub functions_left : {A : Type 0} (ts : List TypeValue) (xs : List (DeclaredFunction A)) (i : ℕ) (d : DeclaredFunction A) → i < length xs → d ≡ get_or xs i d
+    → unknown_among ts (flat_map parameters_of (map item_of (map function_view (drop i xs))))
+    ≡ unknown_among ts (map typed_view d.parameters.items) ++ unknown_among ts (flat_map parameters_of (map item_of (map function_view (drop (i + 1) xs))))
+functions_left ts xs i d h at =
     let rest = flat_map parameters_of (map item_of (map function_view (drop (i + 1) xs))) in
     ap (λ ys. unknown_among ts (flat_map parameters_of (map item_of ys))) (views_drop function_view xs i d h at)
     ∙ unknown-append ts (map typed_view d.parameters.items) rest
-    ∙ ap (λ (ps : List (Typed _)). unknown_among ts (map typed_view ps) ++ unknown_among ts rest) (sym same)

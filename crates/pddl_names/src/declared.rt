@@ -25,13 +25,14 @@ pub struct Declared<'m, 'a, A: Allocator, B: Allocator> {
 fn with_tops<'m, 'a, A: Allocator, B: Allocator>(
     alloc: &'a B,
     types: &Types<'m, 'a, A, B>,
+    domain: &'m Domain<A>,
     predicates: Signatures<'m, 'a, A, B>,
     functions: Signatures<'m, 'a, A, B>,
 ) -> Result<Declared<'m, 'a, A, B>, AllocError>
     ensures predicates { IfOk result (λ declared. declared.predicates ≡ predicates.entry) }
     ensures functions { IfOk result (λ declared. declared.functions ≡ functions.entry) }
 {
-    let tops = Tops::of(alloc, types, &predicates, &functions)?;
+    let tops = Tops::of(alloc, types, domain)?;
     Ok(Declared {
         predicates,
         functions,
@@ -55,7 +56,7 @@ impl<'m, 'a, A: Allocator, B: Allocator> Declared<'m, 'a, A, B> {
     {
         let predicates = predicates(alloc, &domain.predicates)?;
         let functions = functions(alloc, &domain.functions)?;
-        with_tops(alloc, types, predicates, functions)
+        with_tops(alloc, types, domain, predicates, functions)
     }
 
     /// What may be named beside these objects.

@@ -1,6 +1,6 @@
 -- The first fault of a step, by what is looked up for it in turn.
 use Rattle.std.proofs.Common.{◌≡◌, ◌<◌, ◌≤◌, ℕ, Bool, true, false, not, ◌==◌, List, [], map, length, reverse, refl, sym, ap, ◌∙◌, bytes_eq, arith}
-use Rattle.std.specs.Prelude.{Option, Some, None, Vec, vec_len, position}
+use Rattle.std.specs.Prelude.{Option, Some, None, position}
 use Rattle.std.specs.Borrow.{Bor}
 use Rattle.std.specs.Map.{keys_of}
 use Rattle.std.specs.List.{slice_get}
@@ -29,9 +29,6 @@ use Rattle.pddl_plan_link.proofs.GoodSteps.{no_other}
 use Rattle.pddl_plan_link.proofs.NamedActions.{Entry, none_named, number_found, IsFound, action_found, action_there}
 use Rattle.pddl_plan_link.proofs.NumberedObjects.{some_unknown, unfit_is}
 use Rattle.pddl_plan_link.proofs.StepTests.{IsFirst, unknown_first, arity_first, object_first, type_first, cost_first, size_first, none_stands, found_large, found_small}
-
-pub as_long : {X Z : Type 0} (v : Vec X Z) (m : ℕ) → m ≡ vec_len v → m ≡ length v.items
-as_long v m is = omega (arith, v.ok.0, is)
 
 other_number : (m n : ℕ) → (m ≡ n → ⊥) → (m == n) ≡ false
 other_number m n h = grind (arith, nat_tests)

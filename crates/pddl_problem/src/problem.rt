@@ -1,6 +1,6 @@
 //! Problems and what they say.
 
-use pddl_formula::{Formula, Predicate, Typed};
+use pddl_formula::{Formula, Predicate, TypedList};
 use pddl_token::{Fixed, Name};
 use std::alloc::Allocator;
 
@@ -53,7 +53,7 @@ pub struct Problem<A: Allocator> {
     pub domain: Name<A>,
     /// The flags of `:requirements`, without their colons.
     pub requirements: Vec<Name<A>, A>,
-    pub objects: Vec<Typed<A>, A>,
+    pub objects: TypedList<A>,
     pub init: Vec<InitItem<A>, A>,
     pub goal: Formula<A>,
     pub metric: Option<Metric<A>>,

@@ -16,6 +16,7 @@ ghost use Rattle.pddl_problem_reader.specs.Inner.Slots.{slots_view, or_nothing, 
 use crate::section::Slots;
 use crate::section_reader::sections_of;
 use pddl_file::FileFault;
+use pddl_formula::TypedList;
 use pddl_problem::Problem;
 use pddl_sections::open_file;
 use pddl_text::{Item, LONGEST, items_of};
@@ -32,6 +33,19 @@ fn or_nothing<'a, T, B: Allocator>(alloc: &'a B, listed: Option<Vec<T, &'a B>>) 
     }
 }
 
+/// The objects that a section lists, or none where it did not stand.
+fn objects_or_none<'a, B: Allocator>(
+    alloc: &'a B,
+    listed: Option<TypedList<&'a B>>,
+) -> TypedList<&'a B>
+    ensures { result.items ≡ or_nothing (option_map (λ v. v.items) listed.entry) }
+{
+    match listed {
+        Some(objects) => objects,
+        None => TypedList::new(alloc),
+    }
+}
+
 /// The problem of this name that the sections make up, none of which is missing.
 fn problem_by<'a, B: Allocator>(
     alloc: &'a B,
@@ -45,7 +59,7 @@ fn problem_by<'a, B: Allocator>(
         name,
         domain: slots.domain.unwrap(),
         requirements: or_nothing(alloc, slots.requirements),
-        objects: or_nothing(alloc, slots.objects),
+        objects: objects_or_none(alloc, slots.objects),
         init: slots.init.unwrap(),
         goal: slots.goal.unwrap(),
         metric: slots.metric,

@@ -6,7 +6,7 @@ ghost use Rattle.pddl_problem_reader.specs.ProblemTexts.{required};
 ghost use Rattle.pddl_problem_reader.specs.Inner.Slots.{slots_view, no_slots, has_slot};
 
 use pddl_file::SectionKeyword;
-use pddl_formula::{Formula, Typed};
+use pddl_formula::{Formula, TypedList};
 use pddl_problem::{InitItem, Metric};
 use pddl_token::Name;
 use std::alloc::Allocator;
@@ -16,7 +16,7 @@ use std::alloc::Allocator;
 pub struct Slots<A: Allocator> {
     pub domain: Option<Name<A>>,
     pub requirements: Option<Vec<Name<A>, A>>,
-    pub objects: Option<Vec<Typed<A>, A>>,
+    pub objects: Option<TypedList<A>>,
     pub init: Option<Vec<InitItem<A>, A>>,
     pub goal: Option<Formula<A>>,
     pub metric: Option<Metric<A>>,

@@ -61,7 +61,7 @@ fn read_content<'a, B: Allocator>(
     match keyword {
         SectionKeyword::Domain => set_found(&mut slots.domain, domain_of(alloc, items)),
         SectionKeyword::Requirements => set_list(&mut slots.requirements, flags_of(alloc, items)),
-        SectionKeyword::Objects => set_list(&mut slots.objects, typed_names_of(alloc, items)),
+        SectionKeyword::Objects => set_found(&mut slots.objects, typed_names_of(alloc, items)),
         SectionKeyword::Init => set_list(&mut slots.init, inits_of(alloc, items)),
         SectionKeyword::Goal => set_found(&mut slots.goal, goal_of(alloc, items)),
         SectionKeyword::Metric => set_found(&mut slots.metric, metric_of(alloc, items)),

@@ -17,7 +17,7 @@ ghost use Rattle.pddl_search.specs.Walks.{faults_in, faults_in_all, effect_fault
 use pddl_domain::Action;
 use pddl_effect::{Amount, Effect};
 use pddl_faults::{LinkFault, Part, Scope, Search, Terms, Variables};
-use pddl_formula::{Atom, Formula, Term, Typed};
+use pddl_formula::{Atom, Formula, Term, TypedList};
 use std::alloc::Allocator;
 
 /// Searches an atom.
@@ -86,12 +86,12 @@ fn search_quantified<'d, 's, 'a, A: Allocator, B: Allocator, S: Search<A, B>>(
     alloc: &'a B,
     search: &S,
     so_far: Result<(), LinkFault<'d>>,
-    variables: &'d [Typed<A>],
+    variables: &'d TypedList<A>,
     inner: &'d Box<Formula<A>, A>,
     scope: &'s Scope<'s, 'd, 'a, A, B>,
 ) -> Result<(), LinkFault<'d>>
-    ensures { FindsMore (S.found search.now (at (bound_of scope.now) (binds (map typed_view variables.now)))
-        ++ faults_in (S.found search.now) (formula_view inner.now.value) (binding (map typed_view variables.now) (bound_of scope.now))) so_far.entry result }
+    ensures { FindsMore (S.found search.now (at (bound_of scope.now) (binds (map typed_view variables.now.items)))
+        ++ faults_in (S.found search.now) (formula_view inner.now.value) (binding (map typed_view variables.now.items) (bound_of scope.now))) so_far.entry result }
 {
     let so_far = search.look(so_far, &Part::Binds(variables), &*scope);
     let bound = Variables::of(alloc, variables)?;
@@ -174,12 +174,12 @@ fn search_each<'d, 's, 'a, A: Allocator, B: Allocator, S: Search<A, B>>(
     alloc: &'a B,
     search: &S,
     so_far: Result<(), LinkFault<'d>>,
-    variables: &'d [Typed<A>],
+    variables: &'d TypedList<A>,
     inner: &'d Box<Effect<A>, A>,
     scope: &'s Scope<'s, 'd, 'a, A, B>,
 ) -> Result<(), LinkFault<'d>>
-    ensures { FindsMore (S.found search.now (at (bound_of scope.now) (binds (map typed_view variables.now)))
-        ++ effect_faults (S.found search.now) (effect_view inner.now.value) (binding (map typed_view variables.now) (bound_of scope.now))) so_far.entry result }
+    ensures { FindsMore (S.found search.now (at (bound_of scope.now) (binds (map typed_view variables.now.items)))
+        ++ effect_faults (S.found search.now) (effect_view inner.now.value) (binding (map typed_view variables.now.items) (bound_of scope.now))) so_far.entry result }
 {
     let so_far = search.look(so_far, &Part::Binds(variables), &*scope);
     let bound = Variables::of(alloc, variables)?;

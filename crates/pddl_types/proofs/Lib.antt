@@ -3,6 +3,7 @@ pub mod BelowRoot
 pub mod Capped
 pub mod CyclicTypes
 pub mod EffectSizes
+pub mod SharedTypes
 pub mod Lookups
 pub mod CountedObjects
 pub mod SignatureTables

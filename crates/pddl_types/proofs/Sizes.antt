@@ -1,6 +1,7 @@
 -- Sizes of formulas with parts.
-use Rattle.std.proofs.Common.{◌≡◌, ℕ, ◌+◌, ◌-◌, ◌*◌, ◌<◌, ◌≤◌, List, ◌∷◌, length, get_or, drop, map, Vec, Box, ap, ◌∙◌, sym, arith}
-use Rattle.pddl_formula.specs.TypedLists.{typed_view}
+use Rattle.std.proofs.Common.{◌≡◌, ℕ, ◌+◌, ◌-◌, ◌*◌, ◌<◌, List, ◌∷◌, drop, map, slice_get, Some, Vec, Box, ap, ◌∙◌, sym, arith}
+use Rattle.std.proofs.lemmas.Option.{slice_get_within, get_or_from_slice_get}
+use Rattle.pddl_formula.specs.TypedLists.{TypedValue, typed_view}
 use Rattle.pddl_formula.specs.Formulas.{FormulaValue, formula_view, formulas_of}
 use Rattle.pddl_formula.specs.declared.type_names.Typed.{Typed}
 use Rattle.pddl_formula.specs.declared.formula.Formula.{Formula}
@@ -10,7 +11,7 @@ use Rattle.pddl_formula.specs.declared.formula.Formula.TheVariants as cases
 use Rattle.pddl_formula.specs.declared.formula.Formula.TheVariants.{Not, Imply, And, Or, Exists, Forall}
 use Rattle.pddl_formula.proofs.Views.{view_atom, view_equal, view_not, view_imply, view_and, view_or, view_exists, view_forall}
 use Rattle.pddl_task.specs.Names.{Name}
-use Rattle.pddl_faults.proofs.ListPasses.{views_drop}
+use Rattle.pddl_faults.proofs.ListTurns.{rest_is}
 use Rattle.pddl_task.specs.GroundSize.{capped, quantifier_size, formula_size, formulas_size}
 use Rattle.pddl_types.proofs.Capped.{capped_product, one_more, both_more, quantified}
 
@@ -71,15 +72,14 @@ size_of_forall count f variables inner items r s is same total part =
     ∙ at_view count f (Forall variables inner) _ is (view_forall variables inner)
 
 -- the size of a quantifier with one more variable in front
-pub size_more : {A : Type 0} (count : List Name → ℕ) (xs : List (Typed A)) (i : ℕ) (x : Typed A) (size product next body : ℕ) → 0 < i → i ≤ length xs → x ≡ get_or xs (i - 1) x
-    → size ≡ capped (quantifier_size count (map typed_view (drop i xs)) body) → product ≡ capped (count (get_or xs (i - 1) x).types * size) → next ≡ capped (1 + product)
-    → next ≡ capped (quantifier_size count (map typed_view (drop (i - 1) xs)) body)
-size_more count xs i x size product next body low high is so_far times more =
+pub size_more : (count : List Name → ℕ) (xs : List TypedValue) (i : ℕ) (x : TypedValue) (size product next body : ℕ) → 0 < i → slice_get xs (i - 1) ≡ Some x
+    → size ≡ capped (quantifier_size count (drop i xs) body) → product ≡ capped (count x.of * size) → next ≡ capped (1 + product)
+    → next ≡ capped (quantifier_size count (drop (i - 1) xs) body)
+size_more count xs i x size product next body low at so_far times more =
     let k = i - 1 in
-    let rest = quantifier_size count (map typed_view (drop i xs)) body in
-    let lt : k < length xs = omega (arith, low, high) in
+    let rest = quantifier_size count (drop i xs) body in
     let back : k + 1 ≡ i = omega (arith, low) in
-    let front : map typed_view (drop k xs) ≡ typed_view x ∷ map typed_view (drop i xs) =
-    views_drop typed_view xs k x lt is ∙ ap (λ n. typed_view x ∷ map typed_view (drop n xs)) back in
-    one_more next product (count x.types * rest) more (times ∙ ap (λ (y : Typed _). capped (count y.types * size)) (sym is) ∙ ap (λ n. capped (count x.types * n)) so_far ∙ capped_product (count x.types) rest)
+    let front : drop k xs ≡ x ∷ drop i xs =
+    rest_is xs k x (slice_get_within xs k x at) (sym (get_or_from_slice_get xs k x x at)) ∙ ap (λ n. x ∷ drop n xs) back in
+    one_more next product (count x.of * rest) more (times ∙ ap (λ n. capped (count x.of * n)) so_far ∙ capped_product (count x.of) rest)
     ∙ sym (ap (λ ys. capped (quantifier_size count ys body)) front)

@@ -31,14 +31,17 @@ object_at [] n e at = absurd (cc)
 object_at {A} (f ∷ es) zero e at = let same : e ≡ f = cc in ap (λ (x : Object A). Some x.1.now.types) (sym same)
 object_at (f ∷ es) (suc n) e at = object_at es n e at
 
+pub named_found : (rows : List Row) (q : Bor (List ℕ)) (o : Option ℕ) → o ≡ position (λ k. bytes_eq q.now k.now) (keys_of rows) → IfSome o (λ place. name_at rows place ≡ q.now)
+named_found rows q None is = tt
+named_found rows q (Some place) is = (found_place rows q place (sym is)).1
+
 pub is_place : {A : Type 0} (rows : List Row) (es : List (Object A)) (n : ℕ) (e : Object A) (q : Bor (List ℕ)) (o : Option ℕ) → Some e ≡ slice_get es n → e.1.now.types ≡ q.now ∷ []
-    → o ≡ position (λ k. bytes_eq q.now k.now) (keys_of rows) → IfSome o (λ place. IsPlaceOf rows (slice_get (map object_in es) n) place)
-is_place rows es n e q None at single is = tt
-is_place rows es n e q (Some place) at single is =
-    let found = found_place rows q place (sym is) in record {
-      in_range = found.0;
-      name = object_at es n e at ∙ ap Some (single ∙ ap (λ m. m ∷ []) (sym found.1));
-    }
+    → IfSome o (λ place. place < length rows) → IfSome o (λ place. name_at rows place ≡ q.now) → IfSome o (λ place. IsPlaceOf rows (slice_get (map object_in es) n) place)
+is_place rows es n e q None at single low is = tt
+is_place rows es n e q (Some place) at single low is = record {
+  in_range = low;
+  name = object_at es n e at ∙ ap Some (single ∙ ap (λ m. m ∷ []) (sym is));
+}
 
 pub named_place : (rows : List Row) (n : ℕ) (k : Bor (List ℕ)) (p : ℕ) → Some (k, p) ≡ slice_get rows n → (n < length rows) × (name_at rows n ≡ k.now)
 named_place [] n k p at = absurd (cc)

@@ -40,11 +40,16 @@ no_place rows q at = sym (is_named rows q.now) ∙ sym (some_index (λ k. bytes_
 
 -- ---- a name that is put where it does not stand
 
+-- a name that stands at a place is not put there once more
+pub with_there : (rows : List Row) (q : Bor (List ℕ)) (i : ℕ) → i < length rows → name_at rows i ≡ q.now → rows ≡ with_name rows q
+with_there rows q i low same =
+    let there : is_in (names_in rows) q.now ≡ true = ap (is_in (names_in rows)) (sym same) ∙ has_in (names_in rows) (name_at rows i) (name_has rows i low) in
+    sym (ap (λ b. cond b rows (put rows q 0)) there)
+
 pub with_found : (rows : List Row) (q : Bor (List ℕ)) (i : ℕ) → position (λ k. bytes_eq q.now k.now) (keys_of rows) ≡ Some i → rows ≡ with_name rows q
 with_found rows q i at =
     let p = found_place rows q i at in
-    let there : is_in (names_in rows) q.now ≡ true = ap (is_in (names_in rows)) (sym p.1) ∙ has_in (names_in rows) (name_at rows i) (name_has rows i p.0) in
-    sym (ap (λ b. cond b rows (put rows q 0)) there)
+    with_there rows q i p.0 p.1
 
 pub with_new : (rows next : List Row) (q : Bor (List ℕ)) → position (λ k. bytes_eq q.now k.now) (keys_of rows) ≡ None → next ≡ put rows q 0 → next ≡ with_name rows q
 with_new rows next q at is = is ∙ sym (ap (λ b. cond b rows (put rows q 0)) (no_place rows q at))

@@ -7,6 +7,7 @@ mod effect_size;
 mod fitting;
 mod function_numbers;
 mod known;
+mod near;
 mod object_counts;
 mod size;
 mod slot_tops;

@@ -1,11 +1,11 @@
 //! Ground sizes, without writing any quantifier out.
 
-ghost use Rattle.std.specs.Prelude.{◌≡◌, ◌≤◌, ◌+◌, ◌*◌, List, ℕ, map};
-ghost use Rattle.pddl_formula.specs.TypedLists.{typed_view};
+ghost use Rattle.std.specs.Prelude.{◌≡◌, ◌<◌, ◌≤◌, ◌+◌, ◌*◌, List, ℕ, map, length, slice_get, Some};
+ghost use Rattle.pddl_formula.specs.TypedLists.{TypedValue, typed_view};
 ghost use Rattle.pddl_formula.specs.Formulas.{formula_view, formulas_of};
 ghost use Rattle.pddl_task.specs.GroundSize.{capped, quantifier_size, formula_size, formulas_size};
 
-use pddl_formula::{Formula, TypeNames, Typed};
+use pddl_formula::{Formula, TypeNames, TypedList};
 use std::alloc::Allocator;
 
 /// What says how many objects fit a type.
@@ -37,18 +37,38 @@ fn product(n: usize, size: u32) -> u32
     (n * size as u64).min(1_000_001) as u32
 }
 
-/// The size of a quantifier over variables, where what is quantified has a size.
+/// How many objects fit the type of a variable, where so many fit that of the one behind it, which may share its type.
+fn count_of<A: Allocator, C: FittingCount<A>>(
+    counts: &C,
+    variables: &TypedList<A>,
+    place: usize,
+    behind: usize,
+) -> usize
+    requires within { place < length variables.now.items }
+    requires behind { (y : TypedValue) → slice_get (map typed_view variables.now.items) (place + 1) ≡ Some y → behind ≡ C.count counts.now y.of }
+    ensures { (x : TypedValue) → slice_get (map typed_view variables.now.items) place ≡ Some x → result ≡ C.count counts.now x.of }
+{
+    if variables.shares(place + 1) {
+        behind
+    } else {
+        counts.fitting_count(&variables[place].types)
+    }
+}
+
+/// The size of a quantifier over variables, where what is quantified has a size. How many objects fit is counted once for each group of variables.
 pub fn quantifier_size<A: Allocator, C: FittingCount<A>>(
     counts: &C,
-    variables: &[Typed<A>],
+    variables: &TypedList<A>,
     body: u32,
 ) -> u32
     requires { body ≤ 1000001 }
-    ensures { result ≡ capped (quantifier_size (C.count counts.now) (map typed_view variables.now) body) }
+    ensures { result ≡ capped (quantifier_size (C.count counts.now) (map typed_view variables.now.items) body) }
 {
     let mut size = sum(1, body);
+    let mut count = 0;
     for i in (0..variables.len()).rev() {
-        size = sum(1, product(counts.fitting_count(&variables[i].types), size));
+        count = count_of(counts, variables, i, count);
+        size = sum(1, product(count, size));
     }
     size
 }

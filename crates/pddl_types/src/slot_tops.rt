@@ -2,24 +2,23 @@
 //!
 //! Nothing is promised of them: what is found is looked at, and what is not is looked for among all primitives.
 
-use crate::known::Signatures;
 use crate::types::Types;
 use indexmap::IndexMap;
-use pddl_domain::Action;
+use pddl_domain::{Action, DeclaredFunction, DeclaredPredicate, Domain};
 use pddl_faults::Hashed;
-use pddl_formula::Typed;
+use pddl_formula::{TypeNames, Typed, TypedList};
 use std::alloc::{AllocError, Allocator};
 
 /// From how many primitives on a slot has tops.
 const MANY: usize = 16;
 
-/// The tops of the slots of predicates or functions of which one has many primitives, slot by slot in one list.
+/// The tops of the slots of predicates or functions of which one has many primitives, slot by slot in one list. Slots of one group share theirs.
 #[derive(Drop)]
 pub struct SlotTops<'m, 'a, B: Allocator> {
-    /// Where the ends of a name's slots begin.
+    /// Where the spans of a name's slots begin.
     rows: IndexMap<&'m [u8], usize, Hashed, &'a B>,
-    /// Where the tops of each slot end.
-    ends: Vec<usize, &'a B>,
+    /// Where the tops of each slot stand: where they begin, and where they end.
+    spans: Vec<(usize, usize), &'a B>,
     tops: Vec<usize, &'a B>,
 }
 
@@ -33,31 +32,35 @@ fn some_long<A: Allocator>(slots: &[Typed<A>]) -> bool {
     false
 }
 
-/// A number of a list, or 0 past its end.
-fn number_or_none(numbers: &[usize], place: usize) -> usize {
-    if place < numbers.len() {
-        numbers[place]
-    } else {
-        0
-    }
-}
-
 impl<'m, 'a, B: Allocator> SlotTops<'m, 'a, B> {
-    /// Adds the tops of a slot, none where it has few primitives.
+    /// Adds the tops of a type, none where it has few primitives.
     ///
     /// Fails where memory for them is refused.
-    fn put_slot<'t, A: Allocator, C: Allocator>(
+    fn put_type<'t, A: Allocator, C: Allocator>(
         &mut self,
         types: &Types<'m, 't, A, C>,
-        slot: &Typed<A>,
+        slot: &TypeNames<A>,
     ) -> Result<(), AllocError> {
-        if slot.types.as_slice().len() >= MANY {
-            match types.tops(&slot.types) {
+        let start = self.tops.len();
+        if slot.as_slice().len() >= MANY {
+            match types.tops(slot) {
                 Some(tops) => self.tops.extend_from_slice(&tops)?,
                 None => {}
             }
         }
-        self.ends.push(self.tops.len())?;
+        self.spans.push((start, self.tops.len()))?;
+        Ok(())
+    }
+
+    /// Adds the tops of the last slot for one more, which has the same type.
+    ///
+    /// Fails where memory for them is refused.
+    fn put_last(&mut self) -> Result<(), AllocError> {
+        let last = match self.spans.last() {
+            Some(span) => *span,
+            None => (0, 0),
+        };
+        self.spans.push(last)?;
         Ok(())
     }
 
@@ -68,12 +71,16 @@ impl<'m, 'a, B: Allocator> SlotTops<'m, 'a, B> {
         &mut self,
         types: &Types<'m, 't, A, C>,
         name: &'m [u8],
-        slots: &[Typed<A>],
+        slots: &TypedList<A>,
     ) -> Result<(), AllocError> {
         if some_long(slots) {
-            self.rows.insert(name, self.ends.len())?;
-            for slot in slots {
-                self.put_slot(types, slot)?;
+            self.rows.insert(name, self.spans.len())?;
+            for place in 0..slots.len() {
+                if slots.shares(place) {
+                    self.put_last()?;
+                } else {
+                    self.put_type(types, &slots[place].types)?;
+                }
             }
         }
         Ok(())
@@ -83,7 +90,7 @@ impl<'m, 'a, B: Allocator> SlotTops<'m, 'a, B> {
     fn none(alloc: &'a B) -> SlotTops<'m, 'a, B> {
         SlotTops {
             rows: IndexMap::new(alloc),
-            ends: Vec::new(alloc),
+            spans: Vec::new(alloc),
             tops: Vec::new(alloc),
         }
     }
@@ -103,20 +110,32 @@ impl<'m, 'a, B: Allocator> SlotTops<'m, 'a, B> {
         Ok(all)
     }
 
-    /// The tops of the slots of what is declared.
+    /// The tops of the slots of predicates.
     ///
     /// Fails where memory for them is refused.
-    pub fn of<A: Allocator>(
+    pub fn of_predicates<'t, A: Allocator, C: Allocator>(
         alloc: &'a B,
-        types: &Types<'m, 'a, A, B>,
-        declared: &Signatures<'m, 'a, A, B>,
+        types: &Types<'m, 't, A, C>,
+        predicates: &'m [DeclaredPredicate<A>],
     ) -> Result<SlotTops<'m, 'a, B>, AllocError> {
         let mut all = SlotTops::none(alloc);
-        for number in 0..declared.len() {
-            match declared.get_index(number) {
-                Some((name, slots)) => all.put_all(types, *name, *slots)?,
-                None => {}
-            }
+        for predicate in predicates {
+            all.put_all(types, predicate.predicate.as_bytes(), &predicate.parameters)?;
+        }
+        Ok(all)
+    }
+
+    /// The tops of the slots of functions.
+    ///
+    /// Fails where memory for them is refused.
+    pub fn of_functions<'t, A: Allocator, C: Allocator>(
+        alloc: &'a B,
+        types: &Types<'m, 't, A, C>,
+        functions: &'m [DeclaredFunction<A>],
+    ) -> Result<SlotTops<'m, 'a, B>, AllocError> {
+        let mut all = SlotTops::none(alloc);
+        for function in functions {
+            all.put_all(types, function.name.as_bytes(), &function.parameters)?;
         }
         Ok(all)
     }
@@ -127,16 +146,15 @@ impl<'m, 'a, B: Allocator> SlotTops<'m, 'a, B> {
             Some(row) => row.saturating_add(number),
             None => return &[],
         };
-        let start = if row == 0 {
-            0
-        } else {
-            number_or_none(&self.ends, row - 1)
-        };
-        let end = number_or_none(&self.ends, row);
-        if start <= end && end <= self.tops.len() {
-            &self.tops[start..end]
-        } else {
-            &[]
+        match self.spans.get(row) {
+            Some((start, end)) => {
+                if *start <= *end && *end <= self.tops.len() {
+                    &self.tops[*start..*end]
+                } else {
+                    &[]
+                }
+            }
+            None => &[],
         }
     }
 }
@@ -149,17 +167,16 @@ pub struct Tops<'m, 'a, B: Allocator> {
 }
 
 impl<'m, 'a, B: Allocator> Tops<'m, 'a, B> {
-    /// The tops of the slots of what is declared.
+    /// The tops of the slots of what a domain declares.
     ///
     /// Fails where memory for them is refused.
     pub fn of<A: Allocator>(
         alloc: &'a B,
         types: &Types<'m, 'a, A, B>,
-        predicates: &Signatures<'m, 'a, A, B>,
-        functions: &Signatures<'m, 'a, A, B>,
+        domain: &'m Domain<A>,
     ) -> Result<Tops<'m, 'a, B>, AllocError> {
-        let predicates = SlotTops::of(alloc, types, predicates)?;
-        let functions = SlotTops::of(alloc, types, functions)?;
+        let predicates = SlotTops::of_predicates(alloc, types, &domain.predicates)?;
+        let functions = SlotTops::of_functions(alloc, types, &domain.functions)?;
         Ok(Tops {
             predicates,
             functions,

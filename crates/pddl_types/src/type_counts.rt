@@ -8,6 +8,7 @@ ghost use Rattle.pddl_types.specs.TypeTables.{IsTypeTable};
 ghost use Rattle.pddl_types.specs.ObjectCounts.{AreCountsOf, IsPlaceOf, ArePlacesOf, AreNamedCounts};
 
 use crate::known::Objects;
+use crate::near::place_in;
 use indexmap::IndexMap;
 use pddl_faults::Hashed;
 use pddl_forest::Preorder;
@@ -29,11 +30,12 @@ pub fn single<N: Allocator>(types: &TypeNames<N>) -> Option<&[u8]>
     }
 }
 
-/// The place of the type of the object of a number, where it has one type alone, which stands in the table.
+/// The place of the type of the object of a number, where it has one type alone, which stands in the table. It is looked for first at a place that is near.
 fn place_of<'m, 'a, A: Allocator, B: Allocator>(
     parents: &IndexMap<&'m [u8], usize, Hashed, &'a B>,
     objects: &Objects<'m, 'a, A, B>,
     number: usize,
+    near: usize,
 ) -> Option<usize>
     ensures { IfSome result (λ place. IsPlaceOf parents.now.entries (slice_get (map object_in objects.now.entries) number) place) }
 {
@@ -41,7 +43,7 @@ fn place_of<'m, 'a, A: Allocator, B: Allocator>(
         None => None,
         Some((_, object)) => match single(&object.types) {
             None => None,
-            Some(name) => parents.get_index_of(name),
+            Some(name) => place_in(parents, near, name),
         },
     }
 }
@@ -57,9 +59,13 @@ fn places_of<'m, 'a, A: Allocator, B: Allocator>(
     ensures { IfOk result (λ places. length places.items ≡ length objects.now.entries → ArePlacesOf parents.now.entries (map object_in objects.now.entries) places.items) }
 {
     let mut places = Vec::with_capacity(alloc, objects.len())?;
+    let mut near = 0;
     for number in 0..objects.len() {
-        match place_of(parents, objects, number) {
-            Some(place) => places.push(place)?,
+        match place_of(parents, objects, number, near) {
+            Some(place) => {
+                places.push(place)?;
+                near = place;
+            }
             None => return Ok(places),
         }
     }

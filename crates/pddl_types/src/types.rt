@@ -1,8 +1,8 @@
 //! The types of a domain with their parents, looked up by name.
 
-ghost use Rattle.std.specs.Prelude.{◌≡◌, ◌<◌, [], ◌∷◌, true, false, map, not, filter, length, IfOk, OnOk, IfSome, Contains};
+ghost use Rattle.std.specs.Prelude.{◌≡◌, ◌<◌, ℕ, suc, [], ◌∷◌, true, false, map, not, filter, length, slice_get, Some, IfOk, OnOk, IfSome, Contains};
 ghost use Rattle.std.specs.List.{flat_map, list_any};
-ghost use Rattle.pddl_formula.specs.TypedLists.{typed_view};
+ghost use Rattle.pddl_formula.specs.TypedLists.{TypedValue, typed_view};
 ghost use Rattle.pddl_domain.specs.Declarations.{type_view};
 ghost use Rattle.pddl_task.specs.Names.{is_in, repeated, item_of};
 ghost use Rattle.pddl_task.specs.Types.{root, says_nothing, types_of, pairs, is_under, is_subtype, is_cyclic, fits};
@@ -14,13 +14,14 @@ ghost use Rattle.pddl_types.specs.ObjectCounts.{AreCountsOf, AddUp};
 ghost use Rattle.pddl_types.specs.TypeTables.{IsTableOf, IsTypeTable, AreNumbered, with_name, name_at, parent_place, climbs};
 
 use crate::known::Objects;
+use crate::near::is_at;
 use crate::tops::tops;
 use crate::type_counts::{TypeCounts, type_counts};
 use indexmap::IndexMap;
 use pddl_domain::DeclaredType;
 use pddl_faults::{Hashed, LinkFault};
 use pddl_forest::{Preorder, off_rounds};
-use pddl_formula::{TypeNames, Typed};
+use pddl_formula::{TypeNames, TypedList};
 use std::alloc::{AllocError, Allocator};
 use std::marker::Model;
 
@@ -77,6 +78,23 @@ fn place_of<'m, 'a, B: Allocator>(
     }
 }
 
+/// [`place_of`], which looks first at a place that is near.
+fn place_near<'m, 'a, B: Allocator>(
+    parents: &mut IndexMap<&'m [u8], usize, Hashed, &'a B>,
+    near: usize,
+    name: &'m [u8],
+) -> Result<usize, AllocError>
+    ensures rows { OnOk result (parents.new.entries ≡ with_name parents.old.entries name.entry) }
+    ensures place { IfOk result (λ place. place < length parents.new.entries) }
+    ensures named { IfOk result (λ place. name_at parents.new.entries place ≡ name.now) }
+{
+    if is_at(parents, near, name) {
+        Ok(near)
+    } else {
+        place_of(parents, name)
+    }
+}
+
 /// Puts each declared type under `object`.
 fn put_under_object<'m, 'a, A: Allocator, B: Allocator>(
     parents: &mut IndexMap<&'m [u8], usize, Hashed, &'a B>,
@@ -91,7 +109,7 @@ fn put_under_object<'m, 'a, A: Allocator, B: Allocator>(
     Ok(())
 }
 
-/// Puts each declared type under its parent.
+/// Puts each declared type under its parent, which is looked for first where the parent of the one before was found.
 fn put_under_parents<'m, 'a, A: Allocator, B: Allocator>(
     parents: &mut IndexMap<&'m [u8], usize, Hashed, &'a B>,
     declared: &'m [DeclaredType<A>],
@@ -100,9 +118,11 @@ fn put_under_parents<'m, 'a, A: Allocator, B: Allocator>(
     requires table { IsTableOf (root ∷ map item_of (map type_view declared.now)) [] parents.old.entries }
     ensures { OnOk result (IsTypeTable (map type_view declared.now) parents.new.entries) }
 {
+    let mut near = 0;
     for declared_type in declared {
-        let place = place_of(parents, declared_type.parent.as_bytes())?;
+        let place = place_near(parents, near, declared_type.parent.as_bytes())?;
         parents.insert(declared_type.name.as_bytes(), place)?;
+        near = place;
     }
     Ok(())
 }
@@ -463,12 +483,28 @@ impl<'m, 'a, A: Allocator, B: Allocator> Types<'m, 'a, A, B> {
         Ok(())
     }
 
-    /// The primitive types of what is typed are types.
-    pub fn known<'d, T: Allocator>(&self, typed: &'d [Typed<T>]) -> Result<(), LinkFault<'d>>
-        ensures { Passes 23 (filter (λ t. not (is_in (types_of self.now) t)) (flat_map primitives_of (map typed_view typed.now))) result }
+    /// The primitives of the type of an item are types, where those of the item before it are, whose type it may share.
+    fn known_item<'d, T: Allocator>(
+        &self,
+        typed: &'d TypedList<T>,
+        place: usize,
+    ) -> Result<(), LinkFault<'d>>
+        requires within { place < length typed.now.items }
+        requires before { (j : ℕ) (x : TypedValue) → suc j ≡ place → slice_get (map typed_view typed.now.items) j ≡ Some x → filter (λ t. not (is_in (types_of self.now) t)) x.of ≡ [] }
+        ensures { (x : TypedValue) → slice_get (map typed_view typed.now.items) place ≡ Some x → Passes 23 (filter (λ t. not (is_in (types_of self.now) t)) x.of) result }
     {
-        for item in typed {
-            self.known_primitives(&item.types)?;
+        if typed.shares(place) {
+            return Ok(());
+        }
+        self.known_primitives(&typed[place].types)
+    }
+
+    /// The primitive types of what is typed are types, which is looked at once for each group.
+    pub fn known<'d, T: Allocator>(&self, typed: &'d TypedList<T>) -> Result<(), LinkFault<'d>>
+        ensures { Passes 23 (filter (λ t. not (is_in (types_of self.now) t)) (flat_map primitives_of (map typed_view typed.now.items))) result }
+    {
+        for place in 0..typed.len() {
+            self.known_item(typed, place)?;
         }
         Ok(())
     }

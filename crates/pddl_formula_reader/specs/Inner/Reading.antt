@@ -13,7 +13,7 @@ use Rattle.pddl_formula_reader.specs.declared.head.Head.{Head}
 use Rattle.pddl_formula_reader.specs.declared.head.Head.TheVariants as heads
 use Rattle.pddl_formula.specs.Reserved.{predicate_of, type_name_of, type_of}
 use Rattle.pddl_formula.specs.Terms.{TermValue, name, variable, AtomValue}
-use Rattle.pddl_formula.specs.TypedLists.{WithType, TypedValue, object}
+use Rattle.pddl_formula.specs.TypedLists.{WithType, TypedValue, object, of_type}
 use Rattle.pddl_formula.specs.Formulas.{FormulaValue, atom, equal, negation, implication, conjunction, disjunction, existential, universal, no_formulas, formulas_of}
 
 -- ---- terms and atoms
@@ -54,10 +54,6 @@ either_of (head ∷ ts) = if is_word_at (codes "either") head then option_and_th
 abbrev pub type_at : Tree → Option (List (List ℕ))
 type_at (leaf w) = option_map (λ n. n ∷ []) (type_name_at (leaf w))
 type_at (node ts) = either_of (list_of ts)
-
--- items of one type
-abbrev pub of_type : {X T : Type 0} → List X → T → List (WithType X T)
-of_type group type = map (λ x. record { item = x; of = type }) group
 
 -- the list, unless it is empty
 abbrev pub nonempty : {A : Type 0} → List A → Option (List A)

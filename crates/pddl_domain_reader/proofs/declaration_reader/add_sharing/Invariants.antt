@@ -1,5 +1,5 @@
 use Rattle.std.proofs.Common.{◌≡◌, ◌++◌, map}
-use Rattle.pddl_formula_reader.specs.Inner.Reading.{of_type}
+use Rattle.pddl_formula.specs.TypedLists.{of_type}
 use Rattle.pddl_domain.specs.Declarations.{function_view}
 use Rattle.pddl_domain_reader.specs.Inner.Signatures.{signature_view}
 use Rattle.pddl_domain_reader.proofs.declaration_reader.add_sharing.Given as goal

@@ -5,6 +5,6 @@ use Rattle.pddl_formula_reader.proofs.typed_reader.typed_list_of.Goals as goal
 
 pub returns : goal.returns
 returns g c =
-    rw c.list_if_right.ensures
+    rw c.if_right.ensures
     (right_part (λ v. map typed_view v.items) c.add_typed_list-right.new.found c.add_typed_list-right.result _
-    (rw (c.new-found.ensures.items, c.new-group.ensures.items) at c.add_typed_list-right.ensures))
+    (rw (c.new-found.ensures, c.new-group.ensures.items) at c.add_typed_list-right.ensures))

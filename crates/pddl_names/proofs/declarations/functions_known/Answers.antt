@@ -16,9 +16,9 @@ returns-in_err-known g c =
     let all = c.args.functions.now in
     let i = c.loop-function.function-index in
     let p = err_from_is_err_and c.from_residual.result c.from_residual.ensures.1 in
-    rw (p.1, p.2) (pass_front 23 (unknown_among ts (map typed_view c.deref.result.now)) (unknown_among ts (flat_map parameters_of (map item_of (map function_view (drop (i + 1) all)))))
+    rw (p.1, p.2) (pass_front 23 (unknown_among ts (map typed_view c.function-item.result.parameters.items)) (unknown_among ts (flat_map parameters_of (map item_of (map function_view (drop (i + 1) all)))))
     (unknown_among ts (flat_map parameters_of (map item_of (map function_view all)))) c.in_err-known.field-0.0
-    (sym c.loop-function.invariant ∙ functions_left ts all i c.function-item.result c.deref.result.now c.loop-function-test.true c.function-item.is c.deref.ensures.value) c.in_err-known.ensures)
+    (sym c.loop-function.invariant ∙ functions_left ts all i c.function-item.result c.loop-function-test.true c.function-item.is) c.in_err-known.ensures)
 
 pub loop-function-preserved : goal.loop-function-preserved
 loop-function-preserved g c =
@@ -26,4 +26,4 @@ loop-function-preserved g c =
     let all = c.args.functions.now in
     let i = c.loop-function.function-index in
     ap (λ ws. ws ++ unknown_among ts (flat_map parameters_of (map item_of (map function_view (drop (i + 1) all))))) (sym c.in_ok-known.ensures)
-    ∙ sym (functions_left ts all i c.function-item.result c.deref.result.now c.loop-function-test.true c.function-item.is c.deref.ensures.value) ∙ c.loop-function.invariant
+    ∙ sym (functions_left ts all i c.function-item.result c.loop-function-test.true c.function-item.is) ∙ c.loop-function.invariant

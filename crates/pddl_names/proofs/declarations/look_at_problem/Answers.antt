@@ -19,7 +19,7 @@ returns g c =
     let used = λ (xs : List (Typed g.row.A.Denot)). numbered 23 (unknown_among ts (map typed_view xs)) in
     let single = λ (xs : List (Typed g.row.A.Denot)). numbered 25 (object_types (map typed_view xs)) in
     found_parts (used objects ∷ []) (bound ∷ single objects ∷ []) c.known-used.result c.lower.result c.lower-2.result c.lower-2.ensures.found
-    (subst (λ xs. IsFound (joined (used xs ∷ [])) c.known-used.result) c.deref.ensures.value (passed_part 23 _ c.known-used.result c.known-used.ensures))
+    (passed_part 23 _ c.known-used.result c.known-used.ensures)
     (found_parts (bound ∷ []) (single objects ∷ []) c.search_problem-bound.result c.object_types.result c.lower.result c.lower.ensures.found
     (one_part bound c.search_problem-bound.result c.search_problem-bound.ensures)
-    (subst (λ xs. IsFound (joined (single xs ∷ [])) c.object_types.result) c.deref-2.ensures.value (passed_part 25 _ c.object_types.result c.object_types.ensures)))
+    (subst (λ xs. IsFound (joined (single xs ∷ [])) c.object_types.result) c.deref.ensures.value (passed_part 25 _ c.object_types.result c.object_types.ensures)))

@@ -21,7 +21,7 @@ returns g c =
     let predicates = λ (xs : List (DeclaredPredicate g.row.A.Denot)). numbered 23 (unknown_among ts (flat_map parameters_of (map predicate_view xs))) in
     let functions = λ (xs : List (DeclaredFunction g.row.A.Denot)). numbered 23 (unknown_among ts (flat_map parameters_of (map item_of (map function_view xs)))) in
     found_parts (constants d.constants.items ∷ []) (predicates d.predicates.items ∷ functions d.functions.items ∷ []) c.known-constants.result c.lower.result c.lower-2.result c.lower-2.ensures.found
-    (subst (λ xs. IsFound (joined (constants xs ∷ [])) c.known-constants.result) c.deref.ensures.value (passed_part 23 _ c.known-constants.result c.known-constants.ensures))
+    (passed_part 23 _ c.known-constants.result c.known-constants.ensures)
     (found_parts (predicates d.predicates.items ∷ []) (functions d.functions.items ∷ []) c.predicates_known-predicates.result c.functions_known-functions.result c.lower.result c.lower.ensures.found
-    (subst (λ xs. IsFound (joined (predicates xs ∷ [])) c.predicates_known-predicates.result) c.deref-2.ensures.value (passed_part 23 _ c.predicates_known-predicates.result c.predicates_known-predicates.ensures))
-    (subst (λ xs. IsFound (joined (functions xs ∷ [])) c.functions_known-functions.result) c.deref-3.ensures.value (passed_part 23 _ c.functions_known-functions.result c.functions_known-functions.ensures)))
+    (subst (λ xs. IsFound (joined (predicates xs ∷ [])) c.predicates_known-predicates.result) c.deref.ensures.value (passed_part 23 _ c.predicates_known-predicates.result c.predicates_known-predicates.ensures))
+    (subst (λ xs. IsFound (joined (functions xs ∷ [])) c.functions_known-functions.result) c.deref-2.ensures.value (passed_part 23 _ c.functions_known-functions.result c.functions_known-functions.ensures)))

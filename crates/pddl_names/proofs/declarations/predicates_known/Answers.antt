@@ -15,9 +15,9 @@ returns-in_err-known g c =
     let all = c.args.predicates.now in
     let i = c.loop-predicate.predicate-index in
     let p = err_from_is_err_and c.from_residual.result c.from_residual.ensures.1 in
-    rw (p.1, p.2) (pass_front 23 (unknown_among ts (map typed_view c.deref.result.now)) (unknown_among ts (flat_map parameters_of (map predicate_view (drop (i + 1) all))))
+    rw (p.1, p.2) (pass_front 23 (unknown_among ts (map typed_view c.predicate-item.result.parameters.items)) (unknown_among ts (flat_map parameters_of (map predicate_view (drop (i + 1) all))))
     (unknown_among ts (flat_map parameters_of (map predicate_view all))) c.in_err-known.field-0.0
-    (sym c.loop-predicate.invariant ∙ predicates_left ts all i c.predicate-item.result c.deref.result.now c.loop-predicate-test.true c.predicate-item.is c.deref.ensures.value) c.in_err-known.ensures)
+    (sym c.loop-predicate.invariant ∙ predicates_left ts all i c.predicate-item.result c.loop-predicate-test.true c.predicate-item.is) c.in_err-known.ensures)
 
 pub loop-predicate-preserved : goal.loop-predicate-preserved
 loop-predicate-preserved g c =
@@ -25,4 +25,4 @@ loop-predicate-preserved g c =
     let all = c.args.predicates.now in
     let i = c.loop-predicate.predicate-index in
     ap (λ ws. ws ++ unknown_among ts (flat_map parameters_of (map predicate_view (drop (i + 1) all)))) (sym c.in_ok-known.ensures)
-    ∙ sym (predicates_left ts all i c.predicate-item.result c.deref.result.now c.loop-predicate-test.true c.predicate-item.is c.deref.ensures.value) ∙ c.loop-predicate.invariant
+    ∙ sym (predicates_left ts all i c.predicate-item.result c.loop-predicate-test.true c.predicate-item.is) ∙ c.loop-predicate.invariant

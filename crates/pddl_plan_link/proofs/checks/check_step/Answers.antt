@@ -4,7 +4,7 @@ use Rattle.pddl_task.specs.Tasks.{TaskValue}
 use Rattle.pddl_tables.specs.Link.LinkedTasks.{files_of, task_of_files}
 use Rattle.pddl_tables.specs.Lookups.{task_in, price_in}
 use Rattle.pddl_plan_link.specs.ActionChanges.{AreChangesOf}
-use Rattle.pddl_plan_link.proofs.CheckedSteps.{as_long, action_unknown, number_is, found_there, arity_differs, object_unknown, numbers_are, type_differs, step_is_large, cost_is_undefined, step_is_good}
+use Rattle.pddl_plan_link.proofs.CheckedSteps.{action_unknown, number_is, found_there, arity_differs, object_unknown, numbers_are, type_differs, step_is_large, cost_is_undefined, step_is_good}
 use Rattle.pddl_plan_link.proofs.checks.check_step.Goals as goal
 
 pub returns-in_default-clause-verdict : goal.returns-in_default-clause-verdict
@@ -15,14 +15,14 @@ pub returns-then-arity-len-clause-verdict : goal.returns-then-arity-len-clause-v
 returns-then-arity-len-clause-verdict g c = (
   refl,
   arity_differs (task_of_files c.args.tables.now.task.now) c.args.tables.now.actions.entries c.args.step.now c.action.result.now c.requires.tables.actions c.action.ensures
-      c.in-Some.number c.in-Some.field-0-1.now c.in-Some.found.now c.in-Some.ensures.index c.in-Some.ensures.entry c.arity.result c.len.result c.arity.ensures (as_long c.in-Some.found.now.action.now.parameters c.len.result c.len.ensures) c.if-arity-len.true,
+      c.in-Some.number c.in-Some.field-0-1.now c.in-Some.found.now c.in-Some.ensures.index c.in-Some.ensures.entry c.arity.result c.len.result c.arity.ensures c.len.ensures c.if-arity-len.true,
 )
 
 pub returns-then-not-branch-clause-verdict : goal.returns-then-not-branch-clause-verdict
 returns-then-not-branch-clause-verdict g c = (
   refl,
   object_unknown (task_of_files c.args.tables.now.task.now) c.args.tables.now.actions.entries c.args.step.now c.action.result.now c.requires.tables.actions c.action.ensures
-      c.in-Some.number c.in-Some.field-0-1.now c.in-Some.found.now c.in-Some.ensures.index c.in-Some.ensures.entry c.arity.result c.len.result c.arity.ensures (as_long c.in-Some.found.now.action.now.parameters c.len.result c.len.ensures) c.if-arity-len.false
+      c.in-Some.number c.in-Some.field-0-1.now c.in-Some.found.now c.in-Some.ensures.index c.in-Some.ensures.entry c.arity.result c.len.result c.arity.ensures c.len.ensures c.if-arity-len.false
       c.args.step.now.objects c.in_ok-number_objects.field-0 refl c.in_ok-number_objects.ensures.known c.if-not-branch.true,
 )
 
@@ -30,7 +30,7 @@ pub returns-then-some_unfit-clause-verdict : goal.returns-then-some_unfit-clause
 returns-then-some_unfit-clause-verdict g c = (
   refl,
   type_differs (task_of_files c.args.tables.now.task.now) c.args.tables.now.actions.entries c.args.step.now c.action.result.now c.requires.tables.actions c.action.ensures
-      c.in-Some.number c.in-Some.field-0-1.now c.in-Some.found.now c.in-Some.ensures.index c.in-Some.ensures.entry c.arity.result c.len.result c.arity.ensures (as_long c.in-Some.found.now.action.now.parameters c.len.result c.len.ensures) c.if-arity-len.false
+      c.in-Some.number c.in-Some.field-0-1.now c.in-Some.found.now c.in-Some.ensures.index c.in-Some.ensures.entry c.arity.result c.len.result c.arity.ensures c.len.ensures c.if-arity-len.false
       c.args.step.now.objects c.in_ok-number_objects.field-0 refl c.in_ok-number_objects.ensures.known c.number_objects.new.numbers.items c.in_ok-number_objects.ensures.numbers c.if-not-branch.false
       c.deref.result.now c.deref-2.result.now c.some_unfit.result c.deref.ensures.value c.deref-2.ensures.value c.some_unfit.ensures c.if-some_unfit.true,
 )
@@ -39,7 +39,7 @@ pub returns-then-found-gt1000000-clause-verdict : goal.returns-then-found-gt1000
 returns-then-found-gt1000000-clause-verdict g c = (
   refl,
   step_is_large (task_of_files c.args.tables.now.task.now) c.args.tables.now.actions.entries c.args.step.now c.action.result.now c.requires.tables.actions c.action.ensures
-      c.in-Some.number c.in-Some.field-0-1.now c.in-Some.found.now c.in-Some.ensures.index c.in-Some.ensures.entry c.arity.result c.len.result c.arity.ensures (as_long c.in-Some.found.now.action.now.parameters c.len.result c.len.ensures) c.if-arity-len.false
+      c.in-Some.number c.in-Some.field-0-1.now c.in-Some.found.now c.in-Some.ensures.index c.in-Some.ensures.entry c.arity.result c.len.result c.arity.ensures c.len.ensures c.if-arity-len.false
       c.args.step.now.objects c.in_ok-number_objects.field-0 refl c.in_ok-number_objects.ensures.known c.number_objects.new.numbers.items c.in_ok-number_objects.ensures.numbers c.if-not-branch.false
       c.deref.result.now c.deref-2.result.now c.some_unfit.result c.deref.ensures.value c.deref-2.ensures.value c.some_unfit.ensures c.if-some_unfit.false c.if-found-gt1000000.true,
 )
@@ -58,7 +58,7 @@ returns-then-branch-clause-verdict g c =
     let files = files_of c.args.tables.now.task.now in (
       refl,
       cost_is_undefined (task_of_files c.args.tables.now.task.now) c.args.tables.now.actions.entries c.args.step.now c.action.result.now c.requires.tables.actions c.action.ensures
-          c.in-Some.number c.in-Some.field-0-1.now c.in-Some.found.now c.in-Some.ensures.index c.in-Some.ensures.entry c.arity.result c.len.result c.arity.ensures (as_long c.in-Some.found.now.action.now.parameters c.len.result c.len.ensures) c.if-arity-len.false
+          c.in-Some.number c.in-Some.field-0-1.now c.in-Some.found.now c.in-Some.ensures.index c.in-Some.ensures.entry c.arity.result c.len.result c.arity.ensures c.len.ensures c.if-arity-len.false
           c.args.step.now.objects c.in_ok-number_objects.field-0 refl c.in_ok-number_objects.ensures.known c.number_objects.new.numbers.items c.in_ok-number_objects.ensures.numbers c.if-not-branch.false
           c.deref.result.now c.deref-2.result.now c.some_unfit.result c.deref.ensures.value c.deref-2.ensures.value c.some_unfit.ensures
           c.if-some_unfit.false c.if-found-gt1000000.false files.domain files.problem c.requires.tables.linked refl (task_in c.args.tables.now.lookups) (price_in c.args.tables.now.prices)
@@ -69,7 +69,7 @@ pub returns-clause-verdict : goal.returns-clause-verdict
 returns-clause-verdict g c =
     let files = files_of c.args.tables.now.task.now in
     step_is_good (task_of_files c.args.tables.now.task.now) c.args.tables.now.actions.entries c.args.step.now c.action.result.now c.requires.tables.actions c.action.ensures
-    c.in-Some.number c.in-Some.field-0-1.now c.in-Some.found.now c.in-Some.ensures.index c.in-Some.ensures.entry c.arity.result c.len.result c.arity.ensures (as_long c.in-Some.found.now.action.now.parameters c.len.result c.len.ensures) c.if-arity-len.false
+    c.in-Some.number c.in-Some.field-0-1.now c.in-Some.found.now c.in-Some.ensures.index c.in-Some.ensures.entry c.arity.result c.len.result c.arity.ensures c.len.ensures c.if-arity-len.false
     c.args.step.now.objects c.in_ok-number_objects.field-0 refl c.in_ok-number_objects.ensures.known c.number_objects.new.numbers.items c.in_ok-number_objects.ensures.numbers c.if-not-branch.false
     c.deref.result.now c.deref-2.result.now c.some_unfit.result c.deref.ensures.value c.deref-2.ensures.value c.some_unfit.ensures
     c.if-some_unfit.false c.if-found-gt1000000.false files.domain files.problem c.requires.tables.linked refl (task_in c.args.tables.now.lookups) (price_in c.args.tables.now.prices)
@@ -83,7 +83,7 @@ returns-clause-action g c =
 pub returns-clause-objects : goal.returns-clause-objects
 returns-clause-objects g c =
     numbers_are (task_of_files c.args.tables.now.task.now) c.args.tables.now.actions.entries c.args.step.now c.action.result.now c.requires.tables.actions c.action.ensures
-    c.in-Some.number c.in-Some.field-0-1.now c.in-Some.found.now c.in-Some.ensures.index c.in-Some.ensures.entry c.arity.result c.len.result c.arity.ensures (as_long c.in-Some.found.now.action.now.parameters c.len.result c.len.ensures) c.if-arity-len.false
+    c.in-Some.number c.in-Some.field-0-1.now c.in-Some.found.now c.in-Some.ensures.index c.in-Some.ensures.entry c.arity.result c.len.result c.arity.ensures c.len.ensures c.if-arity-len.false
     c.args.step.now.objects c.in_ok-number_objects.field-0 refl c.in_ok-number_objects.ensures.known c.number_objects.new.numbers.items c.in_ok-number_objects.ensures.numbers c.if-not-branch.false
 
 pub returns-clause-changes : goal.returns-clause-changes

@@ -15,19 +15,19 @@ pub search_effect-returns-in-Forall : goal.search_effect-returns-in-Forall
 search_effect-returns-in-Forall g t c = λ before h.
     let w = g.S.Search.found c.args.search.now in
     let b = bound_of c.args.scope.now in
-    let xs = c.deref.result.now in
+    let xs = c.in-Forall.variables.items in
     let inner = c.in-Forall.inner.value in
     found_same (before ++ (w (at b (binds (map typed_view xs))) ++ effect_faults w (effect_view inner) (binding (map typed_view xs) b))) (before ++ effect_faults w (effect_view c.args.effect.now) b) c.search_each.result
-    (ap (λ fs. before ++ fs) (faults_each w b c.args.effect.now c.in-Forall.variables c.in-Forall.inner xs inner (map typed_view xs) c.in-Forall.is c.deref.ensures.value refl refl)) (c.search_each.ensures before h)
+    (ap (λ fs. before ++ fs) (faults_each w b c.args.effect.now c.in-Forall.variables c.in-Forall.inner xs inner (map typed_view xs) c.in-Forall.is refl refl refl)) (c.search_each.ensures before h)
 
 pub search_each-returns : goal.search_each-returns
 search_each-returns g t c = λ before h.
     let w = g.S.Search.found c.args.search.now in
     let b = bound_of c.args.scope.now in
-    let own = w (at b (binds (map typed_view c.args.variables.now))) in
-    let inside = effect_faults w (effect_view c.deref.result.now) (binding c.in_ok-bound.bound b) in
-    found_in_two before own inside (own ++ effect_faults w (effect_view c.args.inner.now.value) (binding (map typed_view c.args.variables.now) b)) c.search_effect.result
-    (ap (λ vs. own ++ effect_faults w (effect_view c.args.inner.now.value) (binding vs b)) (sym c.in_ok-bound.ensures) ∙ ap (λ k. own ++ effect_faults w (effect_view k) (binding c.in_ok-bound.bound b)) (sym c.deref.ensures))
+    let own = w (at b (binds (map typed_view c.args.variables.now.items))) in
+    let inside = effect_faults w (effect_view c.deref-2.result.now) (binding c.in_ok-bound.bound b) in
+    found_in_two before own inside (own ++ effect_faults w (effect_view c.args.inner.now.value) (binding (map typed_view c.args.variables.now.items) b)) c.search_effect.result
+    (ap (λ vs. own ++ effect_faults w (effect_view c.args.inner.now.value) (binding vs b)) (sym (c.in_ok-bound.ensures ∙ ap (map typed_view) c.deref.ensures.value)) ∙ ap (λ k. own ++ effect_faults w (effect_view k) (binding c.in_ok-bound.bound b)) (sym c.deref-2.ensures))
     (c.search_effect.ensures (before ++ own) (c.look-so_far.ensures before h))
 
 pub search_effect-returns-in-When : goal.search_effect-returns-in-When
@@ -35,9 +35,9 @@ search_effect-returns-in-When g t c = λ before h.
     let w = g.S.Search.found c.args.search.now in
     let b = bound_of c.args.scope.now in
     let condition = faults_in w (formula_view c.in-When.condition) b in
-    let inside = effect_faults w (effect_view c.deref-in-When.result.now) b in
+    let inside = effect_faults w (effect_view c.deref.result.now) b in
     found_in_two before condition inside (effect_faults w (effect_view c.args.effect.now) b) c.search_effect.result
-    (faults_when w b c.args.effect.now c.in-When.condition c.in-When.inner c.deref-in-When.result.now c.in-When.is c.deref-in-When.ensures)
+    (faults_when w b c.args.effect.now c.in-When.condition c.in-When.inner c.deref.result.now c.in-When.is c.deref.ensures)
     (c.search_effect.ensures (before ++ condition) (c.search_formula-so_far.ensures before h))
 
 pub search_effects-loop-effect-init : goal.search_effects-loop-effect-init

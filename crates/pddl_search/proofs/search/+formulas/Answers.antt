@@ -22,28 +22,28 @@ pub search_formula-returns-in-Exists : goal.search_formula-returns-in-Exists
 search_formula-returns-in-Exists g t c = λ before h.
     let w = g.S.Search.found c.args.search.now in
     let b = bound_of c.args.scope.now in
-    let xs = c.deref-in-Exists.result.now in
+    let xs = c.in-Exists.variables.items in
     let inner = c.in-Exists.inner.value in
     found_same (before ++ (w (at b (binds (map typed_view xs))) ++ faults_in w (formula_view inner) (binding (map typed_view xs) b))) (before ++ faults_in w (formula_view c.args.formula.now) b) c.search_quantified.result
-    (ap (λ fs. before ++ fs) (faults_exists w b c.args.formula.now c.in-Exists.variables c.in-Exists.inner xs inner (map typed_view xs) c.in-Exists.is c.deref-in-Exists.ensures.value refl refl)) (c.search_quantified.ensures before h)
+    (ap (λ fs. before ++ fs) (faults_exists w b c.args.formula.now c.in-Exists.variables c.in-Exists.inner xs inner (map typed_view xs) c.in-Exists.is refl refl refl)) (c.search_quantified.ensures before h)
 
 pub search_formula-returns-in-Forall : goal.search_formula-returns-in-Forall
 search_formula-returns-in-Forall g t c = λ before h.
     let w = g.S.Search.found c.args.search.now in
     let b = bound_of c.args.scope.now in
-    let xs = c.deref-in-Forall.result.now in
+    let xs = c.in-Forall.variables.items in
     let inner = c.in-Forall.inner.value in
     found_same (before ++ (w (at b (binds (map typed_view xs))) ++ faults_in w (formula_view inner) (binding (map typed_view xs) b))) (before ++ faults_in w (formula_view c.args.formula.now) b) c.search_quantified-in-Forall.result
-    (ap (λ fs. before ++ fs) (faults_forall w b c.args.formula.now c.in-Forall.variables c.in-Forall.inner xs inner (map typed_view xs) c.in-Forall.is c.deref-in-Forall.ensures.value refl refl)) (c.search_quantified-in-Forall.ensures before h)
+    (ap (λ fs. before ++ fs) (faults_forall w b c.args.formula.now c.in-Forall.variables c.in-Forall.inner xs inner (map typed_view xs) c.in-Forall.is refl refl refl)) (c.search_quantified-in-Forall.ensures before h)
 
 pub search_quantified-returns : goal.search_quantified-returns
 search_quantified-returns g t c = λ before h.
     let w = g.S.Search.found c.args.search.now in
     let b = bound_of c.args.scope.now in
-    let own = w (at b (binds (map typed_view c.args.variables.now))) in
-    let inside = faults_in w (formula_view c.deref.result.now) (binding c.in_ok-bound.bound b) in
-    found_in_two before own inside (own ++ faults_in w (formula_view c.args.inner.now.value) (binding (map typed_view c.args.variables.now) b)) c.search_formula.result
-    (ap (λ vs. own ++ faults_in w (formula_view c.args.inner.now.value) (binding vs b)) (sym c.in_ok-bound.ensures) ∙ ap (λ k. own ++ faults_in w (formula_view k) (binding c.in_ok-bound.bound b)) (sym c.deref.ensures))
+    let own = w (at b (binds (map typed_view c.args.variables.now.items))) in
+    let inside = faults_in w (formula_view c.deref-2.result.now) (binding c.in_ok-bound.bound b) in
+    found_in_two before own inside (own ++ faults_in w (formula_view c.args.inner.now.value) (binding (map typed_view c.args.variables.now.items) b)) c.search_formula.result
+    (ap (λ vs. own ++ faults_in w (formula_view c.args.inner.now.value) (binding vs b)) (sym (c.in_ok-bound.ensures ∙ ap (map typed_view) c.deref.ensures.value)) ∙ ap (λ k. own ++ faults_in w (formula_view k) (binding c.in_ok-bound.bound b)) (sym c.deref-2.ensures))
     (c.search_formula.ensures (before ++ own) (c.look-so_far.ensures before h))
 
 pub search_formulas-loop-formula-init : goal.search_formulas-loop-formula-init

@@ -1,4 +1,4 @@
-use Rattle.std.proofs.Common.{ap, ◌∙◌, sym, subst, ◌+◌, ◌<◌, ◌≤◌, List, length, get_or, drop, map, arith}
+use Rattle.std.proofs.Common.{ap, ◌∙◌, sym, refl, subst, ◌+◌, ◌<◌, ◌≤◌, List, length, get_or, drop, map, arith}
 use Rattle.std.proofs.lemmas.List.{drop_all}
 use denote.Param.Weighed.{most}
 use Rattle.pddl_effect.specs.declared.effect.Effect.{Effect}
@@ -18,8 +18,8 @@ effect_ground_size-returns-in-And g t c =
 
 pub effect_ground_size-returns-in-Forall : goal.effect_ground_size-returns-in-Forall
 effect_ground_size-returns-in-Forall g t c =
-    size_of_each (g.C.FittingCount.count c.args.counts.now) c.args.effect.now c.in-Forall.variables c.in-Forall.inner c.deref.result.now _ c.effect_ground_size.result c.in-Forall.is c.deref.ensures.value
-    c.quantifier_size.ensures (c.effect_ground_size.ensures ∙ ap (λ e. capped (effect_size (g.C.FittingCount.count c.args.counts.now) (effect_view e))) c.deref-in-Forall.ensures)
+    size_of_each (g.C.FittingCount.count c.args.counts.now) c.args.effect.now c.in-Forall.variables c.in-Forall.inner c.in-Forall.variables.items _ c.effect_ground_size.result c.in-Forall.is refl
+    c.quantifier_size.ensures (c.effect_ground_size.ensures ∙ ap (λ e. capped (effect_size (g.C.FittingCount.count c.args.counts.now) (effect_view e))) c.deref.ensures)
 
 pub effect_ground_size-returns-in-When : goal.effect_ground_size-returns-in-When
 effect_ground_size-returns-in-When g t c =
@@ -89,7 +89,7 @@ pub effect_ground_size-effect_ground_sizes-requires : goal.effect_ground_size-ef
 effect_ground_size-effect_ground_sizes-requires g t c κs within = (omega (arith, under_all g.row.A g.A.Allocator g.A.laws c.args.effect.now c.in-And.parts c.in-And.is, c.decreases), within)
 
 pub effect_ground_size-effect_ground_size-requires : goal.effect_ground_size-effect_ground_size-requires
-effect_ground_size-effect_ground_size-requires g t c κs within = (omega (arith, under_each g.row.A g.A.Allocator g.A.laws c.args.effect.now c.deref-in-Forall.result.now c.in-Forall.variables c.in-Forall.inner c.in-Forall.is c.deref-in-Forall.ensures, c.decreases), within)
+effect_ground_size-effect_ground_size-requires g t c κs within = (omega (arith, under_each g.row.A g.A.Allocator g.A.laws c.args.effect.now c.deref.result.now c.in-Forall.variables c.in-Forall.inner c.in-Forall.is c.deref.ensures, c.decreases), within)
 
 pub effect_ground_size-effect_ground_size-inner-requires : goal.effect_ground_size-effect_ground_size-inner-requires
 effect_ground_size-effect_ground_size-inner-requires g t c κs within = (omega (arith, under_when g.row.A g.A.Allocator g.A.laws c.args.effect.now c.deref-in-When.result.now c.in-When.condition c.in-When.inner c.in-When.is c.deref-in-When.ensures, c.decreases), within)

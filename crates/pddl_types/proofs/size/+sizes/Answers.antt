@@ -34,13 +34,13 @@ ground_size-returns-in-Or g t c =
 
 pub ground_size-returns-in-Exists : goal.ground_size-returns-in-Exists
 ground_size-returns-in-Exists g t c =
-    size_of_exists (g.C.FittingCount.count c.args.counts.now) c.args.formula.now c.in-Exists.variables c.in-Exists.inner c.deref-in-Exists.result.now _ c.ground_size-in-Exists.result c.in-Exists.is c.deref-in-Exists.ensures.value
-    c.quantifier_size.ensures (c.ground_size-in-Exists.ensures ∙ ap (λ f. capped (formula_size (g.C.FittingCount.count c.args.counts.now) (formula_view f))) c.deref-in-Exists-2.ensures)
+    size_of_exists (g.C.FittingCount.count c.args.counts.now) c.args.formula.now c.in-Exists.variables c.in-Exists.inner c.in-Exists.variables.items _ c.ground_size-in-Exists.result c.in-Exists.is refl
+    c.quantifier_size.ensures (c.ground_size-in-Exists.ensures ∙ ap (λ f. capped (formula_size (g.C.FittingCount.count c.args.counts.now) (formula_view f))) c.deref-in-Exists.ensures)
 
 pub ground_size-returns-in-Forall : goal.ground_size-returns-in-Forall
 ground_size-returns-in-Forall g t c =
-    size_of_forall (g.C.FittingCount.count c.args.counts.now) c.args.formula.now c.in-Forall.variables c.in-Forall.inner c.deref-in-Forall.result.now _ c.ground_size-in-Forall.result c.in-Forall.is c.deref-in-Forall.ensures.value
-    c.quantifier_size-in-Forall.ensures (c.ground_size-in-Forall.ensures ∙ ap (λ f. capped (formula_size (g.C.FittingCount.count c.args.counts.now) (formula_view f))) c.deref-in-Forall-2.ensures)
+    size_of_forall (g.C.FittingCount.count c.args.counts.now) c.args.formula.now c.in-Forall.variables c.in-Forall.inner c.in-Forall.variables.items _ c.ground_size-in-Forall.result c.in-Forall.is refl
+    c.quantifier_size-in-Forall.ensures (c.ground_size-in-Forall.ensures ∙ ap (λ f. capped (formula_size (g.C.FittingCount.count c.args.counts.now) (formula_view f))) c.deref-in-Forall.ensures)
 
 pub ground_sizes-loop-formula-preserved : goal.ground_sizes-loop-formula-preserved
 ground_sizes-loop-formula-preserved g t c =
@@ -109,10 +109,10 @@ pub ground_size-ground_sizes-requires-in-Or : goal.ground_size-ground_sizes-requ
 ground_size-ground_sizes-requires-in-Or g t c κs within = (omega (arith, under_or g.row.A g.A.Allocator g.A.laws c.args.formula.now c.deref-in-Or.result.now c.in-Or.parts c.in-Or.is c.deref-in-Or.ensures.value, c.decreases), within)
 
 pub ground_size-ground_size-requires-in-Exists : goal.ground_size-ground_size-requires-in-Exists
-ground_size-ground_size-requires-in-Exists g t c κs within = (omega (arith, under_exists g.row.A g.A.Allocator g.A.laws c.args.formula.now c.deref-in-Exists-2.result.now c.in-Exists.variables c.in-Exists.inner c.in-Exists.is c.deref-in-Exists-2.ensures, c.decreases), within)
+ground_size-ground_size-requires-in-Exists g t c κs within = (omega (arith, under_exists g.row.A g.A.Allocator g.A.laws c.args.formula.now c.deref-in-Exists.result.now c.in-Exists.variables c.in-Exists.inner c.in-Exists.is c.deref-in-Exists.ensures, c.decreases), within)
 
 pub ground_size-ground_size-requires-in-Forall : goal.ground_size-ground_size-requires-in-Forall
-ground_size-ground_size-requires-in-Forall g t c κs within = (omega (arith, under_forall g.row.A g.A.Allocator g.A.laws c.args.formula.now c.deref-in-Forall-2.result.now c.in-Forall.variables c.in-Forall.inner c.in-Forall.is c.deref-in-Forall-2.ensures, c.decreases), within)
+ground_size-ground_size-requires-in-Forall g t c κs within = (omega (arith, under_forall g.row.A g.A.Allocator g.A.laws c.args.formula.now c.deref-in-Forall.result.now c.in-Forall.variables c.in-Forall.inner c.in-Forall.is c.deref-in-Forall.ensures, c.decreases), within)
 
 pub ground_sizes-ground_size-requires : goal.ground_sizes-ground_size-requires
 ground_sizes-ground_size-requires g t c κs within = (omega (arith, among (λ f. the_size g.row.A g.A.Allocator g.A.laws f) c.args.formulas.now c.loop-formula.formula-index c.formula-item.result c.loop-formula-test.true c.formula-item.is, c.decreases), within)

@@ -1,0 +1,5 @@
+use Rattle.pddl_types.proofs.TypeCounts.{named_found}
+use Rattle.pddl_types.proofs.near.place_in.Goals as goal
+
+pub returns-else-is_at-clause-named : goal.returns-else-is_at-clause-named
+returns-else-is_at-clause-named g c = named_found c.args.parents.now.entries c.args.name c.get_index_of.result c.get_index_of.ensures.index
