@@ -4,7 +4,7 @@
 # memory of `format` on plans of many short steps and of many long ones, beside those of plain Rust; of `domain` and `problem` on
 # files that link, beside those of `format`, which reads and prints them; of `plan` on valid plans, beside those of the same work
 # in plain Rust; and of `plan` alone on actions that quantify over very many variables, and of `serial` beside `plan`. Among
-# those that link are files with an `either` of all of many types; types below one with a long name; types above themselves, on a long chain, are refused. Each figure is that of the best of five runs. Wants GNU time,
+# those that link are files with an `either` of all of many types; types below one with a long name; slots and variables before an `either` of many types; types above themselves, on a long chain, are refused. Each figure is that of the best of five runs. Wants GNU time,
 # Python 3 and rustc.
 here=$(cd "$(dirname "$0")" && pwd) || exit 1
 "$here/../pddlcheck" --help >/dev/null || exit 1
@@ -92,6 +92,12 @@ for count in 5000 20000; do
     python3 "$here/files.py" below "$count" >"$folder/domain" || exit 1
     # its canonical text names the parent once for each type, which makes gigabytes
     printf '%-24s %8d  %17s   %s\n' "domain, $count types below" "$(wc -c <"$folder/domain")" - "$(seconds "$program" domain "$folder/domain")"
+done
+
+for count in 5000 20000; do
+    python3 "$here/files.py" slots "$count" >"$folder/domain" || exit 1
+    # its canonical text names all types once for each slot
+    printf '%-24s %8d  %17s   %s\n' "domain, $count slots" "$(wc -c <"$folder/domain")" - "$(seconds "$program" domain "$folder/domain")"
 done
 
 for count in 25000 100000; do

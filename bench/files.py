@@ -5,12 +5,13 @@ A plan has steps with three objects each: plain, timed, or with a comment before
 actions; a problem has many objects and a long `:init`.
 
 Usage: files.py plain|timed|comments|domain|problem MIB
-       files.py actions|items|parameters|variables|eithers|facts|seen|ring|below|short|long N
+       files.py actions|items|parameters|variables|eithers|facts|seen|ring|below|slots|short|long N
 
 The second form makes a domain with so many actions, or a problem of it with so many items in `:init` and two objects for each five of them: these link.
 So do a domain with an action of so many parameters, and a problem of it whose goal quantifies over so many variables of a type with one object, beside
 twice as many others; each variable is spoken of once. So do a domain of so many types with a slot and a parameter of an `either` of them all, a problem of it with an object
-of each and three facts for each, and a valid plan of a step for each. So do so many types below one whose name has five letters for each of them. So many types in a chain, the last two of which are above themselves, do not. Or it makes a plan of so many steps, each with two objects of few letters, or with eight of many.
+of each and three facts for each, and a valid plan of a step for each. So do so many types below one whose name has five letters for each of them, and
+so many types with a predicate of as many slots, and a quantifier of as many variables, each list before one `either` of them all. So many types in a chain, the last two of which are above themselves, do not. Or it makes a plan of so many steps, each with two objects of few letters, or with eight of many.
 """
 import itertools
 import random
@@ -151,6 +152,12 @@ def types_below(count):
     return f"(define (domain below)\n  (:types {numbered('t#', count)} - {'p' * (5 * count)}))\n"
 
 
+def slots_of_types(count):
+    either = f"(either {numbered('t#', count)})"
+    return (f"(define (domain slots)\n  (:types {numbered('t#', count)})\n  (:predicates (all {numbered('?x#', count)} - {either}))\n  (:action see\n    :parameters ()\n"
+            f"    :precondition (exists ({numbered('?v#', count)} - {either}) (= ?v0 ?v1))\n    :effect (and)))\n")
+
+
 def short_plan(steps):
     return "".join(f"(go a{number % 97} b{number % 89})\n" for number in range(steps))
 
@@ -170,6 +177,7 @@ COUNTED = {
     "seen": many_seen,
     "ring": ring_of_types,
     "below": types_below,
+    "slots": slots_of_types,
     "short": short_plan,
     "long": long_plan,
 }
