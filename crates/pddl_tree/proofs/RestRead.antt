@@ -1,6 +1,6 @@
 -- The end of a text of which the words of whole steps were read.
 use Rattle.std.proofs.Common.{◌≡◌, ◌≤◌, ℕ, List, [], ◌++◌, length, map, refl, sym, ap, subst, ◌∙◌, arith, inl, inr}
-use Rattle.std.specs.Prelude.{◌⊎◌, ◌<◌, Result, Ok, Err, IfOk, IfErr, MatchResult}
+use Rattle.std.specs.Prelude.{◌⊎◌, ◌<◌, Result, Ok, Err, IfOk, IfErr, OnOk, MatchResult}
 use Rattle.std.proofs.lemmas.List.{append_assoc, append-nil, length-map}
 use Rattle.pddl_text.specs.declared.fault.TextFault.{TextFault}
 use Rattle.pddl_text.specs.declared.fault.TextFault.TheVariants as text_faults
@@ -117,6 +117,16 @@ pub refused_text : (fault : TextFault) (text : List ℕ) → (fault ≡ text_fau
 refused_text fault text no_failure too_long (inl e) = absurd (no_failure e)
 refused_text fault text no_failure too_long (inr (inl e)) = subst (λ f. PlanStands (faults.Text f) text) (sym e) (too_long e)
 refused_text fault text no_failure too_long (inr (inr e)) = subst (λ f. PlanStands (faults.Text f) text) (sym e) tt
+
+-- ---- what is said of an answer
+
+pub ok_with : {A E P Q : Type 0} (r : Result A E) → (P → Q) → OnOk r P → OnOk r Q
+ok_with (Ok _) then p = then p
+ok_with (Err _) then p = tt
+
+pub err_with : {A E : Type 0} {P Q : E → Type 0} (r : Result A E) → ((e : E) → P e → Q e) → IfErr r P → IfErr r Q
+err_with (Ok _) then p = tt
+err_with (Err e) then p = then e p
 
 -- ---- what is answered is the plan, or memory is wanting
 

@@ -3,14 +3,14 @@
 ghost use Rattle.std.specs.Prelude.{◌≡◌, ◌≢◌, ◌≤◌, ◌<◌, ◌++◌, [], ◌⊎◌, ◌↔◌, Some, ℕ, false, List, length, IfOk, IfErr, OnOk, OnErr, MatchResult, Err};
 ghost use Rattle.pddl_text.specs.declared.fault.TextFault.TheVariants.{Memory, TooLong, AlreadyFailed};
 ghost use Rattle.pddl_token.specs.Spelling.{PlacedWord, Spells};
-ghost use Rattle.pddl_text.specs.Faults.{AreValued};
+ghost use Rattle.pddl_text.specs.Faults.{AreValued, Stands};
 ghost use Rattle.pddl_text.specs.StandsFor.{IsGoing};
 ghost use Rattle.pddl_tree.specs.declared.fault.ReadFault.{ReadFault};
 ghost use Rattle.pddl_tree.specs.declared.fault.ReadFault.TheVariants.{Text};
-ghost use Rattle.pddl_tree.specs.Plans.{PlanValue, plan_view};
+ghost use Rattle.pddl_tree.specs.Plans.{PlanValue, plan_view, built_plan};
 ghost use Rattle.pddl_tree.specs.PlanTexts.{SpellsPlan, PlanStands, without_near};
 ghost use Rattle.pddl_tree.specs.Places.{fault_place};
-ghost use Rattle.pddl_tree.specs.Inner.StepWords.{AreStepWords};
+ghost use Rattle.pddl_tree.specs.Inner.StepWords.{AreStepWords, ReadsTo};
 
 use crate::fault::ReadFault;
 use crate::plan::Plan;
@@ -40,21 +40,20 @@ pub struct PlanReader<A: Allocator> {
     ghost lexes: { failed ≡ false → IsGoing lexer },
 }
 
-/// The plan of a text of which the words of the plan's steps were read, and the others are kept.
+/// Reads the words that are kept, behind those of whole steps that were read.
 fn read_rest<'a, B: Allocator>(
     alloc: &'a B,
-    plan: PlanBuilder<&'a B>,
+    plan: &mut PlanBuilder<&'a B>,
     kept: &WordList<&'a B>,
-) -> Result<Plan<&'a B>, ReadFault>
-    ensures plan { (text : List ℕ) (done : List PlacedWord) → length text ≤ LONGEST → Spells (done ++ kept.now) text → AreValued (done ++ kept.now) → AreStepWords plan.entry done
-        → IfOk result (λ plan. SpellsPlan (plan_view plan) text) }
-    ensures fault { (text : List ℕ) (done : List PlacedWord) → length text ≤ LONGEST → Spells (done ++ kept.now) text → AreValued (done ++ kept.now) → AreStepWords plan.entry done
+) -> Result<(), ReadFault>
+    ensures plan { (text : List ℕ) (done : List PlacedWord) → length text ≤ LONGEST → Spells (done ++ kept.now) text → AreValued (done ++ kept.now) → AreStepWords plan.old done
+        → OnOk result (SpellsPlan (built_plan plan.new) text) }
+    ensures fault { (text : List ℕ) (done : List PlacedWord) → length text ≤ LONGEST → Spells (done ++ kept.now) text → AreValued (done ++ kept.now) → AreStepWords plan.old done
         → IfErr result (λ fault. PlanStands fault text) }
     ensures faults { IfErr result (λ fault. fault ≢ Text AlreadyFailed) }
 {
-    let mut plan = plan;
     if kept.len() == 0 {
-        return Ok(plan.finish());
+        return Ok(());
     }
     plan.give_up_step();
     let tokens = kept.tokens(alloc)?;
@@ -62,9 +61,44 @@ fn read_rest<'a, B: Allocator>(
         Ok(items) => items,
         Err(fault) => return Err(ReadFault::Text(fault)),
     };
-    if let Err(fault) = add_steps(&mut plan, &items) {
-        return Err(fault);
+    add_steps(plan, &items)
+}
+
+/// Reads the last words of a text, if no fault of theirs came in their place, and those that are kept.
+fn read_last<'a, B: Allocator>(
+    alloc: &'a B,
+    ended: Result<(), TextFault>,
+    plan: &mut PlanBuilder<&'a B>,
+    place: Place,
+    words: &WordList<&'a B>,
+    kept: &mut WordList<&'a B>,
+) -> Result<(), ReadFault>
+    ensures plan { (text : List ℕ) (done : List PlacedWord) → length text ≤ LONGEST
+        → OnOk ended (Spells ((done ++ kept.old) ++ words.now) text × AreValued ((done ++ kept.old) ++ words.now)) → ReadsTo place plan.old done kept.old
+        → OnOk result (SpellsPlan (built_plan plan.new) text) }
+    ensures fault { (text : List ℕ) (done : List PlacedWord) → length text ≤ LONGEST
+        → OnOk ended (Spells ((done ++ kept.old) ++ words.now) text × AreValued ((done ++ kept.old) ++ words.now)) → ReadsTo place plan.old done kept.old
+        → IfErr ended (λ fault. Stands fault text) → IfErr result (λ fault. PlanStands fault text) }
+    ensures faults { ended ≢ Err AlreadyFailed → result ≢ Err (Text AlreadyFailed) }
+{
+    if let Err(fault) = ended {
+        return Err(ReadFault::Text(fault));
     }
+    if let Err(error) = read_on(plan, place, words, kept) {
+        return Err(ReadFault::from(error));
+    }
+    read_rest(alloc, plan, kept)
+}
+
+/// The plan of the steps that were read, if all of them were.
+fn read_whole<A: Allocator>(
+    plan: PlanBuilder<A>,
+    read: Result<(), ReadFault>,
+) -> Result<Plan<A>, ReadFault>
+    ensures plan { (text : List ℕ) → OnOk read (SpellsPlan (built_plan plan) text) → IfOk result (λ plan. SpellsPlan (plan_view plan) text) }
+    ensures fault { IfErr result (λ fault. read ≡ Err fault) }
+{
+    read?;
     Ok(plan.finish())
 }
 
@@ -148,13 +182,9 @@ impl<'a, B: Allocator> PlanReader<&'a B> {
         let mut words = self.words;
         let mut kept = self.kept;
         words.clear();
-        if let Err(fault) = self.lexer.finish_into(&mut words) {
-            return Err(ReadFault::Text(fault));
-        }
-        if let Err(error) = read_on(&mut plan, self.place, &words, &mut kept) {
-            return Err(ReadFault::from(error));
-        }
-        read_rest(self.alloc, plan, &kept)
+        let ended = self.lexer.finish_into(&mut words);
+        let read = read_last(self.alloc, ended, &mut plan, self.place, &words, &mut kept);
+        read_whole(plan, read)
     }
 }
 
