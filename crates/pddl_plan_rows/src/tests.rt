@@ -33,6 +33,11 @@ fn plans(rt: HostRuntime) -> Result<(), Fail> {
 }
 
 #[test]
+fn quantifiers(rt: HostRuntime) -> Result<(), Fail> {
+    all_hold(&rt, rows::QUANTIFIERS, 18)
+}
+
+#[test]
 fn refused_plans(rt: HostRuntime) -> Result<(), Fail> {
     all_hold(&rt, rows::REFUSED_PLANS, 21)
 }

@@ -100,6 +100,11 @@ fn twice(rt: HostRuntime) -> Result<(), Fail> {
 }
 
 #[test]
+fn typed_lists(rt: HostRuntime) -> Result<(), Fail> {
+    all_hold(&rt, rows::TYPED_LISTS, 38)
+}
+
+#[test]
 fn types(rt: HostRuntime) -> Result<(), Fail> {
     all_hold(&rt, rows::TYPES, 56)
 }
