@@ -7,9 +7,10 @@ few        2,000 steps at one moment, where 200,000 atoms hold at first
 moments    100,000 moments with ten steps each
 adl        200 steps, two at a moment, each of which quantifies over 2,000 objects with a condition for each
 variables  one step, whose action quantifies over 400,000 variables of a type with one object
+group      one step, and a goal that quantifies over 20,000 variables before an either of 20,000 types, of which one has an object
 nothing    one step, whose action has 100,000 quantifiers under one over a type with no object
 
-Usage: plan_files.py walk|together|few|moments|adl|variables|nothing FOLDER
+Usage: plan_files.py walk|together|few|moments|adl|variables|group|nothing FOLDER
 """
 import os
 import sys
@@ -122,11 +123,21 @@ def variables():
     return rooms("(forall (" + " ".join(f"?v{n}" for n in range(400_000)) + " - room) (done))", "(done)")
 
 
+def group():
+    count = 20_000
+    types = " ".join(f"t{n}" for n in range(count))
+    domain = ROOMS.replace("room hole", types).replace("{effect}", "(done)")
+    variables = " ".join(f"?v{n}" for n in range(count))
+    files = f"(define (problem bench) (:domain rooms) (:objects r - t0) (:init) (:goal (forall ({variables} - (either {types})) (done))))\n"
+    return domain, files, "(s)\n"
+
+
 def nothing():
     return rooms("(forall (?h - hole) (and" + " (forall (?r - room) (done))" * 100_000 + "))", "(not (done))")
 
 
-CASES = {"walk": walk, "together": together, "few": few, "moments": moments, "adl": adl, "variables": variables, "nothing": nothing}
+CASES = {"walk": walk, "together": together, "few": few, "moments": moments, "adl": adl, "variables": variables, "group": group,
+         "nothing": nothing}
 
 
 def main():

@@ -1,12 +1,13 @@
 -- The variables of a quantifier, one after another, and nodes around conditions.
-use Rattle.std.proofs.Common.{◌≡◌, ◌≢◌, ℕ, ◌+◌, ◌<◌, true, List, [], ◌∷◌, ◌++◌, map, drop, length, get_or, reverse, refl, sym, ap, ◌∙◌, subst, arith, Vec}
-use Rattle.std.specs.Prelude.{Result, Ok, Err, IfOk, is_ok, if◌then◌else◌}
+use Rattle.std.proofs.Common.{◌≡◌, ℕ, ◌+◌, ◌<◌, true, false, List, [], ◌∷◌, ◌++◌, map, drop, length, get_or, reverse, refl, sym, ap, ◌∙◌, subst, arith, Vec}
+use Rattle.std.specs.Prelude.{Result, Ok, Err, IfOk, is_ok, if◌then◌else◌, Option, Some, option_map, unwrap_or, slice_get}
 use Rattle.std.proofs.lemmas.List.{drop_more, append-nil, append_assoc, map-append, reverse-append}
+use Rattle.std.proofs.lemmas.Option.{slice_get-map, slice_get-get_or, slice_get_within, get_or_from_slice_get}
 use Rattle.pddl_formula.specs.declared.type_names.Typed.{Typed}
-use Rattle.pddl_formula.specs.TypedLists.{typed_view}
+use Rattle.pddl_formula.specs.TypedLists.{typed_view, TypedValue}
 use Rattle.pddl_task.specs.Names.{Name}
-use Rattle.pddl_compiled.specs.Compiler as value
-use Rattle.pddl_compiled.specs.Compiler.{single, framed, BinderValue, binding, binder_of, onto, wrapped, ScopeValue}
+use Rattle.pddl_compiled.specs.Binders.{only, IsRange, IsLast, unbound, IsBound}
+use Rattle.pddl_compiled.specs.Compiler.{Slot, BinderValue, binding, binder_of, onto, wrapped, ScopeValue}
 use Rattle.pddl_compiled.specs.Scopes.{range_items}
 
 pub weaker : {X E : Type 0} (P Q : X → Type 0) → ((x : X) → P x → Q x) → (r : Result X E) → IfOk r P → IfOk r Q
@@ -22,43 +23,65 @@ both_known P Q (Err e) h k = h
 
 -- ---- what is left of the variables
 
-pub one_variable : {A : Type 0} (range : List Name → List ℕ) (xs : List (Typed A)) (i : ℕ) (x : Typed A) → i < length xs → x ≡ get_or xs i x
-    → binder_of range (map typed_view (drop i xs)) ≡ binding x.name (range x.types) (binder_of range (map typed_view (drop (i + 1) xs)))
-one_variable range xs i x h is =
-    ap (λ ys. binder_of range (map typed_view ys)) (drop_more xs i x h)
-    ∙ ap (λ y. binding y.name (range y.types) (binder_of range (map typed_view (drop (i + 1) xs)))) (sym is)
+pub view_at : {A : Type 0} (xs ys : List (Typed A)) (i : ℕ) (d : Typed A) → ys ≡ xs → i < length xs → slice_get (map typed_view xs) i ≡ Some (typed_view (get_or ys i d))
+view_at xs ys i d same h = slice_get-map typed_view xs i ∙ ap (option_map typed_view) (slice_get-get_or xs i d h ∙ ap (λ zs. Some (get_or zs i d)) (sym same))
 
-none_in : (x : Name) (range : List ℕ) (b : BinderValue) → length range ≡ 0 → binding x range b ≡ record { slots = []; ranges = range ∷ []; closed = true }
-none_in x [] b h = refl
-none_in x (o ∷ os) b h = absurd (omega (arith, h))
+rest_at : (range : List Name → List ℕ) (xs : List TypedValue) (i : ℕ) (y : TypedValue) → slice_get xs i ≡ Some y → binder_of range (drop i xs) ≡ binding y.item (range y.of) (binder_of range (drop (i + 1) xs))
+rest_at range xs i y at =
+    ap (binder_of range) (drop_more xs i y (slice_get_within xs i y at))
+    ∙ ap (λ z. binding z.item (range z.of) (binder_of range (drop (i + 1) xs))) (get_or_from_slice_get xs i y y at)
 
-one_in : (x : Name) (range : List ℕ) (b : BinderValue) (n : ℕ) → n ≡ get_or range 0 n → length range ≡ 1 → binding x range b ≡ record { slots = (x, single n) ∷ b.slots; ranges = b.ranges; closed = b.closed }
-one_in x [] b n is h = absurd (omega (arith, h))
-one_in x (o ∷ []) b n is h = ap (λ k. record { slots = (x, single k) ∷ b.slots; ranges = b.ranges; closed = b.closed }) (sym is)
-one_in x (o ∷ p ∷ os) b n is h = absurd (omega (arith, h))
+-- ---- one variable, and those behind it
 
-more_in : (x : Name) (range : List ℕ) (b : BinderValue) → length range ≢ 0 → length range ≢ 1 → binding x range b ≡ record { slots = (x, framed) ∷ b.slots; ranges = range ∷ b.ranges; closed = b.closed }
-more_in x [] b h k = absurd (h refl)
-more_in x (o ∷ []) b h k = absurd (k refl)
-more_in x (o ∷ p ∷ os) b h k = refl
+bound_last : (x : Name) (found : List ℕ) (rest : BinderValue) (slots new : List (Name × Slot)) (ranges more : List (List ℕ)) → IsBound slots new ranges more true (binding x found unbound)
+    → IsBound slots new ranges more true (binding x found rest)
+bound_last x [] rest slots new ranges more bound = bound
+bound_last x (o ∷ []) rest slots new ranges more bound = absurd (cc (bound.closed_is))
+bound_last x (o ∷ p ∷ os) rest slots new ranges more bound = absurd (cc (bound.closed_is))
 
--- ---- what is found before a variable that ranges over none, or over some
+bound_before : (x : Name) (found : List ℕ) (rest : BinderValue) (slots new : List (Name × Slot)) (ranges more : List (List ℕ)) → IsBound slots new ranges more false (binding x found unbound)
+    → (new ++ rest.slots ≡ slots ++ (binding x found rest).slots) × (more ++ rest.ranges ≡ ranges ++ (binding x found rest).ranges) × (rest.closed ≡ (binding x found rest).closed)
+bound_before x [] rest slots new ranges more bound = absurd (cc (bound.closed_is))
+bound_before x (o ∷ []) rest slots new ranges more bound =
+    (ap (λ l. l ++ rest.slots) bound.slots_are ∙ append_assoc slots _ rest.slots, ap (λ l. l ++ rest.ranges) bound.ranges_are ∙ append_assoc ranges [] rest.ranges, refl)
+bound_before x (o ∷ p ∷ os) rest slots new ranges more bound =
+    (ap (λ l. l ++ rest.slots) bound.slots_are ∙ append_assoc slots _ rest.slots, ap (λ l. l ++ rest.ranges) bound.ranges_are ∙ append_assoc ranges _ rest.ranges, refl)
 
-module _ {A : Type 0} (range : List Name → List ℕ) (xs : List (Typed A)) (i : ℕ) (x : Typed A) (found : List ℕ) (h : i < length xs) (is : x ≡ get_or xs i x) (same : found ≡ range x.types) where
-  here : binder_of range (map typed_view (drop i xs)) ≡ binding x.name found (binder_of range (map typed_view (drop (i + 1) xs)))
-  here = one_variable range xs i x h is ∙ ap (λ r. binding x.name r (binder_of range (map typed_view (drop (i + 1) xs)))) (sym same)
-
+-- a variable is bound, where those before it were
+module _ (range : List Name → List ℕ) (xs : List TypedValue) (i : ℕ) (y : TypedValue) (at : slice_get xs i ≡ Some y) (x : Name) (named : x ≡ y.item) (found : List ℕ) (fits : IsRange range xs i found)
+    (first slots new : List (Name × Slot)) (before ranges more : List (List ℕ)) (whole : BinderValue)
+    (slots_left : slots ++ (binder_of range (drop i xs)).slots ≡ first ++ whole.slots) (ranges_left : ranges ++ (binder_of range (drop i xs)).ranges ≡ before ++ whole.ranges)
+    (closed_left : (binder_of range (drop i xs)).closed ≡ whole.closed) where
   abbrev rest : BinderValue
-  rest = binder_of range (map typed_view (drop (i + 1) xs))
+  rest = binder_of range (drop (i + 1) xs)
 
-  pub closes : length found ≡ 0 → binder_of range (map typed_view (drop i xs)) ≡ record { slots = []; ranges = found ∷ []; closed = true }
-  closes none = here ∙ none_in x.name found rest none
+  here : binder_of range (drop i xs) ≡ binding x found rest
+  here = rest_at range xs i y at ∙ (ap (λ m. binding m (range y.of) rest) (sym named) ∙ ap (λ r. binding x r rest) (sym (fits y at)))
 
-  pub singles : (n : ℕ) → n ≡ get_or found 0 n → length found ≡ 1 → (m : Name) → m ≡ x.name → binder_of range (map typed_view (drop i xs)) ≡ record { slots = (m, single n) ∷ rest.slots; ranges = rest.ranges; closed = rest.closed }
-  singles n at one m named = here ∙ (one_in x.name found rest n at one ∙ ap (λ k. record { slots = (k, single n) ∷ rest.slots; ranges = rest.ranges; closed = rest.closed }) (sym named))
+  pub bound_all : IsBound slots new ranges more true (binding x found unbound) → IsBound first new before more true whole
+  bound_all bound =
+      let is = bound_last x found rest slots new ranges more bound in
+      record {
+        slots_are = is.slots_are ∙ (ap (λ b. slots ++ b.slots) (sym here) ∙ slots_left);
+        ranges_are = is.ranges_are ∙ (ap (λ b. ranges ++ b.ranges) (sym here) ∙ ranges_left);
+        closed_is = is.closed_is ∙ (ap (λ b. b.closed) (sym here) ∙ closed_left);
+      }
 
-  pub frames : length found ≢ 0 → length found ≢ 1 → (m : Name) → m ≡ x.name → binder_of range (map typed_view (drop i xs)) ≡ record { slots = (m, framed) ∷ rest.slots; ranges = found ∷ rest.ranges; closed = rest.closed }
-  frames some many m named = here ∙ (more_in x.name found rest some many ∙ ap (λ k. record { slots = (k, framed) ∷ rest.slots; ranges = found ∷ rest.ranges; closed = rest.closed }) (sym named))
+  pub bound_on : IsBound slots new ranges more false (binding x found unbound) → (new ++ rest.slots ≡ first ++ whole.slots) × (more ++ rest.ranges ≡ before ++ whole.ranges) × (rest.closed ≡ whole.closed)
+  bound_on bound =
+      let are = bound_before x found rest slots new ranges more bound in
+      (are.0 ∙ (ap (λ b. slots ++ b.slots) (sym here) ∙ slots_left), are.1 ∙ (ap (λ b. ranges ++ b.ranges) (sym here) ∙ ranges_left), are.2 ∙ (ap (λ b. b.closed) (sym here) ∙ closed_left))
+
+-- ---- the object that alone fits a variable
+
+only_one : (found : List ℕ) (n : ℕ) → only found ≡ Some n → n ∷ [] ≡ found
+only_one [] n is = absurd (cc (is))
+only_one (o ∷ []) n is = ap (λ q. unwrap_or q n ∷ []) (sym is)
+only_one (o ∷ p ∷ os) n is = absurd (cc (is))
+
+pub next_last : (range : List Name → List ℕ) (xs : List TypedValue) (i : ℕ) (found : List ℕ) (last : Option ℕ) → IsRange range xs i found → last ≡ only found → IsLast range xs (i + 1) last
+next_last range xs i found last fits is n some y at =
+    only_one found n (sym is ∙ some) ∙ fits y (subst (λ k. slice_get xs k ≡ Some y) (omega arith) at)
 
 -- ---- lists that grow
 
@@ -83,7 +106,7 @@ turned_round f old now xs whole same is before = ap (map f) is ∙ (map-reverse 
 
 -- ---- scopes
 
-pub onto_reversed : (ss : List (Name × value.Slot)) (scope : ScopeValue) → reverse ss ++ scope ≡ onto ss scope
+pub onto_reversed : (ss : List (Name × Slot)) (scope : ScopeValue) → reverse ss ++ scope ≡ onto ss scope
 onto_reversed [] scope = refl
 onto_reversed (s ∷ ss) scope = ap (λ l. l ++ scope) (reverse-append (s ∷ []) ss) ∙ (append_assoc (reverse ss) (s ∷ []) scope ∙ onto_reversed ss (s ∷ scope))
 

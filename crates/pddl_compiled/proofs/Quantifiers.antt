@@ -40,14 +40,13 @@ bound_right node nothing t xs body scope ranges slots closed inner turned same s
     ∙ ap (wrapped node (binder_of t.range xs).ranges) (is ∙ (ap (λ b. cond b nothing (body (slots ++ scope))) shut
     ∙ ap (λ l. cond (binder_of t.range xs).closed nothing (body l)) (ap (λ l. l ++ scope) turned ∙ onto_reversed (binder_of t.range xs).slots scope)))
 
-module _ {K C E A B : Type 0} (view : C → K) (nothing : K) (t : Tables) (now items : List (Typed A)) (body : ScopeValue → K) (scope : ScopeValue) (ranges given : List (Vec ℕ B)) (slots : List Slot) (closed : Bool) (made : Result C E) (c : C)
-    (same : now ≡ items) (turned : map slot_view slots ≡ reverse (binder_of t.range (map typed_view now)).slots) (found : map range_items ranges ≡ (binder_of t.range (map typed_view now)).ranges)
-    (shut : closed ≡ (binder_of t.range (map typed_view now)).closed) (is : given ≡ ranges) (ok : made ≡ Ok c) where
+module _ {K C E A B : Type 0} (view : C → K) (nothing : K) (t : Tables) (items : List (Typed A)) (body : ScopeValue → K) (scope : ScopeValue) (ranges given : List (Vec ℕ B)) (slots : List Slot) (closed : Bool) (made : Result C E) (c : C)
+    (turned : map slot_view slots ≡ reverse (binder_of t.range (map typed_view items)).slots) (found : map range_items ranges ≡ (binder_of t.range (map typed_view items)).ranges)
+    (shut : closed ≡ (binder_of t.range (map typed_view items)).closed) (is : given ≡ ranges) (ok : made ≡ Ok c) where
   bound_is : view c ≡ cond closed nothing (body (map slot_view slots ++ scope)) → (node : List ℕ → K → K) → wrapped node (map range_items given) (view c) ≡ nested node nothing t (map typed_view items) body scope
   bound_is inner node =
       ap (λ rs. wrapped node (map range_items rs) (view c)) is
-      ∙ (bound_right node nothing t (map typed_view now) body scope (map range_items ranges) (map slot_view slots) closed (view c) turned found shut inner
-      ∙ ap (λ l. nested node nothing t (map typed_view l) body scope) same)
+      ∙ bound_right node nothing t (map typed_view items) body scope (map range_items ranges) (map slot_view slots) closed (view c) turned found shut inner
 
   pub closed_right : closed ≡ true → IfOk made (λ k. view k ≡ nothing) → (node : List ℕ → K → K) → wrapped node (map range_items given) (view c) ≡ nested node nothing t (map typed_view items) body scope
   closed_right on inner = bound_is (ok_known (λ k. view k ≡ nothing) made c ok inner ∙ ap (λ b. cond b nothing (body (map slot_view slots ++ scope))) (sym on))

@@ -1,13 +1,14 @@
 //! The variables of quantifiers.
 
-ghost use Rattle.std.specs.Prelude.{◌≡◌, true, [], ◌∷◌, ◌++◌, map, reverse, IfOk};
+ghost use Rattle.std.specs.Prelude.{◌≡◌, ◌<◌, map, length, reverse, IfOk};
 ghost use Rattle.pddl_formula.specs.TypedLists.{typed_view};
+ghost use Rattle.pddl_compiled.specs.Binders.{only, unbound, IsRange, IsLast, IsBound};
 ghost use Rattle.pddl_compiled.specs.Compiler.{binding, binder_of};
 ghost use Rattle.pddl_compiled.specs.Scopes.{slot_view, range_items};
 
 use crate::lookups::Lookups;
 use crate::scope::Slot;
-use pddl_formula::Typed;
+use pddl_formula::TypedList;
 use std::alloc::{AllocError, Allocator};
 
 /// What the variables of a quantifier are.
@@ -42,21 +43,85 @@ fn turned<'f, 'b, B: Allocator>(
     })
 }
 
-/// The slots turned round, and a last range, which is empty.
+/// The one object of a range, where it has one alone.
+fn single_of(range: &[usize]) -> Option<usize>
+    ensures { result ≡ only range.now }
+{
+    if range.len() == 1 {
+        Some(range[0])
+    } else {
+        None
+    }
+}
+
+/// The objects that fit the variable at a place, where `last` is the one that alone fits the variable before it, if one does: where both are of one group,
+/// it is not looked for again.
 ///
 /// Fails where memory for them is refused.
-fn shut<'f, 'b, B: Allocator>(
+fn range_at<'b, A: Allocator, B: Allocator, L: Lookups<A, B>>(
     alloc: &'b B,
-    slots: &[Slot<'f>],
-    mut ranges: Vec<Vec<usize, &'b B>, &'b B>,
-    last: Vec<usize, &'b B>,
-) -> Result<Binder<'f, 'b, B>, AllocError>
-    ensures slots { IfOk result (λ b. b.slots.items ≡ reverse slots.now) }
-    ensures ranges { IfOk result (λ b. b.ranges.items ≡ ranges.entry.items ++ last.entry ∷ []) }
-    ensures closed { IfOk result (λ b. b.closed ≡ true) }
+    lookups: &L,
+    variables: &TypedList<A>,
+    place: usize,
+    last: Option<usize>,
+) -> Result<Vec<usize, &'b B>, AllocError>
+    requires in_range { place < length variables.now.items }
+    requires last { IsLast (L.tables lookups.now).range (map typed_view variables.now.items) place last }
+    ensures { IfOk result (λ range. IsRange (L.tables lookups.now).range (map typed_view variables.now.items) place range.items) }
 {
-    ranges.push(last)?;
-    turned(alloc, slots, ranges, true)
+    match last {
+        Some(object) if variables.shares(place) => vec![in alloc; object; 1],
+        _ => lookups.fitting(alloc, &variables.as_slice()[place].types),
+    }
+}
+
+/// Adds what a variable is that ranges over some objects, of which `single` is the one, if there is one alone. Answers whether there is none.
+///
+/// Fails where memory for it is refused.
+fn add<'f, 'b, B: Allocator>(
+    slots: &mut Vec<Slot<'f>, &'b B>,
+    ranges: &mut Vec<Vec<usize, &'b B>, &'b B>,
+    name: &'f [u8],
+    single: Option<usize>,
+    range: Vec<usize, &'b B>,
+) -> Result<bool, AllocError>
+    requires { single ≡ only range.items }
+    ensures { IfOk result (λ closed. IsBound (map slot_view slots.old.items) (map slot_view slots.new.items) (map range_items ranges.old.items) (map range_items ranges.new.items)
+        closed (binding name.now range.entry.items unbound)) }
+{
+    let closed = range.len() == 0;
+    if !closed {
+        slots.push(Slot { name, single })?;
+    }
+    if single.is_none() {
+        ranges.push(range)?;
+    }
+    Ok(closed)
+}
+
+/// Adds what variables are, up to one that ranges over no object. Answers whether there is such a one.
+///
+/// Fails where memory for them is refused.
+fn add_all<'f, 'b, A: Allocator, B: Allocator, L: Lookups<A, B>>(
+    alloc: &'b B,
+    lookups: &L,
+    variables: &'f TypedList<A>,
+    slots: &mut Vec<Slot<'f>, &'b B>,
+    ranges: &mut Vec<Vec<usize, &'b B>, &'b B>,
+) -> Result<bool, AllocError>
+    ensures { IfOk result (λ closed. IsBound (map slot_view slots.old.items) (map slot_view slots.new.items) (map range_items ranges.old.items) (map range_items ranges.new.items)
+        closed (binder_of (L.tables lookups.now).range (map typed_view variables.now.items))) }
+{
+    let mut last = None;
+    for place in 0..variables.len() {
+        let range = range_at(alloc, lookups, variables, place, last)?;
+        last = single_of(&range);
+        let name = variables.as_slice()[place].name.as_bytes();
+        if add(slots, ranges, name, last, range)? {
+            return Ok(true);
+        }
+    }
+    Ok(false)
 }
 
 /// What the variables of a quantifier are. Behind one that ranges over no object nothing is looked up.
@@ -65,27 +130,14 @@ fn shut<'f, 'b, B: Allocator>(
 pub(crate) fn bind<'f, 'b, A: Allocator, B: Allocator, L: Lookups<A, B>>(
     alloc: &'b B,
     lookups: &L,
-    variables: &'f [Typed<A>],
+    variables: &'f TypedList<A>,
 ) -> Result<Binder<'f, 'b, B>, AllocError>
-    ensures slots { IfOk result (λ b. map slot_view b.slots.items ≡ reverse (binder_of (L.tables lookups.now).range (map typed_view variables.now)).slots) }
-    ensures ranges { IfOk result (λ b. map range_items b.ranges.items ≡ (binder_of (L.tables lookups.now).range (map typed_view variables.now)).ranges) }
-    ensures closed { IfOk result (λ b. b.closed ≡ (binder_of (L.tables lookups.now).range (map typed_view variables.now)).closed) }
+    ensures slots { IfOk result (λ b. map slot_view b.slots.items ≡ reverse (binder_of (L.tables lookups.now).range (map typed_view variables.now.items)).slots) }
+    ensures ranges { IfOk result (λ b. map range_items b.ranges.items ≡ (binder_of (L.tables lookups.now).range (map typed_view variables.now.items)).ranges) }
+    ensures closed { IfOk result (λ b. b.closed ≡ (binder_of (L.tables lookups.now).range (map typed_view variables.now.items)).closed) }
 {
     let mut slots = Vec::new(alloc);
     let mut ranges = Vec::new(alloc);
-    for variable in variables {
-        let range = lookups.fitting(alloc, &variable.types)?;
-        let name = variable.name.as_bytes();
-        if range.len() == 0 {
-            return shut(alloc, &slots, ranges, range);
-        }
-        if range.len() == 1 {
-            let single = Some(range[0]);
-            slots.push(Slot { name, single })?;
-        } else {
-            slots.push(Slot { name, single: None })?;
-            ranges.push(range)?;
-        }
-    }
-    turned(alloc, &slots, ranges, false)
+    let closed = add_all(alloc, lookups, variables, &mut slots, &mut ranges)?;
+    turned(alloc, &slots, ranges, closed)
 }

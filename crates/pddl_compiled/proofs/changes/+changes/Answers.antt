@@ -19,16 +19,16 @@ pub compile_quantified-returns-then-binder : goal.compile_quantified-returns-the
 compile_quantified-returns-then-binder g t c =
     let b = c.in_ok-binder in
     let tables = g.L.Lookups.tables c.args.lookups.now in
-    weaker _ _ (λ q h. closed_right change_view (value.both value.no_changes) tables c.deref.result.now c.args.variables.now.items (change_of tables (effect_view c.args.inner.now)) (scope_view c.args.scope.now) b.binder.ranges.items q.ranges.items b.binder.slots.items b.binder.closed (Ok (changes.And c.new.result)) q.inner
-    c.deref.ensures.value b.ensures.slots b.ensures.ranges b.ensures.closed h.0 h.1 c.if-binder.true (view_both c.new.result ∙ ap (λ cs. value.both (changes_view cs)) c.new.ensures.items))
+    weaker _ _ (λ q h. closed_right change_view (value.both value.no_changes) tables c.args.variables.now.items (change_of tables (effect_view c.args.inner.now)) (scope_view c.args.scope.now) b.binder.ranges.items q.ranges.items b.binder.slots.items b.binder.closed (Ok (changes.And c.new.result)) q.inner
+    b.ensures.slots b.ensures.ranges b.ensures.closed h.0 h.1 c.if-binder.true (view_both c.new.result ∙ ap (λ cs. value.both (changes_view cs)) c.new.ensures.items))
     c.with_ranges.result (both_known _ _ c.with_ranges.result c.with_ranges.ensures.ranges c.with_ranges.ensures.inner)
 
 pub compile_quantified-returns : goal.compile_quantified-returns
 compile_quantified-returns g t c =
     let b = c.in_ok-binder in
     let tables = g.L.Lookups.tables c.args.lookups.now in
-    weaker _ _ (λ q h. open_right change_view (value.both value.no_changes) tables c.deref.result.now c.args.variables.now.items (change_of tables (effect_view c.args.inner.now)) (scope_view c.args.scope.now) b.binder.ranges.items q.ranges.items b.binder.slots.items b.binder.closed c.compile_change-inner.result q.inner
-    c.deref.ensures.value b.ensures.slots b.ensures.ranges b.ensures.closed h.0 h.1 c.deref-2.result.now c.deref-2.ensures.value c.if-binder.false c.compile_change-inner.ensures)
+    weaker _ _ (λ q h. open_right change_view (value.both value.no_changes) tables c.args.variables.now.items (change_of tables (effect_view c.args.inner.now)) (scope_view c.args.scope.now) b.binder.ranges.items q.ranges.items b.binder.slots.items b.binder.closed c.compile_change-inner.result q.inner
+    b.ensures.slots b.ensures.ranges b.ensures.closed h.0 h.1 c.deref.result.now c.deref.ensures.value c.if-binder.false c.compile_change-inner.ensures)
     c.with_ranges-2.result (both_known _ _ c.with_ranges-2.result c.with_ranges-2.ensures.ranges c.with_ranges-2.ensures.inner)
 
 pub add_changes-loop-effect-preserved : goal.add_changes-loop-effect-preserved
