@@ -63,6 +63,11 @@ impl<'a, B: Allocator> Preorder<'a, B> {
         number_at(&self.first, place)
     }
 
+    /// The largest number of the places under a place.
+    pub fn last(&self, place: usize) -> usize {
+        number_at(&self.last, place)
+    }
+
     /// Whether a place is under another: that place, or below it.
     pub fn is_under(&self, place: usize, over: usize) -> bool
         requires place { place < length self.now }

@@ -2,11 +2,12 @@
 
 ghost use Rattle.std.specs.Prelude.{◌≡◌, [], map, drop, OnOk};
 ghost use Rattle.pddl_domain.specs.Domains.{domain_view};
-ghost use Rattle.pddl_task.specs.Names.{firsts};
+ghost use Rattle.pddl_task.specs.Names.{firsts, repeated};
+ghost use Rattle.pddl_task.specs.Settings.{symbol_of, function_signatures};
 ghost use Rattle.pddl_task.specs.Linked.{domain_fault, domain_faults, rules};
 ghost use Rattle.pddl_faults.specs.Passes.{Verdict};
 ghost use Rattle.pddl_types.specs.KnownNames.{object_in};
-ghost use Rattle.pddl_names.specs.FaultParts.{name_rules};
+ghost use Rattle.pddl_names.specs.FaultParts.{name_rules, use_rules};
 
 use indexmap::IndexMap;
 use pddl_domain::Domain;
@@ -32,6 +33,23 @@ fn look_at_names<'m, 'a, A: Allocator, B: Allocator>(
     lower(above, lower(listed, look_at_domain(alloc, types, domain)))
 }
 
+/// The lowest fault of what a domain uses, in which no predicate and no function stands twice.
+fn look_at_uses<'m, 'a, A: Allocator, B: Allocator>(
+    alloc: &'a B,
+    types: &Types<'m, 'a, A, B>,
+    constants: &Objects<'m, 'a, A, B>,
+    domain: &'m Domain<A>,
+) -> Result<(), LinkFault<'m>>
+    requires types { types.now ≡ (domain_view domain.now).types }
+    requires constants { map object_in constants.now.entries ≡ firsts (domain_view domain.now).constants }
+    requires predicates { repeated [] (map symbol_of (domain_view domain.now).predicates) ≡ [] }
+    requires functions { repeated [] (map symbol_of (function_signatures (domain_view domain.now))) ≡ [] }
+    ensures { Verdict (map (domain_fault (domain_view domain.now)) use_rules) result }
+{
+    let declared = Declared::of(alloc, types, domain)?;
+    look_at_domain_uses(alloc, &declared.known(types, constants, &[]), domain)
+}
+
 /// Checks a domain behind a table of its types, each declared once.
 fn check_by_types<'m, 'a, A: Allocator, B: Allocator>(
     alloc: &'a B,
@@ -42,9 +60,10 @@ fn check_by_types<'m, 'a, A: Allocator, B: Allocator>(
     ensures { Verdict (map (domain_fault (domain_view domain.now)) (drop 2 rules)) result }
 {
     let mut constants: Objects<'m, 'a, A, B> = IndexMap::new(alloc);
-    look_at_names(alloc, types, &mut constants, domain)?;
-    let declared = Declared::of(alloc, types, domain)?;
-    look_at_domain_uses(alloc, &declared.known(types, &constants), domain)
+    match look_at_names(alloc, types, &mut constants, domain) {
+        Ok(()) => look_at_uses(alloc, types, &constants, domain),
+        Err(fault) => Err(fault),
+    }
 }
 
 /// Checks a domain: the faults 21 to 32 that it shows by itself.

@@ -1,8 +1,7 @@
 //! Links domains and problems.
 //!
-//! `check_domain` and `link` look for one fault after another, in the order of their numbers: in declarations, by one walk over all
-//! places of actions, goals and `:init` for each fault that can stand there, and in what `:init` says. A first look over `:init`
-//! spares most files three walks over it. What links is a `Task`.
+//! `check_domain` and `link` look for faults stage by stage, in the order of their numbers: names of domains and types that stand twice, types and names, and
+//! what is used. Of what a stage finds the lowest is answered. What links is a `Task`.
 #![tactic(auto)]
 
 mod check;

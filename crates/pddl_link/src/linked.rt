@@ -24,8 +24,8 @@ use pddl_names::{
 };
 use pddl_problem::Problem;
 use pddl_search::{Values, domain_name};
-use pddl_types::{ObjectCounts, Objects, TypeCounts, Types};
-use std::alloc::Allocator;
+use pddl_types::{ObjectCounts, ObjectPlaces, Objects, TypeCounts, Types};
+use std::alloc::{AllocError, Allocator};
 
 /// The lowest fault of types and names in a domain and a problem, whose constants and objects are added to none.
 fn look_at_both<'m, 'a, A: Allocator, B: Allocator>(
@@ -71,7 +71,8 @@ fn named_objects<'m, 'a, A: Allocator, B: Allocator>(
     Ok((constants, objects))
 }
 
-/// The lowest fault of what a domain and a problem use; the values of functions of objects are added to none.
+/// The lowest fault of what a domain and a problem use; the values of functions of objects are added to none. The types of objects are looked for first at
+/// these places.
 fn look_at_uses<'t, 'm, 'a, A: Allocator, B: Allocator>(
     alloc: &'a B,
     types: &'t Types<'m, 'a, A, B>,
@@ -79,6 +80,7 @@ fn look_at_uses<'t, 'm, 'a, A: Allocator, B: Allocator>(
     objects: &'t Objects<'m, 'a, A, B>,
     declared: &'t Declared<'m, 'a, A, B>,
     counts: &'t TypeCounts<'m, 'a, B>,
+    places: &'t [usize],
     values: &mut Values<'m, 'a, A, B>,
     domain: &'m Domain<A>,
     problem: &'m Problem<A>,
@@ -93,8 +95,8 @@ fn look_at_uses<'t, 'm, 'a, A: Allocator, B: Allocator>(
     ensures values { OnOk result (HoldsValues (problem_view problem.now).init values.new.entries) }
     ensures verdict { Verdict (map (fault_in (domain_view domain.now) (problem_view problem.now)) use_rules) result }
 {
-    let inner = declared.known(types, constants);
-    let outer = declared.known(types, objects);
+    let inner = declared.known(types, constants, places);
+    let outer = declared.known(types, objects, places);
     let counts = ObjectCounts {
         types,
         objects,
@@ -107,12 +109,98 @@ fn look_at_uses<'t, 'm, 'a, A: Allocator, B: Allocator>(
     )
 }
 
-/// The tables of a domain and a problem behind their objects, where no fault of what is used stands.
+/// The tables of objects and of what a domain declares.
+///
+/// Fails where memory for the counts of objects is refused.
+fn with_counts<'m, 'a, A: Allocator, B: Allocator>(
+    alloc: &'a B,
+    types: &Types<'m, 'a, A, B>,
+    objects: Objects<'m, 'a, A, B>,
+    declared: Declared<'m, 'a, A, B>,
+) -> Result<Tables<'m, 'a, A, B>, AllocError>
+    ensures objects { IfOk result (λ tables. tables.objects ≡ objects.entry) }
+    ensures declared { IfOk result (λ tables. tables.declared ≡ declared.entry) }
+    ensures counts { IfOk result (λ tables. AreCountsOf types.now (map object_in tables.objects.entries) tables.counts.entries) }
+{
+    match types.counts(alloc, &objects) {
+        Ok(counts) => Ok(Tables {
+            objects,
+            declared,
+            counts,
+            places: ObjectPlaces::none(alloc),
+        }),
+        Err(error) => Err(error),
+    }
+}
+
+/// The tables of objects and of what a domain declares, where no predicate and no function stands twice.
+///
+/// Fails where memory for them is refused.
+fn tables_of<'m, 'a, A: Allocator, B: Allocator>(
+    alloc: &'a B,
+    types: &Types<'m, 'a, A, B>,
+    objects: Objects<'m, 'a, A, B>,
+    domain: &'m Domain<A>,
+) -> Result<Tables<'m, 'a, A, B>, AllocError>
+    requires predicates { repeated [] (map symbol_of (domain_view domain.now).predicates) ≡ [] }
+    requires functions { repeated [] (map symbol_of (function_signatures (domain_view domain.now))) ≡ [] }
+    ensures objects { IfOk result (λ tables. tables.objects ≡ objects.entry) }
+    ensures predicates { IfOk result (λ tables. map signature_in tables.declared.predicates.entries ≡ (domain_view domain.now).predicates) }
+    ensures functions { IfOk result (λ tables. map signature_in tables.declared.functions.entries ≡ function_signatures (domain_view domain.now)) }
+    ensures counts { IfOk result (λ tables. AreCountsOf types.now (map object_in tables.objects.entries) tables.counts.entries) }
+{
+    match Declared::of(alloc, types, domain) {
+        Ok(declared) => with_counts(alloc, types, objects, declared),
+        Err(error) => Err(error),
+    }
+}
+
+/// The lowest fault of what a domain and a problem use, by their tables, which get the places of the objects' types. The values of functions of objects are
+/// added to none.
+fn look_by_tables<'m, 'a, A: Allocator, B: Allocator>(
+    alloc: &'a B,
+    types: &Types<'m, 'a, A, B>,
+    constants: &Objects<'m, 'a, A, B>,
+    tables: &mut Tables<'m, 'a, A, B>,
+    values: &mut Values<'m, 'a, A, B>,
+    domain: &'m Domain<A>,
+    problem: &'m Problem<A>,
+) -> Result<(), LinkFault<'m>>
+    requires types { types.now ≡ (domain_view domain.now).types }
+    requires constants { map object_in constants.now.entries ≡ firsts (domain_view domain.now).constants }
+    requires objects { map object_in tables.old.objects.entries ≡ objects_of (domain_view domain.now) (problem_view problem.now) }
+    requires predicates { map signature_in tables.old.declared.predicates.entries ≡ (domain_view domain.now).predicates }
+    requires functions { map signature_in tables.old.declared.functions.entries ≡ function_signatures (domain_view domain.now) }
+    requires counts { AreCountsOf types.now (map object_in tables.old.objects.entries) tables.old.counts.entries }
+    requires none { values.old.entries ≡ [] }
+    ensures objects { tables.new.objects ≡ tables.old.objects }
+    ensures declared { tables.new.declared ≡ tables.old.declared }
+    ensures counts { tables.new.counts ≡ tables.old.counts }
+    ensures values { OnOk result (HoldsValues (problem_view problem.now).init values.new.entries) }
+    ensures verdict { Verdict (map (fault_in (domain_view domain.now) (problem_view problem.now)) use_rules) result }
+{
+    tables.places = ObjectPlaces::of(alloc, types, &tables.objects)?;
+    look_at_uses(
+        alloc,
+        types,
+        constants,
+        &tables.objects,
+        &tables.declared,
+        &tables.counts,
+        tables.places.places(),
+        values,
+        domain,
+        problem,
+    )
+}
+
+/// The tables of a domain and a problem behind their objects, where no fault of what is used stands. The values of functions of objects are added to none.
 fn tables_behind<'m, 'a, A: Allocator, B: Allocator>(
     alloc: &'a B,
     types: &Types<'m, 'a, A, B>,
     constants: &Objects<'m, 'a, A, B>,
     objects: Objects<'m, 'a, A, B>,
+    values: &mut Values<'m, 'a, A, B>,
     domain: &'m Domain<A>,
     problem: &'m Problem<A>,
 ) -> Result<Tables<'m, 'a, A, B>, LinkFault<'m>>
@@ -122,44 +210,41 @@ fn tables_behind<'m, 'a, A: Allocator, B: Allocator>(
     requires named { AreNamed objects.entries }
     requires predicates { repeated [] (map symbol_of (domain_view domain.now).predicates) ≡ [] }
     requires functions { repeated [] (map symbol_of (function_signatures (domain_view domain.now))) ≡ [] }
-    ensures tables { IfOk result (λ tables. HoldBehindTypes (domain_view domain.now) (problem_view problem.now) types.now tables.declared.predicates.entries tables.objects.entries tables.counts.entries tables.values.entries) }
+    requires none { values.old.entries ≡ [] }
+    ensures tables { IfOk result (λ tables. HoldBehindTypes (domain_view domain.now) (problem_view problem.now) types.now tables.declared.predicates.entries tables.objects.entries tables.counts.entries values.new.entries) }
     ensures verdict { Verdict (map (fault_in (domain_view domain.now) (problem_view problem.now)) use_rules) result }
 {
-    let declared = Declared::of(alloc, types, domain)?;
-    let counts = types.counts(alloc, &objects)?;
-    let mut values: Values<'m, 'a, A, B> = IndexMap::new(alloc);
-    look_at_uses(
+    let mut tables = tables_of(alloc, types, objects, domain)?;
+    match look_by_tables(
         alloc,
         types,
         constants,
-        &objects,
-        &declared,
-        &counts,
-        &mut values,
+        &mut tables,
+        values,
         domain,
         problem,
-    )?;
-    Ok(Tables {
-        objects,
-        declared,
-        counts,
-        values,
-    })
+    ) {
+        Ok(()) => Ok(tables),
+        Err(fault) => Err(fault),
+    }
 }
 
-/// The tables of a domain and a problem behind their types, each declared once, where no fault from 22 on stands.
+/// The tables of a domain and a problem behind their types, each declared once, where no fault from 22 on stands. The values of functions of objects are
+/// added to none.
 fn tables_behind_types<'m, 'a, A: Allocator, B: Allocator>(
     alloc: &'a B,
     types: &Types<'m, 'a, A, B>,
+    values: &mut Values<'m, 'a, A, B>,
     domain: &'m Domain<A>,
     problem: &'m Problem<A>,
 ) -> Result<Tables<'m, 'a, A, B>, LinkFault<'m>>
-    requires { types.now ≡ (domain_view domain.now).types }
-    ensures tables { IfOk result (λ tables. HoldBehindTypes (domain_view domain.now) (problem_view problem.now) types.now tables.declared.predicates.entries tables.objects.entries tables.counts.entries tables.values.entries) }
+    requires types { types.now ≡ (domain_view domain.now).types }
+    requires none { values.old.entries ≡ [] }
+    ensures tables { IfOk result (λ tables. HoldBehindTypes (domain_view domain.now) (problem_view problem.now) types.now tables.declared.predicates.entries tables.objects.entries tables.counts.entries values.new.entries) }
     ensures verdict { Verdict (map (fault_in (domain_view domain.now) (problem_view problem.now)) (drop 2 rules)) result }
 {
     let (constants, objects) = named_objects(alloc, types, domain, problem)?;
-    tables_behind(alloc, types, &constants, objects, domain, problem)
+    tables_behind(alloc, types, &constants, objects, values, domain, problem)
 }
 
 /// Links a domain and a problem: the task that they make.
@@ -179,12 +264,14 @@ pub fn link<'m, 'a, A: Allocator, B: Allocator>(
 {
     lower(domain_name(domain, problem), type_twice(alloc, domain))?;
     let types = Types::of(alloc, &domain.types)?;
-    match tables_behind_types(alloc, &types, domain, problem) {
+    let mut values: Values<'m, 'a, A, B> = IndexMap::new(alloc);
+    match tables_behind_types(alloc, &types, &mut values, domain, problem) {
         Ok(tables) => Ok(Task {
             domain,
             problem,
             types,
             tables,
+            values,
         }),
         Err(fault) => Err(fault),
     }

@@ -19,19 +19,18 @@ use pddl_problem::Problem;
 use pddl_search::{Ground, Values};
 use pddl_token::Name;
 use pddl_types::{
-    FunctionNumbers, ObjectCounts, Objects, SlotTops, TypeCounts, Types, action_ground_size,
-    fitting_objects, ground_size,
+    FunctionNumbers, ObjectCounts, ObjectPlaces, Objects, SlotTops, Top, TypeCounts, Types,
+    action_ground_size, fitting_objects, ground_size, place_at,
 };
 use std::alloc::{AllocError, Allocator};
 
-/// What a domain and a problem name, in tables that borrow from them: objects, predicates and functions, how many objects fit each type, and the
-/// values of functions of objects.
+/// What a domain and a problem name, in tables that borrow from them: objects, predicates and functions, and how many objects fit each type.
 #[derive(Drop)]
 pub(crate) struct Tables<'m, 'a, A: Allocator, B: Allocator> {
     pub(crate) objects: Objects<'m, 'a, A, B>,
     pub(crate) declared: Declared<'m, 'a, A, B>,
     pub(crate) counts: TypeCounts<'m, 'a, B>,
-    pub(crate) values: Values<'m, 'a, A, B>,
+    pub(crate) places: ObjectPlaces<'a, B>,
 }
 
 /// What a domain and a problem that link say together.
@@ -44,7 +43,9 @@ pub struct Task<'m, 'a, A: Allocator, B: Allocator> {
     pub(crate) problem: &'m Problem<A>,
     pub(crate) types: Types<'m, 'a, A, B>,
     pub(crate) tables: Tables<'m, 'a, A, B>,
-    ghost held: { AreTablesOf (domain_view domain.now) (problem_view problem.now) types tables.declared.predicates.entries tables.objects.entries tables.counts.entries tables.values.entries },
+    /// The values that `:init` gives to functions of objects.
+    pub(crate) values: Values<'m, 'a, A, B>,
+    ghost held: { AreTablesOf (domain_view domain.now) (problem_view problem.now) types tables.declared.predicates.entries tables.objects.entries tables.counts.entries values.entries },
 }
 
 impl<'m, 'a, A: Allocator, B: Allocator> Task<'m, 'a, A, B> {
@@ -123,7 +124,7 @@ impl<'m, 'a, A: Allocator, B: Allocator> Task<'m, 'a, A, B> {
     pub fn action_tops<'c, C: Allocator>(
         &self,
         alloc: &'c C,
-    ) -> Result<SlotTops<'m, 'c, C>, AllocError> {
+    ) -> Result<SlotTops<'c, C>, AllocError> {
         let domain = self.domain;
         SlotTops::of_actions(alloc, &self.types, &domain.actions)
     }
@@ -133,13 +134,16 @@ impl<'m, 'a, A: Allocator, B: Allocator> Task<'m, 'a, A, B> {
         &self,
         object: usize,
         types: &TypeNames<N>,
-        tops: &[usize],
+        tops: &[Top],
     ) -> bool
         ensures { result ≡ option_map_or (λ o. fits (pairs (task_of_files self.now).types) o.of types.now)
             (slice_get (task_of_files self.now).objects object) false }
     {
         match self.tables.objects.get_index(object) {
-            Some((_, listed)) => self.types.fits_by(&listed.types, types, tops),
+            Some((_, listed)) => {
+                let near = place_at(self.tables.places.places(), object);
+                self.types.fits_by(&listed.types, near, types, tops)
+            }
             None => false,
         }
     }
@@ -162,7 +166,12 @@ impl<'m, 'a, A: Allocator, B: Allocator> Task<'m, 'a, A, B> {
     ) -> Result<Vec<usize, &'b C>, AllocError>
         ensures { IfOk result (λ numbers. numbers.items ≡ fitting_numbers (task_of_files self.now) types.now) }
     {
-        fitting_objects(alloc, &self.types, &self.tables.objects, types)
+        let counts = ObjectCounts {
+            types: &self.types,
+            objects: &self.tables.objects,
+            counts: &self.tables.counts,
+        };
+        fitting_objects(alloc, &counts, &self.tables.places, types)
     }
 
     /// The ground size of a formula over the task's objects, or 1,000,001 where it is over 1,000,000.
@@ -194,7 +203,7 @@ impl<'m, 'a, A: Allocator, B: Allocator> Task<'m, 'a, A, B> {
         ensures { result ≡ cost_of (task_of_files self.now) (record { name = function.now; objects = map (λ o. o.now) objects.now }) }
     {
         let call = Ground::asked(function, objects);
-        match self.tables.values.get(&call) {
+        match self.values.get(&call) {
             Some(billionths) => Some(*billionths / 1_000_000_000),
             None => None,
         }

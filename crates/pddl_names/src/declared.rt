@@ -16,7 +16,7 @@ use std::alloc::{AllocError, Allocator};
 pub struct Declared<'m, 'a, A: Allocator, B: Allocator> {
     pub predicates: Signatures<'m, 'a, A, B>,
     pub functions: Signatures<'m, 'a, A, B>,
-    pub tops: Tops<'m, 'a, B>,
+    pub tops: Tops<'a, B>,
 }
 
 /// Tables of predicates and of functions with the tops of their slots.
@@ -59,11 +59,12 @@ impl<'m, 'a, A: Allocator, B: Allocator> Declared<'m, 'a, A, B> {
         with_tops(alloc, types, domain, predicates, functions)
     }
 
-    /// What may be named beside these objects.
+    /// What may be named beside these objects, whose types are looked for first at these places.
     pub fn known<'t>(
         &'t self,
         types: &'t Types<'m, 'a, A, B>,
         objects: &'t Objects<'m, 'a, A, B>,
+        places: &'t [usize],
     ) -> Known<'t, 'm, 'a, A, B>
         ensures { setting_of result ≡ record { pairs = pairs types.now; predicates = map signature_in self.now.predicates.entries; functions = map signature_in self.now.functions.entries; objects = map object_in objects.now.entries } }
     {
@@ -73,6 +74,7 @@ impl<'m, 'a, A: Allocator, B: Allocator> Declared<'m, 'a, A, B> {
             functions: &self.functions,
             tops: &self.tops,
             objects,
+            places,
         }
     }
 }

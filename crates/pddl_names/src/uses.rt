@@ -20,7 +20,7 @@ ghost use Rattle.pddl_names.specs.Uses.{IsFoundUpTo, fit_of, faults_of_use, faul
 use pddl_faults::{LentTerm, LinkFault, Part, Scope, Search, Terms, bound_type, lower};
 use pddl_formula::{Term, TypeNames, Typed};
 use pddl_token::Fixed;
-use pddl_types::{Known, Signatures, SlotTops, is_object};
+use pddl_types::{Known, NOWHERE, NameTops, Signatures, SlotTops, Top, is_object, place_at};
 use std::alloc::Allocator;
 
 /// Looks for what is wrong with names that are used, and with numbers.
@@ -29,25 +29,26 @@ pub struct Uses<'k, 't, 'm, 'a, A: Allocator, B: Allocator> {
     pub known: &'k Known<'t, 'm, 'a, A, B>,
 }
 
-/// The type of the object of this name.
+/// The type of the object of this name, and the place at which it is looked for first.
 fn object_type<'t, 'm, 'a, A: Allocator, B: Allocator>(
     known: &Known<'t, 'm, 'a, A, B>,
     object: &[u8],
-) -> Option<&'m TypeNames<A>>
-    ensures { option_copied result ≡ option_map primitives_of (find (is_named object.now) (setting_of known.now).objects) }
+) -> (Option<&'m TypeNames<A>>, usize)
+    ensures { option_copied result.0 ≡ option_map primitives_of (find (is_named object.now) (setting_of known.now).objects) }
 {
-    match known.objects.get(object) {
-        Some(listed) => Some(&listed.types),
-        None => None,
+    match known.objects.get_full(object) {
+        Some((number, _, listed)) => (Some(&listed.types), place_at(known.places, number)),
+        None => (None, NOWHERE),
     }
 }
 
-/// Whether what has a type fits a slot, where there is one.
+/// Whether what has a type, which is looked for first at a place that is near, fits a slot, where there is one.
 fn fits_slot<'t, 'm, 'a, A: Allocator, B: Allocator>(
     known: &Known<'t, 'm, 'a, A, B>,
     types: Option<&TypeNames<A>>,
+    near: usize,
     slot: Option<&Typed<A>>,
-    tops: &[usize],
+    tops: &[Top],
 ) -> Option<bool>
     ensures { (x : Option TypedValue) → option_copied types.entry ≡ option_map primitives_of x → result ≡ fit_of (pairs known.now.types.now) x (option_map (λ s. typed_view s.now) slot.entry) }
 {
@@ -55,7 +56,7 @@ fn fits_slot<'t, 'm, 'a, A: Allocator, B: Allocator>(
         None => None,
         Some(types) => match slot {
             None => Some(true),
-            Some(slot) => Some(known.types.fits_by(types, &slot.types, tops)),
+            Some(slot) => Some(known.types.fits_by(types, near, &slot.types, tops)),
         },
     }
 }
@@ -66,13 +67,18 @@ fn term_fits<'t, 'm, 'a, A: Allocator, B: Allocator>(
     term: &LentTerm,
     scope: &Scope<A, B>,
     slot: Option<&Typed<A>>,
-    tops: &[usize],
+    tops: &[Top],
 ) -> Option<bool>
     ensures { result ≡ fit_of (pairs known.now.types.now) (typed_term (setting_of known.now) (bound_of scope.now) (term_in term.now)) (option_map (λ s. typed_view s.now) slot.entry) }
 {
     match term {
-        LentTerm::Object(object) => fits_slot(known, object_type(known, *object), slot, tops),
-        LentTerm::Variable(variable) => fits_slot(known, bound_type(scope, *variable), slot, tops),
+        LentTerm::Object(object) => {
+            let (types, near) = object_type(known, *object);
+            fits_slot(known, types, near, slot, tops)
+        }
+        LentTerm::Variable(variable) => {
+            fits_slot(known, bound_type(scope, *variable), NOWHERE, slot, tops)
+        }
     }
 }
 
@@ -81,10 +87,9 @@ fn term_fits<'t, 'm, 'a, A: Allocator, B: Allocator>(
 /// Fails where a term is not known.
 fn terms_fit<'t, 'm, 'a, 'd, A: Allocator, B: Allocator>(
     known: &Known<'t, 'm, 'a, A, B>,
-    symbol: &[u8],
     terms: &Terms<'d, A>,
     slots: &[Typed<A>],
-    tops: &SlotTops<'m, 'a, B>,
+    tops: NameTops,
     scope: &Scope<A, B>,
 ) -> Result<bool, LinkFault<'d>>
     ensures passes { Passes 26 (flat_map (unknown_term (setting_of known.now) (bound_of scope.now)) (terms_in terms.now)) result }
@@ -93,7 +98,7 @@ fn terms_fit<'t, 'm, 'a, 'd, A: Allocator, B: Allocator>(
     let mut all_fit = true;
     for i in 0..terms.len() {
         let term = terms.at(i);
-        match term_fits(known, &term, scope, slots.get(i), tops.at(symbol, i)) {
+        match term_fits(known, &term, scope, slots.get(i), tops.at(i)) {
             None => return Err(LinkFault::UnknownName(term.name())),
             Some(fits) => all_fit = all_fit && fits,
         }
@@ -108,12 +113,12 @@ fn look_at_terms<'t, 'm, 'a, 'd, A: Allocator, B: Allocator>(
     terms: &Terms<'d, A>,
     count: usize,
     slots: &[Typed<A>],
-    tops: &SlotTops<'m, 'a, B>,
+    tops: NameTops,
     scope: &Scope<A, B>,
 ) -> Result<(), LinkFault<'d>>
     ensures { IsFound (faults_of_terms (setting_of known.now) (bound_of scope.now) symbol.now (terms_in terms.now) count (map typed_view slots.now)) result }
 {
-    let all_fit = terms_fit(known, symbol, terms, slots, tops, scope)?;
+    let all_fit = terms_fit(known, terms, slots, tops, scope)?;
     if terms.len() != count {
         Err(LinkFault::Arity(symbol))
     } else if all_fit {
@@ -150,7 +155,7 @@ fn look_at_slots<'t, 'm, 'a, 'd, A: Allocator, B: Allocator>(
     symbol: &'d [u8],
     terms: &Terms<'d, A>,
     slots: &[Typed<A>],
-    tops: &SlotTops<'m, 'a, B>,
+    tops: NameTops,
     scope: &Scope<A, B>,
 ) -> Result<(), LinkFault<'d>>
     ensures { FindsMore (faults_of_terms (setting_of known.now) (bound_of scope.now) symbol.now (terms_in terms.now) (length slots.now) (map typed_view slots.now)) so_far.entry result }
@@ -175,16 +180,19 @@ fn look_at_use<'t, 'm, 'a, 'd, A: Allocator, B: Allocator>(
     known: &Known<'t, 'm, 'a, A, B>,
     so_far: Result<(), LinkFault<'d>>,
     declared: &Signatures<'m, 'a, A, B>,
-    tops: &SlotTops<'m, 'a, B>,
+    tops: &SlotTops<'a, B>,
     symbol: &'d [u8],
     terms: &Terms<'d, A>,
     scope: &Scope<A, B>,
 ) -> Result<(), LinkFault<'d>>
     ensures { FindsMore (faults_of_use (setting_of known.now) (bound_of scope.now) (record { name = symbol.now; terms = terms_in terms.now; declared = map signature_in declared.now.entries })) so_far.entry result }
 {
-    match declared.get(symbol) {
+    match declared.get_full(symbol) {
         None => lower(so_far, Err(LinkFault::UnknownName(symbol))),
-        Some(slots) => look_at_slots(known, so_far, symbol, terms, *slots, tops, scope),
+        Some((number, _, slots)) => {
+            let tops = tops.of(number);
+            look_at_slots(known, so_far, symbol, terms, *slots, tops, scope)
+        }
     }
 }
 

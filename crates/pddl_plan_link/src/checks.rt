@@ -48,20 +48,21 @@ fn number_objects<'m, 'a, 'c, A: Allocator, B: Allocator, C: Allocator, D: Alloc
     Ok(true)
 }
 
-/// Whether an object, by its number, does not fit its parameter.
+/// Whether an object, by its number, does not fit its parameter of the action of a number.
 fn some_unfit<'t, 'm, 'a, 'c, A: Allocator, B: Allocator, C: Allocator>(
     tables: &PlanTables<'t, 'm, 'a, 'c, A, B, C>,
-    action: &[u8],
+    action: usize,
     numbers: &[usize],
     parameters: &[Typed<A>],
 ) -> bool
     ensures { result ≡ some_unfit (task_of_files tables.now.task.now) numbers.now (map typed_view parameters.now) }
 {
     let task = tables.task;
+    let tops = tables.tops.of(action);
     for i in 0..numbers.len().min(parameters.len()) {
         let number = numbers[i];
         let parameter = &parameters[i];
-        if !task.object_fits_by(number, &parameter.types, tables.tops.at(action, i)) {
+        if !task.object_fits_by(number, &parameter.types, tops.at(i)) {
             return true;
         }
     }
@@ -122,7 +123,7 @@ where
     if !number_objects(tables.task, step, numbers)? {
         return Err(StepFault::UnknownObject { step: place });
     }
-    if some_unfit(tables, step.action(), numbers, &action.parameters) {
+    if some_unfit(tables, number, numbers, &action.parameters) {
         return Err(StepFault::StepType { step: place });
     }
     if found.size > 1_000_000 {

@@ -16,7 +16,7 @@ pub(crate) struct PlanTables<'t, 'm, 'a, 'c, A: Allocator, B: Allocator, C: Allo
     pub alloc: &'c C,
     pub task: &'t Task<'m, 'a, A, B>,
     pub actions: Actions<'m, 'c, A, C>,
-    pub tops: SlotTops<'m, 'c, C>,
+    pub tops: SlotTops<'c, C>,
     pub lookups: TaskLookups<'t, 'm, 'a, 'c, A, B, C>,
     pub prices: TaskPrices<'c, C>,
 }

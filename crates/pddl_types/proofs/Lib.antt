@@ -16,5 +16,6 @@ pub mod TypesTold
 pub mod TaskNames
 pub mod Entries
 pub mod FittingObjects
+pub mod FittingPlaces
 pub mod TypeCounts
 pub mod TypeTops

@@ -62,15 +62,13 @@ new_place rows next q i is at = ap (λ (rs : List Row). name_at rs i) is ∙ ap 
 pub contained : (declared : List TypeValue) (rows : List Row) (t : Name) → IsTypeTable declared rows → is_some (lookup (λ k. bytes_eq t k.now) rows) ≡ is_in (types_of declared) t
 contained declared rows t h = is_named rows t ∙ h.table.names t
 
-pub no_subtype : (declared : List TypeValue) (rows : List Row) (sub : Bor (List ℕ)) (over : Name) → IsTypeTable declared rows
-    → None ≡ position (λ k. bytes_eq sub.now k.now) (keys_of rows) → false ≡ is_subtype declared sub.now over
-no_subtype declared rows sub over h at =
-    sym (ap (λ b. b && (is_in (types_of declared) over && is_under (pairs declared) sub.now over)) (sym (h.table.names sub.now) ∙ no_place rows sub (sym at)))
+pub no_subtype : (declared : List TypeValue) (rows : List Row) (sub over : Name) → IsTypeTable declared rows → is_in (names_in rows) sub ≡ false → false ≡ is_subtype declared sub over
+no_subtype declared rows sub over h missing =
+    sym (ap (λ b. b && (is_in (types_of declared) over && is_under (pairs declared) sub over)) (sym (h.table.names sub) ∙ missing))
 
-pub no_supertype : (declared : List TypeValue) (rows : List Row) (sub : Name) (over : Bor (List ℕ)) → IsTypeTable declared rows
-    → None ≡ position (λ k. bytes_eq over.now k.now) (keys_of rows) → false ≡ is_subtype declared sub over.now
-no_supertype declared rows sub over h at =
-    sym (ap (λ b. is_in (types_of declared) sub && (b && is_under (pairs declared) sub over.now)) (sym (h.table.names over.now) ∙ no_place rows over (sym at)) ∙ and_off (is_in (types_of declared) sub))
+pub no_supertype : (declared : List TypeValue) (rows : List Row) (sub over : Name) → IsTypeTable declared rows → is_in (names_in rows) over ≡ false → false ≡ is_subtype declared sub over
+no_supertype declared rows sub over h missing =
+    sym (ap (λ b. is_in (types_of declared) sub && (b && is_under (pairs declared) sub over)) (sym (h.table.names over) ∙ missing) ∙ and_off (is_in (types_of declared) sub))
   where
     and_off : (b : Bool) → b && false ≡ false
     and_off true = refl
@@ -89,10 +87,7 @@ under_itself declared t u same = sym (reached (pairs declared) (length (pairs de
 pub under_same : (declared : List TypeValue) (rows : List Row) (t u : Name) → IsTypeTable declared rows → false ≡ is_subtype declared t u → bytes_eq t u ≡ is_under (pairs declared) t u
 under_same declared rows t u h off = sym (under_or_same declared t u h.declared_once ∙ ap (λ b. bytes_eq t u || b) (sym off) ∙ or_none (bytes_eq t u))
 
-pub under_found : (declared : List TypeValue) (rows : List Row) (sub over : Bor (List ℕ)) (i g : ℕ) → IsTypeTable declared rows
-    → Some i ≡ position (λ k. bytes_eq sub.now k.now) (keys_of rows) → Some g ≡ position (λ k. bytes_eq over.now k.now) (keys_of rows)
-    → climbs rows (length rows) i g ≡ is_under (pairs declared) sub.now over.now
-under_found declared rows sub over i g h at above =
-    let s = found_place rows sub i (sym at) in
-    let o = found_place rows over g (sym above) in
-    climbs_decide declared rows i g h s.0 o.0 ∙ ap (λ n. is_under (pairs declared) n (name_at rows g)) s.1 ∙ ap (is_under (pairs declared) sub.now) o.1
+pub under_found : (declared : List TypeValue) (rows : List Row) (sub over : Name) (i g : ℕ) → IsTypeTable declared rows
+    → i < length rows → name_at rows i ≡ sub → g < length rows → name_at rows g ≡ over → climbs rows (length rows) i g ≡ is_under (pairs declared) sub over
+under_found declared rows sub over i g h low at below above =
+    climbs_decide declared rows i g h low below ∙ ap (λ n. is_under (pairs declared) n (name_at rows g)) at ∙ ap (is_under (pairs declared) sub) above

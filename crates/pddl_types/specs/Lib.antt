@@ -1,3 +1,4 @@
 pub mod TypeTables
 pub mod KnownNames
 pub mod ObjectCounts
+pub mod Fitting

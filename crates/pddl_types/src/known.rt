@@ -22,14 +22,15 @@ pub type Signatures<'m, 'a, A, B> = IndexMap<&'m [u8], &'m [Typed<A>], Hashed, &
 /// Objects by name, each as it is listed with its type.
 pub type Objects<'m, 'a, A, B> = IndexMap<&'m [u8], &'m Typed<A>, Hashed, &'a B>;
 
-/// What may be named: types, predicates and functions with their parameters and the tops of these, and objects with their types.
+/// What may be named: types, predicates and functions with their parameters and the tops of these, and objects with their types and the places of these.
 #[derive(Drop)]
 pub struct Known<'t, 'm, 'a, A: Allocator, B: Allocator> {
     pub types: &'t Types<'m, 'a, A, B>,
     pub predicates: &'t Signatures<'m, 'a, A, B>,
     pub functions: &'t Signatures<'m, 'a, A, B>,
-    pub tops: &'t Tops<'m, 'a, B>,
+    pub tops: &'t Tops<'a, B>,
     pub objects: &'t Objects<'m, 'a, A, B>,
+    pub places: &'t [usize],
 }
 
 /// Whether a predicate or a function is declared.

@@ -9,6 +9,7 @@ mod function_numbers;
 mod known;
 mod near;
 mod object_counts;
+mod object_places;
 mod size;
 mod slot_tops;
 mod tops;
@@ -21,8 +22,10 @@ pub use function_numbers::FunctionNumbers;
 pub use known::{
     Known, Objects, Signatures, functions, is_declared, is_object, predicates, takes_others,
 };
+pub use near::{NOWHERE, place_at};
 pub use object_counts::ObjectCounts;
+pub use object_places::ObjectPlaces;
 pub use size::{FittingCount, ground_size};
-pub use slot_tops::{SlotTops, Tops};
+pub use slot_tops::{NameTops, SlotTops, Top, Tops};
 pub use type_counts::TypeCounts;
 pub use types::Types;

@@ -1,11 +1,24 @@
-//! Types that are looked for first where another was found, since neighbours in a file often have one: to compare a long name takes less than to look it up.
+//! Types that are looked for first where one was found before, since neighbours in a file often have one type: to compare a name takes less than to look it
+//! up, the more so where it is long.
 
-ghost use Rattle.std.specs.Prelude.{◌≡◌, ◌<◌, true, length, IfSome};
-ghost use Rattle.pddl_types.specs.TypeTables.{name_at};
+ghost use Rattle.std.specs.Prelude.{◌≡◌, ◌<◌, true, false, None, length, IfSome};
+ghost use Rattle.pddl_task.specs.Names.{is_in};
+ghost use Rattle.pddl_types.specs.TypeTables.{names_in, name_at};
 
 use indexmap::IndexMap;
 use pddl_faults::Hashed;
 use std::alloc::Allocator;
+
+/// The place to look first where none is known: no type stands there.
+pub const NOWHERE: usize = usize::MAX;
+
+/// The place of a number in a list of places, or [`NOWHERE`] past its end.
+pub fn place_at(places: &[usize], number: usize) -> usize {
+    match places.get(number) {
+        Some(place) => *place,
+        None => NOWHERE,
+    }
+}
 
 /// Whether the type at a place has this name.
 pub(crate) fn is_at<'m, 'a, B: Allocator>(
@@ -30,6 +43,7 @@ pub(crate) fn place_in<'m, 'a, B: Allocator>(
 ) -> Option<usize>
     ensures within { IfSome result (λ place. place < length parents.now.entries) }
     ensures named { IfSome result (λ place. name_at parents.now.entries place ≡ name.now) }
+    ensures missing { result ≡ None → is_in (names_in parents.now.entries) name.now ≡ false }
 {
     if is_at(parents, near, name) {
         Some(near)

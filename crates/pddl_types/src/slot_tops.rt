@@ -1,53 +1,70 @@
-//! For slots of many primitives those that are under no other, in the order of their numbers, so that one that a type is under is found fast.
+//! Of a slot's primitives those that are under no other, in the order of their numbers, so that one that a type is under is found fast.
 //!
 //! Nothing is promised of them: what is found is looked at, and what is not is looked for among all primitives.
 
 use crate::types::Types;
-use indexmap::IndexMap;
 use pddl_domain::{Action, DeclaredFunction, DeclaredPredicate, Domain};
-use pddl_faults::Hashed;
-use pddl_formula::{TypeNames, Typed, TypedList};
+use pddl_formula::{TypeNames, TypedList};
 use std::alloc::{AllocError, Allocator};
 
-/// From how many primitives on a slot has tops.
-const MANY: usize = 16;
-
-/// The tops of the slots of predicates or functions of which one has many primitives, slot by slot in one list. Slots of one group share theirs.
-#[derive(Drop)]
-pub struct SlotTops<'m, 'a, B: Allocator> {
-    /// Where the spans of a name's slots begin.
-    rows: IndexMap<&'m [u8], usize, Hashed, &'a B>,
-    /// Where the tops of each slot stand: where they begin, and where they end.
-    spans: Vec<(usize, usize), &'a B>,
-    tops: Vec<usize, &'a B>,
+/// A primitive of a slot that is under no other of the slot's.
+#[derive(Clone, Copy)]
+pub struct Top {
+    /// Which primitive of the slot it is.
+    pub(crate) step: usize,
+    /// Where it stands among all types.
+    pub(crate) place: usize,
+    /// Its number among all types in pre-order, and the largest of those under it.
+    pub(crate) number: usize,
+    pub(crate) last: usize,
 }
 
-/// Whether a slot has many primitives.
-fn some_long<A: Allocator>(slots: &[Typed<A>]) -> bool {
-    for slot in slots {
-        if slot.types.as_slice().len() >= MANY {
-            return true;
+/// The tops of the slots of predicates, functions or actions, which are told by their numbers in the order in which they are declared. Slots of one group
+/// share theirs.
+#[derive(Drop)]
+pub struct SlotTops<'a, B: Allocator> {
+    /// Where the spans of the slots of each begin.
+    starts: Vec<usize, &'a B>,
+    /// Where the tops of each slot begin, and where they end.
+    spans: Vec<(usize, usize), &'a B>,
+    tops: Vec<Top, &'a B>,
+}
+
+/// The tops of the slots of one predicate, function or action.
+#[derive(Clone, Copy)]
+pub struct NameTops<'s> {
+    spans: &'s [(usize, usize)],
+    tops: &'s [Top],
+}
+
+impl<'s> NameTops<'s> {
+    /// The tops of the slot of a number.
+    pub fn at(&self, number: usize) -> &'s [Top] {
+        let tops = self.tops;
+        match self.spans.get(number) {
+            Some((start, end)) => {
+                if *start <= *end && *end <= tops.len() {
+                    &tops[*start..*end]
+                } else {
+                    &[]
+                }
+            }
+            None => &[],
         }
     }
-    false
 }
 
-impl<'m, 'a, B: Allocator> SlotTops<'m, 'a, B> {
-    /// Adds the tops of a type, none where it has few primitives.
+impl<'a, B: Allocator> SlotTops<'a, B> {
+    /// Adds the tops of a type.
     ///
     /// Fails where memory for them is refused.
-    fn put_type<'t, A: Allocator, C: Allocator>(
+    fn put_type<'m, 't, A: Allocator, C: Allocator>(
         &mut self,
         types: &Types<'m, 't, A, C>,
         slot: &TypeNames<A>,
     ) -> Result<(), AllocError> {
         let start = self.tops.len();
-        if slot.as_slice().len() >= MANY {
-            match types.tops(slot) {
-                Some(tops) => self.tops.extend_from_slice(&tops)?,
-                None => {}
-            }
-        }
+        types.add_tops(slot, &mut self.tops)?;
         self.spans.push((start, self.tops.len()))?;
         Ok(())
     }
@@ -64,32 +81,29 @@ impl<'m, 'a, B: Allocator> SlotTops<'m, 'a, B> {
         Ok(())
     }
 
-    /// Adds the tops of the slots of a name, where one has many primitives.
+    /// Adds one more predicate, function or action, with these slots.
     ///
-    /// Fails where memory for them is refused.
-    fn put_all<'t, A: Allocator, C: Allocator>(
+    /// Fails where memory for their tops is refused.
+    fn put_all<'m, 't, A: Allocator, C: Allocator>(
         &mut self,
         types: &Types<'m, 't, A, C>,
-        name: &'m [u8],
         slots: &TypedList<A>,
     ) -> Result<(), AllocError> {
-        if some_long(slots) {
-            self.rows.insert(name, self.spans.len())?;
-            for place in 0..slots.len() {
-                if slots.shares(place) {
-                    self.put_last()?;
-                } else {
-                    self.put_type(types, &slots[place].types)?;
-                }
+        self.starts.push(self.spans.len())?;
+        for place in 0..slots.len() {
+            if slots.shares(place) {
+                self.put_last()?;
+            } else {
+                self.put_type(types, &slots[place].types)?;
             }
         }
         Ok(())
     }
 
     /// No tops.
-    fn none(alloc: &'a B) -> SlotTops<'m, 'a, B> {
+    fn none(alloc: &'a B) -> SlotTops<'a, B> {
         SlotTops {
-            rows: IndexMap::new(alloc),
+            starts: Vec::new(alloc),
             spans: Vec::new(alloc),
             tops: Vec::new(alloc),
         }
@@ -98,14 +112,14 @@ impl<'m, 'a, B: Allocator> SlotTops<'m, 'a, B> {
     /// The tops of the parameters of actions.
     ///
     /// Fails where memory for them is refused.
-    pub fn of_actions<'t, A: Allocator, C: Allocator>(
+    pub fn of_actions<'m, 't, A: Allocator, C: Allocator>(
         alloc: &'a B,
         types: &Types<'m, 't, A, C>,
-        actions: &'m [Action<A>],
-    ) -> Result<SlotTops<'m, 'a, B>, AllocError> {
+        actions: &[Action<A>],
+    ) -> Result<SlotTops<'a, B>, AllocError> {
         let mut all = SlotTops::none(alloc);
         for action in actions {
-            all.put_all(types, action.name.as_bytes(), &action.parameters)?;
+            all.put_all(types, &action.parameters)?;
         }
         Ok(all)
     }
@@ -113,14 +127,14 @@ impl<'m, 'a, B: Allocator> SlotTops<'m, 'a, B> {
     /// The tops of the slots of predicates.
     ///
     /// Fails where memory for them is refused.
-    pub fn of_predicates<'t, A: Allocator, C: Allocator>(
+    pub fn of_predicates<'m, 't, A: Allocator, C: Allocator>(
         alloc: &'a B,
         types: &Types<'m, 't, A, C>,
-        predicates: &'m [DeclaredPredicate<A>],
-    ) -> Result<SlotTops<'m, 'a, B>, AllocError> {
+        predicates: &[DeclaredPredicate<A>],
+    ) -> Result<SlotTops<'a, B>, AllocError> {
         let mut all = SlotTops::none(alloc);
         for predicate in predicates {
-            all.put_all(types, predicate.predicate.as_bytes(), &predicate.parameters)?;
+            all.put_all(types, &predicate.parameters)?;
         }
         Ok(all)
     }
@@ -128,53 +142,48 @@ impl<'m, 'a, B: Allocator> SlotTops<'m, 'a, B> {
     /// The tops of the slots of functions.
     ///
     /// Fails where memory for them is refused.
-    pub fn of_functions<'t, A: Allocator, C: Allocator>(
+    pub fn of_functions<'m, 't, A: Allocator, C: Allocator>(
         alloc: &'a B,
         types: &Types<'m, 't, A, C>,
-        functions: &'m [DeclaredFunction<A>],
-    ) -> Result<SlotTops<'m, 'a, B>, AllocError> {
+        functions: &[DeclaredFunction<A>],
+    ) -> Result<SlotTops<'a, B>, AllocError> {
         let mut all = SlotTops::none(alloc);
         for function in functions {
-            all.put_all(types, function.name.as_bytes(), &function.parameters)?;
+            all.put_all(types, &function.parameters)?;
         }
         Ok(all)
     }
 
-    /// The tops of the slot of a number of a name, none where it has few primitives.
-    pub fn at(&self, symbol: &[u8], number: usize) -> &[usize] {
-        let row = match self.rows.get(symbol) {
-            Some(row) => row.saturating_add(number),
-            None => return &[],
+    /// The tops of the slots of the one of a number.
+    pub fn of(&self, number: usize) -> NameTops<'_> {
+        let spans = self.spans.as_slice();
+        let start = match self.starts.get(number) {
+            Some(start) => (*start).min(spans.len()),
+            None => spans.len(),
         };
-        match self.spans.get(row) {
-            Some((start, end)) => {
-                if *start <= *end && *end <= self.tops.len() {
-                    &self.tops[*start..*end]
-                } else {
-                    &[]
-                }
-            }
-            None => &[],
+        NameTops {
+            spans: &spans[start..],
+            tops: &self.tops,
         }
     }
 }
 
 /// The tops of the slots of predicates, and of those of functions.
 #[derive(Drop)]
-pub struct Tops<'m, 'a, B: Allocator> {
-    pub predicates: SlotTops<'m, 'a, B>,
-    pub functions: SlotTops<'m, 'a, B>,
+pub struct Tops<'a, B: Allocator> {
+    pub predicates: SlotTops<'a, B>,
+    pub functions: SlotTops<'a, B>,
 }
 
-impl<'m, 'a, B: Allocator> Tops<'m, 'a, B> {
+impl<'a, B: Allocator> Tops<'a, B> {
     /// The tops of the slots of what a domain declares.
     ///
     /// Fails where memory for them is refused.
-    pub fn of<A: Allocator>(
+    pub fn of<'m, A: Allocator>(
         alloc: &'a B,
         types: &Types<'m, 'a, A, B>,
-        domain: &'m Domain<A>,
-    ) -> Result<Tops<'m, 'a, B>, AllocError> {
+        domain: &Domain<A>,
+    ) -> Result<Tops<'a, B>, AllocError> {
         let predicates = SlotTops::of_predicates(alloc, types, &domain.predicates)?;
         let functions = SlotTops::of_functions(alloc, types, &domain.functions)?;
         Ok(Tops {

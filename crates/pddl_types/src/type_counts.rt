@@ -51,11 +51,11 @@ fn place_of<'m, 'a, A: Allocator, B: Allocator>(
 /// The places of the types of objects, up to the first that has not one type which stands in the table.
 ///
 /// Fails where memory for them is refused.
-fn places_of<'m, 'a, A: Allocator, B: Allocator>(
-    alloc: &'a B,
+pub fn places_of<'m, 'a, 'c, A: Allocator, B: Allocator, C: Allocator>(
+    alloc: &'c C,
     parents: &IndexMap<&'m [u8], usize, Hashed, &'a B>,
     objects: &Objects<'m, 'a, A, B>,
-) -> Result<Vec<usize, &'a B>, AllocError>
+) -> Result<Vec<usize, &'c C>, AllocError>
     ensures { IfOk result (λ places. length places.items ≡ length objects.now.entries → ArePlacesOf parents.now.entries (map object_in objects.now.entries) places.items) }
 {
     let mut places = Vec::with_capacity(alloc, objects.len())?;

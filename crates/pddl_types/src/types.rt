@@ -14,14 +14,15 @@ ghost use Rattle.pddl_types.specs.ObjectCounts.{AreCountsOf, AddUp};
 ghost use Rattle.pddl_types.specs.TypeTables.{IsTableOf, IsTypeTable, AreNumbered, with_name, name_at, parent_place, climbs};
 
 use crate::known::Objects;
-use crate::near::is_at;
+use crate::near::{NOWHERE, is_at, place_in};
+use crate::slot_tops::Top;
 use crate::tops::tops;
-use crate::type_counts::{TypeCounts, type_counts};
+use crate::type_counts::{TypeCounts, places_of, type_counts};
 use indexmap::IndexMap;
 use pddl_domain::DeclaredType;
 use pddl_faults::{Hashed, LinkFault};
 use pddl_forest::{Preorder, off_rounds};
-use pddl_formula::{TypeNames, TypedList};
+use pddl_formula::{TypeName, TypeNames, TypedList};
 use std::alloc::{AllocError, Allocator};
 use std::marker::Model;
 
@@ -280,16 +281,16 @@ impl<'m, 'a, A: Allocator, B: Allocator> Types<'m, 'a, A, B> {
         self.parents.contains_key(name)
     }
 
-    /// Whether a name is under another, which holds of each name and itself.
-    fn is_under(&self, sub: &[u8], over: &[u8]) -> bool
+    /// Whether a name is under another, which holds of each name and itself. They are looked for first at places that are near.
+    fn is_under_near(&self, sub: &[u8], near_sub: usize, over: &[u8], near_over: usize) -> bool
         ensures { result ≡ is_under (pairs self.now) sub.now over.now }
     {
         if sub == over {
             return true;
         }
-        match self.parents.get_index_of(sub) {
+        match place_in(&self.parents, near_sub, sub) {
             None => false,
-            Some(from) => match self.parents.get_index_of(over) {
+            Some(from) => match place_in(&self.parents, near_over, over) {
                 None => false,
                 Some(to) => match &self.places.order {
                     Some(order) => order.is_under(from, to),
@@ -299,6 +300,13 @@ impl<'m, 'a, A: Allocator, B: Allocator> Types<'m, 'a, A, B> {
         }
     }
 
+    /// Whether a name is under another, which holds of each name and itself.
+    fn is_under(&self, sub: &[u8], over: &[u8]) -> bool
+        ensures { result ≡ is_under (pairs self.now) sub.now over.now }
+    {
+        self.is_under_near(sub, NOWHERE, over, NOWHERE)
+    }
+
     /// Whether a type is a subtype of another, or that type itself; no name that is no type is either.
     pub fn is_a(&self, sub: &[u8], over: &[u8]) -> bool
         ensures { result ≡ is_subtype self.now sub.now over.now }
@@ -306,70 +314,101 @@ impl<'m, 'a, A: Allocator, B: Allocator> Types<'m, 'a, A, B> {
         self.contains(sub) && self.contains(over) && self.is_under(sub, over)
     }
 
-    /// Whether a name is under some primitive of a slot's type.
-    fn fits_some<S: Allocator>(&self, name: &[u8], slot: &TypeNames<S>) -> bool
+    /// Whether a name, which is looked for first at a place that is near, is under some primitive of a slot's type.
+    fn fits_some<S: Allocator>(&self, name: &[u8], near: usize, slot: &TypeNames<S>) -> bool
         ensures { result ≡ list_any (is_under (pairs self.now) name.now) slot.now }
     {
         let primitives = slot.as_slice();
         for primitive in primitives {
-            if self.is_under(name, primitive.as_bytes()) {
+            if self.is_under_near(name, near, primitive.as_bytes(), NOWHERE) {
                 return true;
             }
         }
         false
     }
 
-    /// The number of a type in the order in which tops come, or 0 where it has none. Nothing is promised of it.
-    fn number(&self, name: &[u8]) -> usize {
+    /// The number of the type at a place in pre-order, or 0 where it has none. Nothing is promised of it.
+    pub(crate) fn number_at(&self, place: usize) -> usize {
         match &self.places.order {
-            Some(order) => match self.parents.get_index_of(name) {
-                Some(place) => order.number(place),
-                None => 0,
-            },
+            Some(order) => order.number(place),
             None => 0,
         }
     }
 
+    /// The largest number of the types under that at a place, or 0 where it has none. Nothing is promised of it.
+    fn last_at(&self, place: usize) -> usize {
+        match &self.places.order {
+            Some(order) => order.last(place),
+            None => 0,
+        }
+    }
+
+    /// The number of a type, which is looked for first at a place that is near, or 0 where it has none. Nothing is promised of it.
+    fn number(&self, name: &[u8], near: usize) -> usize {
+        match place_in(&self.parents, near, name) {
+            Some(place) => self.number_at(place),
+            None => 0,
+        }
+    }
+
+    /// The top that a name is under, if it is under one: one that is alone, or else the last that does not come behind it. Nothing is promised of it.
+    fn top_of(&self, name: &[u8], near: usize, tops: &[Top]) -> Option<Top> {
+        if tops.len() == 1 {
+            return Some(tops[0]);
+        }
+        let number = self.number(name, near);
+        let behind = tops.partition_point(|top| top.number <= number);
+        if behind == 0 || tops.len() < behind {
+            return None;
+        }
+        Some(tops[behind - 1])
+    }
+
     /// Whether a name was found to be under a primitive of a slot, by its tops.
-    fn is_under_top<S: Allocator>(&self, name: &[u8], slot: &TypeNames<S>, tops: &[usize]) -> bool
+    fn is_under_top<S: Allocator>(
+        &self,
+        name: &[u8],
+        near: usize,
+        slot: &TypeNames<S>,
+        tops: &[Top],
+    ) -> bool
         ensures { result ≡ true → list_any (is_under (pairs self.now) name.now) slot.now ≡ true }
     {
-        if tops.len() == 0 {
-            return false;
-        }
         let primitives = slot.as_slice();
-        let number = self.number(name);
-        let behind = tops.partition_point(|step| match primitives.get(*step) {
-            Some(primitive) => self.number(primitive.as_bytes()) <= number,
+        match self.top_of(name, near, tops) {
             None => false,
-        });
-        if behind == 0 || tops.len() < behind {
-            return false;
+            Some(top) => top.step < primitives.len()
+                && self.is_under_near(name, near, primitives[top.step].as_bytes(), top.place),
         }
-        let step = tops[behind - 1];
-        step < primitives.len() && self.is_under(name, primitives[step].as_bytes())
     }
 
     /// Whether a name is under some primitive of a slot's type, which is found fast by the slot's tops where it is.
-    fn fits_some_by<S: Allocator>(&self, name: &[u8], slot: &TypeNames<S>, tops: &[usize]) -> bool
+    fn fits_some_by<S: Allocator>(
+        &self,
+        name: &[u8],
+        near: usize,
+        slot: &TypeNames<S>,
+        tops: &[Top],
+    ) -> bool
         ensures { result ≡ list_any (is_under (pairs self.now) name.now) slot.now }
     {
-        self.is_under_top(name, slot, tops) || self.fits_some(name, slot)
+        self.is_under_top(name, near, slot, tops) || self.fits_some(name, near, slot)
     }
 
     /// Whether a term of the first type fits a slot of the second: each primitive of the one is under some primitive of the other, which is found fast by
-    /// the slot's tops where it is.
+    /// the slot's tops where it is. The primitives of the first are looked for first at a place that is near.
     pub fn fits_by<T: Allocator, S: Allocator>(
         &self,
         types: &TypeNames<T>,
+        near: usize,
         slot: &TypeNames<S>,
-        tops: &[usize],
+        tops: &[Top],
     ) -> bool
         ensures { result ≡ fits (pairs self.now) types.now slot.now }
     {
         let primitives = types.as_slice();
         for primitive in primitives {
-            if !self.fits_some_by(primitive.as_bytes(), slot, tops) {
+            if !self.fits_some_by(primitive.as_bytes(), near, slot, tops) {
                 return false;
             }
         }
@@ -384,7 +423,18 @@ impl<'m, 'a, A: Allocator, B: Allocator> Types<'m, 'a, A, B> {
     ) -> bool
         ensures { result ≡ fits (pairs self.now) types.now slot.now }
     {
-        self.fits_by(types, slot, &[])
+        self.fits_by(types, NOWHERE, slot, &[])
+    }
+
+    /// The places at which the types of these objects stand, up to the first object that has not one type. Nothing is promised of them.
+    ///
+    /// Fails where memory for them is refused.
+    pub(crate) fn places_of<'c, C: Allocator>(
+        &self,
+        alloc: &'c C,
+        objects: &Objects<'m, 'a, A, B>,
+    ) -> Result<Vec<usize, &'c C>, AllocError> {
+        places_of(alloc, &self.parents, objects)
     }
 
     /// How many of some objects fit each type, by its name. A name that is missing is not counted.
@@ -415,6 +465,68 @@ impl<'m, 'a, A: Allocator, B: Allocator> Types<'m, 'a, A, B> {
             },
             None => None,
         }
+    }
+
+    /// Adds a primitive of a type to tops, where it is a type of the table.
+    ///
+    /// Fails where memory for it is refused.
+    fn add_top<'c, N: Allocator, C: Allocator>(
+        &self,
+        primitives: &[TypeName<N>],
+        step: usize,
+        tops: &mut Vec<Top, &'c C>,
+    ) -> Result<(), AllocError>
+        requires { step < length primitives.now }
+    {
+        let name = primitives[step].as_bytes();
+        match self.parents.get_index_of(name) {
+            Some(place) => {
+                tops.push(Top {
+                    step,
+                    place,
+                    number: self.number_at(place),
+                    last: self.last_at(place),
+                })?;
+                Ok(())
+            }
+            None => Ok(()),
+        }
+    }
+
+    /// Adds those primitives of a type to tops of which [`Types::tops`] has the steps, in the order of their numbers.
+    ///
+    /// Fails where memory for them is refused.
+    pub(crate) fn add_tops<'c, N: Allocator, C: Allocator>(
+        &self,
+        types: &TypeNames<N>,
+        tops: &mut Vec<Top, &'c C>,
+    ) -> Result<(), AllocError> {
+        let primitives = types.as_slice();
+        if primitives.len() == 1 {
+            return self.add_top(primitives, 0, tops);
+        }
+        match self.tops(types) {
+            Some(steps) => self.add_each(primitives, &steps, tops),
+            None => Ok(()),
+        }
+    }
+
+    /// Adds the primitives of these steps to tops.
+    ///
+    /// Fails where memory for them is refused.
+    fn add_each<'c, N: Allocator, C: Allocator>(
+        &self,
+        primitives: &[TypeName<N>],
+        steps: &[usize],
+        tops: &mut Vec<Top, &'c C>,
+    ) -> Result<(), AllocError> {
+        for i in 0..steps.len() {
+            let step = steps[i];
+            if step < primitives.len() {
+                self.add_top(primitives, step, tops)?;
+            }
+        }
+        Ok(())
     }
 
     /// Whether a type was found not to be above itself, which is told of each such type where places are not numbered.

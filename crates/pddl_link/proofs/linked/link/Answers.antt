@@ -27,8 +27,8 @@ of-requires g c =
     ap (λ ts. repeated [] (map item_of (map type_view ts))) c.deref.ensures.value
     ∙ none_found 21 (types_twice (domain_view c.args.domain.now)) c.type_twice.result c.in_ok-lower.ensures.both.1 c.type_twice.ensures
 
-pub tables_behind_types-requires : goal.tables_behind_types-requires
-tables_behind_types-requires g c = c.in_ok-types.ensures ∙ ap (map type_view) c.deref.ensures.value
+pub tables_behind_types-requires-clause-types : goal.tables_behind_types-requires-clause-types
+tables_behind_types-requires-clause-types g c = c.in_ok-types.ensures ∙ ap (map type_view) c.deref.ensures.value
 
 pub returns-in_err-lower-clause-verdict : goal.returns-in_err-lower-clause-verdict
 returns-in_err-lower-clause-verdict g c =

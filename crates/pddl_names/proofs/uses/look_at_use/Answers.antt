@@ -1,5 +1,5 @@
 use Rattle.std.proofs.Common.{◌++◌, length, map, refl, ap, sym, ◌∙◌}
-use Rattle.std.specs.Option.{option_copied}
+use Rattle.std.specs.Prelude.{option_map}
 use Rattle.pddl_formula.specs.TypedLists.{typed_view}
 use Rattle.pddl_faults.specs.declared.fault.LinkFault.TheVariants as link
 use Rattle.pddl_faults.specs.Parts.{terms_in}
@@ -16,7 +16,7 @@ returns-in-None g c = λ before h.
     let b = bound_of c.args.scope.now in
     let ts = terms_in c.args.terms.now in
     c.lower.ensures.found before (faults_of_use s b (record { name = c.args.symbol.now; terms = ts; declared = map signature_in c.args.declared.now.entries })) h
-    (undeclared_found s b ts c.args.declared.now.entries c.args.symbol.now (link.UnknownName c.args.symbol) (sym (ap option_copied c.in-None.is) ∙ c.get.ensures.value) (λ words k. (refl, k)))
+    (undeclared_found s b ts c.args.declared.now.entries c.args.symbol.now (link.UnknownName c.args.symbol) (sym (ap (option_map (λ p. p.2.now)) c.in-None.is) ∙ c.get_full.ensures.value) (λ words k. (refl, k)))
 
 pub returns-in-Some : goal.returns-in-Some
 returns-in-Some g c = λ before h.
@@ -26,4 +26,4 @@ returns-in-Some g c = λ before h.
     let ts = terms_in c.args.terms.now in
     let slots = c.in-Some.slots.now in
     found_same (before ++ faults_of_terms s b n ts (length slots.now) (map typed_view slots.now)) (before ++ faults_of_use s b (record { name = n; terms = ts; declared = map signature_in c.args.declared.now.entries })) c.look_at_slots.result
-    (ap (λ fs. before ++ fs) (declared_is s b ts c.args.declared.now.entries n slots (sym (ap option_copied c.in-Some.is) ∙ c.get.ensures.value))) (c.look_at_slots.ensures before h)
+    (ap (λ fs. before ++ fs) (declared_is s b ts c.args.declared.now.entries n slots (sym (ap (option_map (λ p. p.2.now)) c.in-Some.is) ∙ c.get_full.ensures.value))) (c.look_at_slots.ensures before h)

@@ -9,11 +9,11 @@ use Rattle.pddl_link.proofs.task.Task.cost.Goals as goal
 pub returns-in-Some : goal.returns-in-Some
 returns-in-Some g c =
     let t = c.args.self.now in
-    cost_found (problem_view t.problem.now).init t.tables.values.entries c.asked-call.result (Some c.in-Some.billionths.now) t.held.behind.values_are (sym (ap option_copied c.in-Some.is) ∙ c.get.ensures.value)
+    cost_found (problem_view t.problem.now).init t.values.entries c.asked-call.result (Some c.in-Some.billionths.now) t.held.behind.values_are (sym (ap option_copied c.in-Some.is) ∙ c.get.ensures.value)
     ∙ ap (cost_of (task_of_files t)) c.asked-call.ensures
 
 pub returns-in-None : goal.returns-in-None
 returns-in-None g c =
     let t = c.args.self.now in
-    cost_found (problem_view t.problem.now).init t.tables.values.entries c.asked-call.result None t.held.behind.values_are (sym (ap option_copied c.in-None.is) ∙ c.get.ensures.value)
+    cost_found (problem_view t.problem.now).init t.values.entries c.asked-call.result None t.held.behind.values_are (sym (ap option_copied c.in-None.is) ∙ c.get.ensures.value)
     ∙ ap (cost_of (task_of_files t)) c.asked-call.ensures
