@@ -121,7 +121,7 @@ done
 
 printf '\n%-24s %8s   %-17s   %-17s\n' '' '' 'plan' 'serial'
 printf '%-24s %8s  %8s %8s   %8s %8s\n' files bytes seconds MiB seconds MiB
-for case in walk together variables group nothing; do
+for case in walk together variables group nothing single names; do
     python3 "$here/plan_files.py" "$case" "$folder" || exit 1
     set -- "$folder/domain.pddl" "$folder/problem.pddl" "$folder/plan.plan"
     printf '%-24s %8d  %s   %s\n' "$case" "$(cat "$@" | wc -c)" "$(seconds "$program" plan "$@")" "$(seconds "$program" serial "$@")"

@@ -9,8 +9,10 @@ adl        200 steps, two at a moment, each of which quantifies over 2,000 objec
 variables  one step, whose action quantifies over 400,000 variables of a type with one object
 group      one step, and a goal that quantifies over 20,000 variables before an either of 20,000 types, of which one has an object
 nothing    one step, whose action has 100,000 quantifiers under one over a type with no object
+single     one step, whose action has 20,000 quantifiers over a type with one object, beside 200,000 objects of another type
+names      four steps and four facts, each of a name of 100,000 letters with 100,000 objects
 
-Usage: plan_files.py walk|together|few|moments|adl|variables|group|nothing FOLDER
+Usage: plan_files.py walk|together|few|moments|adl|variables|group|nothing|single|names FOLDER
 """
 import os
 import sys
@@ -136,8 +138,23 @@ def nothing():
     return rooms("(forall (?h - hole) (and" + " (forall (?r - room) (done))" * 100_000 + "))", "(not (done))")
 
 
+def single():
+    lamps = " ".join(f"l{n}" for n in range(200_000))
+    domain, files, plan = rooms("(and" + " (forall (?r - room) (done))" * 20_000 + ")", "(done)")
+    return domain, files.replace("r - room", f"r - room {lamps} - hole"), plan
+
+
+def names():
+    name, count = "n" * 100_000, 100_000
+    variables = " ".join(f"?v{n}" for n in range(count))
+    domain = f"(define (domain long) (:predicates (done) ({name} {variables})) (:action {name} :parameters ({variables}) :effect (done)))\n"
+    terms = f"({name}{' r' * count})\n"
+    files = f"(define (problem bench) (:domain long) (:objects r) (:init {terms * 4}) (:goal (done)))\n"
+    return domain, files, terms * 4
+
+
 CASES = {"walk": walk, "together": together, "few": few, "moments": moments, "adl": adl, "variables": variables, "group": group,
-         "nothing": nothing}
+         "nothing": nothing, "single": single, "names": names}
 
 
 def main():

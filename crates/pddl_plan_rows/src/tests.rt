@@ -29,7 +29,7 @@ fn moments(rt: HostRuntime) -> Result<(), Fail> {
 
 #[test]
 fn plans(rt: HostRuntime) -> Result<(), Fail> {
-    all_hold(&rt, rows::PLANS, 40)
+    all_hold(&rt, rows::PLANS, 42)
 }
 
 #[test]

@@ -26,7 +26,7 @@ fn costs(rt: HostRuntime) -> Result<(), Fail> {
 
 #[test]
 fn domains(rt: HostRuntime) -> Result<(), Fail> {
-    all_hold(&rt, rows::DOMAINS, 21)
+    all_hold(&rt, rows::DOMAINS, 23)
 }
 
 #[test]
@@ -86,7 +86,7 @@ fn reading(rt: HostRuntime) -> Result<(), Fail> {
 
 #[test]
 fn tasks(rt: HostRuntime) -> Result<(), Fail> {
-    all_hold(&rt, rows::TASKS, 15)
+    all_hold(&rt, rows::TASKS, 16)
 }
 
 #[test]

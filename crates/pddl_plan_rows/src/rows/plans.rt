@@ -490,4 +490,38 @@ times 16777216 \s
 file
 | valid: 0 steps in 0 happenings, total-cost 0
 once good plan
+
+# No quantifier looks at each object.
+row many quantifiers over a type that has one object of many
+part (define (domain d) (:types t u) (:predicates (done)) (:action s :effect (and
+times 20000  (forall (?x - t) (done))
+file )))
+part (define (problem p) (:domain d) (:objects o - t
+series 200000  l#0
+file  - u) (:init) (:goal (done)))
+file (s)
+| valid: 1 steps in 1 happenings, total-cost 0
+once good plan
+
+# No name is looked at once for each of its objects.
+row a long name of an action with many objects
+part (define (domain d) (:predicates (done)) (:action\s
+times 400000 n
+part  :parameters (
+series 100000  ?v#0
+part ) :effect (done)) (:action\s
+times 399999 n
+part  :parameters (
+series 100000  ?v#0
+file ) :effect (done)))
+file (define (problem p) (:domain d) (:objects a) (:init) (:goal (done)))
+part (
+times 400000 n
+times 100000  a
+part ) (
+times 399999 n
+times 100000  a
+file )
+| valid: 2 steps in 2 happenings, total-cost 0
+once good plan
 ";

@@ -94,6 +94,27 @@ file ))))
 | good: domain d
 once good domain
 
+# No name is looked at once for each of its terms.
+row a long name with many terms
+part (define (domain d) (:predicates (
+times 400000 n
+times 100000  ?x
+part ) (
+times 399999 n
+times 100000  ?x
+file )))
+| good: domain d
+once good domain
+part (define (problem p) (:domain d) (:objects a) (:init (
+times 400000 n
+times 100000  a
+part ) (
+times 399999 n
+times 100000  a
+file )) (:goal (and)))
+| good: problem p
+once good problem
+
 # A long list of variables has a table. What is bound further in hides it.
 part (define (domain d) (:types a b) (:predicates (p ?x - a) (q ?x - b)) (:action n :parameters (
 series 16  ?v#0

@@ -69,6 +69,32 @@ file
 | 0 1 - 0 1
 good list fitting
 
+row the objects that fit, which do not stand in the order of their types
+file (define (domain d) (:types a b e - object c - a d - b) (:constants k - c))
+file (define (problem p) (:domain d) (:objects y - d x - a z - object w - c v - b u) (:init) (:goal (and)))
+| a
+| b
+| c
+| d
+| e
+| object
+| c a
+| a c
+| d a
+| e d c
+file
+| 0 2 4 - 0 2 4
+| 1 5 - 1 5
+| 0 4 - 0 4
+| 1 - 1
+| -
+| 0 1 2 3 4 5 6 - 0 1 2 3 4 5 6
+| 0 2 4 - 0 2 4
+| 0 2 4 - 0 2 4
+| 0 1 2 4 - 0 1 2 4
+| 0 1 4 - 0 1 4
+good list fitting
+
 row costs, of which one is given twice
 copy lamps
 file
