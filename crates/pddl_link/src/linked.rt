@@ -109,9 +109,9 @@ fn look_at_uses<'t, 'm, 'a, A: Allocator, B: Allocator>(
     )
 }
 
-/// The tables of objects and of what a domain declares.
+/// These tables, with how many of the objects fit each type, and without the places of their types.
 ///
-/// Fails where memory for the counts of objects is refused.
+/// Fails where memory for the counts is refused.
 fn with_counts<'m, 'a, A: Allocator, B: Allocator>(
     alloc: &'a B,
     types: &Types<'m, 'a, A, B>,
@@ -133,7 +133,7 @@ fn with_counts<'m, 'a, A: Allocator, B: Allocator>(
     }
 }
 
-/// The tables of objects and of what a domain declares, where no predicate and no function stands twice.
+/// The tables of objects and of what a domain declares, where no predicate and no function stands twice, without the places of the objects' types.
 ///
 /// Fails where memory for them is refused.
 fn tables_of<'m, 'a, A: Allocator, B: Allocator>(

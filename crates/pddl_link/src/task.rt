@@ -24,7 +24,8 @@ use pddl_types::{
 };
 use std::alloc::{AllocError, Allocator};
 
-/// What a domain and a problem name, in tables that borrow from them: objects, predicates and functions, and how many objects fit each type.
+/// What a domain and a problem name, in tables that borrow from them: objects, predicates and functions, how many objects fit each type, and where the types
+/// of objects stand.
 #[derive(Drop)]
 pub(crate) struct Tables<'m, 'a, A: Allocator, B: Allocator> {
     pub(crate) objects: Objects<'m, 'a, A, B>,
