@@ -13,7 +13,7 @@ use crate::fault::LinkFault;
 use crate::part::Part;
 use crate::variables::Variables;
 use pddl_formula::TypeNames;
-use std::alloc::Allocator;
+use std::alloc::{AllocError, Allocator};
 
 /// The variables in scope, a list for each quantifier, the innermost first.
 #[derive(Drop)]
@@ -22,19 +22,23 @@ pub enum Scope<'s, 'd, 'a, A: Allocator, B: Allocator> {
     Inside(&'s Variables<'d, 'a, A, B>, &'s Scope<'s, 'd, 'a, A, B>),
 }
 
-/// The type of the innermost variable of this name.
+/// The type of the innermost variable of this name, and the places at which its primitives are looked for first.
 pub fn bound_type<'s, 'd, 'a, A: Allocator, B: Allocator>(
     scope: &Scope<'s, 'd, 'a, A, B>,
     name: &[u8],
-) -> Option<&'d TypeNames<A>>
-    ensures { option_copied result ≡ option_map primitives_of (find (is_named name.now) (bound_of scope.now)) }
+) -> (Option<&'d TypeNames<A>>, &'s [usize])
+    ensures { option_copied result.0 ≡ option_map primitives_of (find (is_named name.now) (bound_of scope.now)) }
 {
     match scope {
-        Scope::Empty => None,
-        Scope::Inside(variables, outer) => match variables.type_of(name) {
-            Some(types) => Some(types),
-            None => bound_type(*outer, name),
-        },
+        Scope::Empty => (None, &[]),
+        Scope::Inside(variables, outer) => {
+            let variables = *variables;
+            let (found, near) = variables.type_of(name);
+            match found {
+                Some(types) => (Some(types), near),
+                None => bound_type(*outer, name),
+            }
+        }
     }
 }
 
@@ -52,4 +56,13 @@ pub trait Search<A: Allocator, B: Allocator> {
         scope: &Scope<A, B>,
     ) -> Result<(), LinkFault<'d>>
         ensures { FindsMore (found self.now (at (bound_of scope.now) (part_in part.now))) so_far.entry result };
+
+    /// Adds the places at which the primitives of a type are looked for first, where the search knows some. Nothing is promised of them.
+    ///
+    /// Fails where memory for them is refused.
+    fn add_near<'c>(
+        &self,
+        types: &TypeNames<A>,
+        places: &mut Vec<usize, &'c B>,
+    ) -> Result<(), AllocError>;
 }

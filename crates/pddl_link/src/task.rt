@@ -20,7 +20,7 @@ use pddl_search::{Ground, Values};
 use pddl_token::Name;
 use pddl_types::{
     FunctionNumbers, ObjectCounts, ObjectPlaces, Objects, SlotTops, Top, TypeCounts, Types,
-    action_ground_size, fitting_objects, ground_size, place_at,
+    action_ground_size, fitting_objects, ground_size, near_of,
 };
 use std::alloc::{AllocError, Allocator};
 
@@ -142,7 +142,7 @@ impl<'m, 'a, A: Allocator, B: Allocator> Task<'m, 'a, A, B> {
     {
         match self.tables.objects.get_index(object) {
             Some((_, listed)) => {
-                let near = place_at(self.tables.places.places(), object);
+                let near = near_of(self.tables.places.places(), object);
                 self.types.fits_by(&listed.types, near, types, tops)
             }
             None => false,

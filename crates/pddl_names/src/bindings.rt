@@ -2,8 +2,9 @@
 
 use crate::repeats::name_twice;
 use pddl_faults::{LinkFault, Part, Scope, Search, lower};
+use pddl_formula::TypeNames;
 use pddl_types::Types;
-use std::alloc::Allocator;
+use std::alloc::{AllocError, Allocator};
 
 /// Looks for what is wrong with the variables of quantifiers and with parameters.
 #[derive(Drop)]
@@ -33,5 +34,14 @@ impl<'t, 'm, 'a, A: Allocator, B: Allocator> Search<A, B> for Bindings<'t, 'm, '
             Part::Equates(_, _) => so_far,
             Part::Counts(_, _) => so_far,
         }
+    }
+
+    /// Types of variables are not asked for.
+    fn add_near<'c>(
+        &self,
+        _types: &TypeNames<A>,
+        _places: &mut Vec<usize, &'c B>,
+    ) -> Result<(), AllocError> {
+        Ok(())
     }
 }

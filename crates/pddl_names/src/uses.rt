@@ -20,8 +20,8 @@ ghost use Rattle.pddl_names.specs.Uses.{IsFoundUpTo, fit_of, faults_of_use, faul
 use pddl_faults::{LentTerm, LinkFault, Part, Scope, Search, Terms, bound_type, lower};
 use pddl_formula::{Term, TypeNames, Typed};
 use pddl_token::Fixed;
-use pddl_types::{Known, NOWHERE, NameTops, Signatures, SlotTops, Top, is_object, place_at};
-use std::alloc::Allocator;
+use pddl_types::{Known, NameTops, Signatures, SlotTops, Top, is_object, near_of};
+use std::alloc::{AllocError, Allocator};
 
 /// Looks for what is wrong with names that are used, and with numbers.
 #[derive(Drop)]
@@ -29,24 +29,24 @@ pub struct Uses<'k, 't, 'm, 'a, A: Allocator, B: Allocator> {
     pub known: &'k Known<'t, 'm, 'a, A, B>,
 }
 
-/// The type of the object of this name, and the place at which it is looked for first.
+/// The type of the object of this name, and the places at which its primitives are looked for first.
 fn object_type<'t, 'm, 'a, A: Allocator, B: Allocator>(
     known: &Known<'t, 'm, 'a, A, B>,
     object: &[u8],
-) -> (Option<&'m TypeNames<A>>, usize)
+) -> (Option<&'m TypeNames<A>>, &'t [usize])
     ensures { option_copied result.0 ≡ option_map primitives_of (find (is_named object.now) (setting_of known.now).objects) }
 {
     match known.objects.get_full(object) {
-        Some((number, _, listed)) => (Some(&listed.types), place_at(known.places, number)),
-        None => (None, NOWHERE),
+        Some((number, _, listed)) => (Some(&listed.types), near_of(known.places, number)),
+        None => (None, &[]),
     }
 }
 
-/// Whether what has a type, which is looked for first at a place that is near, fits a slot, where there is one.
+/// Whether what has a type, whose primitives are looked for first at places that are near, fits a slot, where there is one.
 fn fits_slot<'t, 'm, 'a, A: Allocator, B: Allocator>(
     known: &Known<'t, 'm, 'a, A, B>,
     types: Option<&TypeNames<A>>,
-    near: usize,
+    near: &[usize],
     slot: Option<&Typed<A>>,
     tops: &[Top],
 ) -> Option<bool>
@@ -77,7 +77,8 @@ fn term_fits<'t, 'm, 'a, A: Allocator, B: Allocator>(
             fits_slot(known, types, near, slot, tops)
         }
         LentTerm::Variable(variable) => {
-            fits_slot(known, bound_type(scope, *variable), NOWHERE, slot, tops)
+            let (types, near) = bound_type(scope, *variable);
+            fits_slot(known, types, near, slot, tops)
         }
     }
 }
@@ -206,7 +207,10 @@ fn is_known<'t, 'm, 'a, A: Allocator, B: Allocator>(
 {
     match term {
         LentTerm::Object(object) => is_object(known.objects, *object),
-        LentTerm::Variable(variable) => bound_type(scope, *variable).is_some(),
+        LentTerm::Variable(variable) => {
+            let (types, _) = bound_type(scope, *variable);
+            types.is_some()
+        }
     }
 }
 
@@ -282,5 +286,13 @@ impl<'k, 't, 'm, 'a, A: Allocator, B: Allocator> Search<A, B> for Uses<'k, 't, '
             Part::Binds(_) => so_far,
             Part::Counts(function, amount) => lower(so_far, look_at_amount(*function, *amount)),
         }
+    }
+
+    fn add_near<'c>(
+        &self,
+        types: &TypeNames<A>,
+        places: &mut Vec<usize, &'c B>,
+    ) -> Result<(), AllocError> {
+        self.known.types.add_places(types, places)
     }
 }

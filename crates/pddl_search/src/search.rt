@@ -94,7 +94,7 @@ fn search_quantified<'d, 's, 'a, A: Allocator, B: Allocator, S: Search<A, B>>(
         ++ faults_in (S.found search.now) (formula_view inner.now.value) (binding (map typed_view variables.now.items) (bound_of scope.now))) so_far.entry result }
 {
     let so_far = search.look(so_far, &Part::Binds(variables), &*scope);
-    let bound = Variables::of(alloc, variables)?;
+    let bound = Variables::of(alloc, search, variables)?;
     let inside = Scope::Inside(&bound, &*scope);
     search_formula(alloc, search, so_far, inner, &inside)
 }
@@ -182,7 +182,7 @@ fn search_each<'d, 's, 'a, A: Allocator, B: Allocator, S: Search<A, B>>(
         ++ effect_faults (S.found search.now) (effect_view inner.now.value) (binding (map typed_view variables.now.items) (bound_of scope.now))) so_far.entry result }
 {
     let so_far = search.look(so_far, &Part::Binds(variables), &*scope);
-    let bound = Variables::of(alloc, variables)?;
+    let bound = Variables::of(alloc, search, variables)?;
     let inside = Scope::Inside(&bound, &*scope);
     search_effect(alloc, search, so_far, inner, &inside)
 }
@@ -216,7 +216,7 @@ pub fn search_action<'d, 'a, A: Allocator, B: Allocator, S: Search<A, B>>(
 {
     let outside = Scope::Empty;
     let so_far = search.look(so_far, &Part::Binds(&action.parameters), &outside);
-    let parameters = Variables::of(alloc, &action.parameters)?;
+    let parameters = Variables::of(alloc, search, &action.parameters)?;
     let inside = Scope::Inside(&parameters, &outside);
     let so_far = search_formula(alloc, search, so_far, &action.precondition, &inside);
     search_effect(alloc, search, so_far, &action.effect, &inside)

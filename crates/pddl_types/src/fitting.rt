@@ -7,7 +7,7 @@ ghost use Rattle.pddl_types.specs.Fitting.{passes_at, AreSome};
 ghost use Rattle.pddl_task.specs.Tasks.{places_from};
 
 use crate::known::Objects;
-use crate::near::place_at;
+use crate::near::near_of;
 use crate::object_counts::ObjectCounts;
 use crate::object_places::ObjectPlaces;
 use crate::size::FittingCount;
@@ -34,7 +34,7 @@ fn fitting_by<'m, 'a, 'b, A: Allocator, B: Allocator, C: Allocator, N: Allocator
     for number in 0..objects.len() {
         match objects.get_index(number) {
             Some((_, object)) => {
-                if types.fits_by(&object.types, place_at(places, number), slot, tops) {
+                if types.fits_by(&object.types, near_of(places, number), slot, tops) {
                     numbers.push(number)?;
                 }
             }
@@ -56,7 +56,7 @@ fn fits_at<'m, 'a, A: Allocator, B: Allocator, N: Allocator>(
     ensures { result ≡ passes_at (λ o. fits (pairs types.now) o.of slot.now) (map object_in objects.now.entries) number }
 {
     match objects.get_index(number) {
-        Some((_, object)) => { types.fits_by(&object.types, place_at(places, number), slot, tops) }
+        Some((_, object)) => types.fits_by(&object.types, near_of(places, number), slot, tops),
         None => false,
     }
 }

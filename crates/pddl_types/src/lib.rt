@@ -22,7 +22,7 @@ pub use function_numbers::FunctionNumbers;
 pub use known::{
     Known, Objects, Signatures, functions, is_declared, is_object, predicates, takes_others,
 };
-pub use near::{NOWHERE, place_at};
+pub use near::near_of;
 pub use object_counts::ObjectCounts;
 pub use object_places::ObjectPlaces;
 pub use size::{FittingCount, ground_size};

@@ -10,14 +10,19 @@ use pddl_faults::Hashed;
 use std::alloc::Allocator;
 
 /// The place to look first where none is known: no type stands there.
-pub const NOWHERE: usize = usize::MAX;
+pub(crate) const NOWHERE: usize = usize::MAX;
 
 /// The place of a number in a list of places, or [`NOWHERE`] past its end.
-pub fn place_at(places: &[usize], number: usize) -> usize {
+pub(crate) fn place_at(places: &[usize], number: usize) -> usize {
     match places.get(number) {
         Some(place) => *place,
         None => NOWHERE,
     }
+}
+
+/// Of the places of the types of objects, in turn, that of the object of a number, and those behind it.
+pub fn near_of(places: &[usize], number: usize) -> &[usize] {
+    &places[number.min(places.len())..]
 }
 
 /// Whether the type at a place has this name.

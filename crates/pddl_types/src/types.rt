@@ -14,7 +14,7 @@ ghost use Rattle.pddl_types.specs.ObjectCounts.{AreCountsOf, AddUp};
 ghost use Rattle.pddl_types.specs.TypeTables.{IsTableOf, IsTypeTable, AreNumbered, with_name, name_at, parent_place, climbs};
 
 use crate::known::Objects;
-use crate::near::{NOWHERE, is_at, place_in};
+use crate::near::{NOWHERE, is_at, place_at, place_in};
 use crate::slot_tops::Top;
 use crate::tops::tops;
 use crate::type_counts::{TypeCounts, places_of, type_counts};
@@ -382,33 +382,53 @@ impl<'m, 'a, A: Allocator, B: Allocator> Types<'m, 'a, A, B> {
         }
     }
 
-    /// Whether a name is under some primitive of a slot's type, which is found fast by the slot's tops where it is.
+    /// Whether two names are the same, so that one is under the other.
+    fn is_same(&self, sub: &[u8], over: &[u8]) -> bool
+        ensures { result ≡ true → is_under (pairs self.now) sub.now over.now ≡ true }
+    {
+        sub == over
+    }
+
+    /// Whether a name is the primitive of a step of a slot's type.
+    fn is_step<S: Allocator>(&self, name: &[u8], slot: &TypeNames<S>, step: usize) -> bool
+        ensures { result ≡ true → list_any (is_under (pairs self.now) name.now) slot.now ≡ true }
+    {
+        let primitives = slot.as_slice();
+        step < primitives.len() && self.is_same(name, primitives[step].as_bytes())
+    }
+
+    /// Whether a name is under some primitive of a slot's type, which is found fast where it is: by a look at the primitive of a step, or else by the slot's
+    /// tops.
     fn fits_some_by<S: Allocator>(
         &self,
         name: &[u8],
         near: usize,
         slot: &TypeNames<S>,
+        step: usize,
         tops: &[Top],
     ) -> bool
         ensures { result ≡ list_any (is_under (pairs self.now) name.now) slot.now }
     {
-        self.is_under_top(name, near, slot, tops) || self.fits_some(name, near, slot)
+        self.is_step(name, slot, step)
+            || self.is_under_top(name, near, slot, tops)
+            || self.fits_some(name, near, slot)
     }
 
-    /// Whether a term of the first type fits a slot of the second: each primitive of the one is under some primitive of the other, which is found fast by
-    /// the slot's tops where it is. The primitives of the first are looked for first at a place that is near.
+    /// Whether a term of the first type fits a slot of the second: each primitive of the one is under some primitive of the other, which is found fast where
+    /// it is the one of the same step, or by the slot's tops. The primitives of the first are looked for first at places that are near, in turn.
     pub fn fits_by<T: Allocator, S: Allocator>(
         &self,
         types: &TypeNames<T>,
-        near: usize,
+        near: &[usize],
         slot: &TypeNames<S>,
         tops: &[Top],
     ) -> bool
         ensures { result ≡ fits (pairs self.now) types.now slot.now }
     {
         let primitives = types.as_slice();
-        for primitive in primitives {
-            if !self.fits_some_by(primitive.as_bytes(), near, slot, tops) {
+        for step in 0..primitives.len() {
+            let name = primitives[step].as_bytes();
+            if !self.fits_some_by(name, place_at(near, step), slot, step, tops) {
                 return false;
             }
         }
@@ -423,7 +443,30 @@ impl<'m, 'a, A: Allocator, B: Allocator> Types<'m, 'a, A, B> {
     ) -> bool
         ensures { result ≡ fits (pairs self.now) types.now slot.now }
     {
-        self.fits_by(types, NOWHERE, slot, &[])
+        self.fits_by(types, &[], slot, &[])
+    }
+
+    /// The place of a type, or [`NOWHERE`] where there is none. Nothing is promised of it.
+    fn place(&self, name: &[u8]) -> usize {
+        match self.parents.get_index_of(name) {
+            Some(place) => place,
+            None => NOWHERE,
+        }
+    }
+
+    /// Adds the places at which the primitives of a type stand, in turn. Nothing is promised of them.
+    ///
+    /// Fails where memory for them is refused.
+    pub fn add_places<'c, N: Allocator, C: Allocator>(
+        &self,
+        types: &TypeNames<N>,
+        places: &mut Vec<usize, &'c C>,
+    ) -> Result<(), AllocError> {
+        let primitives = types.as_slice();
+        for primitive in primitives {
+            places.push(self.place(primitive.as_bytes()))?;
+        }
+        Ok(())
     }
 
     /// The places at which the types of these objects stand, up to the first object that has not one type. Nothing is promised of them.

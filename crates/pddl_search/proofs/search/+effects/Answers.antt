@@ -25,9 +25,9 @@ search_each-returns g t c = λ before h.
     let w = g.S.Search.found c.args.search.now in
     let b = bound_of c.args.scope.now in
     let own = w (at b (binds (map typed_view c.args.variables.now.items))) in
-    let inside = effect_faults w (effect_view c.deref-2.result.now) (binding c.in_ok-bound.bound b) in
+    let inside = effect_faults w (effect_view c.deref.result.now) (binding c.in_ok-bound.bound b) in
     found_in_two before own inside (own ++ effect_faults w (effect_view c.args.inner.now.value) (binding (map typed_view c.args.variables.now.items) b)) c.search_effect.result
-    (ap (λ vs. own ++ effect_faults w (effect_view c.args.inner.now.value) (binding vs b)) (sym (c.in_ok-bound.ensures ∙ ap (map typed_view) c.deref.ensures.value)) ∙ ap (λ k. own ++ effect_faults w (effect_view k) (binding c.in_ok-bound.bound b)) (sym c.deref-2.ensures))
+    (ap (λ vs. own ++ effect_faults w (effect_view c.args.inner.now.value) (binding vs b)) (sym c.in_ok-bound.ensures) ∙ ap (λ k. own ++ effect_faults w (effect_view k) (binding c.in_ok-bound.bound b)) (sym c.deref.ensures))
     (c.search_effect.ensures (before ++ own) (c.look-so_far.ensures before h))
 
 pub search_effect-returns-in-When : goal.search_effect-returns-in-When

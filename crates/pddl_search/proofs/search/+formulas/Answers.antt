@@ -41,9 +41,9 @@ search_quantified-returns g t c = λ before h.
     let w = g.S.Search.found c.args.search.now in
     let b = bound_of c.args.scope.now in
     let own = w (at b (binds (map typed_view c.args.variables.now.items))) in
-    let inside = faults_in w (formula_view c.deref-2.result.now) (binding c.in_ok-bound.bound b) in
+    let inside = faults_in w (formula_view c.deref.result.now) (binding c.in_ok-bound.bound b) in
     found_in_two before own inside (own ++ faults_in w (formula_view c.args.inner.now.value) (binding (map typed_view c.args.variables.now.items) b)) c.search_formula.result
-    (ap (λ vs. own ++ faults_in w (formula_view c.args.inner.now.value) (binding vs b)) (sym (c.in_ok-bound.ensures ∙ ap (map typed_view) c.deref.ensures.value)) ∙ ap (λ k. own ++ faults_in w (formula_view k) (binding c.in_ok-bound.bound b)) (sym c.deref-2.ensures))
+    (ap (λ vs. own ++ faults_in w (formula_view c.args.inner.now.value) (binding vs b)) (sym c.in_ok-bound.ensures) ∙ ap (λ k. own ++ faults_in w (formula_view k) (binding c.in_ok-bound.bound b)) (sym c.deref.ensures))
     (c.search_formula.ensures (before ++ own) (c.look-so_far.ensures before h))
 
 pub search_formulas-loop-formula-init : goal.search_formulas-loop-formula-init
