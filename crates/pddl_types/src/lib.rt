@@ -14,6 +14,7 @@ mod size;
 mod slot_tops;
 mod tops;
 mod type_counts;
+mod type_table;
 mod types;
 
 pub use effect_size::{action_ground_size, effect_ground_size};

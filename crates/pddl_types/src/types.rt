@@ -1,39 +1,28 @@
 //! The types of a domain with their parents, looked up by name.
 
-ghost use Rattle.std.specs.Prelude.{◌≡◌, ◌<◌, ℕ, suc, [], ◌∷◌, true, false, map, not, filter, length, slice_get, Some, IfOk, OnOk, IfSome, Contains};
+ghost use Rattle.std.specs.Prelude.{◌≡◌, ◌<◌, ℕ, suc, [], true, false, map, not, filter, length, slice_get, Some, IfOk, IfSome, Contains};
 ghost use Rattle.std.specs.List.{flat_map, list_any};
 ghost use Rattle.pddl_formula.specs.TypedLists.{TypedValue, typed_view};
 ghost use Rattle.pddl_domain.specs.Declarations.{type_view};
 ghost use Rattle.pddl_task.specs.Names.{is_in, repeated, item_of};
-ghost use Rattle.pddl_task.specs.Types.{root, says_nothing, types_of, pairs, is_under, is_subtype, is_cyclic, fits};
+ghost use Rattle.pddl_task.specs.Types.{says_nothing, types_of, pairs, is_under, is_subtype, is_cyclic, fits};
 ghost use Rattle.pddl_task.specs.Faults.{primitives_of, first_alone};
 ghost use Rattle.pddl_faults.specs.Passes.{Passes};
-ghost use Rattle.pddl_forest.specs.Rounds.{AreOffRounds};
 ghost use Rattle.pddl_types.specs.KnownNames.{object_in};
 ghost use Rattle.pddl_types.specs.ObjectCounts.{AreCountsOf, AddUp};
-ghost use Rattle.pddl_types.specs.TypeTables.{IsTableOf, IsTypeTable, AreNumbered, with_name, name_at, parent_place, climbs};
 
 use crate::known::Objects;
-use crate::near::{NOWHERE, is_at, place_at, place_in};
+use crate::near::{NOWHERE, place_at, place_in};
 use crate::slot_tops::Top;
 use crate::tops::tops;
 use crate::type_counts::{TypeCounts, places_of, type_counts};
+use crate::type_table::{Places, climbs, parent_table, places_of_parents};
 use indexmap::IndexMap;
 use pddl_domain::DeclaredType;
 use pddl_faults::{Hashed, LinkFault};
-use pddl_forest::{Preorder, off_rounds};
 use pddl_formula::{TypeName, TypeNames, TypedList};
 use std::alloc::{AllocError, Allocator};
 use std::marker::Model;
-
-/// What is told of the places of a table by their parents.
-#[derive(Drop)]
-struct Places<'a, B: Allocator> {
-    /// The places in pre-order, where all are below `object`.
-    order: Option<Preorder<'a, B>>,
-    /// Else a number for each place, other than 0 only where no way from parent to parent leads back to it.
-    off_rounds: Vec<usize, &'a B>,
-}
 
 /// The types of a domain, each with the place of its parent in the table; `object` is at place 0, and is its own parent where no
 /// other is declared. Where all are below `object`, as in each domain without a cycle, their places are numbered in pre-order, and what is under what
@@ -59,191 +48,6 @@ impl<'m, 'a, A: Allocator, B: Allocator> Model for Types<'m, 'a, A, B> {
 
     ghost invariant = { λ t. IsTypeTable (map type_view t.declared.now) t.parents.entries × AreNumbered t.parents.entries t.places.order
         × AreOffRounds (map (λ r. r.1) t.parents.entries) t.places.off_rounds.items };
-}
-
-/// The place of a type in the table; it is put there under `object` where it does not stand yet.
-fn place_of<'m, 'a, B: Allocator>(
-    parents: &mut IndexMap<&'m [u8], usize, Hashed, &'a B>,
-    name: &'m [u8],
-) -> Result<usize, AllocError>
-    ensures rows { OnOk result (parents.new.entries ≡ with_name parents.old.entries name.entry) }
-    ensures place { IfOk result (λ place. place < length parents.new.entries) }
-    ensures named { IfOk result (λ place. name_at parents.new.entries place ≡ name.now) }
-{
-    match parents.get_index_of(name) {
-        Some(place) => Ok(place),
-        None => {
-            let (place, _) = parents.insert_full(name, 0)?;
-            Ok(place)
-        }
-    }
-}
-
-/// [`place_of`], which looks first at a place that is near.
-fn place_near<'m, 'a, B: Allocator>(
-    parents: &mut IndexMap<&'m [u8], usize, Hashed, &'a B>,
-    near: usize,
-    name: &'m [u8],
-) -> Result<usize, AllocError>
-    ensures rows { OnOk result (parents.new.entries ≡ with_name parents.old.entries name.entry) }
-    ensures place { IfOk result (λ place. place < length parents.new.entries) }
-    ensures named { IfOk result (λ place. name_at parents.new.entries place ≡ name.now) }
-{
-    if is_at(parents, near, name) {
-        Ok(near)
-    } else {
-        place_of(parents, name)
-    }
-}
-
-/// Puts each declared type under `object`.
-fn put_under_object<'m, 'a, A: Allocator, B: Allocator>(
-    parents: &mut IndexMap<&'m [u8], usize, Hashed, &'a B>,
-    declared: &'m [DeclaredType<A>],
-) -> Result<(), AllocError>
-    requires { IsTableOf (root ∷ []) [] parents.old.entries }
-    ensures { OnOk result (IsTableOf (root ∷ map item_of (map type_view declared.now)) [] parents.new.entries) }
-{
-    for declared_type in declared {
-        parents.insert(declared_type.name.as_bytes(), 0)?;
-    }
-    Ok(())
-}
-
-/// Puts each declared type under its parent, which is looked for first where the parent of the one before was found.
-fn put_under_parents<'m, 'a, A: Allocator, B: Allocator>(
-    parents: &mut IndexMap<&'m [u8], usize, Hashed, &'a B>,
-    declared: &'m [DeclaredType<A>],
-) -> Result<(), AllocError>
-    requires once { repeated [] (map item_of (map type_view declared.now)) ≡ [] }
-    requires table { IsTableOf (root ∷ map item_of (map type_view declared.now)) [] parents.old.entries }
-    ensures { OnOk result (IsTypeTable (map type_view declared.now) parents.new.entries) }
-{
-    let mut near = 0;
-    for declared_type in declared {
-        let place = place_near(parents, near, declared_type.parent.as_bytes())?;
-        parents.insert(declared_type.name.as_bytes(), place)?;
-        near = place;
-    }
-    Ok(())
-}
-
-/// The table of declared types, each with the place of its parent.
-///
-/// Fails where memory for it is refused.
-fn parent_table<'m, 'a, A: Allocator, B: Allocator>(
-    alloc: &'a B,
-    declared: &'m [DeclaredType<A>],
-) -> Result<IndexMap<&'m [u8], usize, Hashed, &'a B>, AllocError>
-    requires { repeated [] (map item_of (map type_view declared.now)) ≡ [] }
-    ensures { IfOk result (λ parents. IsTypeTable (map type_view declared.now) parents.entries) }
-{
-    let mut parents: IndexMap<&'m [u8], usize, Hashed, &'a B> = IndexMap::new(alloc);
-    parents.insert(b"object".as_slice(), 0)?;
-    put_under_object(&mut parents, declared)?;
-    put_under_parents(&mut parents, declared)?;
-    Ok(parents)
-}
-
-/// The place of the parent of the type at a place.
-fn parent_of<'m, 'a, B: Allocator>(
-    parents: &IndexMap<&'m [u8], usize, Hashed, &'a B>,
-    place: usize,
-) -> usize
-    ensures { result ≡ parent_place parents.now.entries place }
-{
-    match parents.get_index(place) {
-        Some((_, parent)) => *parent,
-        None => place,
-    }
-}
-
-/// The places of the parents, in the table's order.
-///
-/// Fails where memory for them is refused.
-fn parent_places<'m, 'a, B: Allocator>(
-    alloc: &'a B,
-    parents: &IndexMap<&'m [u8], usize, Hashed, &'a B>,
-) -> Result<Vec<usize, &'a B>, AllocError>
-    ensures { IfOk result (λ places. places.items ≡ map (λ r. r.1) parents.now.entries) }
-{
-    let mut places = Vec::with_capacity(alloc, parents.len())?;
-    for place in 0..parents.len() {
-        places.push(parent_of(parents, place))?;
-    }
-    Ok(places)
-}
-
-/// The places of a table, numbered where all are below `object`.
-///
-/// Fails where memory for the numbers is refused.
-fn numbered<'m, 'a, B: Allocator>(
-    alloc: &'a B,
-    parents: &IndexMap<&'m [u8], usize, Hashed, &'a B>,
-) -> Result<Option<Preorder<'a, B>>, AllocError>
-    ensures { IfOk result (λ order. AreNumbered parents.now.entries order) }
-{
-    let places = parent_places(alloc, parents)?;
-    Preorder::of(alloc, places)
-}
-
-/// Numbers for the places of a table that is not numbered, other than 0 only where no way from parent to parent leads back to the place; none where it
-/// is numbered.
-///
-/// Fails where memory for them is refused.
-fn places_off_rounds<'m, 'a, B: Allocator>(
-    alloc: &'a B,
-    parents: &IndexMap<&'m [u8], usize, Hashed, &'a B>,
-    is_numbered: bool,
-) -> Result<Vec<usize, &'a B>, AllocError>
-    ensures { IfOk result (λ numbers. AreOffRounds (map (λ r. r.1) parents.now.entries) numbers.items) }
-{
-    if is_numbered {
-        return Ok(Vec::new(alloc));
-    }
-    let places = parent_places(alloc, parents)?;
-    off_rounds(alloc, &places)
-}
-
-/// What is told of the places of a table.
-///
-/// Fails where memory for it is refused.
-fn places_of_parents<'m, 'a, B: Allocator>(
-    alloc: &'a B,
-    parents: &IndexMap<&'m [u8], usize, Hashed, &'a B>,
-) -> Result<Places<'a, B>, AllocError>
-    ensures order { IfOk result (λ places. AreNumbered parents.now.entries places.order) }
-    ensures off_rounds { IfOk result (λ places. AreOffRounds (map (λ r. r.1) parents.now.entries) places.off_rounds.items) }
-{
-    let order = numbered(alloc, parents)?;
-    let off_rounds = places_off_rounds(alloc, parents, order.is_some())?;
-    Ok(Places { order, off_rounds })
-}
-
-/// Whether one place is come to from another, from parent to parent.
-fn climbs<'m, 'a, B: Allocator>(
-    parents: &IndexMap<&'m [u8], usize, Hashed, &'a B>,
-    from: usize,
-    to: usize,
-) -> bool
-    ensures { result ≡ climbs parents.now.entries (length parents.now.entries) from to }
-{
-    let mut place = from;
-    for _step in 0..parents.len() {
-        if place == to {
-            return true;
-        }
-        match parents.get_index(place) {
-            Some((_, parent)) => {
-                if *parent == place {
-                    return false;
-                }
-                place = *parent;
-            }
-            None => return false,
-        }
-    }
-    place == to
 }
 
 /// Whether what is declared is `object` under `object`.

@@ -2,7 +2,7 @@ use Rattle.std.proofs.Common.{List, [], ◌∷◌, sym, ap, ◌∙◌, subst}
 use Rattle.pddl_task.specs.Types.{root}
 use Rattle.pddl_types.specs.TypeTables.{Row, IsTableOf}
 use Rattle.pddl_types.proofs.TypeTables.{put, root_alone}
-use Rattle.pddl_types.proofs.types.parent_table.Goals as goal
+use Rattle.pddl_types.proofs.type_table.parent_table.Goals as goal
 
 pub put_under_object-requires : goal.put_under_object-requires
 put_under_object-requires g c =

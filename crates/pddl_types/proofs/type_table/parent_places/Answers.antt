@@ -1,7 +1,7 @@
 use Rattle.std.proofs.Common.{ap, ◌∙◌, arith}
 use Rattle.std.proofs.lemmas.List.{take_all}
 use Rattle.pddl_types.proofs.TypeForests.{parents_in, next_parent}
-use Rattle.pddl_types.proofs.types.parent_places.Goals as goal
+use Rattle.pddl_types.proofs.type_table.parent_places.Goals as goal
 
 pub loop-place-preserved : goal.loop-place-preserved
 loop-place-preserved g c =

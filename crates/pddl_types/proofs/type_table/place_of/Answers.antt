@@ -1,6 +1,6 @@
 use Rattle.std.proofs.Common.{sym}
 use Rattle.pddl_types.proofs.TypeLookups.{found_place, with_found, with_new, new_place}
-use Rattle.pddl_types.proofs.types.place_of.Goals as goal
+use Rattle.pddl_types.proofs.type_table.place_of.Goals as goal
 
 pub returns-in-Some-clause-rows : goal.returns-in-Some-clause-rows
 returns-in-Some-clause-rows g c = with_found c.args.parents.now.entries c.args.name c.in-Some.place (sym c.in-Some.ensures.index)

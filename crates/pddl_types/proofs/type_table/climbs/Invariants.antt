@@ -1,6 +1,6 @@
 use Rattle.std.proofs.Common.{◌≡◌, ◌-◌, length}
 use Rattle.pddl_types.specs.TypeTables.{climbs}
-use Rattle.pddl_types.proofs.types.climbs.Given as goal
+use Rattle.pddl_types.proofs.type_table.climbs.Given as goal
 
 -- what is left of the climb comes to the place if the whole does
 abbrev pub invariant-loop-step : goal.invariant-loop-step

@@ -1,5 +1,5 @@
 use Rattle.std.proofs.Common.{◌≡◌, map, take}
-use Rattle.pddl_types.proofs.types.parent_places.Given as goal
+use Rattle.pddl_types.proofs.type_table.parent_places.Given as goal
 
 -- the places of the parents of the types so far
 abbrev pub invariant-loop-place : goal.invariant-loop-place

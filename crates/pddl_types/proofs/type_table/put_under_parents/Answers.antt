@@ -1,7 +1,7 @@
 use Rattle.std.proofs.Common.{◌∙◌}
 use Rattle.pddl_domain.specs.Declarations.{type_view}
 use Rattle.pddl_types.proofs.TypesTold.{told_next}
-use Rattle.pddl_types.proofs.types.put_under_parents.Goals as goal
+use Rattle.pddl_types.proofs.type_table.put_under_parents.Goals as goal
 
 pub loop-declared_type-preserved : goal.loop-declared_type-preserved
 loop-declared_type-preserved g c =

@@ -1,7 +1,7 @@
 use Rattle.std.proofs.Common.{◌-◌, length, ◌∙◌, arith}
 use Rattle.pddl_types.specs.TypeTables.{climbs}
 use Rattle.pddl_types.proofs.TypeClimbs.{goes_on, ends, climb_ends, climb_next}
-use Rattle.pddl_types.proofs.types.climbs.Goals as goal
+use Rattle.pddl_types.proofs.type_table.climbs.Goals as goal
 
 pub returns-then-parent-place : goal.returns-then-parent-place
 returns-then-parent-place g c =
