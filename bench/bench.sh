@@ -4,7 +4,7 @@
 # memory of `format` on plans of many short steps and of many long ones, beside those of plain Rust; of `domain` and `problem` on
 # files that link, beside those of `format`, which reads and prints them; of `plan` on valid plans, beside those of the same work
 # in plain Rust; and of `plan` alone on actions that quantify over very many variables, and of `serial` beside `plan`. Among
-# those that link are files with an `either` of all of many types; types below one with a long name; slots and variables before an `either` of many types; types above themselves, on a long chain, are refused. Each figure is that of the best of five runs. Wants GNU time,
+# those that link are files with an `either` of all of many types, and a variable of it that is spoken of often; types below one with a long name; slots and variables before an `either` of many types; types above themselves, on a long chain, are refused. Each figure is that of the best of five runs. Wants GNU time,
 # Python 3 and rustc.
 here=$(cd "$(dirname "$0")" && pwd) || exit 1
 "$here/../pddlcheck" --help >/dev/null || exit 1
@@ -85,6 +85,13 @@ for count in 5000 20000; do
     python3 "$here/files.py" eithers "$count" >"$folder/domain" || exit 1
     python3 "$here/files.py" facts "$count" >"$folder/file" || exit 1
     printf '%-24s %8d  %s   %s\n' "problem, $count types" "$(cat "$folder/domain" "$folder/file" | wc -c)" \
+        "$(seconds "$program" format problem "$folder/file")" "$(seconds "$program" problem "$folder/domain" "$folder/file")"
+done
+
+for count in 500 2000; do
+    python3 "$here/files.py" eithers "$count" >"$folder/domain" || exit 1
+    python3 "$here/files.py" spoken "$count" >"$folder/file" || exit 1
+    printf '%-24s %8d  %s   %s\n' "problem, spoken of $count" "$(cat "$folder/domain" "$folder/file" | wc -c)" \
         "$(seconds "$program" format problem "$folder/file")" "$(seconds "$program" problem "$folder/domain" "$folder/file")"
 done
 

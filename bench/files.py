@@ -5,12 +5,12 @@ A plan has steps with three objects each: plain, timed, or with a comment before
 actions; a problem has many objects and a long `:init`.
 
 Usage: files.py plain|timed|comments|domain|problem MIB
-       files.py actions|items|parameters|variables|eithers|facts|seen|ring|below|slots|short|long N
+       files.py actions|items|parameters|variables|eithers|facts|spoken|seen|ring|below|slots|short|long N
 
 The second form makes a domain with so many actions, or a problem of it with so many items in `:init` and two objects for each five of them: these link.
 So do a domain with an action of so many parameters, and a problem of it whose goal quantifies over so many variables of a type with one object, beside
 twice as many others; each variable is spoken of once. So do a domain of so many types with a slot and a parameter of an `either` of them all, a problem of it with an object
-of each and three facts for each, and a valid plan of a step for each. So do so many types below one whose name has five letters for each of them, and
+of each and three facts for each, one whose goal speaks thirty times as often of a variable of that `either`, and a valid plan of a step for each. So do so many types below one whose name has five letters for each of them, and
 so many types with a predicate of as many slots, and a quantifier of as many variables, each list before one `either` of them all. So many types in a chain, the last two of which are above themselves, do not. Or it makes a plan of so many steps, each with two objects of few letters, or with eight of many.
 """
 import itertools
@@ -139,6 +139,11 @@ def many_facts(count):
     return f"(define (problem eithers-1)\n  (:domain eithers)\n  (:objects\n{objects})\n  (:init\n{facts})\n  (:goal (near o0 o0)))\n"
 
 
+def much_spoken(count):
+    return (f"(define (problem eithers-2)\n  (:domain eithers)\n  (:init)\n  (:goal (forall (?v - (either {numbered('t#', count)}))\n"
+            f"    (and {'(open ?v) (near ?v ?v) ' * (10 * count)}))))\n")
+
+
 def many_seen(count):
     return "".join(f"(see o{number})\n" for number in range(count))
 
@@ -174,6 +179,7 @@ COUNTED = {
     "variables": many_variables,
     "eithers": many_types,
     "facts": many_facts,
+    "spoken": much_spoken,
     "seen": many_seen,
     "ring": ring_of_types,
     "below": types_below,

@@ -61,7 +61,7 @@ fn layouts(rt: HostRuntime) -> Result<(), Fail> {
 
 #[test]
 fn problems(rt: HostRuntime) -> Result<(), Fail> {
-    all_hold(&rt, rows::PROBLEMS, 58)
+    all_hold(&rt, rows::PROBLEMS, 59)
 }
 
 #[test]
@@ -91,7 +91,7 @@ fn tasks(rt: HostRuntime) -> Result<(), Fail> {
 
 #[test]
 fn terms(rt: HostRuntime) -> Result<(), Fail> {
-    all_hold(&rt, rows::TERMS, 36)
+    all_hold(&rt, rows::TERMS, 44)
 }
 
 #[test]

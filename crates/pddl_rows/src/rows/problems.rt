@@ -364,13 +364,25 @@ once good problem
 
 row a variable of an either of many types that is spoken of very often
 part (define (domain d) (:types
-series 100  t#0
+series 1000  t#0
 part ) (:predicates (p ?x - (either
-series 100  t#0
-file ))))
+series 1000  t#0
+file )) (q ?x)))
 part (define (problem p) (:domain d) (:init) (:goal (forall (?v - (either
-series 100  t#0
+series 1000  t#0
 part )) (and
+times 10000  (p ?v) (q ?v)
+file ))))
+| good: problem p
+once good problem
+
+row a variable of a type with a long name that is spoken of very often
+part (define (domain d) (:types a
+times 100000 e
+file ) (:predicates (p ?x)))
+part (define (problem p) (:domain d) (:init) (:goal (forall (?v - a
+times 100000 e
+part ) (and
 times 20000  (p ?v)
 file ))))
 | good: problem p

@@ -161,4 +161,70 @@ copy bare
 file
 | link: fault 28 ArgumentType f
 refused problem
+
+# A variable of an either fits a slot whichever way round its types stand, and each of them is looked at.
+part (define (domain d) (:types e - b a b c) (:predicates (p ?x - (either a b c)) (q ?x) (r ?x - (either c b)) (s ?x - b))
+keep eithers
+
+row terms 19
+copy eithers
+part  (:action n :parameters (?x - (either c e a) ?y ?z - (either e c) ?w - e)
+file  :precondition (and (p ?x) (q ?x) (p ?y) (q ?y) (r ?y) (p ?z) (r ?z) (p ?w) (q ?w) (r ?w) (s ?w))))
+| good: domain d
+good domain
+
+row terms 20
+copy eithers
+file  (:action n :parameters (?x ?y - (either c e a)) :precondition (and (p ?x) (q ?y) (r ?y))))
+| link: fault 28 ArgumentType r
+refused domain
+copy bare
+file
+| link: fault 28 ArgumentType r
+refused problem
+
+row terms 21
+copy eithers
+file  (:action n :parameters (?x - e ?y ?z - (either e c)) :precondition (and (s ?x) (r ?z) (s ?z))))
+| link: fault 28 ArgumentType s
+refused domain
+copy bare
+file
+| link: fault 28 ArgumentType s
+refused problem
+
+# Of many variables each has the type of its own group.
+row terms 22
+growths 20
+copy eithers
+part  (:action n :parameters (
+series 10 ?a#0
+part  - a
+series 10 ?b#0
+part  - (either c e)
+series 10 ?e#0
+part  - e) :precondition (and
+series 10 (p ?a#0) (r ?b#0) (s ?e#0)
+file )))
+| good: domain d
+good domain
+
+row terms 23
+growths 20
+copy eithers
+part  (:action n :parameters (
+series 10 ?a#0
+part  - e
+series 10 ?b#0
+part  - (either e c)
+series 10 ?e#0
+part  - a) :precondition (and
+series 10 (s ?a#0) (r ?b#0) (p ?e#0)
+file  (s ?e9))))
+| link: fault 28 ArgumentType s
+refused domain
+copy bare
+file
+| link: fault 28 ArgumentType s
+refused problem
 ";
