@@ -23,7 +23,7 @@ pub(crate) fn some_costless<'f, 'c, C: Allocator>(
     ensures { IfOk result (λ yes. yes ≡ some_cost (change_view change.now) (is_unpriced (price_in prices.now)) (frame_view frame.now)) }
 {
     match change {
-        Change::And(parts) => Ok(some_costless_in(prices, parts, &*frame, call)?),
+        Change::And(parts) => some_costless_in(prices, parts, frame, call),
         Change::Forall(range, inner) => {
             for object in range {
                 let bound = Frame::Bound(*object, &*frame);
@@ -33,7 +33,7 @@ pub(crate) fn some_costless<'f, 'c, C: Allocator>(
             }
             Ok(false)
         }
-        Change::When(_, inner) => Ok(some_costless(prices, inner, &*frame, call)?),
+        Change::When(_, inner) => some_costless(prices, inner, frame, call),
         Change::Add(_, _) => Ok(false),
         Change::Del(_, _) => Ok(false),
         Change::Increase(function, places) => {
