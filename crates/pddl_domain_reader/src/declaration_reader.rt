@@ -1,21 +1,26 @@
 //! Declarations read from items.
 
-ghost use Rattle.std.specs.Prelude.{◌≡◌, ◌∷◌, ◌++◌, [], IfOk, OnOk, Some, codes, map, option_map};
+ghost use Rattle.std.specs.Prelude.{◌≡◌, ◌∷◌, ◌++◌, [], false, Err, IsTrue, IfOk, OnOk, MatchResult, Some, codes, map, option_map};
+ghost use Rattle.std.specs.Bool.{then_some};
 ghost use Rattle.pddl_tree.specs.ItemTrees.{item_tree, item_trees};
 ghost use Rattle.pddl_tree.specs.Inner.TreeReading.{all_of};
 ghost use Rattle.pddl_formula.specs.TypedLists.{of_type};
+ghost use Rattle.pddl_formula_reader.specs.Inner.Reading.{type_name_at, type_at, typed_from};
 ghost use Rattle.pddl_domain.specs.Declarations.{number, type_view, predicate_view, function_view};
 ghost use Rattle.pddl_domain_reader.specs.Inner.Signatures.{signature_view};
 ghost use Rattle.pddl_domain_reader.specs.Inner.DomainReading.{predicate_of_list, predicate_signature_at, function_of_list, function_signature_at, types_of, functions_of};
 
+use pddl_build::{list_if_right, push_found};
 use pddl_domain::{DeclaredFunction, DeclaredPredicate, DeclaredType};
 use pddl_formula::{TypeName, TypeNames, TypedList};
 use pddl_formula_reader::{
-    is_dash, name_of, predicate_of, type_name_of, type_of, typed_variables_of,
+    is_dash, name_of, predicate_of, type_called, type_name_called, type_name_of, type_of,
+    typed_variables_of,
 };
 use pddl_text::Item;
 use pddl_token::Name;
 use std::alloc::{AllocError, Allocator};
+use std::mem::replace;
 use std::rc::Rc;
 
 /// A function and its parameters, before the type of its result is known.
@@ -109,21 +114,6 @@ fn signature_of<'a, B: Allocator>(
     }
 }
 
-/// The type of a result without one.
-fn number_type<'a, B: Allocator>(alloc: &'a B) -> Result<Option<TypeNames<&'a B>>, AllocError>
-    ensures { IfOk result (λ found. found ≡ Some number) }
-{
-    let Some(name) = Name::new(alloc, b"number")? else {
-        return Ok(None);
-    };
-    let Some(name) = TypeName::new(name) else {
-        return Ok(None);
-    };
-    let mut names = Vec::with_capacity(alloc, 1)?;
-    names.push(name)?;
-    TypeNames::new(alloc, names)
-}
-
 /// Adds functions, which share the type of their results.
 fn add_sharing<A: Allocator>(
     found: &mut Vec<DeclaredFunction<A>, A>,
@@ -144,15 +134,59 @@ fn add_sharing<A: Allocator>(
     Ok(())
 }
 
-/// Adds the functions of a group, with the type of their results.
+/// Adds the functions of a group, with the type of their results, if there is one; true exactly where there is one, and then the next group, which is empty,
+/// stands in its place.
+///
+/// Fails as the type failed, and where memory for the functions is refused.
 fn add_functions<A: Allocator>(
     found: &mut Vec<DeclaredFunction<A>, A>,
-    group: Vec<Signature<A>, A>,
-    types: TypeNames<A>,
-) -> Result<(), AllocError>
-    ensures { OnOk result (map function_view found.new.items ≡ map function_view found.old.items ++ of_type (map signature_view group.items) types) }
+    group: &mut Vec<Signature<A>, A>,
+    next: Vec<Signature<A>, A>,
+    types: Result<Option<TypeNames<A>>, AllocError>,
+) -> Result<bool, AllocError>
+    requires { next.items ≡ [] }
+    ensures typed { MatchResult types
+        (λ type. IfOk result (λ right. then_some right (map function_view found.new.items) ≡ option_map (λ t. map function_view found.old.items ++ of_type (map signature_view group.old.items) t) type))
+        (λ e. result ≡ Err e) }
+    ensures group { IfOk result (λ right. IsTrue right → group.new.items ≡ []) }
 {
-    add_sharing(found, group, &types)
+    let Some(types) = types? else {
+        return Ok(false);
+    };
+    add_sharing(found, replace(group, next), &types)?;
+    Ok(true)
+}
+
+/// Adds the functions that some items declare, behind a group whose results have no type yet; true exactly where they declare some.
+fn add_declared_functions<'a, B: Allocator>(
+    alloc: &'a B,
+    found: &mut Vec<DeclaredFunction<&'a B>, &'a B>,
+    group: &mut Vec<Signature<&'a B>, &'a B>,
+    items: &[Item<'_, &'a B>],
+) -> Result<bool, AllocError>
+    ensures { IfOk result (λ right. then_some right (map function_view found.new.items)
+        ≡ typed_from function_signature_at type_at number (map function_view found.old.items) (map signature_view group.old.items) false (item_trees items.now)) }
+{
+    let mut after_dash = false;
+    for item in items {
+        if after_dash {
+            if !add_functions(found, group, Vec::new(alloc), type_of(alloc, item))? {
+                return Ok(false);
+            }
+            after_dash = false;
+        } else if is_dash(item) {
+            if group.len() == 0 {
+                return Ok(false);
+            }
+            after_dash = true;
+        } else if !push_found(group, signature_of(alloc, item))? {
+            return Ok(false);
+        }
+    }
+    if after_dash {
+        return Ok(false);
+    }
+    add_functions(found, group, Vec::new(alloc), type_called(alloc, b"number"))
 }
 
 /// The functions that some items declare, with the types of their results.
@@ -164,45 +198,8 @@ pub fn declared_functions_of<'a, B: Allocator>(
 {
     let mut found = Vec::new(alloc);
     let mut group = Vec::new(alloc);
-    let mut after_dash = false;
-    for item in items {
-        if after_dash {
-            let Some(types) = type_of(alloc, item)? else {
-                return Ok(None);
-            };
-            add_functions(&mut found, group, types)?;
-            group = Vec::new(alloc);
-            after_dash = false;
-        } else if is_dash(item) {
-            if group.len() == 0 {
-                return Ok(None);
-            }
-            after_dash = true;
-        } else {
-            let Some(signature) = signature_of(alloc, item)? else {
-                return Ok(None);
-            };
-            group.push(signature)?;
-        }
-    }
-    if after_dash {
-        return Ok(None);
-    }
-    let Some(types) = number_type(alloc)? else {
-        return Ok(None);
-    };
-    add_functions(&mut found, group, types)?;
-    Ok(Some(found))
-}
-
-/// The parent of a type without one.
-fn object_name<'a, B: Allocator>(alloc: &'a B) -> Result<Option<TypeName<&'a B>>, AllocError>
-    ensures { IfOk result (λ found. found ≡ Some (codes "object")) }
-{
-    let Some(name) = Name::new(alloc, b"object")? else {
-        return Ok(None);
-    };
-    Ok(TypeName::new(name))
+    let right = add_declared_functions(alloc, &mut found, &mut group, items);
+    list_if_right(found, right)
 }
 
 /// Adds types, which share their parent.
@@ -220,17 +217,73 @@ fn add_below<A: Allocator>(
     Ok(())
 }
 
-/// Adds the types of a group, with their parent.
+/// Adds the types of a group, with their parent, if there is one; true exactly where there is one, and then the next group, which is empty, stands in its
+/// place.
+///
+/// Fails as the parent failed, and where memory for the types is refused.
 fn add_types<'a, B: Allocator>(
     alloc: &'a B,
     found: &mut Vec<DeclaredType<&'a B>, &'a B>,
-    group: Vec<TypeName<&'a B>, &'a B>,
-    parent: TypeName<&'a B>,
-) -> Result<(), AllocError>
-    ensures { OnOk result (map type_view found.new.items ≡ map type_view found.old.items ++ of_type group.entry.items parent.entry) }
+    group: &mut Vec<TypeName<&'a B>, &'a B>,
+    next: Vec<TypeName<&'a B>, &'a B>,
+    parent: Result<Option<TypeName<&'a B>>, AllocError>,
+) -> Result<bool, AllocError>
+    requires { next.items ≡ [] }
+    ensures typed { MatchResult parent.entry
+        (λ type. IfOk result (λ right. then_some right (map type_view found.new.items) ≡ option_map (λ t. map type_view found.old.items ++ of_type group.old.items t) type))
+        (λ e. result ≡ Err e) }
+    ensures group { IfOk result (λ right. IsTrue right → group.new.items ≡ []) }
 {
+    let Some(parent) = parent? else {
+        return Ok(false);
+    };
     let parent = Rc::new(alloc, parent)?;
-    add_below(found, group, &parent)
+    add_below(found, replace(group, next), &parent)?;
+    Ok(true)
+}
+
+/// Adds the types that some items declare, behind a group that has no parent yet; true exactly where they declare some.
+fn add_declared_types<'a, B: Allocator>(
+    alloc: &'a B,
+    found: &mut Vec<DeclaredType<&'a B>, &'a B>,
+    group: &mut Vec<TypeName<&'a B>, &'a B>,
+    items: &[Item<'_, &'a B>],
+) -> Result<bool, AllocError>
+    ensures { IfOk result (λ right. then_some right (map type_view found.new.items)
+        ≡ typed_from type_name_at type_name_at (codes "object") (map type_view found.old.items) group.old.items false (item_trees items.now)) }
+{
+    let mut after_dash = false;
+    for item in items {
+        if after_dash {
+            if !add_types(
+                alloc,
+                found,
+                group,
+                Vec::new(alloc),
+                type_name_of(alloc, item),
+            )? {
+                return Ok(false);
+            }
+            after_dash = false;
+        } else if is_dash(item) {
+            if group.len() == 0 {
+                return Ok(false);
+            }
+            after_dash = true;
+        } else if !push_found(group, type_name_of(alloc, item))? {
+            return Ok(false);
+        }
+    }
+    if after_dash {
+        return Ok(false);
+    }
+    add_types(
+        alloc,
+        found,
+        group,
+        Vec::new(alloc),
+        type_name_called(alloc, b"object"),
+    )
 }
 
 /// The types that some items declare, with their parents.
@@ -242,33 +295,6 @@ pub fn declared_types_of<'a, B: Allocator>(
 {
     let mut found = Vec::new(alloc);
     let mut group = Vec::new(alloc);
-    let mut after_dash = false;
-    for item in items {
-        if after_dash {
-            let Some(parent) = type_name_of(alloc, item)? else {
-                return Ok(None);
-            };
-            add_types(alloc, &mut found, group, parent)?;
-            group = Vec::new(alloc);
-            after_dash = false;
-        } else if is_dash(item) {
-            if group.len() == 0 {
-                return Ok(None);
-            }
-            after_dash = true;
-        } else {
-            let Some(name) = type_name_of(alloc, item)? else {
-                return Ok(None);
-            };
-            group.push(name)?;
-        }
-    }
-    if after_dash {
-        return Ok(None);
-    }
-    let Some(parent) = object_name(alloc)? else {
-        return Ok(None);
-    };
-    add_types(alloc, &mut found, group, parent)?;
-    Ok(Some(found))
+    let right = add_declared_types(alloc, &mut found, &mut group, items);
+    list_if_right(found, right)
 }

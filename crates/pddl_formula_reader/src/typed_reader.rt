@@ -2,10 +2,10 @@
 
 ghost use Rattle.std.specs.Prelude.{◌≡◌, [], ◌∷◌, ◌++◌, false, IsTrue, IfOk, OnOk, Err, MatchResult, Some, map, option_map, option_and_then};
 ghost use Rattle.std.specs.Bool.{then_some};
-ghost use Rattle.pddl_token.specs.Names.{folded};
+ghost use Rattle.pddl_token.specs.Names.{folded, name_of as name_in};
 ghost use Rattle.pddl_tree.specs.ItemTrees.{item_tree, item_trees};
 ghost use Rattle.pddl_tree.specs.Inner.TreeReading.{all_of, is_word_at, is_keyword_at, is_dash};
-ghost use Rattle.pddl_formula.specs.Reserved.{type_of};
+ghost use Rattle.pddl_formula.specs.Reserved.{type_of, type_name_of};
 ghost use Rattle.pddl_formula.specs.TypedLists.{object, typed_view, of_type};
 ghost use Rattle.pddl_formula_reader.specs.Inner.Reading.{type_name_at, either_of, type_at, typed_from, typed_list, typed_names, typed_variables, variables_at};
 ghost use Rattle.pddl_formula_reader.specs.Inner.Sorts.{item_at};
@@ -170,14 +170,31 @@ pub fn type_of<'a, B: Allocator>(
     }
 }
 
-/// The type of an item without one.
-fn object_type<'a, B: Allocator>(alloc: &'a B) -> Result<Option<TypeNames<&'a B>>, AllocError>
-    ensures { IfOk result (λ found. found ≡ Some object) }
+/// The primitive type of this name, or `None` where it may not be one.
+///
+/// Fails where memory for the name is refused.
+pub fn type_name_called<'a, B: Allocator>(
+    alloc: &'a B,
+    name: &[u8],
+) -> Result<Option<TypeName<&'a B>>, AllocError>
+    ensures { IfOk result (λ found. found ≡ option_and_then type_name_of (name_in name.now)) }
 {
-    let Some(name) = Name::new(alloc, b"object")? else {
+    let Some(name) = Name::new(alloc, name)? else {
         return Ok(None);
     };
-    let Some(name) = TypeName::new(name) else {
+    Ok(TypeName::new(name))
+}
+
+/// The type of one primitive type of this name, or `None` where it may not be one.
+///
+/// Fails where memory for the type is refused.
+pub fn type_called<'a, B: Allocator>(
+    alloc: &'a B,
+    name: &[u8],
+) -> Result<Option<TypeNames<&'a B>>, AllocError>
+    ensures { IfOk result (λ found. found ≡ option_map (λ n. n ∷ []) (option_and_then type_name_of (name_in name.now))) }
+{
+    let Some(name) = type_name_called(alloc, name)? else {
         return Ok(None);
     };
     single(alloc, name)
@@ -250,7 +267,7 @@ fn add_typed_list<'a, B: Allocator>(
     if after_dash {
         return Ok(false);
     }
-    add_typed(found, group, Vec::new(alloc), object_type(alloc))
+    add_typed(found, group, Vec::new(alloc), type_called(alloc, b"object"))
 }
 
 /// The typed list of this sort that some items are.

@@ -62,4 +62,4 @@ pub returns : goal.returns
 returns g c =
     let l = c.loop-item in
     rw (← end_done (item_at c.args.sort) type_at object c.args.items.now l.item-index (omega arith) _ _ _ (rw c.if-after_dash-2.false at l.invariant))
-    (added_last (map typed_view l.found.items) (map typed_view c.add_typed-2.new.found.items) l.group.items c.object_type.result c.add_typed-2.result object c.object_type.ensures c.add_typed-2.ensures.typed)
+    (added_last (map typed_view l.found.items) (map typed_view c.add_typed-2.new.found.items) l.group.items c.type_called.result c.add_typed-2.result object c.type_called.ensures c.add_typed-2.ensures.typed)
