@@ -11,7 +11,6 @@ mod task;
 pub use check::check_domain;
 pub use linked::link;
 pub use pddl_faults::{Hashed, LinkFault};
-pub use pddl_types::{
-    FittingCount, FunctionNumbers, SlotTops, action_ground_size, effect_ground_size, ground_size,
-};
+pub use pddl_sizes::{FittingCount, action_ground_size, effect_ground_size, ground_size};
+pub use pddl_types::{FunctionNumbers, SlotTops};
 pub use task::Task;

@@ -24,7 +24,8 @@ use pddl_names::{
 };
 use pddl_problem::Problem;
 use pddl_search::{Values, domain_name};
-use pddl_types::{ObjectCounts, ObjectPlaces, Objects, TypeCounts, Types};
+use pddl_sizes::{ObjectCounts, ObjectPlaces, goal_size};
+use pddl_types::{Objects, TypeCounts, Types};
 use std::alloc::{AllocError, Allocator};
 
 /// The lowest fault of types and names in a domain and a problem, whose constants and objects are added to none.
@@ -103,9 +104,10 @@ fn look_at_uses<'t, 'm, 'a, A: Allocator, B: Allocator>(
         counts,
     };
     let used = look_at_domain_uses(alloc, &inner, domain);
+    let size = goal_size(&counts, domain, problem);
     lower(
         used,
-        look_at_problem_uses(alloc, &outer, &counts, values, domain, problem),
+        look_at_problem_uses(alloc, &outer, size, values, domain, problem),
     )
 }
 

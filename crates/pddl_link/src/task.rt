@@ -17,11 +17,9 @@ use pddl_formula::{Formula, TypeNames};
 use pddl_names::Declared;
 use pddl_problem::Problem;
 use pddl_search::{Ground, Values};
+use pddl_sizes::{ObjectCounts, ObjectPlaces, action_ground_size, fitting_objects, ground_size};
 use pddl_token::Name;
-use pddl_types::{
-    FunctionNumbers, ObjectCounts, ObjectPlaces, Objects, SlotTops, Top, TypeCounts, Types,
-    action_ground_size, fitting_objects, ground_size, near_of,
-};
+use pddl_types::{FunctionNumbers, Objects, SlotTops, Top, TypeCounts, Types, near_of};
 use std::alloc::{AllocError, Allocator};
 
 /// What a domain and a problem name, in tables that borrow from them: objects, predicates and functions, how many objects fit each type, and where the types

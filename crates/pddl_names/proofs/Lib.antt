@@ -1,6 +1,5 @@
 pub mod ActionFaults
 pub mod FoundParts
-pub mod GoalSizes
 pub mod ObjectTables
 pub mod RuleParts
 pub mod SeenNames

@@ -18,7 +18,7 @@ use pddl_problem::Problem;
 use pddl_search::{
     Values, contradictions, cost_values, metric, object_fluents, search_domain, search_problem,
 };
-use pddl_types::{Known, ObjectCounts, ground_size};
+use pddl_types::Known;
 use std::alloc::Allocator;
 
 /// The lowest fault of what a domain uses.
@@ -34,35 +34,18 @@ pub fn look_at_domain_uses<'k, 'm, 'a, A: Allocator, B: Allocator>(
     lower(used, object_fluents(domain))
 }
 
-/// The goal is not too large.
-fn goal_size<'k, 'm, 'a, 'd, A: Allocator, B: Allocator>(
-    counts: &ObjectCounts<'k, 'm, 'a, A, B>,
-    domain: &Domain<A>,
-    problem: &'d Problem<A>,
-) -> Result<(), LinkFault<'d>>
-    requires types { counts.now.types.now ≡ (domain_view domain.now).types }
-    requires objects { map object_in counts.now.objects.now.entries ≡ objects_of (domain_view domain.now) (problem_view problem.now) }
-    ensures { Passes 35 (large_goals (domain_view domain.now) (problem_view problem.now)) result }
-{
-    if ground_size(counts, &problem.goal) > 1_000_000 {
-        Err(LinkFault::GoalTooLarge)
-    } else {
-        Ok(())
-    }
-}
-
-/// The lowest fault of what a problem uses; the values that it gives to functions of objects are added to no values.
+/// The lowest fault of what a problem uses, where this was found of the size of its goal; the values that it gives to functions of objects are added to no
+/// values.
 pub fn look_at_problem_uses<'k, 'm, 'a, A: Allocator, B: Allocator>(
     alloc: &'a B,
     known: &Known<'k, 'm, 'a, A, B>,
-    counts: &ObjectCounts<'k, 'm, 'a, A, B>,
+    size: Result<(), LinkFault<'m>>,
     values: &mut Values<'m, 'a, A, B>,
     domain: &'m Domain<A>,
     problem: &'m Problem<A>,
 ) -> Result<(), LinkFault<'m>>
     requires known { setting_of known.now ≡ in_problem (domain_view domain.now) (problem_view problem.now) }
-    requires types { counts.now.types.now ≡ (domain_view domain.now).types }
-    requires objects { map object_in counts.now.objects.now.entries ≡ objects_of (domain_view domain.now) (problem_view problem.now) }
+    requires size { Passes 35 (large_goals (domain_view domain.now) (problem_view problem.now)) size }
     requires none { values.old.entries ≡ [] }
     ensures found { IsFound (joined (problem_uses (domain_view domain.now) (problem_view problem.now))) result }
     ensures values { OnOk result (HoldsValues (problem_view problem.now).init values.new.entries) }
@@ -70,7 +53,6 @@ pub fn look_at_problem_uses<'k, 'm, 'a, A: Allocator, B: Allocator>(
     let used = search_problem(alloc, &Uses { known }, problem);
     let claimed = contradictions(alloc, &problem.init);
     let metric = metric(&problem.metric);
-    let size = goal_size(counts, domain, problem);
     let told = cost_values(values, &problem.init);
     lower(used, lower(claimed, lower(metric, lower(size, told))))
 }

@@ -18,10 +18,10 @@ use Rattle.pddl_judge.specs.declared.verdict.Verdict.TheVariants as verdicts
 use Rattle.pddl_judge.specs.HappeningValues.{groups_of, moments_of}
 use Rattle.pddl_judge.specs.Verdicts.{IfPrecondition, IfInterference, IfGoal, OnAccepted, OnRefused}
 use Rattle.pddl_meaning.specs.Worlds.{Atoms}
-use Rattle.pddl_serial_plans.specs.PlanLink.LinkedSteps.{LinkedStepValue, AreLinkedSteps}
-use Rattle.pddl_serial_plans.specs.PlanLink.NumberedAtoms.{named_atom, IsInRange}
-use Rattle.pddl_serial_plans.proofs.PlanLink.InitialAtoms.{known_in_range}
-use Rattle.pddl_serial_plans.proofs.PlanLink.SoundSteps.{steps_are_sound}
+use Rattle.pddl_serial_plans.specs.LinkedPlan.LinkedSteps.{LinkedStepValue, AreLinkedSteps}
+use Rattle.pddl_serial_plans.specs.LinkedPlan.NumberedAtoms.{named_atom, IsInRange}
+use Rattle.pddl_serial_plans.proofs.LinkedPlan.InitialAtoms.{known_in_range}
+use Rattle.pddl_serial_plans.proofs.LinkedPlan.SoundSteps.{steps_are_sound}
 use Rattle.pddl_serial_plans.specs.PlanSteps.NumberedSteps.{number_of}
 use Rattle.pddl_serial_plans.specs.PlanSteps.PlanSteps.{named_steps, initial_state, goal_of}
 use Rattle.pddl_serial_plans.specs.Valid.AcceptedPlans.{AreHappeningsOf, OfHappenings, IsAcceptedPlan}

@@ -21,8 +21,8 @@ use Rattle.pddl_meaning.specs.Steps.{step_of}
 use Rattle.pddl_meaning.specs.Worlds.{Atoms, no_atoms}
 use Rattle.pddl_meaning.proofs.Agreement.{one_ground}
 use Rattle.pddl_meaning.proofs.Frame.{fired_spoken}
-use Rattle.pddl_serial_plans.specs.PlanLink.LinkedLaws.{named_step, IsLinkedStep}
-use Rattle.pddl_serial_plans.specs.PlanLink.LinkedSteps.{LinkedStepValue, AreLinkedSteps}
+use Rattle.pddl_serial_plans.specs.LinkedPlan.LinkedLaws.{named_step, IsLinkedStep}
+use Rattle.pddl_serial_plans.specs.LinkedPlan.LinkedSteps.{LinkedStepValue, AreLinkedSteps}
 use Rattle.pddl_serial_plans.specs.PlanSteps.PlanSteps.{idle, named_steps}
 use Rattle.pddl_serial_plans.proofs.PlanSteps.PlanSteps.{as_many, at_place, each_linked, objects_known}
 

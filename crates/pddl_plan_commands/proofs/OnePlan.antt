@@ -26,15 +26,15 @@ use Rattle.pddl_happenings.proofs.ListedOnce.{timed_each, plain_each, is_distinc
 use Rattle.pddl_happenings.proofs.Serialisations.{each_once}
 use Rattle.pddl_judge.proofs.Refusals.{unready_not_fine}
 use Rattle.pddl_meaning.specs.Worlds.{Atoms}
-use Rattle.pddl_serial_plans.specs.PlanLink.declared.fault.StepFault.{StepFault}
-use Rattle.pddl_serial_plans.specs.PlanLink.declared.fault.StepFault.TheVariants as link
-use Rattle.pddl_serial_plans.specs.PlanLink.LinkedLaws.{HaveAlikeMoments}
-use Rattle.pddl_serial_plans.specs.PlanLink.LinkedSteps.{LinkedStepValue, linked_steps, AreLinkedSteps}
-use Rattle.pddl_serial_plans.specs.PlanLink.NumberedAtoms.{named_atom}
-use Rattle.pddl_serial_plans.specs.PlanLink.StepFaults.{step_faults, IsGoodStep, IsLinkedPlan, IsPlanFault}
-use Rattle.pddl_serial_plans.specs.PlanLink.StepVerdicts.{plan_fault_of}
-use Rattle.pddl_serial_plans.proofs.PlanLink.InitialAtoms.{known_in_range}
-use Rattle.pddl_serial_plans.proofs.PlanLink.SoundSteps.{steps_are_sound}
+use Rattle.pddl_plan_link.specs.declared.fault.StepFault.{StepFault}
+use Rattle.pddl_plan_link.specs.declared.fault.StepFault.TheVariants as link
+use Rattle.pddl_serial_plans.specs.LinkedPlan.LinkedLaws.{HaveAlikeMoments}
+use Rattle.pddl_serial_plans.specs.LinkedPlan.LinkedSteps.{LinkedStepValue, linked_steps, AreLinkedSteps}
+use Rattle.pddl_serial_plans.specs.LinkedPlan.NumberedAtoms.{named_atom}
+use Rattle.pddl_serial_plans.specs.LinkedPlan.StepFaults.{step_faults, IsGoodStep, IsLinkedPlan, IsPlanFault}
+use Rattle.pddl_plan_link.specs.StepVerdicts.{plan_fault_of}
+use Rattle.pddl_serial_plans.proofs.LinkedPlan.InitialAtoms.{known_in_range}
+use Rattle.pddl_serial_plans.proofs.LinkedPlan.SoundSteps.{steps_are_sound}
 use Rattle.pddl_serial_plans.specs.PlanSteps.NumberedSteps.{number_of}
 use Rattle.pddl_serial_plans.specs.PlanSteps.PlanSteps.{named_steps, initial_state}
 use Rattle.pddl_serial_plans.specs.Valid.AcceptedPlans.{moments_in, AreHappeningsOf}

@@ -10,8 +10,8 @@ use Rattle.std.proofs.lemmas.Bool.{eqb-true}
 use Rattle.std.proofs.lemmas.Bool.Decides.{nat_tests}
 use Rattle.std.proofs.lemmas.List.Elements.{All-nil}
 use Rattle.pddl_happenings.specs.Happenings.{AreMoments, plain_happenings, steps_at}
-use Rattle.pddl_serial_plans.specs.PlanLink.LinkedLaws.{HaveAlikeMoments}
-use Rattle.pddl_serial_plans.specs.PlanLink.LinkedSteps.{LinkedStepValue}
+use Rattle.pddl_serial_plans.specs.LinkedPlan.LinkedLaws.{HaveAlikeMoments}
+use Rattle.pddl_serial_plans.specs.LinkedPlan.LinkedSteps.{LinkedStepValue}
 use Rattle.pddl_serial_plans.specs.Valid.AcceptedPlans.{moments_in, AreHappeningsOf}
 
 less : (m n : ℕ) → m < n → nat_cmp m n ≡ Less

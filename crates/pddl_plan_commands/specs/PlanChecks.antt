@@ -14,11 +14,11 @@ use Rattle.pddl_happenings.specs.Accepted.{AllFine, after_all}
 use Rattle.pddl_happenings.specs.Failures.{AtHappening, IsFirstUnready, IsFirstClash}
 use Rattle.pddl_happenings.specs.Serialisations.{Converges}
 use Rattle.pddl_meaning.specs.Worlds.{Atoms}
-use Rattle.pddl_serial_plans.specs.PlanLink.declared.fault.StepFault.{StepFault}
-use Rattle.pddl_serial_plans.specs.PlanLink.declared.fault.StepFault.TheVariants as link
-use Rattle.pddl_serial_plans.specs.PlanLink.LinkedSteps.{LinkedStepValue, linked_steps}
-use Rattle.pddl_serial_plans.specs.PlanLink.StepFaults.{IsLinkedPlan, IsPlanFault}
-use Rattle.pddl_serial_plans.specs.PlanLink.StepVerdicts.{plan_fault_of}
+use Rattle.pddl_plan_link.specs.declared.fault.StepFault.{StepFault}
+use Rattle.pddl_plan_link.specs.declared.fault.StepFault.TheVariants as link
+use Rattle.pddl_serial_plans.specs.LinkedPlan.LinkedSteps.{LinkedStepValue, linked_steps}
+use Rattle.pddl_serial_plans.specs.LinkedPlan.StepFaults.{IsLinkedPlan, IsPlanFault}
+use Rattle.pddl_plan_link.specs.StepVerdicts.{plan_fault_of}
 use Rattle.pddl_serial_plans.specs.PlanSteps.NumberedSteps.{number_of}
 use Rattle.pddl_serial_plans.specs.PlanSteps.PlanSteps.{named_steps, initial_state, goal_of}
 use Rattle.pddl_serial_plans.specs.Valid.AcceptedPlans.{AreHappeningsOf, OfHappenings, IsAcceptedPlan}

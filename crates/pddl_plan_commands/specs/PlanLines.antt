@@ -3,8 +3,8 @@ use Rattle.std.specs.Prelude.{ℕ, ◌+◌, List, ◌++◌, codes}
 use Rattle.std.specs.Fmt.{decimal}
 use Rattle.pddl_problem.specs.Inits.{GroundValue}
 use Rattle.pddl_layout.specs.PlanLayout.{spaced}
-use Rattle.pddl_serial_plans.specs.PlanLink.declared.fault.StepFault.{StepFault}
-use Rattle.pddl_serial_plans.specs.PlanLink.declared.fault.StepFault.TheVariants as steps
+use Rattle.pddl_plan_link.specs.declared.fault.StepFault.{StepFault}
+use Rattle.pddl_plan_link.specs.declared.fault.StepFault.TheVariants as steps
 
 -- ---- of a plan that is refused
 

@@ -3,7 +3,7 @@ use Rattle.std.specs.Prelude.{◌≡◌, ℕ, List, length}
 use Rattle.pddl_tree.specs.Plans.{PlanValue}
 use Rattle.pddl_task.specs.Tasks.{TaskValue}
 use Rattle.pddl_meaning.specs.Worlds.{Atoms}
-use Rattle.pddl_serial_plans.specs.PlanLink.LinkedSteps.{LinkedStepValue}
+use Rattle.pddl_serial_plans.specs.LinkedPlan.LinkedSteps.{LinkedStepValue}
 use Rattle.pddl_layout.specs.PlanLayout.{plan_text}
 use Rattle.pddl_serial.specs.declared.turns.Order.{Order}
 use Rattle.pddl_serial.specs.Orders.{in_order}

@@ -14,7 +14,7 @@ use crate::lines::valid_line;
 use crate::wanted::Wanted;
 use pddl_layout::plan_text;
 use pddl_serial_plans::pddl_link::Task;
-use pddl_serial_plans::pddl_plan_link::Steps;
+use pddl_serial_plans::pddl_linked_plan::Steps;
 use pddl_serial_plans::pddl_valid::Accepted;
 use pddl_serial_plans::{Order, serialise, split_in_groups};
 use pddl_state::AtomStore;

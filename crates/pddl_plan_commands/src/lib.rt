@@ -18,5 +18,5 @@ mod writing;
 
 pub use checking::{check, one_plan_outcome};
 pub use pddl_serial_plans;
-pub use pddl_serial_plans::{Order, pddl_link, pddl_plan_link, pddl_step, pddl_valid};
+pub use pddl_serial_plans::{Order, pddl_link, pddl_linked_plan, pddl_step, pddl_valid};
 pub use serial_forms::{serial, serial_groups};

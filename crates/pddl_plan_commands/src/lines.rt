@@ -5,8 +5,8 @@ ghost use Rattle.std.specs.Fmt.{decimal};
 ghost use Rattle.std.specs.List.{AllByRecursion};
 ghost use Rattle.pddl_layout.specs.PlanLayout.{spaced};
 ghost use Rattle.pddl_serial_plans.specs.Link.LinkedTasks.{task_of_files};
-ghost use Rattle.pddl_serial_plans.specs.PlanLink.LinkedLaws.{name_at};
-ghost use Rattle.pddl_serial_plans.specs.PlanLink.NumberedAtoms.{named_atom, IsInRange};
+ghost use Rattle.pddl_serial_plans.specs.LinkedPlan.LinkedLaws.{name_at};
+ghost use Rattle.pddl_serial_plans.specs.LinkedPlan.NumberedAtoms.{named_atom, IsInRange};
 ghost use Rattle.pddl_task.specs.Tasks.{predicate_names, object_names};
 ghost use Rattle.pddl_plan_commands.specs.PlanLines.{valid_line, unready_line, atom_text, clash_line, goal_line};
 

@@ -3,12 +3,12 @@
 ghost use Rattle.std.specs.Prelude.{◌≡◌, ◌≢◌, ◌+◌, ◌++◌, [], None, codes, IfOk};
 ghost use Rattle.std.specs.Fmt.{decimal};
 ghost use Rattle.pddl_commands.specs.Lines.{IsFaultLine};
-ghost use Rattle.pddl_serial_plans.specs.PlanLink.declared.fault.StepFault.TheVariants as link;
+ghost use Rattle.pddl_plan_link.specs.declared.fault.StepFault.TheVariants as link;
 ghost use Rattle.pddl_plan_commands.specs.PlanLines.{step_fault_name};
 
 use itoa::Buffer;
 use pddl_commands::{FaultName, Formatted, Outcome, fault_line};
-use pddl_serial_plans::pddl_plan_link::StepFault;
+use pddl_plan_link::StepFault;
 use std::alloc::{AllocError, Allocator};
 
 /// The line of a fault of a step, which is numbered from 0: what stands before the step's number, and that.

@@ -23,7 +23,7 @@ use Rattle.pddl_compiled.specs.Frames.{Fits}
 use Rattle.pddl_compiled.specs.TaskTables.{tables_of}
 use Rattle.pddl_compiled.proofs.Same.{any_nested, call_right}
 use Rattle.pddl_compiled.proofs.Parameters.{parameters_fit}
-use Rattle.pddl_plan_link.specs.StepFaults.{some_amount, some_increase, some_increase_in, some_costless}
+use Rattle.pddl_linked_plan.specs.StepFaults.{some_amount, some_increase, some_increase_in, some_costless}
 use Rattle.pddl_tables.specs.Prices.{price_at, prices_of}
 use Rattle.pddl_plan_link.specs.ChangeCosts.{is_unpriced, some_cost, some_cost_in}
 use Rattle.pddl_plan_link.specs.ActionChanges.{scope_of, effect_of}

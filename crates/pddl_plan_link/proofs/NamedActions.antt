@@ -22,11 +22,11 @@ use Rattle.pddl_task.proofs.Lists.{nil_parts}
 use Rattle.pddl_tables.specs.Link.TaskTables.{Files}
 use Rattle.pddl_types.proofs.SignatureTables.{Held}
 use Rattle.pddl_faults.proofs.PutValues.{found_or}
-use Rattle.pddl_plan_link.specs.StepFaults.{action_name, action_names, action_named}
+use Rattle.pddl_linked_plan.specs.StepFaults.{action_name, action_names, action_named}
 use Rattle.pddl_plan_link.specs.declared.action_table.SizedAction.{SizedAction}
 use Rattle.pddl_plan_link.specs.StepTables.{NamedAction, named_action, named_in}
 use Rattle.pddl_task.proofs.Numbers.{number_is, is_placed}
-use Rattle.pddl_plan_link.proofs.Numbers.{found_at_number, place_lent}
+use Rattle.pddl_linked_plan.proofs.Numbers.{found_at_number, place_lent}
 
 -- ---- no two actions of linked files have one name
 

@@ -8,8 +8,8 @@ use Rattle.std.proofs.lemmas.List.{map_more, take_all, length-map, length-take-l
 use Rattle.pddl_task.specs.Names.{number_in}
 use Rattle.pddl_tree.specs.Plans.{StepValue, TimedValue, PlanValue, plain, timed, steps_of, moment_at}
 use Rattle.pddl_task.specs.Tasks.{TaskValue, object_names}
-use Rattle.pddl_plan_link.specs.StepFaults.{action_names, step_faults, IsGoodStep, most_steps, IsLinkedPlan, IsFirstFault, IsPlanFault}
-use Rattle.pddl_plan_link.specs.LinkedSteps.{LinkedStepValue, linked_step, linked_steps}
+use Rattle.pddl_linked_plan.specs.StepFaults.{action_names, step_faults, IsGoodStep, most_steps, IsLinkedPlan, IsFirstFault, IsPlanFault}
+use Rattle.pddl_linked_plan.specs.LinkedSteps.{LinkedStepValue, linked_step, linked_steps}
 use Rattle.pddl_plan_link.specs.declared.fault.StepFault.{StepFault}
 use Rattle.pddl_plan_link.specs.StepVerdicts.{plan_fault_of, PlanVerdict}
 use Rattle.pddl_faults.proofs.ListTurns.{rest_is}

@@ -2,7 +2,7 @@
 use Rattle.std.specs.Prelude.{◌≡◌, ℕ, List, [], ◌∷◌, Option, Some, None, Result, MatchResult, IfSome}
 use Rattle.pddl_tree.specs.Plans.{PlanValue}
 use Rattle.pddl_task.specs.Tasks.{TaskValue}
-use Rattle.pddl_plan_link.specs.StepFaults.{IsLinkedPlan, IsPlanFault}
+use Rattle.pddl_linked_plan.specs.StepFaults.{IsLinkedPlan, IsPlanFault}
 use Rattle.pddl_plan_link.specs.declared.fault.StepFault.{StepFault}
 use Rattle.pddl_plan_link.specs.declared.fault.StepFault.TheVariants as link
 

@@ -10,8 +10,8 @@ ghost use Rattle.pddl_tables.specs.Link.LinkedTasks.{task_of_files};
 ghost use Rattle.pddl_tables.specs.Lookups.{task_in, price_in};
 ghost use Rattle.pddl_plan_link.specs.ChangeCosts.{is_unpriced, some_cost};
 ghost use Rattle.pddl_plan_link.specs.ActionChanges.{effect_of, AreChangesOf};
-ghost use Rattle.pddl_plan_link.specs.StepFaults.{action_names, step_faults};
-ghost use Rattle.pddl_plan_link.specs.StepTables.{some_unfit};
+ghost use Rattle.pddl_linked_plan.specs.StepFaults.{action_names, step_faults};
+ghost use Rattle.pddl_linked_plan.specs.FittingObjects.{some_unfit};
 ghost use Rattle.pddl_plan_link.specs.PlanTables.{ArePlanTables};
 ghost use Rattle.pddl_plan_link.specs.StepVerdicts.{StepVerdict};
 

@@ -3,7 +3,7 @@
 use pddl_commands::Outcome;
 use pddl_row_driver::Lines;
 use pddl_serial_plans::pddl_link::Task;
-use pddl_serial_plans::pddl_plan_link::initial_atoms;
+use pddl_serial_plans::pddl_linked_plan::initial_atoms;
 use pddl_state::{Atom, AtomStore};
 use std::alloc::Allocator;
 

@@ -2,7 +2,7 @@
 
 ghost use Rattle.std.specs.Prelude.{◌≡◌, ◌<◌};
 ghost use Rattle.pddl_serial_plans.specs.Link.LinkedTasks.{task_of_files};
-ghost use Rattle.pddl_serial_plans.specs.PlanLink.LinkedSteps.{AreLinkedSteps};
+ghost use Rattle.pddl_serial_plans.specs.LinkedPlan.LinkedSteps.{AreLinkedSteps};
 
 use crate::atoms::add_set;
 use crate::listed::Asked;
@@ -10,7 +10,7 @@ use pddl_commands::Outcome;
 use pddl_judge::Course;
 use pddl_row_driver::Lines;
 use pddl_serial_plans::pddl_link::Task;
-use pddl_serial_plans::pddl_plan_link::Steps;
+use pddl_serial_plans::pddl_linked_plan::Steps;
 use pddl_serial_plans::pddl_step::compile_plan;
 use pddl_state::AtomStore;
 use std::alloc::{AllocError, Allocator};

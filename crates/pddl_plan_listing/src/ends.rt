@@ -1,13 +1,13 @@
 //! Verdicts, and the ends of accepted plans.
 
 ghost use Rattle.pddl_serial_plans.specs.Link.LinkedTasks.{task_of_files};
-ghost use Rattle.pddl_serial_plans.specs.PlanLink.LinkedSteps.{AreLinkedSteps};
+ghost use Rattle.pddl_serial_plans.specs.LinkedPlan.LinkedSteps.{AreLinkedSteps};
 
 use crate::atoms::{add_atom, add_atoms};
 use pddl_commands::Outcome;
 use pddl_row_driver::Lines;
 use pddl_serial_plans::pddl_link::Task;
-use pddl_serial_plans::pddl_plan_link::Steps;
+use pddl_serial_plans::pddl_linked_plan::Steps;
 use pddl_serial_plans::pddl_valid::{Accepted, Refusal, Verdict, validate};
 use pddl_state::{Atom, AtomStore};
 use std::alloc::Allocator;

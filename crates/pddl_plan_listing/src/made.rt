@@ -3,7 +3,7 @@
 ghost use Rattle.pddl_happenings.specs.NamedSteps.{by_name};
 ghost use Rattle.pddl_judge.specs.HappeningValues.{groups_of, moments_of};
 ghost use Rattle.pddl_serial_plans.specs.Link.LinkedTasks.{task_of_files};
-ghost use Rattle.pddl_serial_plans.specs.PlanLink.LinkedSteps.{AreLinkedSteps};
+ghost use Rattle.pddl_serial_plans.specs.LinkedPlan.LinkedSteps.{AreLinkedSteps};
 ghost use Rattle.pddl_serial_plans.specs.PlanSteps.NumberedSteps.{number_of};
 ghost use Rattle.pddl_serial_plans.specs.NewPlans.{IsAcceptedOf};
 
@@ -13,9 +13,10 @@ use crate::replays::add_numbers;
 use crate::steps::add_step_fault;
 use pddl_commands::Outcome;
 use pddl_layout::plan_text;
+use pddl_plan_link::link_plan;
 use pddl_row_driver::{Lines, text_of};
 use pddl_serial_plans::pddl_link::Task;
-use pddl_serial_plans::pddl_plan_link::{Steps, link_plan};
+use pddl_serial_plans::pddl_linked_plan::Steps;
 use pddl_serial_plans::pddl_valid::{Accepted, Verdict, validate};
 use pddl_serial_plans::{Order, SplitFault, serialise, split};
 use pddl_state::{AtomStore, BitStore};

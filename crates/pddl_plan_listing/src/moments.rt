@@ -2,7 +2,7 @@
 
 use pddl_commands::Outcome;
 use pddl_row_driver::Lines;
-use pddl_serial_plans::pddl_plan_link::Steps;
+use pddl_serial_plans::pddl_linked_plan::Steps;
 use pddl_serial_plans::pddl_valid::{Happening, happenings};
 use std::alloc::Allocator;
 

@@ -1,7 +1,7 @@
 //! Linked plans.
 
 ghost use Rattle.pddl_serial_plans.specs.Link.LinkedTasks.{task_of_files};
-ghost use Rattle.pddl_serial_plans.specs.PlanLink.LinkedSteps.{AreLinkedSteps};
+ghost use Rattle.pddl_serial_plans.specs.LinkedPlan.LinkedSteps.{AreLinkedSteps};
 
 use crate::listed::OfPlan;
 use crate::moments::add_happenings;
@@ -9,9 +9,10 @@ use crate::replays::add_replays;
 use crate::steps::{add_step_fault, add_steps};
 use crate::stores::add_over_both;
 use pddl_commands::Outcome;
+use pddl_plan_link::link_plan;
 use pddl_row_driver::{Files, Lines, add_read_fault};
 use pddl_serial_plans::pddl_link::Task;
-use pddl_serial_plans::pddl_plan_link::{Steps, link_plan};
+use pddl_serial_plans::pddl_linked_plan::Steps;
 use pddl_tree::{Plan, read_plan};
 use std::alloc::Allocator;
 

@@ -1,13 +1,13 @@
 //! Runs of steps one after another.
 
 ghost use Rattle.pddl_serial_plans.specs.Link.LinkedTasks.{task_of_files};
-ghost use Rattle.pddl_serial_plans.specs.PlanLink.LinkedSteps.{AreLinkedSteps};
+ghost use Rattle.pddl_serial_plans.specs.LinkedPlan.LinkedSteps.{AreLinkedSteps};
 
 use crate::ends::add_end;
 use pddl_commands::Outcome;
 use pddl_row_driver::{Lines, text_of};
 use pddl_serial_plans::pddl_link::Task;
-use pddl_serial_plans::pddl_plan_link::Steps;
+use pddl_serial_plans::pddl_linked_plan::Steps;
 use pddl_serial_plans::{ReplayFault, replay};
 use pddl_state::{AtomStore, BitStore, SortedStore};
 use std::alloc::Allocator;

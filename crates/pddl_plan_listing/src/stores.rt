@@ -1,7 +1,7 @@
 //! Listings over both stores of atoms.
 
 ghost use Rattle.pddl_serial_plans.specs.Link.LinkedTasks.{task_of_files};
-ghost use Rattle.pddl_serial_plans.specs.PlanLink.LinkedSteps.{AreLinkedSteps};
+ghost use Rattle.pddl_serial_plans.specs.LinkedPlan.LinkedSteps.{AreLinkedSteps};
 
 use crate::courses::add_course;
 use crate::ends::add_verdict;
@@ -10,7 +10,7 @@ use crate::made::add_made;
 use pddl_commands::Outcome;
 use pddl_row_driver::Lines;
 use pddl_serial_plans::pddl_link::Task;
-use pddl_serial_plans::pddl_plan_link::Steps;
+use pddl_serial_plans::pddl_linked_plan::Steps;
 use pddl_state::{AtomStore, BitStore, SortedStore};
 use std::alloc::Allocator;
 

@@ -22,8 +22,8 @@ use Rattle.pddl_meaning.specs.Truth.{formula_reads}
 use Rattle.pddl_meaning.specs.Effects.{effect_reads}
 use Rattle.pddl_meaning.proofs.Agreement.{one_ground}
 use Rattle.pddl_meaning.proofs.Frame.{truth_frame, fired_frame, cost_frame}
-use Rattle.pddl_plan_link.specs.LinkedSteps.{LinkedStepValue}
-use Rattle.pddl_plan_link.specs.LinkedLaws.{named_step}
+use Rattle.pddl_linked_plan.specs.LinkedSteps.{LinkedStepValue}
+use Rattle.pddl_linked_plan.specs.LinkedLaws.{named_step}
 use Rattle.pddl_plan_steps.specs.NumberedSteps.{number_of, has_number, numbered_step}
 use Rattle.pddl_plan_steps.specs.PlanSteps.{idle, numbered_steps}
 

@@ -18,9 +18,9 @@ use Rattle.pddl_task.proofs.KnownAtoms.{steps_are_known, initial_is_known}
 use Rattle.pddl_state.specs.Atoms.{AtomValue, atom_eq}
 use Rattle.pddl_happenings.specs.NamedSteps.{by_name, DoesAsNamed, DoAsNamed}
 use Rattle.pddl_meaning.specs.Steps.{step_of}
-use Rattle.pddl_plan_link.specs.LinkedSteps.{LinkedStepValue, AreLinkedSteps}
-use Rattle.pddl_plan_link.specs.LinkedLaws.{named_step, IsLinkedStep}
-use Rattle.pddl_plan_link.proofs.SoundSteps.{all_at, steps_are_sound, steps_have_names}
+use Rattle.pddl_linked_plan.specs.LinkedSteps.{LinkedStepValue, AreLinkedSteps}
+use Rattle.pddl_linked_plan.specs.LinkedLaws.{named_step, IsLinkedStep}
+use Rattle.pddl_linked_plan.proofs.SoundSteps.{all_at, steps_are_sound, steps_have_names}
 use Rattle.pddl_plan_steps.specs.NumberedSteps.{number_of, numbered_step}
 use Rattle.pddl_plan_steps.specs.PlanSteps.{idle, named_steps, numbered_steps, initial_state, numbered_start}
 use Rattle.pddl_plan_steps.proofs.NamedSteps.{does_as_named, numbers_agree}

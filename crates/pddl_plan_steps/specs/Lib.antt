@@ -1,5 +1,4 @@
 pub mod NumberedSteps
 pub mod PlanSteps
-pub use Rattle.pddl_plan_link.specs.Link as Link
-pub use Rattle.pddl_plan_link.specs.Tables as Tables
-pub use Rattle.pddl_plan_link.specs as PlanLink
+pub use Rattle.pddl_linked_plan.specs.Link as Link
+pub use Rattle.pddl_linked_plan.specs as LinkedPlan

@@ -14,9 +14,9 @@ use Rattle.pddl_happenings.specs.NamedSteps.{by_name}
 use Rattle.pddl_meaning.specs.Worlds.{Atoms}
 use Rattle.pddl_meaning.specs.Truth.{truth}
 use Rattle.pddl_meaning.specs.Steps.{step_of}
-use Rattle.pddl_plan_link.specs.LinkedSteps.{LinkedStepValue}
-use Rattle.pddl_plan_link.specs.LinkedLaws.{named_step}
-use Rattle.pddl_plan_link.specs.NumberedAtoms.{initial_atoms}
+use Rattle.pddl_linked_plan.specs.LinkedSteps.{LinkedStepValue}
+use Rattle.pddl_linked_plan.specs.LinkedLaws.{named_step}
+use Rattle.pddl_linked_plan.specs.NumberedAtoms.{initial_atoms}
 use Rattle.pddl_plan_steps.specs.NumberedSteps.{number_of, numbered_step}
 
 -- a step that is always ready and does nothing

@@ -10,7 +10,7 @@ ghost use Rattle.pddl_task.specs.Linked.{IsLinked};
 ghost use Rattle.pddl_task.specs.Tasks.{task_of, object_names};
 ghost use Rattle.pddl_happenings.specs.NamedSteps.{by_name, DoesAsNamed, DoAsNamed};
 ghost use Rattle.pddl_meaning.specs.Steps.{step_of};
-ghost use Rattle.pddl_plan_link.specs.LinkedSteps.{LinkedStepValue, AreLinkedSteps};
+ghost use Rattle.pddl_linked_plan.specs.LinkedSteps.{LinkedStepValue, AreLinkedSteps};
 ghost use Rattle.pddl_plan_steps.specs.NumberedSteps.{number_of, numbered_step};
 ghost use Rattle.pddl_plan_steps.specs.PlanSteps.{named_steps, numbered_steps, initial_state, numbered_start};
 

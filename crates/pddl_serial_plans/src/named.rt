@@ -6,15 +6,15 @@ ghost use Rattle.pddl_tree.specs.Plans.{built_plan};
 ghost use Rattle.pddl_tree.specs.Inner.StepNames.{names_of_step};
 ghost use Rattle.pddl_task.specs.Tasks.{object_names};
 ghost use Rattle.pddl_valid.specs.Link.LinkedTasks.{task_of_files};
-ghost use Rattle.pddl_valid.specs.PlanLink.LinkedSteps.{AreLinkedSteps};
-ghost use Rattle.pddl_valid.specs.PlanLink.LinkedLaws.{name_at, named_step, IsLinkedStep};
-ghost use Rattle.pddl_valid.specs.PlanLink.StepParts.{lent_step};
+ghost use Rattle.pddl_valid.specs.LinkedPlan.LinkedSteps.{AreLinkedSteps};
+ghost use Rattle.pddl_valid.specs.LinkedPlan.LinkedLaws.{name_at, named_step, IsLinkedStep};
+ghost use Rattle.pddl_valid.specs.LinkedPlan.StepParts.{lent_step};
 ghost use Rattle.pddl_serial_plans.specs.NewSteps.{picked, at_moments, plain_plan, timed_plan};
 
 use pddl_token::{Fixed, Name};
 use pddl_tree::PlanBuilder;
 use pddl_valid::pddl_link::Task;
-use pddl_valid::pddl_plan_link::{LinkedStep, Steps};
+use pddl_valid::pddl_linked_plan::{LinkedStep, Steps};
 use std::alloc::{AllocError, Allocator};
 
 /// The name of an object of the task.

@@ -2,7 +2,7 @@
 
 ghost use Rattle.std.specs.Prelude.{◌≡◌};
 ghost use Rattle.pddl_valid.specs.Link.LinkedTasks.{task_of_files};
-ghost use Rattle.pddl_valid.specs.PlanLink.LinkedSteps.{AreLinkedSteps};
+ghost use Rattle.pddl_valid.specs.LinkedPlan.LinkedSteps.{AreLinkedSteps};
 ghost use Rattle.pddl_serial_plans.specs.SerialEnds.{IsReplayed, end_of};
 
 use crate::fault::ReplayFault;
@@ -10,7 +10,7 @@ use pddl_serial::{End, Replayed};
 use pddl_state::AtomStore;
 use pddl_valid::happenings;
 use pddl_valid::pddl_link::Task;
-use pddl_valid::pddl_plan_link::Steps;
+use pddl_valid::pddl_linked_plan::Steps;
 use pddl_valid::pddl_step::compile_plan;
 use std::alloc::Allocator;
 

@@ -15,7 +15,7 @@ use pddl_state::AtomStore;
 use pddl_tree::{Plan, PlanBuilder};
 use pddl_valid::Accepted;
 use pddl_valid::pddl_link::Task;
-use pddl_valid::pddl_plan_link::Steps;
+use pddl_valid::pddl_linked_plan::Steps;
 use std::alloc::{AllocError, Allocator};
 
 /// The plain plan of an accepted plan's happenings in turn, the steps of each in file order or reversed.

@@ -6,7 +6,7 @@ ghost use Rattle.pddl_happenings.specs.NamedSteps.{by_name};
 ghost use Rattle.pddl_happenings.specs.Splits.{IsSplitOf};
 ghost use Rattle.pddl_judge.specs.HappeningValues.{groups_of, moments_of};
 ghost use Rattle.pddl_valid.specs.Link.LinkedTasks.{task_of_files};
-ghost use Rattle.pddl_valid.specs.PlanLink.LinkedSteps.{AreLinkedSteps};
+ghost use Rattle.pddl_valid.specs.LinkedPlan.LinkedSteps.{AreLinkedSteps};
 ghost use Rattle.pddl_valid.specs.PlanSteps.NumberedSteps.{number_of};
 ghost use Rattle.pddl_serial.specs.Cuts.{cut_in_order};
 ghost use Rattle.pddl_serial_plans.specs.NewPlans.{IsAcceptedOf, IsSplitPlan};
@@ -19,7 +19,7 @@ use pddl_state::AtomStore;
 use pddl_tree::{Plan, PlanBuilder};
 use pddl_valid::Accepted;
 use pddl_valid::pddl_link::Task;
-use pddl_valid::pddl_plan_link::Steps;
+use pddl_valid::pddl_linked_plan::Steps;
 use std::alloc::{AllocError, Allocator};
 
 /// The timed plan of the steps of some numbers, in turn, each at its moment; of no steps it is plain.

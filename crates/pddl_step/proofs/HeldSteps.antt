@@ -15,9 +15,9 @@ use Rattle.pddl_compiled.specs.CompiledMeaning.{is_true}
 use Rattle.pddl_compiled.specs.Views.{condition_view, change_view}
 use Rattle.pddl_compiled.specs.declared.compiled.Condition.{Condition}
 use Rattle.pddl_evaluation.specs.Costs.{increases_of, most_increases}
-use Rattle.pddl_plan_steps.specs.Tables.Prices.{prices_of}
-use Rattle.pddl_plan_steps.specs.PlanLink.LinkedSteps.{LinkedStepValue}
-use Rattle.pddl_plan_steps.specs.PlanLink.LinkedLaws.{IsLinkedStep}
+use Rattle.pddl_tables.specs.Prices.{prices_of}
+use Rattle.pddl_plan_steps.specs.LinkedPlan.LinkedSteps.{LinkedStepValue}
+use Rattle.pddl_plan_steps.specs.LinkedPlan.LinkedLaws.{IsLinkedStep}
 use Rattle.pddl_plan_steps.specs.PlanSteps.{numbered_steps, numbered_goal}
 use Rattle.pddl_plan_steps.proofs.PlanSteps.{each_linked}
 use Rattle.pddl_step.specs.CompiledSteps.{form_in, form_of, form_step, IsHeldPlan}

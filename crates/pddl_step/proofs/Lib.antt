@@ -1,5 +1,5 @@
 pub mod Held
 pub mod Forms
 pub mod HeldSteps
-pub use Rattle.pddl_plan_steps.proofs.PlanLink as PlanLink
+pub use Rattle.pddl_plan_steps.proofs.LinkedPlan as LinkedPlan
 pub use Rattle.pddl_plan_steps.proofs as PlanSteps

@@ -13,8 +13,8 @@ use Rattle.pddl_compiled.specs.Views.{condition_view, change_view}
 use Rattle.pddl_compiled.specs.declared.compiled.Condition.{Condition}
 use Rattle.pddl_evaluation.specs.Reads.{tested_by}
 use Rattle.pddl_evaluation.specs.Fires.{added, deleted}
-use Rattle.pddl_plan_steps.specs.Tables.Prices.{price_at}
-use Rattle.pddl_plan_steps.specs.PlanLink.LinkedSteps.{LinkedStepValue, AreLinkedSteps}
+use Rattle.pddl_tables.specs.Prices.{price_at}
+use Rattle.pddl_plan_steps.specs.LinkedPlan.LinkedSteps.{LinkedStepValue, AreLinkedSteps}
 use Rattle.pddl_step.specs.declared.actions.CompiledAction.{CompiledAction}
 
 -- an action's precondition and effect by numbers

@@ -1,5 +1,5 @@
 pub mod CompiledSteps
 pub mod HeldPlans
 pub use Rattle.pddl_plan_steps.specs.Link as Link
-pub use Rattle.pddl_plan_steps.specs.PlanLink as PlanLink
+pub use Rattle.pddl_plan_steps.specs.LinkedPlan as LinkedPlan
 pub use Rattle.pddl_plan_steps.specs as PlanSteps

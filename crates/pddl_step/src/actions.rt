@@ -5,7 +5,7 @@ ghost use Rattle.pddl_domain.specs.Actions.{ActionValue, action_view};
 ghost use Rattle.pddl_plan_steps.specs.Link.LinkedTasks.{task_of_files};
 ghost use Rattle.pddl_task.specs.Tasks.{TaskValue};
 ghost use Rattle.pddl_compiled.specs.TaskTables.{tables_of};
-ghost use Rattle.pddl_plan_steps.specs.PlanLink.LinkedSteps.{LinkedStepValue};
+ghost use Rattle.pddl_plan_steps.specs.LinkedPlan.LinkedSteps.{LinkedStepValue};
 ghost use Rattle.pddl_step.specs.CompiledSteps.{form_in, form_of, AreForms, AreHeld, AreMarked, IsHeld};
 
 use pddl_compiled::{
@@ -13,7 +13,7 @@ use pddl_compiled::{
 };
 use pddl_domain::Action;
 use pddl_plan_steps::pddl_link::Task;
-use pddl_plan_steps::pddl_plan_link::Steps;
+use pddl_plan_steps::pddl_linked_plan::Steps;
 use std::alloc::{AllocError, Allocator};
 
 /// An action's precondition and effect by numbers.

@@ -5,8 +5,8 @@ ghost use Rattle.pddl_formula.specs.Formulas.{formula_view};
 ghost use Rattle.pddl_plan_steps.specs.Link.LinkedTasks.{task_of_files};
 ghost use Rattle.pddl_compiled.specs.Compiler.{condition_of};
 ghost use Rattle.pddl_compiled.specs.Views.{condition_view};
-ghost use Rattle.pddl_plan_steps.specs.Tables.Lookups.{task_in};
-ghost use Rattle.pddl_plan_steps.specs.PlanLink.LinkedSteps.{AreLinkedSteps};
+ghost use Rattle.pddl_tables.specs.Lookups.{task_in};
+ghost use Rattle.pddl_plan_steps.specs.LinkedPlan.LinkedSteps.{AreLinkedSteps};
 ghost use Rattle.pddl_step.specs.HeldPlans.{plan_task, plan_steps};
 
 use crate::actions::used_actions;
@@ -15,8 +15,8 @@ use pddl_build::both_made;
 use pddl_compiled::{Condition, Lookups, Scope, compile_condition};
 use pddl_formula::Formula;
 use pddl_plan_steps::pddl_link::Task;
-use pddl_plan_steps::pddl_plan_link::Steps;
-use pddl_plan_steps::pddl_tables::{TaskLookups, task_lookups, task_prices};
+use pddl_plan_steps::pddl_linked_plan::Steps;
+use pddl_tables::{TaskLookups, task_lookups, task_prices};
 use std::alloc::{AllocError, Allocator};
 
 /// A formula without variables in scope, by numbers.

@@ -9,5 +9,5 @@ mod compiling;
 mod plan;
 
 pub use compiling::compile_plan;
-pub use pddl_plan_steps::{pddl_link, pddl_plan_link};
+pub use pddl_plan_steps::{pddl_link, pddl_linked_plan};
 pub use plan::CompiledPlan;

@@ -6,8 +6,8 @@ ghost use Rattle.pddl_state.specs.Atoms.{AtomValue};
 ghost use Rattle.pddl_state.specs.AtomSets.{is_listed};
 ghost use Rattle.pddl_compiled.specs.Views.{change_view};
 ghost use Rattle.pddl_evaluation.specs.Costs.{increases_of, most_increases};
-ghost use Rattle.pddl_plan_steps.specs.Tables.Lookups.{price_in};
-ghost use Rattle.pddl_plan_steps.specs.Tables.Prices.{prices_of};
+ghost use Rattle.pddl_tables.specs.Lookups.{price_in};
+ghost use Rattle.pddl_tables.specs.Prices.{prices_of};
 ghost use Rattle.pddl_plan_steps.specs.PlanSteps.{numbered_steps};
 ghost use Rattle.pddl_step.specs.CompiledSteps.{form_in, form_step, IsHeldPlan};
 
@@ -16,9 +16,9 @@ use pddl_compiled::{Condition, Frame};
 use pddl_evaluation::{add_change_reads, add_fired, add_reads, is_true, spent};
 use pddl_judge::Course;
 use pddl_plan_steps::pddl_link::Task;
-use pddl_plan_steps::pddl_plan_link::{Steps, initial_atoms};
-use pddl_plan_steps::pddl_tables::TaskPrices;
+use pddl_plan_steps::pddl_linked_plan::{Steps, initial_atoms};
 use pddl_state::{Atom, AtomStore};
+use pddl_tables::TaskPrices;
 use std::alloc::{AllocError, Allocator};
 
 /// A linked plan whose steps can be executed: a course of steps for the judge, over any store.

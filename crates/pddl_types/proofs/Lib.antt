@@ -1,13 +1,10 @@
 mod ListTests
 pub mod BelowRoot
-pub mod Capped
 pub mod CyclicTypes
-pub mod EffectSizes
 pub mod SharedTypes
 pub mod Lookups
 pub mod CountedObjects
 pub mod SignatureTables
-pub mod Sizes
 pub mod TypeClimbs
 pub mod TypeForests
 pub mod TypeLookups
@@ -15,7 +12,5 @@ pub mod TypeTables
 pub mod TypesTold
 pub mod TaskNames
 pub mod Entries
-pub mod FittingObjects
-pub mod FittingPlaces
 pub mod TypeCounts
 pub mod TypeTops

@@ -1,4 +1,3 @@
 pub mod TypeTables
 pub mod KnownNames
 pub mod ObjectCounts
-pub mod Fitting

@@ -13,7 +13,7 @@ use std::alloc::Allocator;
 pub(crate) const NOWHERE: usize = usize::MAX;
 
 /// The place of a number in a list of places, or [`NOWHERE`] past its end.
-pub(crate) fn place_at(places: &[usize], number: usize) -> usize {
+pub fn place_at(places: &[usize], number: usize) -> usize {
     match places.get(number) {
         Some(place) => *place,
         None => NOWHERE,

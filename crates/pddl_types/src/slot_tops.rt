@@ -15,8 +15,8 @@ pub struct Top {
     /// Where it stands among all types.
     pub(crate) place: usize,
     /// Its number among all types in pre-order, and the largest of those under it.
-    pub(crate) number: usize,
-    pub(crate) last: usize,
+    pub number: usize,
+    pub last: usize,
 }
 
 /// The tops of the slots of predicates, functions or actions, which are told by their numbers in the order in which they are declared. Slots of one group

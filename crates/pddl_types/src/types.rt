@@ -132,7 +132,7 @@ impl<'m, 'a, A: Allocator, B: Allocator> Types<'m, 'a, A, B> {
     }
 
     /// The number of the type at a place in pre-order, or 0 where it has none. Nothing is promised of it.
-    pub(crate) fn number_at(&self, place: usize) -> usize {
+    pub fn number_at(&self, place: usize) -> usize {
         match &self.places.order {
             Some(order) => order.number(place),
             None => 0,
@@ -276,7 +276,7 @@ impl<'m, 'a, A: Allocator, B: Allocator> Types<'m, 'a, A, B> {
     /// The places at which the types of these objects stand, up to the first object that has not one type. Nothing is promised of them.
     ///
     /// Fails where memory for them is refused.
-    pub(crate) fn places_of<'c, C: Allocator>(
+    pub fn places_of<'c, C: Allocator>(
         &self,
         alloc: &'c C,
         objects: &Objects<'m, 'a, A, B>,
@@ -343,7 +343,7 @@ impl<'m, 'a, A: Allocator, B: Allocator> Types<'m, 'a, A, B> {
     /// Adds those primitives of a type to tops of which [`Types::tops`] has the steps, in the order of their numbers.
     ///
     /// Fails where memory for them is refused.
-    pub(crate) fn add_tops<'c, N: Allocator, C: Allocator>(
+    pub fn add_tops<'c, N: Allocator, C: Allocator>(
         &self,
         types: &TypeNames<N>,
         tops: &mut Vec<Top, &'c C>,

@@ -22,9 +22,9 @@ use Rattle.pddl_meaning.specs.Steps.{step_of}
 use Rattle.pddl_meaning.specs.Worlds.{Atoms}
 use Rattle.pddl_meaning.proofs.Frame.{steps_framed}
 use Rattle.pddl_judge.specs.Verdicts.{IsLeast}
-use Rattle.pddl_step.specs.PlanLink.LinkedLaws.{named_step}
-use Rattle.pddl_step.specs.PlanLink.LinkedSteps.{LinkedStepValue, AreLinkedSteps}
-use Rattle.pddl_step.proofs.PlanLink.SoundSteps.{steps_are_sound}
+use Rattle.pddl_step.specs.LinkedPlan.LinkedLaws.{named_step}
+use Rattle.pddl_step.specs.LinkedPlan.LinkedSteps.{LinkedStepValue, AreLinkedSteps}
+use Rattle.pddl_step.proofs.LinkedPlan.SoundSteps.{steps_are_sound}
 use Rattle.pddl_step.specs.PlanSteps.NumberedSteps.{number_of}
 use Rattle.pddl_step.specs.PlanSteps.PlanSteps.{idle, named_steps, numbered_steps, initial_state, numbered_start, goal_of, numbered_goal}
 use Rattle.pddl_step.proofs.PlanSteps.PlanSteps.{plan_as_named, start_as_named}

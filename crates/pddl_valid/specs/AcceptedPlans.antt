@@ -6,7 +6,7 @@ use Rattle.pddl_task.specs.Tasks.{TaskValue}
 use Rattle.pddl_happenings.specs.Accepted.{IsAcceptedRun}
 use Rattle.pddl_happenings.specs.Happenings.{AreOfTimed, AreOfPlain}
 use Rattle.pddl_meaning.specs.Worlds.{Atoms}
-use Rattle.pddl_step.specs.PlanLink.LinkedSteps.{LinkedStepValue}
+use Rattle.pddl_step.specs.LinkedPlan.LinkedSteps.{LinkedStepValue}
 use Rattle.pddl_step.specs.PlanSteps.PlanSteps.{named_steps, initial_state, goal_of}
 
 -- the moments of steps that have one each

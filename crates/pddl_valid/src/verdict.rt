@@ -9,7 +9,7 @@ ghost use Rattle.pddl_judge.specs.HappeningValues.{groups_of, moments_of};
 ghost use Rattle.pddl_judge.specs.Verdicts.{IfPrecondition, IfInterference, IfGoal, OnAccepted, OnRefused};
 ghost use Rattle.pddl_step.specs.Link.LinkedTasks.{task_of_files};
 ghost use Rattle.pddl_meaning.specs.Worlds.{Atoms};
-ghost use Rattle.pddl_step.specs.PlanLink.LinkedSteps.{AreLinkedSteps};
+ghost use Rattle.pddl_step.specs.LinkedPlan.LinkedSteps.{AreLinkedSteps};
 ghost use Rattle.pddl_step.specs.PlanSteps.NumberedSteps.{number_of};
 ghost use Rattle.pddl_step.specs.PlanSteps.PlanSteps.{named_steps, initial_state, goal_of};
 ghost use Rattle.pddl_valid.specs.AcceptedPlans.{AreHappeningsOf, OfHappenings, IsAcceptedPlan};
@@ -20,7 +20,7 @@ use pddl_judge::{Course, Verdict, judge};
 use pddl_state::AtomStore;
 use pddl_step::compile_plan;
 use pddl_step::pddl_link::Task;
-use pddl_step::pddl_plan_link::Steps;
+use pddl_step::pddl_linked_plan::Steps;
 use std::alloc::{AllocError, Allocator};
 
 /// The verdict on linked steps, over a store.

@@ -31,8 +31,8 @@ returns-clause-found g c =
     (subst (λ is. IsFound (joined (claims is ∷ [])) c.contradictions-claimed.result) c.deref.ensures.value (passed_part 29 _ c.contradictions-claimed.result c.contradictions-claimed.ensures))
     (found_parts (metrics ∷ []) (size ∷ costs init ∷ []) c.metric-metric.result c.lower.result c.lower-2.result c.lower-2.ensures.found
     (passed_part 33 (other_metrics p.metric) c.metric-metric.result c.metric-metric.ensures)
-    (found_parts (size ∷ []) (costs init ∷ []) c.goal_size-size.result c.cost_values-told.result c.lower.result c.lower.ensures.found
-    (passed_part 35 (large_goals d p) c.goal_size-size.result c.goal_size-size.ensures)
+    (found_parts (size ∷ []) (costs init ∷ []) c.args.size c.cost_values-told.result c.lower.result c.lower.ensures.found
+    (passed_part 35 (large_goals d p) c.args.size c.requires.size)
     (subst (λ is. IsFound (joined (costs is ∷ [])) c.cost_values-told.result) c.deref-2.ensures.value (passed_part 31 _ c.cost_values-told.result c.cost_values-told.ensures.passes)))))
 
 pub returns-clause-values : goal.returns-clause-values
@@ -42,5 +42,5 @@ returns-clause-values g c =
     second_kept c.search_problem-used.result c.lower-3.result c.lower-4.result held c.lower-4.ensures.both
     (second_kept c.contradictions-claimed.result c.lower-2.result c.lower-3.result held c.lower-3.ensures.both
     (second_kept c.metric-metric.result c.lower.result c.lower-2.result held c.lower-2.ensures.both
-    (second_kept c.goal_size-size.result c.cost_values-told.result c.lower.result held c.lower.ensures.both
+    (second_kept c.args.size c.cost_values-told.result c.lower.result held c.lower.ensures.both
     (subst (λ is. OnOk c.cost_values-told.result (HoldsValues (map init_view is) c.cost_values-told.new.values.entries)) c.deref-2.ensures.value c.cost_values-told.ensures.values))))

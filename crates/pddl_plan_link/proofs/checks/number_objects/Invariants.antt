@@ -1,6 +1,6 @@
 use Rattle.pddl_task.specs.Tasks.{object_names}
 use Rattle.pddl_tables.specs.Link.LinkedTasks.{task_of_files}
-use Rattle.pddl_plan_link.proofs.NumberedObjects.{AreNumbered}
+use Rattle.pddl_linked_plan.proofs.NumberedObjects.{AreNumbered}
 use Rattle.pddl_plan_link.proofs.checks.number_objects.Given as goal
 
 -- the objects so far are known, and these are their numbers

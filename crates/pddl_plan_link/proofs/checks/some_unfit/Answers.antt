@@ -1,6 +1,6 @@
 use Rattle.pddl_formula.specs.TypedLists.{typed_view}
 use Rattle.pddl_tables.specs.Link.LinkedTasks.{task_of_files}
-use Rattle.pddl_plan_link.proofs.NumberedObjects.{unfit_there, fits_there, all_fit}
+use Rattle.pddl_linked_plan.proofs.NumberedObjects.{unfit_there, fits_there, all_fit}
 use Rattle.pddl_plan_link.proofs.checks.some_unfit.Goals as goal
 
 pub returns-then-not-object_fits_by : goal.returns-then-not-object_fits_by

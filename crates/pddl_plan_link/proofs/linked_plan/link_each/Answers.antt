@@ -3,8 +3,8 @@ use Rattle.std.specs.Prelude.{Ok}
 use Rattle.std.proofs.lemmas.Result.{err_from_is_err_and}
 use Rattle.pddl_tree.specs.Plans.{plan_view, moment_at}
 use Rattle.pddl_tables.specs.Link.LinkedTasks.{task_of_files}
-use Rattle.pddl_plan_link.specs.LinkedSteps.{LinkedStepValue}
-use Rattle.pddl_plan_link.specs.StepFaults.{step_faults, most_steps}
+use Rattle.pddl_linked_plan.specs.LinkedSteps.{LinkedStepValue}
+use Rattle.pddl_linked_plan.specs.StepFaults.{step_faults, most_steps}
 use Rattle.pddl_plan_link.specs.StepVerdicts.{plan_fault_of}
 use Rattle.pddl_plan_link.proofs.PlanSteps.{none_linked, linked_more, fault_found, all_linked, all_done, step_is, Row, rows_of, row_step, row_link, as_many_rows, row_at, linked_rows, plan_verdict, plan_fault}
 use Rattle.pddl_plan_link.proofs.linked_plan.link_each.Goals as goal
@@ -43,7 +43,7 @@ loop-place-preserved g c =
     let low : place < length (rows_of plan) = omega (arith, as_many_rows task plan, c.len-place-end.ensures.value, c.loop-place-test.true) in
     let s : LinkedStepValue = record { action = c.in_ok-action.action; objects = c.deref.result.now; moment = c.moment.result } in
     record {
-      linked = rw c.in_ok-push.ensures
+      linked = rw c.in_ok-push.ensures.added
           (linked_more task row_step (row_link task) (rows_of plan) place c.loop-place.steps row s low (row_at task plan place step c.step.ensures)
           c.in_ok-action.ensures.verdict
           (step_is task step step refl c.in_ok-action.action c.deref.result.now c.moment.result (moment_at plan place) c.in_ok-action.ensures.action

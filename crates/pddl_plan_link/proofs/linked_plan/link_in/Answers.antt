@@ -1,7 +1,7 @@
 use Rattle.std.proofs.Common.{subst, sym, ◌≡◌, ◌∙◌, IfOk}
 use Rattle.pddl_tree.specs.Plans.{plan_view}
 use Rattle.pddl_tables.specs.Link.LinkedTasks.{task_of_files}
-use Rattle.pddl_plan_link.specs.LinkedSteps.{linked_steps}
+use Rattle.pddl_linked_plan.specs.LinkedSteps.{linked_steps}
 use Rattle.pddl_plan_link.specs.StepVerdicts.{PlanVerdict}
 use Rattle.pddl_plan_link.proofs.HeldChanges.{none_held}
 use Rattle.pddl_plan_link.proofs.NamedActions.{actions_as_many}

@@ -3,8 +3,8 @@ use Rattle.std.proofs.lemmas.List.{take_all}
 use Rattle.pddl_tree.specs.Building.{Building}
 use Rattle.pddl_tree.specs.Plans.{plan_of, step_of_names}
 use Rattle.pddl_valid.specs.Link.LinkedTasks.{files_of, task_of_files}
-use Rattle.pddl_valid.specs.PlanLink.LinkedLaws.{named_step}
-use Rattle.pddl_valid.specs.PlanLink.StepParts.{lent_step}
+use Rattle.pddl_valid.specs.LinkedPlan.LinkedLaws.{named_step}
+use Rattle.pddl_valid.specs.LinkedPlan.StepParts.{lent_step}
 use Rattle.pddl_valid.proofs.PlanSteps.PlanSteps.{each_linked}
 use Rattle.pddl_serial_plans.specs.NewSteps.{picked}
 use Rattle.pddl_serial_plans.proofs.PickedSteps.{named_more}

@@ -5,8 +5,8 @@ use Rattle.pddl_tree.specs.Plans as plans
 use Rattle.pddl_tree.specs.Plans.{TimedValue, step_of_names, timed_built}
 use Rattle.pddl_tree.proofs.BuiltSteps.{moment_pushed, moments_pushed}
 use Rattle.pddl_valid.specs.Link.LinkedTasks.{files_of, task_of_files}
-use Rattle.pddl_valid.specs.PlanLink.LinkedLaws.{named_step}
-use Rattle.pddl_valid.specs.PlanLink.StepParts.{lent_step}
+use Rattle.pddl_valid.specs.LinkedPlan.LinkedLaws.{named_step}
+use Rattle.pddl_valid.specs.LinkedPlan.StepParts.{lent_step}
 use Rattle.pddl_valid.proofs.PlanSteps.PlanSteps.{each_linked}
 use Rattle.pddl_serial_plans.specs.NewSteps.{picked, at_moments, timed_step}
 use Rattle.pddl_serial_plans.proofs.PickedSteps.{timed_more}

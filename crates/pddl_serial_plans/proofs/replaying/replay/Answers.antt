@@ -3,7 +3,7 @@ use Rattle.pddl_task.specs.Tasks.{TaskValue, task_of}
 use Rattle.pddl_happenings.specs.Happenings.{HaveEachOnce}
 use Rattle.pddl_judge.specs.HappeningValues.{groups_of, moments_of}
 use Rattle.pddl_valid.specs.Link.LinkedTasks.{files_of}
-use Rattle.pddl_valid.proofs.PlanLink.SoundSteps.{steps_are_sound}
+use Rattle.pddl_valid.proofs.LinkedPlan.SoundSteps.{steps_are_sound}
 use Rattle.pddl_valid.specs.PlanSteps.PlanSteps.{numbered_steps, numbered_start, numbered_goal}
 use Rattle.pddl_valid.specs.Step.HeldPlans.{plan_task, plan_steps}
 use Rattle.pddl_valid.specs.AcceptedPlans.{AreHappeningsOf}

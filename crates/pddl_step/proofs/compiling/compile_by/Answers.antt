@@ -5,8 +5,8 @@ use Rattle.pddl_plan_steps.specs.Link.LinkedTasks.{files_of, task_of_files}
 use Rattle.pddl_compiled.specs.Compiler.{condition_of}
 use Rattle.pddl_compiled.specs.TaskTables.{tables_of}
 use Rattle.pddl_compiled.specs.Views.{condition_view}
-use Rattle.pddl_plan_steps.specs.Tables.Lookups.{task_in, price_in}
-use Rattle.pddl_plan_steps.specs.Tables.Prices.{price_at}
+use Rattle.pddl_tables.specs.Lookups.{task_in, price_in}
+use Rattle.pddl_tables.specs.Prices.{price_at}
 use Rattle.pddl_build.proofs.BothMade.{first_made, second_made}
 use Rattle.pddl_step.proofs.Forms.{action_low}
 use Rattle.pddl_step.proofs.compiling.compile_by.Goals as goal

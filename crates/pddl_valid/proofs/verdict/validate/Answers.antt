@@ -3,7 +3,7 @@ use Rattle.pddl_task.specs.Tasks.{TaskValue, task_of}
 use Rattle.pddl_happenings.specs.Serialisations.{Converges}
 use Rattle.pddl_judge.specs.HappeningValues.{groups_of, moments_of}
 use Rattle.pddl_step.specs.Link.LinkedTasks.{files_of}
-use Rattle.pddl_step.proofs.PlanLink.SoundSteps.{steps_are_sound}
+use Rattle.pddl_step.proofs.LinkedPlan.SoundSteps.{steps_are_sound}
 use Rattle.pddl_step.specs.HeldPlans.{plan_task, plan_steps}
 use Rattle.pddl_step.specs.PlanSteps.PlanSteps.{named_steps, numbered_steps, initial_state, numbered_start, numbered_goal}
 use Rattle.pddl_valid.specs.AcceptedPlans.{AreHappeningsOf}

@@ -1,7 +1,7 @@
 use Rattle.std.proofs.Common.{sym, ap, ◌∙◌, arith}
 use Rattle.std.specs.Option.{option_copied}
 use Rattle.pddl_plan_steps.specs.Link.LinkedTasks.{files_of}
-use Rattle.pddl_plan_steps.specs.PlanLink.StepParts.{lent_step}
+use Rattle.pddl_plan_steps.specs.LinkedPlan.StepParts.{lent_step}
 use Rattle.pddl_step.proofs.HeldSteps.{action_within, action_there, action_does, action_increases}
 use Rattle.pddl_step.proofs.plan.CompiledPlan.applied.Goals as goal
 

@@ -1,0 +1,8 @@
+pub mod StepFaults
+pub mod LinkedSteps
+pub mod StepParts
+pub mod FittingObjects
+pub mod KnownSteps
+pub mod LinkedLaws
+pub mod NumberedAtoms
+pub use Rattle.pddl_link.specs as Link

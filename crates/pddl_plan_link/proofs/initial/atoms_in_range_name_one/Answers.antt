@@ -1,5 +1,0 @@
-use Rattle.pddl_plan_link.proofs.InitialAtoms.{range_names_one}
-use Rattle.pddl_plan_link.proofs.initial.atoms_in_range_name_one.Goals as goal
-
-pub returns : goal.returns
-returns c = range_names_one

@@ -1,5 +1,0 @@
-use Rattle.pddl_plan_link.proofs.KnownSteps.{step_is_known}
-use Rattle.pddl_plan_link.proofs.step_laws.linked_steps_are_known.Goals as goal
-
-pub returns : goal.returns
-returns c = step_is_known

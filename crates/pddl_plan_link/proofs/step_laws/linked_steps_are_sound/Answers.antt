@@ -1,5 +1,0 @@
-use Rattle.pddl_plan_link.proofs.SoundSteps.{steps_are_sound}
-use Rattle.pddl_plan_link.proofs.step_laws.linked_steps_are_sound.Goals as goal
-
-pub returns : goal.returns
-returns c = steps_are_sound

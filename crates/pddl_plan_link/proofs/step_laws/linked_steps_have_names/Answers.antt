@@ -1,5 +1,0 @@
-use Rattle.pddl_plan_link.proofs.SoundSteps.{steps_have_names}
-use Rattle.pddl_plan_link.proofs.step_laws.linked_steps_have_names.Goals as goal
-
-pub returns : goal.returns
-returns c = steps_have_names

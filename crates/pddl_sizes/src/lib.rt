@@ -1,0 +1,16 @@
+//! How many objects fit a type and which, and ground sizes.
+#![tactic(auto)]
+
+mod effect_size;
+mod fitting;
+mod goal;
+mod object_counts;
+mod object_places;
+mod size;
+
+pub use effect_size::{action_ground_size, effect_ground_size};
+pub use fitting::fitting_objects;
+pub use goal::goal_size;
+pub use object_counts::ObjectCounts;
+pub use object_places::ObjectPlaces;
+pub use size::{FittingCount, ground_size};
