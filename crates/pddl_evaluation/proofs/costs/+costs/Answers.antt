@@ -1,4 +1,4 @@
-use Rattle.std.proofs.Common.{arith, ◌≤◌, ◌≡◌, ◌+◌, ◌∷◌, cond, length, drop, get_or, ap, ◌∙◌, subst, sym, refl}
+use Rattle.std.proofs.Common.{arith, ◌≤◌, ◌≡◌, ◌∷◌, cond, length, ap, ◌∙◌, subst, sym, refl}
 use Rattle.std.specs.Prelude.{IfOk, sum_by}
 use Rattle.std.proofs.lemmas.List.{at_drop_all}
 use Rattle.std.proofs.lemmas.List.Sums.{sum_by-cons}
@@ -123,15 +123,6 @@ pub spent-spent-requires : goal.spent-spent-requires
 spent-spent-requires g t c κs within =
     (omega (arith, under_when g.row.A g.A.Allocator g.A.laws c.args.change.now c.deref-then-branch.result.now c.in-When.condition c.in-When.inner c.in-When.is c.deref-then-branch.ensures, c.decreases), (within.0, (within.1.0, (within.1.1.0, (within.1.1.1.0, (within.1.1.1.1, (c.requires.own, subst (λ v. increases_of v ≤ most_increases) (view-When c.args.change.now c.in-When.condition c.in-When.inner c.deref-then-branch.result.now c.in-When.is c.deref-then-branch.ensures) c.requires.few)))))))
 
-pub spent_by_all-offset_bounds-changes-change-index : goal.spent_by_all-offset_bounds-changes-change-index
-spent_by_all-offset_bounds-changes-change-index g t c = c.loop-change.auto.change-index-end
-
-pub spent_by_all-loop-change-init : goal.spent_by_all-loop-change-init
-spent_by_all-loop-change-init g t c = omega arith
-
-pub spent_by_all-bounds-changes-change-index : goal.spent_by_all-bounds-changes-change-index
-spent_by_all-bounds-changes-change-index g t c = c.loop-change-test.true
-
 pub spent_by_all-returns-in_err-total : goal.spent_by_all-returns-in_err-total
 spent_by_all-returns-in_err-total g t c =
     record {
@@ -141,7 +132,8 @@ spent_by_all-returns-in_err-total g t c =
 
 pub spent_by_all-overflow_add-total : goal.spent_by_all-overflow_add-total
 spent_by_all-overflow_add-total g t c =
-    omega (arith, room_more (λ cs. increases_in (changes_view cs)) (λ k. increases_of (change_view k)) (λ y ys. refl) (drop c.loop-change.change-index c.args.changes.now) (drop (c.loop-change.change-index + 1) c.args.changes.now) (c.change-item.result) (front c.args.changes.now c.loop-change.change-index c.change-item.result c.loop-change-test.true c.change-item.is) c.loop-change.total c.in_ok-total.field-0 (increases_in (changes_view c.args.changes.now)) c.in_ok-total.ensures.within c.loop-change.invariant.room, c.requires.few)
+    let next = front c.args.changes.now c.loop-change.change-index c.change-item.result c.loop-change-test.true c.change-item.is in
+    omega (arith, room_more (λ cs. increases_in (changes_view cs)) (λ k. increases_of (change_view k)) (λ y ys. refl) next c.loop-change.total c.in_ok-total.field-0 (increases_in (changes_view c.args.changes.now)) c.in_ok-total.ensures.within c.loop-change.invariant.room, c.requires.few)
 
 pub spent_by_all-loop-change-smaller : goal.spent_by_all-loop-change-smaller
 spent_by_all-loop-change-smaller g t c = falls (length c.args.changes.now) c.loop-change.change-index c.loop-change-test.true
@@ -151,9 +143,10 @@ spent_by_all-loop-change-preserved g t c =
     let price = g.P.Prices.price c.args.prices.now in
     let s = g.S.AtomStore.content c.args.store.now c.args.state.now in
     let env = frame_view c.args.frame.now in
+    let next = front c.args.changes.now c.loop-change.change-index c.change-item.result c.loop-change-test.true c.change-item.is in
     record {
-      rest = sum_more (λ cs. spent_in price s (changes_view cs) env) (λ k. spent price s (change_view k) env) (λ y ys. refl) (drop c.loop-change.change-index c.args.changes.now) (drop (c.loop-change.change-index + 1) c.args.changes.now) (c.change-item.result) (front c.args.changes.now c.loop-change.change-index c.change-item.result c.loop-change-test.true c.change-item.is) c.loop-change.total c.in_ok-total.field-0 _ c.in_ok-total.ensures.spent c.loop-change.invariant.rest;
-      room = room_more (λ cs. increases_in (changes_view cs)) (λ k. increases_of (change_view k)) (λ y ys. refl) (drop c.loop-change.change-index c.args.changes.now) (drop (c.loop-change.change-index + 1) c.args.changes.now) (c.change-item.result) (front c.args.changes.now c.loop-change.change-index c.change-item.result c.loop-change-test.true c.change-item.is) c.loop-change.total c.in_ok-total.field-0 (increases_in (changes_view c.args.changes.now)) c.in_ok-total.ensures.within c.loop-change.invariant.room;
+      rest = sum_more (λ cs. spent_in price s (changes_view cs) env) (λ k. spent price s (change_view k) env) (λ y ys. refl) next c.loop-change.total c.in_ok-total.field-0 _ c.in_ok-total.ensures.spent c.loop-change.invariant.rest;
+      room = room_more (λ cs. increases_in (changes_view cs)) (λ k. increases_of (change_view k)) (λ y ys. refl) next c.loop-change.total c.in_ok-total.field-0 (increases_in (changes_view c.args.changes.now)) c.in_ok-total.ensures.within c.loop-change.invariant.room;
     }
 
 pub spent_by_all-returns : goal.spent_by_all-returns
@@ -168,13 +161,7 @@ spent_by_all-returns g t c =
 
 pub spent_by_all-spent-requires : goal.spent_by_all-spent-requires
 spent_by_all-spent-requires g t c κs within =
-    (omega (arith, among (λ e. the_size g.row.A g.A.Allocator g.A.laws e) c.args.changes.now c.loop-change.change-index c.change-item.result c.loop-change-test.true c.change-item.is, c.decreases), (within.0, (within.1.0, (within.1.1.0, (within.1.1.1.0, (within.1.1.1.1, (c.requires.own, few_more (λ cs. increases_in (changes_view cs)) (λ k. increases_of (change_view k)) (λ y ys. refl) (drop c.loop-change.change-index c.args.changes.now) (drop (c.loop-change.change-index + 1) c.args.changes.now) (c.change-item.result) (front c.args.changes.now c.loop-change.change-index c.change-item.result c.loop-change-test.true c.change-item.is) c.loop-change.total (increases_in (changes_view c.args.changes.now)) c.loop-change.invariant.room c.requires.few)))))))
-
-pub spent_by_each-loop-object-init : goal.spent_by_each-loop-object-init
-spent_by_each-loop-object-init g t c = omega arith
-
-pub spent_by_each-bounds-range-object-index : goal.spent_by_each-bounds-range-object-index
-spent_by_each-bounds-range-object-index g t c = c.loop-object-test.true
+    (omega (arith, among (λ e. the_size g.row.A g.A.Allocator g.A.laws e) c.args.changes.now c.loop-change.change-index c.change-item.result c.loop-change-test.true c.change-item.is, c.decreases), (within.0, (within.1.0, (within.1.1.0, (within.1.1.1.0, (within.1.1.1.1, (c.requires.own, few_more (λ cs. increases_in (changes_view cs)) (λ k. increases_of (change_view k)) (λ y ys. refl) (front c.args.changes.now c.loop-change.change-index c.change-item.result c.loop-change-test.true c.change-item.is) c.loop-change.total (increases_in (changes_view c.args.changes.now)) c.loop-change.invariant.room c.requires.few)))))))
 
 pub spent_by_each-returns-in_err-total : goal.spent_by_each-returns-in_err-total
 spent_by_each-returns-in_err-total g t c =
@@ -185,7 +172,8 @@ spent_by_each-returns-in_err-total g t c =
 
 pub spent_by_each-overflow_add-total : goal.spent_by_each-overflow_add-total
 spent_by_each-overflow_add-total g t c =
-    omega (arith, room_more (sum_by (λ o. increases_of (change_view c.args.change.now))) (λ o. increases_of (change_view c.args.change.now)) (sum_by-cons (λ o. increases_of (change_view c.args.change.now))) (drop c.loop-object.object-index c.args.range.now) (drop (c.loop-object.object-index + 1) c.args.range.now) (get_or c.args.range.now c.loop-object.object-index 0) (front_number c.args.range.now c.loop-object.object-index c.loop-object-test.true) c.loop-object.total c.in_ok-total.field-0 (sum_by (λ o. increases_of (change_view c.args.change.now)) c.args.range.now) c.in_ok-total.ensures.within c.loop-object.invariant.room, c.requires.few)
+    let next = front_number c.args.range.now c.loop-object.object-index c.loop-object-test.true in
+    omega (arith, room_more (sum_by (λ o. increases_of (change_view c.args.change.now))) (λ o. increases_of (change_view c.args.change.now)) (sum_by-cons (λ o. increases_of (change_view c.args.change.now))) next c.loop-object.total c.in_ok-total.field-0 (sum_by (λ o. increases_of (change_view c.args.change.now)) c.args.range.now) c.in_ok-total.ensures.within c.loop-object.invariant.room, c.requires.few)
 
 pub spent_by_each-loop-object-smaller : goal.spent_by_each-loop-object-smaller
 spent_by_each-loop-object-smaller g t c = falls (length c.args.range.now) c.loop-object.object-index c.loop-object-test.true
@@ -195,9 +183,10 @@ spent_by_each-loop-object-preserved g t c =
     let price = g.P.Prices.price c.args.prices.now in
     let s = g.S.AtomStore.content c.args.store.now c.args.state.now in
     let env = frame_view c.args.frame.now in
+    let next = front_number c.args.range.now c.loop-object.object-index c.loop-object-test.true in
     record {
-      rest = sum_more (sum_by (λ o. spent price s (change_view c.args.change.now) (o ∷ env))) (λ o. spent price s (change_view c.args.change.now) (o ∷ env)) (sum_by-cons (λ o. spent price s (change_view c.args.change.now) (o ∷ env))) (drop c.loop-object.object-index c.args.range.now) (drop (c.loop-object.object-index + 1) c.args.range.now) (get_or c.args.range.now c.loop-object.object-index 0) (front_number c.args.range.now c.loop-object.object-index c.loop-object-test.true) c.loop-object.total c.in_ok-total.field-0 _ c.in_ok-total.ensures.spent c.loop-object.invariant.rest;
-      room = room_more (sum_by (λ o. increases_of (change_view c.args.change.now))) (λ o. increases_of (change_view c.args.change.now)) (sum_by-cons (λ o. increases_of (change_view c.args.change.now))) (drop c.loop-object.object-index c.args.range.now) (drop (c.loop-object.object-index + 1) c.args.range.now) (get_or c.args.range.now c.loop-object.object-index 0) (front_number c.args.range.now c.loop-object.object-index c.loop-object-test.true) c.loop-object.total c.in_ok-total.field-0 (sum_by (λ o. increases_of (change_view c.args.change.now)) c.args.range.now) c.in_ok-total.ensures.within c.loop-object.invariant.room;
+      rest = sum_more (sum_by (λ o. spent price s (change_view c.args.change.now) (o ∷ env))) (λ o. spent price s (change_view c.args.change.now) (o ∷ env)) (sum_by-cons (λ o. spent price s (change_view c.args.change.now) (o ∷ env))) next c.loop-object.total c.in_ok-total.field-0 _ c.in_ok-total.ensures.spent c.loop-object.invariant.rest;
+      room = room_more (sum_by (λ o. increases_of (change_view c.args.change.now))) (λ o. increases_of (change_view c.args.change.now)) (sum_by-cons (λ o. increases_of (change_view c.args.change.now))) next c.loop-object.total c.in_ok-total.field-0 (sum_by (λ o. increases_of (change_view c.args.change.now)) c.args.range.now) c.in_ok-total.ensures.within c.loop-object.invariant.room;
     }
 
 pub spent_by_each-returns : goal.spent_by_each-returns
@@ -212,4 +201,4 @@ spent_by_each-returns g t c =
 
 pub spent_by_each-spent-requires : goal.spent_by_each-spent-requires
 spent_by_each-spent-requires g t c κs within =
-    (omega (arith, c.decreases), (within.0, (within.1.0, (within.1.1.0, (within.1.1.1.0, (within.1.1.1.1, (c.requires.own, few_more (sum_by (λ o. increases_of (change_view c.args.change.now))) (λ o. increases_of (change_view c.args.change.now)) (sum_by-cons (λ o. increases_of (change_view c.args.change.now))) (drop c.loop-object.object-index c.args.range.now) (drop (c.loop-object.object-index + 1) c.args.range.now) (get_or c.args.range.now c.loop-object.object-index 0) (front_number c.args.range.now c.loop-object.object-index c.loop-object-test.true) c.loop-object.total (sum_by (λ o. increases_of (change_view c.args.change.now)) c.args.range.now) c.loop-object.invariant.room c.requires.few)))))))
+    (omega (arith, c.decreases), (within.0, (within.1.0, (within.1.1.0, (within.1.1.1.0, (within.1.1.1.1, (c.requires.own, few_more (sum_by (λ o. increases_of (change_view c.args.change.now))) (λ o. increases_of (change_view c.args.change.now)) (sum_by-cons (λ o. increases_of (change_view c.args.change.now))) (front_number c.args.range.now c.loop-object.object-index c.loop-object-test.true) c.loop-object.total (sum_by (λ o. increases_of (change_view c.args.change.now)) c.args.range.now) c.loop-object.invariant.room c.requires.few)))))))

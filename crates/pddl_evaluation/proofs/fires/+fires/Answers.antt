@@ -1,4 +1,4 @@
-use Rattle.std.proofs.Common.{arith, ◌≡◌, ◌+◌, ◌||◌, ◌&&◌, ◌∷◌, length, drop, get_or, ap, subst, sym, ◌∙◌, refl}
+use Rattle.std.proofs.Common.{arith, ◌≡◌, ◌||◌, ◌&&◌, ◌∷◌, length, get_or, ap, subst, sym, ◌∙◌, refl}
 use Rattle.std.specs.Prelude.{OnOk}
 use Rattle.std.specs.List.{list_any}
 use Rattle.std.proofs.lemmas.List.{at_drop_all}
@@ -165,20 +165,6 @@ pub add_all_fired-add_fired-requires : goal.add_all_fired-add_fired-requires
 add_all_fired-add_fired-requires g t c κs within =
     (omega (arith, among (λ e. the_size g.row.A g.A.Allocator g.A.laws e) c.args.changes.now c.loop-change.change-index c.change-item.result c.loop-change-test.true c.change-item.is, c.decreases), (within.0, (within.1.0, (within.1.1.0, (within.1.1.1, (c.loop-change.invariant.others_own c.args.state.now c.requires.state_own, (c.loop-change.invariant.adds_own, c.loop-change.invariant.dels_own)))))))
 
-pub add_all_fired-offset_bounds-changes-change-index : goal.add_all_fired-offset_bounds-changes-change-index
-add_all_fired-offset_bounds-changes-change-index g t c = c.loop-change.auto.change-index-end
-
-pub add_all_fired-loop-change-init : goal.add_all_fired-loop-change-init
-add_all_fired-loop-change-init g t c =
-    record {
-      adds_own = c.requires.adds_own;
-      dels_own = c.requires.dels_own;
-      others_own = λ u h. h;
-      others = λ u h. refl;
-      added_rest = λ x. refl;
-      deleted_rest = λ x. refl;
-    }
-
 pub add_all_fired-returns-in_err-add_fired : goal.add_all_fired-returns-in_err-add_fired
 add_all_fired-returns-in_err-add_fired g t c =
     let old = c.loop-change.invariant in
@@ -203,13 +189,14 @@ add_all_fired-loop-change-preserved g t c =
     let old = c.loop-change.invariant in
     let put = c.in_ok-add_fired.ensures in
     let same = old.others c.args.state.now c.requires.state_own in
+    let next = front c.args.changes.now c.loop-change.change-index c.change-item.result c.loop-change-test.true c.change-item.is in
     record {
       adds_own = put.adds_own;
       dels_own = put.dels_own;
       others_own = λ u h. put.others_own u (old.others_own u h);
       others = λ u h. put.others u (old.others_own u h) ∙ old.others u h;
-      added_rest = λ x. old.added_rest x ∙ one_more (λ cs. all_added s (changes_view cs) (atom_eq x) env) (λ k. added s (change_view k) (atom_eq x) env) (drop c.loop-change.change-index c.args.changes.now) (drop (c.loop-change.change-index + 1) c.args.changes.now) (c.change-item.result) (front c.args.changes.now c.loop-change.change-index c.change-item.result c.loop-change-test.true c.change-item.is) (λ y ys. refl) (content c.loop-change.store c.loop-change.adds x) (content c.add_fired.new.store c.add_fired.new.adds x) (put.added x ∙ ap (λ r. added r (change_view c.change-item.result) (atom_eq x) env || content c.loop-change.store c.loop-change.adds x) same);
-      deleted_rest = λ x. old.deleted_rest x ∙ one_more (λ cs. all_deleted s (changes_view cs) (atom_eq x) env) (λ k. deleted s (change_view k) (atom_eq x) env) (drop c.loop-change.change-index c.args.changes.now) (drop (c.loop-change.change-index + 1) c.args.changes.now) (c.change-item.result) (front c.args.changes.now c.loop-change.change-index c.change-item.result c.loop-change-test.true c.change-item.is) (λ y ys. refl) (content c.loop-change.store c.loop-change.dels x) (content c.add_fired.new.store c.add_fired.new.dels x) (put.deleted x ∙ ap (λ r. deleted r (change_view c.change-item.result) (atom_eq x) env || content c.loop-change.store c.loop-change.dels x) same);
+      added_rest = λ x. old.added_rest x ∙ one_more (λ cs. all_added s (changes_view cs) (atom_eq x) env) (λ k. added s (change_view k) (atom_eq x) env) next (λ y ys. refl) _ _ (put.added x ∙ ap (λ r. added r (change_view c.change-item.result) (atom_eq x) env || content c.loop-change.store c.loop-change.adds x) same);
+      deleted_rest = λ x. old.deleted_rest x ∙ one_more (λ cs. all_deleted s (changes_view cs) (atom_eq x) env) (λ k. deleted s (change_view k) (atom_eq x) env) next (λ y ys. refl) _ _ (put.deleted x ∙ ap (λ r. deleted r (change_view c.change-item.result) (atom_eq x) env || content c.loop-change.store c.loop-change.dels x) same);
     }
 
 pub add_all_fired-returns : goal.add_all_fired-returns
@@ -230,17 +217,6 @@ add_all_fired-returns g t c =
 pub add_fired_of_each-add_fired-requires : goal.add_fired_of_each-add_fired-requires
 add_fired_of_each-add_fired-requires g t c κs within =
     (omega (arith, c.decreases), (within.0, (within.1.0, (within.1.1.0, (within.1.1.1, (c.loop-object.invariant.others_own c.args.state.now c.requires.state_own, (c.loop-object.invariant.adds_own, c.loop-object.invariant.dels_own)))))))
-
-pub add_fired_of_each-loop-object-init : goal.add_fired_of_each-loop-object-init
-add_fired_of_each-loop-object-init g t c =
-    record {
-      adds_own = c.requires.adds_own;
-      dels_own = c.requires.dels_own;
-      others_own = λ u h. h;
-      others = λ u h. refl;
-      added_rest = λ x. refl;
-      deleted_rest = λ x. refl;
-    }
 
 pub add_fired_of_each-returns-in_err-add_fired : goal.add_fired_of_each-returns-in_err-add_fired
 add_fired_of_each-returns-in_err-add_fired g t c =
@@ -266,13 +242,14 @@ add_fired_of_each-loop-object-preserved g t c =
     let old = c.loop-object.invariant in
     let put = c.in_ok-add_fired.ensures in
     let same = old.others c.args.state.now c.requires.state_own in
+    let next = front_number c.args.range.now c.loop-object.object-index c.loop-object-test.true in
     record {
       adds_own = put.adds_own;
       dels_own = put.dels_own;
       others_own = λ u h. put.others_own u (old.others_own u h);
       others = λ u h. put.others u (old.others_own u h) ∙ old.others u h;
-      added_rest = λ x. old.added_rest x ∙ one_more (list_any (λ o. added s (change_view c.args.change.now) (atom_eq x) (o ∷ env))) (λ o. added s (change_view c.args.change.now) (atom_eq x) (o ∷ env)) (drop c.loop-object.object-index c.args.range.now) (drop (c.loop-object.object-index + 1) c.args.range.now) (get_or c.args.range.now c.loop-object.object-index 0) (front_number c.args.range.now c.loop-object.object-index c.loop-object-test.true) (λ y ys. refl) (content c.loop-object.store c.loop-object.adds x) (content c.add_fired.new.store c.add_fired.new.adds x) (put.added x ∙ ap (λ r. added r (change_view c.args.change.now) (atom_eq x) (get_or c.args.range.now c.loop-object.object-index 0 ∷ env) || content c.loop-object.store c.loop-object.adds x) same);
-      deleted_rest = λ x. old.deleted_rest x ∙ one_more (list_any (λ o. deleted s (change_view c.args.change.now) (atom_eq x) (o ∷ env))) (λ o. deleted s (change_view c.args.change.now) (atom_eq x) (o ∷ env)) (drop c.loop-object.object-index c.args.range.now) (drop (c.loop-object.object-index + 1) c.args.range.now) (get_or c.args.range.now c.loop-object.object-index 0) (front_number c.args.range.now c.loop-object.object-index c.loop-object-test.true) (λ y ys. refl) (content c.loop-object.store c.loop-object.dels x) (content c.add_fired.new.store c.add_fired.new.dels x) (put.deleted x ∙ ap (λ r. deleted r (change_view c.args.change.now) (atom_eq x) (get_or c.args.range.now c.loop-object.object-index 0 ∷ env) || content c.loop-object.store c.loop-object.dels x) same);
+      added_rest = λ x. old.added_rest x ∙ one_more (list_any (λ o. added s (change_view c.args.change.now) (atom_eq x) (o ∷ env))) (λ o. added s (change_view c.args.change.now) (atom_eq x) (o ∷ env)) next (λ y ys. refl) _ _ (put.added x ∙ ap (λ r. added r (change_view c.args.change.now) (atom_eq x) (get_or c.args.range.now c.loop-object.object-index 0 ∷ env) || content c.loop-object.store c.loop-object.adds x) same);
+      deleted_rest = λ x. old.deleted_rest x ∙ one_more (list_any (λ o. deleted s (change_view c.args.change.now) (atom_eq x) (o ∷ env))) (λ o. deleted s (change_view c.args.change.now) (atom_eq x) (o ∷ env)) next (λ y ys. refl) _ _ (put.deleted x ∙ ap (λ r. deleted r (change_view c.args.change.now) (atom_eq x) (get_or c.args.range.now c.loop-object.object-index 0 ∷ env) || content c.loop-object.store c.loop-object.dels x) same);
     }
 
 pub add_fired_of_each-returns : goal.add_fired_of_each-returns

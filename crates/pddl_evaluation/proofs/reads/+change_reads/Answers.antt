@@ -1,4 +1,4 @@
-use Rattle.std.proofs.Common.{arith, ◌≡◌, ◌+◌, ◌||◌, ◌∷◌, length, drop, get_or, ap, subst, sym, ◌∙◌, refl}
+use Rattle.std.proofs.Common.{arith, ◌≡◌, ◌||◌, ◌∷◌, length, ap, subst, sym, ◌∙◌, refl}
 use Rattle.std.specs.Prelude.{OnOk}
 use Rattle.std.specs.List.{list_any}
 use Rattle.std.proofs.lemmas.List.{at_drop_all}
@@ -117,18 +117,6 @@ add_change_reads-add_change_reads-requires g t c κs within = (omega (arith, und
 pub add_changes_reads-add_change_reads-requires : goal.add_changes_reads-add_change_reads-requires
 add_changes_reads-add_change_reads-requires g t c κs within = (omega (arith, among (λ f. the_size g.row.A g.A.Allocator g.A.laws f) c.args.changes.now c.loop-change.change-index c.change-item.result c.loop-change-test.true c.change-item.is, c.decreases), (within.0, (within.1.0, (within.1.1.0, (within.1.1.1, c.loop-change.invariant.own)))))
 
-pub add_changes_reads-offset_bounds-changes-change-index : goal.add_changes_reads-offset_bounds-changes-change-index
-add_changes_reads-offset_bounds-changes-change-index g t c = c.loop-change.auto.change-index-end
-
-pub add_changes_reads-loop-change-init : goal.add_changes_reads-loop-change-init
-add_changes_reads-loop-change-init g t c =
-    record {
-      own = c.requires;
-      others_own = λ u h. h;
-      others = λ u h. refl;
-      rest = λ x. refl;
-    }
-
 pub add_changes_reads-returns-in_err-add_change_reads : goal.add_changes_reads-returns-in_err-add_change_reads
 add_changes_reads-returns-in_err-add_change_reads g t c =
     let old = c.loop-change.invariant in
@@ -148,11 +136,12 @@ add_changes_reads-loop-change-preserved g t c =
     let content = g.S.AtomStore.content in
     let old = c.loop-change.invariant in
     let put = c.in_ok-add_change_reads.ensures in
+    let next = front c.args.changes.now c.loop-change.change-index c.change-item.result c.loop-change-test.true c.change-item.is in
     record {
       own = put.own;
       others_own = λ u h. put.others_own u (old.others_own u h);
       others = λ u h. put.others u (old.others_own u h) ∙ old.others u h;
-      rest = λ x. old.rest x ∙ one_more (λ cs. tested_by_all (changes_view cs) (atom_eq x) (frame_view c.args.frame.now)) (λ k. tested_by (change_view k) (atom_eq x) (frame_view c.args.frame.now)) (drop c.loop-change.change-index c.args.changes.now) (drop (c.loop-change.change-index + 1) c.args.changes.now) (c.change-item.result) (front c.args.changes.now c.loop-change.change-index c.change-item.result c.loop-change-test.true c.change-item.is) (λ y ys. refl) (content c.loop-change.store c.loop-change.into x) (content c.add_change_reads.new.store c.add_change_reads.new.into x) (put.ok x);
+      rest = λ x. old.rest x ∙ one_more (λ cs. tested_by_all (changes_view cs) (atom_eq x) (frame_view c.args.frame.now)) (λ k. tested_by (change_view k) (atom_eq x) (frame_view c.args.frame.now)) next (λ y ys. refl) _ _ (put.ok x);
     }
 
 pub add_changes_reads-returns : goal.add_changes_reads-returns
@@ -168,15 +157,6 @@ add_changes_reads-returns g t c =
 
 pub add_change_reads_of_each-add_change_reads-requires : goal.add_change_reads_of_each-add_change_reads-requires
 add_change_reads_of_each-add_change_reads-requires g t c κs within = (omega (arith, c.decreases), (within.0, (within.1.0, (within.1.1.0, (within.1.1.1, c.loop-object.invariant.own)))))
-
-pub add_change_reads_of_each-loop-object-init : goal.add_change_reads_of_each-loop-object-init
-add_change_reads_of_each-loop-object-init g t c =
-    record {
-      own = c.requires;
-      others_own = λ u h. h;
-      others = λ u h. refl;
-      rest = λ x. refl;
-    }
 
 pub add_change_reads_of_each-returns-in_err-add_change_reads : goal.add_change_reads_of_each-returns-in_err-add_change_reads
 add_change_reads_of_each-returns-in_err-add_change_reads g t c =
@@ -197,11 +177,12 @@ add_change_reads_of_each-loop-object-preserved g t c =
     let content = g.S.AtomStore.content in
     let old = c.loop-object.invariant in
     let put = c.in_ok-add_change_reads.ensures in
+    let next = front_number c.args.range.now c.loop-object.object-index c.loop-object-test.true in
     record {
       own = put.own;
       others_own = λ u h. put.others_own u (old.others_own u h);
       others = λ u h. put.others u (old.others_own u h) ∙ old.others u h;
-      rest = λ x. old.rest x ∙ one_more (list_any (λ o. tested_by (change_view c.args.change.now) (atom_eq x) (o ∷ frame_view c.args.frame.now))) (λ o. tested_by (change_view c.args.change.now) (atom_eq x) (o ∷ frame_view c.args.frame.now)) (drop c.loop-object.object-index c.args.range.now) (drop (c.loop-object.object-index + 1) c.args.range.now) (get_or c.args.range.now c.loop-object.object-index 0) (front_number c.args.range.now c.loop-object.object-index c.loop-object-test.true) (λ y ys. refl) (content c.loop-object.store c.loop-object.into x) (content c.add_change_reads.new.store c.add_change_reads.new.into x) (put.ok x);
+      rest = λ x. old.rest x ∙ one_more (list_any (λ o. tested_by (change_view c.args.change.now) (atom_eq x) (o ∷ frame_view c.args.frame.now))) (λ o. tested_by (change_view c.args.change.now) (atom_eq x) (o ∷ frame_view c.args.frame.now)) next (λ y ys. refl) _ _ (put.ok x);
     }
 
 pub add_change_reads_of_each-returns : goal.add_change_reads_of_each-returns

@@ -1,4 +1,4 @@
-use Rattle.std.proofs.Common.{arith, ◌≡◌, ◌+◌, ◌||◌, ◌∷◌, length, drop, get_or, ap, subst, sym, ◌∙◌, refl}
+use Rattle.std.proofs.Common.{arith, ◌≡◌, ◌||◌, ◌∷◌, length, ap, subst, sym, ◌∙◌, refl}
 use Rattle.std.specs.Prelude.{OnOk}
 use Rattle.std.specs.List.{list_any}
 use Rattle.std.proofs.lemmas.List.{at_drop_all}
@@ -151,18 +151,6 @@ add_reads-add_reads_of_each-requires-in-Forall g t c κs within = (omega (arith,
 pub add_all_reads-add_reads-requires : goal.add_all_reads-add_reads-requires
 add_all_reads-add_reads-requires g t c κs within = (omega (arith, among (λ f. the_size g.row.A g.A.Allocator g.A.laws f) c.args.conditions.now c.loop-condition.condition-index c.condition-item.result c.loop-condition-test.true c.condition-item.is, c.decreases), (within.0, (within.1.0, (within.1.1.0, (within.1.1.1, c.loop-condition.invariant.own)))))
 
-pub add_all_reads-offset_bounds-conditions-condition-index : goal.add_all_reads-offset_bounds-conditions-condition-index
-add_all_reads-offset_bounds-conditions-condition-index g t c = c.loop-condition.auto.condition-index-end
-
-pub add_all_reads-loop-condition-init : goal.add_all_reads-loop-condition-init
-add_all_reads-loop-condition-init g t c =
-    record {
-      own = c.requires;
-      others_own = λ u h. h;
-      others = λ u h. refl;
-      rest = λ x. refl;
-    }
-
 pub add_all_reads-returns-in_err-add_reads : goal.add_all_reads-returns-in_err-add_reads
 add_all_reads-returns-in_err-add_reads g t c =
     let old = c.loop-condition.invariant in
@@ -182,11 +170,12 @@ add_all_reads-loop-condition-preserved g t c =
     let content = g.S.AtomStore.content in
     let old = c.loop-condition.invariant in
     let put = c.in_ok-add_reads.ensures in
+    let next = front c.args.conditions.now c.loop-condition.condition-index c.condition-item.result c.loop-condition-test.true c.condition-item.is in
     record {
       own = put.own;
       others_own = λ u h. put.others_own u (old.others_own u h);
       others = λ u h. put.others u (old.others_own u h) ∙ old.others u h;
-      rest = λ x. old.rest x ∙ one_more (λ cs. some_tested_in (conditions_view cs) (atom_eq x) (frame_view c.args.frame.now)) (λ k. some_tested (condition_view k) (atom_eq x) (frame_view c.args.frame.now)) (drop c.loop-condition.condition-index c.args.conditions.now) (drop (c.loop-condition.condition-index + 1) c.args.conditions.now) (c.condition-item.result) (front c.args.conditions.now c.loop-condition.condition-index c.condition-item.result c.loop-condition-test.true c.condition-item.is) (λ y ys. refl) (content c.loop-condition.store c.loop-condition.into x) (content c.add_reads.new.store c.add_reads.new.into x) (put.ok x);
+      rest = λ x. old.rest x ∙ one_more (λ cs. some_tested_in (conditions_view cs) (atom_eq x) (frame_view c.args.frame.now)) (λ k. some_tested (condition_view k) (atom_eq x) (frame_view c.args.frame.now)) next (λ y ys. refl) _ _ (put.ok x);
     }
 
 pub add_all_reads-returns : goal.add_all_reads-returns
@@ -202,15 +191,6 @@ add_all_reads-returns g t c =
 
 pub add_reads_of_each-add_reads-requires : goal.add_reads_of_each-add_reads-requires
 add_reads_of_each-add_reads-requires g t c κs within = (omega (arith, c.decreases), (within.0, (within.1.0, (within.1.1.0, (within.1.1.1, c.loop-object.invariant.own)))))
-
-pub add_reads_of_each-loop-object-init : goal.add_reads_of_each-loop-object-init
-add_reads_of_each-loop-object-init g t c =
-    record {
-      own = c.requires;
-      others_own = λ u h. h;
-      others = λ u h. refl;
-      rest = λ x. refl;
-    }
 
 pub add_reads_of_each-returns-in_err-add_reads : goal.add_reads_of_each-returns-in_err-add_reads
 add_reads_of_each-returns-in_err-add_reads g t c =
@@ -231,11 +211,12 @@ add_reads_of_each-loop-object-preserved g t c =
     let content = g.S.AtomStore.content in
     let old = c.loop-object.invariant in
     let put = c.in_ok-add_reads.ensures in
+    let next = front_number c.args.range.now c.loop-object.object-index c.loop-object-test.true in
     record {
       own = put.own;
       others_own = λ u h. put.others_own u (old.others_own u h);
       others = λ u h. put.others u (old.others_own u h) ∙ old.others u h;
-      rest = λ x. old.rest x ∙ one_more (list_any (λ o. some_tested (condition_view c.args.condition.now) (atom_eq x) (o ∷ frame_view c.args.frame.now))) (λ o. some_tested (condition_view c.args.condition.now) (atom_eq x) (o ∷ frame_view c.args.frame.now)) (drop c.loop-object.object-index c.args.range.now) (drop (c.loop-object.object-index + 1) c.args.range.now) (get_or c.args.range.now c.loop-object.object-index 0) (front_number c.args.range.now c.loop-object.object-index c.loop-object-test.true) (λ y ys. refl) (content c.loop-object.store c.loop-object.into x) (content c.add_reads.new.store c.add_reads.new.into x) (put.ok x);
+      rest = λ x. old.rest x ∙ one_more (list_any (λ o. some_tested (condition_view c.args.condition.now) (atom_eq x) (o ∷ frame_view c.args.frame.now))) (λ o. some_tested (condition_view c.args.condition.now) (atom_eq x) (o ∷ frame_view c.args.frame.now)) next (λ y ys. refl) _ _ (put.ok x);
     }
 
 pub add_reads_of_each-returns : goal.add_reads_of_each-returns

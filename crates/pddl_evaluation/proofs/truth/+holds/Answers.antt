@@ -1,4 +1,4 @@
-use Rattle.std.proofs.Common.{arith, ◌≡◌, ◌+◌, ◌∷◌, ◌∙◌, not, ◌||◌, eqb, length, drop, get_or, ap, subst, sym, refl}
+use Rattle.std.proofs.Common.{arith, ◌≡◌, ◌∷◌, ◌∙◌, not, ◌||◌, eqb, length, ap, subst, sym, refl}
 use Rattle.std.specs.Prelude.{IfOk}
 use Rattle.std.specs.List.{list_any, list_all}
 use Rattle.std.proofs.lemmas.List.{at_drop_all}
@@ -49,15 +49,6 @@ pub is_some_true-is_true-requires : goal.is_some_true-is_true-requires
 is_some_true-is_true-requires g t c κs within =
     (omega (arith, among (λ f. the_size g.row.A g.A.Allocator g.A.laws f) c.args.conditions.now c.loop-condition.condition-index c.condition-item.result c.loop-condition-test.true c.condition-item.is, c.decreases), (within.0, (within.1.0, (within.1.1.0, (within.1.1.1, c.requires)))))
 
-pub are_true-loop-condition-init : goal.are_true-loop-condition-init
-are_true-loop-condition-init g t c = refl
-
-pub are_true-bounds-conditions-condition-index : goal.are_true-bounds-conditions-condition-index
-are_true-bounds-conditions-condition-index g t c = c.loop-condition-test.true
-
-pub are_true-offset_bounds-conditions-condition-index : goal.are_true-offset_bounds-conditions-condition-index
-are_true-offset_bounds-conditions-condition-index g t c = c.loop-condition.auto.condition-index-end
-
 pub are_true-returns-in_err-is_true : goal.are_true-returns-in_err-is_true
 are_true-returns-in_err-is_true g t c = IfOk-from_err c.from_residual.result _ c.from_residual.ensures.0
 
@@ -65,13 +56,15 @@ pub are_true-returns-then-not-branch : goal.are_true-returns-then-not-branch
 are_true-returns-then-not-branch g t c =
     let s = g.S.AtomStore.content c.args.store.now c.args.set.now in
     let env = frame_view c.args.frame.now in
-    not_all (λ cs. are_true s (conditions_view cs) env) (λ k. is_true s (condition_view k) env) (drop c.loop-condition.condition-index c.args.conditions.now) (drop (c.loop-condition.condition-index + 1) c.args.conditions.now) (c.condition-item.result) (front c.args.conditions.now c.loop-condition.condition-index c.condition-item.result c.loop-condition-test.true c.condition-item.is) (λ y ys. refl) _ (sym c.if-not-branch.true ∙ c.in_ok-is_true.ensures) c.loop-condition.invariant
+    let next = front c.args.conditions.now c.loop-condition.condition-index c.condition-item.result c.loop-condition-test.true c.condition-item.is in
+    not_all (λ cs. are_true s (conditions_view cs) env) (λ k. is_true s (condition_view k) env) next (λ y ys. refl) _ (sym c.if-not-branch.true ∙ c.in_ok-is_true.ensures) c.loop-condition.invariant
 
 pub are_true-loop-condition-preserved : goal.are_true-loop-condition-preserved
 are_true-loop-condition-preserved g t c =
     let s = g.S.AtomStore.content c.args.store.now c.args.set.now in
     let env = frame_view c.args.frame.now in
-    all_more (λ cs. are_true s (conditions_view cs) env) (λ k. is_true s (condition_view k) env) (drop c.loop-condition.condition-index c.args.conditions.now) (drop (c.loop-condition.condition-index + 1) c.args.conditions.now) (c.condition-item.result) (front c.args.conditions.now c.loop-condition.condition-index c.condition-item.result c.loop-condition-test.true c.condition-item.is) (λ y ys. refl) _ (sym c.if-not-branch.false ∙ c.in_ok-is_true.ensures) c.loop-condition.invariant
+    let next = front c.args.conditions.now c.loop-condition.condition-index c.condition-item.result c.loop-condition-test.true c.condition-item.is in
+    all_more (λ cs. are_true s (conditions_view cs) env) (λ k. is_true s (condition_view k) env) next (λ y ys. refl) _ (sym c.if-not-branch.false ∙ c.in_ok-is_true.ensures) c.loop-condition.invariant
 
 pub are_true-loop-condition-smaller : goal.are_true-loop-condition-smaller
 are_true-loop-condition-smaller g t c = falls (length c.args.conditions.now) c.loop-condition.condition-index c.loop-condition-test.true
@@ -82,15 +75,6 @@ are_true-returns g t c =
     let env = frame_view c.args.frame.now in
     sym (at_drop_all (λ cs. are_true s (conditions_view cs) env) c.args.conditions.now c.loop-condition.condition-index c.loop-condition-test.false) ∙ c.loop-condition.invariant
 
-pub is_some_true-loop-condition-init : goal.is_some_true-loop-condition-init
-is_some_true-loop-condition-init g t c = refl
-
-pub is_some_true-bounds-conditions-condition-index : goal.is_some_true-bounds-conditions-condition-index
-is_some_true-bounds-conditions-condition-index g t c = c.loop-condition-test.true
-
-pub is_some_true-offset_bounds-conditions-condition-index : goal.is_some_true-offset_bounds-conditions-condition-index
-is_some_true-offset_bounds-conditions-condition-index g t c = c.loop-condition.auto.condition-index-end
-
 pub is_some_true-returns-in_err-is_true : goal.is_some_true-returns-in_err-is_true
 is_some_true-returns-in_err-is_true g t c = IfOk-from_err c.from_residual.result _ c.from_residual.ensures.0
 
@@ -98,13 +82,15 @@ pub is_some_true-returns-then-branch : goal.is_some_true-returns-then-branch
 is_some_true-returns-then-branch g t c =
     let s = g.S.AtomStore.content c.args.store.now c.args.set.now in
     let env = frame_view c.args.frame.now in
-    some_one (λ cs. is_some_true s (conditions_view cs) env) (λ k. is_true s (condition_view k) env) (drop c.loop-condition.condition-index c.args.conditions.now) (drop (c.loop-condition.condition-index + 1) c.args.conditions.now) (c.condition-item.result) (front c.args.conditions.now c.loop-condition.condition-index c.condition-item.result c.loop-condition-test.true c.condition-item.is) (λ y ys. refl) _ (sym c.if-branch.true ∙ c.in_ok-is_true.ensures) c.loop-condition.invariant
+    let next = front c.args.conditions.now c.loop-condition.condition-index c.condition-item.result c.loop-condition-test.true c.condition-item.is in
+    some_one (λ cs. is_some_true s (conditions_view cs) env) (λ k. is_true s (condition_view k) env) next (λ y ys. refl) _ (sym c.if-branch.true ∙ c.in_ok-is_true.ensures) c.loop-condition.invariant
 
 pub is_some_true-loop-condition-preserved : goal.is_some_true-loop-condition-preserved
 is_some_true-loop-condition-preserved g t c =
     let s = g.S.AtomStore.content c.args.store.now c.args.set.now in
     let env = frame_view c.args.frame.now in
-    any_more (λ cs. is_some_true s (conditions_view cs) env) (λ k. is_true s (condition_view k) env) (drop c.loop-condition.condition-index c.args.conditions.now) (drop (c.loop-condition.condition-index + 1) c.args.conditions.now) (c.condition-item.result) (front c.args.conditions.now c.loop-condition.condition-index c.condition-item.result c.loop-condition-test.true c.condition-item.is) (λ y ys. refl) _ (sym c.if-branch.false ∙ c.in_ok-is_true.ensures) c.loop-condition.invariant
+    let next = front c.args.conditions.now c.loop-condition.condition-index c.condition-item.result c.loop-condition-test.true c.condition-item.is in
+    any_more (λ cs. is_some_true s (conditions_view cs) env) (λ k. is_true s (condition_view k) env) next (λ y ys. refl) _ (sym c.if-branch.false ∙ c.in_ok-is_true.ensures) c.loop-condition.invariant
 
 pub is_some_true-loop-condition-smaller : goal.is_some_true-loop-condition-smaller
 is_some_true-loop-condition-smaller g t c = falls (length c.args.conditions.now) c.loop-condition.condition-index c.loop-condition-test.true
@@ -115,12 +101,6 @@ is_some_true-returns g t c =
     let env = frame_view c.args.frame.now in
     sym (at_drop_all (λ cs. is_some_true s (conditions_view cs) env) c.args.conditions.now c.loop-condition.condition-index c.loop-condition-test.false) ∙ c.loop-condition.invariant
 
-pub is_true_of_all-loop-object-init : goal.is_true_of_all-loop-object-init
-is_true_of_all-loop-object-init g t c = refl
-
-pub is_true_of_all-bounds-range-object-index : goal.is_true_of_all-bounds-range-object-index
-is_true_of_all-bounds-range-object-index g t c = c.loop-object-test.true
-
 pub is_true_of_all-returns-in_err-is_true : goal.is_true_of_all-returns-in_err-is_true
 is_true_of_all-returns-in_err-is_true g t c = IfOk-from_err c.from_residual.result _ c.from_residual.ensures.0
 
@@ -128,13 +108,15 @@ pub is_true_of_all-returns-then-not-branch : goal.is_true_of_all-returns-then-no
 is_true_of_all-returns-then-not-branch g t c =
     let s = g.S.AtomStore.content c.args.store.now c.args.set.now in
     let env = frame_view c.args.frame.now in
-    not_all (list_all (λ o. is_true s (condition_view c.args.condition.now) (o ∷ env))) (λ o. is_true s (condition_view c.args.condition.now) (o ∷ env)) (drop c.loop-object.object-index c.args.range.now) (drop (c.loop-object.object-index + 1) c.args.range.now) (get_or c.args.range.now c.loop-object.object-index 0) (front_number c.args.range.now c.loop-object.object-index c.loop-object-test.true) (λ y ys. refl) _ (sym c.if-not-branch.true ∙ c.in_ok-is_true.ensures) c.loop-object.invariant
+    let next = front_number c.args.range.now c.loop-object.object-index c.loop-object-test.true in
+    not_all (list_all (λ o. is_true s (condition_view c.args.condition.now) (o ∷ env))) (λ o. is_true s (condition_view c.args.condition.now) (o ∷ env)) next (λ y ys. refl) _ (sym c.if-not-branch.true ∙ c.in_ok-is_true.ensures) c.loop-object.invariant
 
 pub is_true_of_all-loop-object-preserved : goal.is_true_of_all-loop-object-preserved
 is_true_of_all-loop-object-preserved g t c =
     let s = g.S.AtomStore.content c.args.store.now c.args.set.now in
     let env = frame_view c.args.frame.now in
-    all_more (list_all (λ o. is_true s (condition_view c.args.condition.now) (o ∷ env))) (λ o. is_true s (condition_view c.args.condition.now) (o ∷ env)) (drop c.loop-object.object-index c.args.range.now) (drop (c.loop-object.object-index + 1) c.args.range.now) (get_or c.args.range.now c.loop-object.object-index 0) (front_number c.args.range.now c.loop-object.object-index c.loop-object-test.true) (λ y ys. refl) _ (sym c.if-not-branch.false ∙ c.in_ok-is_true.ensures) c.loop-object.invariant
+    let next = front_number c.args.range.now c.loop-object.object-index c.loop-object-test.true in
+    all_more (list_all (λ o. is_true s (condition_view c.args.condition.now) (o ∷ env))) (λ o. is_true s (condition_view c.args.condition.now) (o ∷ env)) next (λ y ys. refl) _ (sym c.if-not-branch.false ∙ c.in_ok-is_true.ensures) c.loop-object.invariant
 
 pub is_true_of_all-loop-object-smaller : goal.is_true_of_all-loop-object-smaller
 is_true_of_all-loop-object-smaller g t c = falls (length c.args.range.now) c.loop-object.object-index c.loop-object-test.true
@@ -145,12 +127,6 @@ is_true_of_all-returns g t c =
     let env = frame_view c.args.frame.now in
     sym (at_drop_all (list_all (λ o. is_true s (condition_view c.args.condition.now) (o ∷ env))) c.args.range.now c.loop-object.object-index c.loop-object-test.false) ∙ c.loop-object.invariant
 
-pub is_true_of_some-loop-object-init : goal.is_true_of_some-loop-object-init
-is_true_of_some-loop-object-init g t c = refl
-
-pub is_true_of_some-bounds-range-object-index : goal.is_true_of_some-bounds-range-object-index
-is_true_of_some-bounds-range-object-index g t c = c.loop-object-test.true
-
 pub is_true_of_some-returns-in_err-is_true : goal.is_true_of_some-returns-in_err-is_true
 is_true_of_some-returns-in_err-is_true g t c = IfOk-from_err c.from_residual.result _ c.from_residual.ensures.0
 
@@ -158,13 +134,15 @@ pub is_true_of_some-returns-then-branch : goal.is_true_of_some-returns-then-bran
 is_true_of_some-returns-then-branch g t c =
     let s = g.S.AtomStore.content c.args.store.now c.args.set.now in
     let env = frame_view c.args.frame.now in
-    some_one (list_any (λ o. is_true s (condition_view c.args.condition.now) (o ∷ env))) (λ o. is_true s (condition_view c.args.condition.now) (o ∷ env)) (drop c.loop-object.object-index c.args.range.now) (drop (c.loop-object.object-index + 1) c.args.range.now) (get_or c.args.range.now c.loop-object.object-index 0) (front_number c.args.range.now c.loop-object.object-index c.loop-object-test.true) (λ y ys. refl) _ (sym c.if-branch.true ∙ c.in_ok-is_true.ensures) c.loop-object.invariant
+    let next = front_number c.args.range.now c.loop-object.object-index c.loop-object-test.true in
+    some_one (list_any (λ o. is_true s (condition_view c.args.condition.now) (o ∷ env))) (λ o. is_true s (condition_view c.args.condition.now) (o ∷ env)) next (λ y ys. refl) _ (sym c.if-branch.true ∙ c.in_ok-is_true.ensures) c.loop-object.invariant
 
 pub is_true_of_some-loop-object-preserved : goal.is_true_of_some-loop-object-preserved
 is_true_of_some-loop-object-preserved g t c =
     let s = g.S.AtomStore.content c.args.store.now c.args.set.now in
     let env = frame_view c.args.frame.now in
-    any_more (list_any (λ o. is_true s (condition_view c.args.condition.now) (o ∷ env))) (λ o. is_true s (condition_view c.args.condition.now) (o ∷ env)) (drop c.loop-object.object-index c.args.range.now) (drop (c.loop-object.object-index + 1) c.args.range.now) (get_or c.args.range.now c.loop-object.object-index 0) (front_number c.args.range.now c.loop-object.object-index c.loop-object-test.true) (λ y ys. refl) _ (sym c.if-branch.false ∙ c.in_ok-is_true.ensures) c.loop-object.invariant
+    let next = front_number c.args.range.now c.loop-object.object-index c.loop-object-test.true in
+    any_more (list_any (λ o. is_true s (condition_view c.args.condition.now) (o ∷ env))) (λ o. is_true s (condition_view c.args.condition.now) (o ∷ env)) next (λ y ys. refl) _ (sym c.if-branch.false ∙ c.in_ok-is_true.ensures) c.loop-object.invariant
 
 pub is_true_of_some-loop-object-smaller : goal.is_true_of_some-loop-object-smaller
 is_true_of_some-loop-object-smaller g t c = falls (length c.args.range.now) c.loop-object.object-index c.loop-object-test.true
