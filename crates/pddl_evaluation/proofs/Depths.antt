@@ -1,5 +1,5 @@
 -- Depths of conditions and changes: a part is less deep than the whole, and an element no deeper than the deepest of its list.
-use Rattle.std.proofs.Common.{◌≡◌, ℕ, ◌<◌, ◌≤◌, List, length, get_or, Vec, Box, ap, arith}
+use Rattle.std.proofs.Common.{◌≡◌, ℕ, ◌+◌, ◌*◌, ◌<◌, ◌≤◌, List, length, get_or, Vec, Box, ap, arith}
 use denote.RattleType.{RattleType}
 use denote.Param.Laws.{Laws}
 use denote.Param.Weighed.{most, at_most}
@@ -19,6 +19,19 @@ below depth deep f whole inner part is inner_is less = omega (arith, ap depth is
 
 pub among : {X : Type 0} (depth : X → ℕ) (xs : List X) (i : ℕ) (x : X) → i < length xs → x ≡ get_or xs i x → depth x ≤ most depth xs
 among depth xs i x lt is = omega (arith, ap depth is, at_most depth xs i x lt)
+
+-- what a call in the cycle is measured by falls: from a whole to a part, to a list of parts or to a part for each object, and from these to a part
+pub to_part : (part whole t : ℕ) → part < whole → 2 * whole + 0 ≡ t → 2 * part + 0 < t
+to_part part whole t less is = omega (arith, less, is)
+
+pub to_parts : (part whole t : ℕ) → part < whole → 2 * whole + 0 ≡ t → 2 * part + 1 < t
+to_parts part whole t less is = omega (arith, less, is)
+
+pub from_parts : (part parts t : ℕ) → part ≤ parts → 2 * parts + 1 ≡ t → 2 * part + 0 < t
+from_parts part parts t most is = omega (arith, most, is)
+
+pub from_each : (part t : ℕ) → 2 * part + 1 ≡ t → 2 * part + 0 < t
+from_each part t is = omega (arith, is)
 
 module _ (T : RattleType) (G : Ghosts T.Denot) (laws : Laws T) where
   -- ---- conditions

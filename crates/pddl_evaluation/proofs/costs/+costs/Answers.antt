@@ -8,7 +8,7 @@ use Rattle.pddl_compiled.specs.CompiledMeaning.{spent, spent_in}
 use Rattle.pddl_compiled.specs.Views.{change_view, changes_view, frame_view}
 use Rattle.pddl_evaluation.specs.Costs.{most_increases, increases_of, increases_in, IsWithin}
 use Rattle.pddl_compiled.proofs.compiled.Change.TheLaws.{the_size}
-use Rattle.pddl_evaluation.proofs.Depths.{under_all, under_each, under_when, among}
+use Rattle.pddl_evaluation.proofs.Depths.{from_each, from_parts, to_part, to_parts, under_all, under_each, under_when, among}
 use Rattle.pddl_evaluation.proofs.Views.{view-Both, view-Each, view-When, view-Add, view-Del, view-Increase, view-IncreaseBy}
 use Rattle.pddl_evaluation.proofs.More.{front, front_number, sum_more, room_more, few_more, sum_done, room_done, none_within}
 use Rattle.pddl_evaluation.proofs.costs.+costs.Goals as goal
@@ -113,15 +113,15 @@ spent-returns-in-IncreaseBy-clause-spent g t c =
 
 pub spent-spent_by_all-requires : goal.spent-spent_by_all-requires
 spent-spent_by_all-requires g t c κs within =
-    (omega (arith, under_all g.row.A g.A.Allocator g.A.laws c.args.change.now c.deref.result.now c.in-And.parts c.in-And.is c.deref.ensures.value, c.decreases), (within.0, (within.1.0, (within.1.1.0, (within.1.1.1.0, (within.1.1.1.1, (c.requires.own, subst (λ v. increases_of v ≤ most_increases) (view-Both c.args.change.now c.in-And.parts c.deref.result.now c.in-And.is c.deref.ensures.value) c.requires.few)))))))
+    (to_parts _ _ t (under_all g.row.A g.A.Allocator g.A.laws c.args.change.now c.deref.result.now c.in-And.parts c.in-And.is c.deref.ensures.value) c.decreases, (within.0, (within.1.0, (within.1.1.0, (within.1.1.1.0, (within.1.1.1.1, (c.requires.own, subst (λ v. increases_of v ≤ most_increases) (view-Both c.args.change.now c.in-And.parts c.deref.result.now c.in-And.is c.deref.ensures.value) c.requires.few)))))))
 
 pub spent-spent_by_each-requires : goal.spent-spent_by_each-requires
 spent-spent_by_each-requires g t c κs within =
-    (omega (arith, under_each g.row.A g.A.Allocator g.A.laws c.args.change.now c.deref-in-Forall-2.result.now c.in-Forall.range c.in-Forall.inner c.in-Forall.is c.deref-in-Forall-2.ensures, c.decreases), (within.0, (within.1.0, (within.1.1.0, (within.1.1.1.0, (within.1.1.1.1, (c.requires.own, subst (λ v. increases_of v ≤ most_increases) (view-Each c.args.change.now c.in-Forall.range c.in-Forall.inner c.deref-in-Forall.result.now c.deref-in-Forall-2.result.now c.in-Forall.is c.deref-in-Forall.ensures.value c.deref-in-Forall-2.ensures) c.requires.few)))))))
+    (to_parts _ _ t (under_each g.row.A g.A.Allocator g.A.laws c.args.change.now c.deref-in-Forall-2.result.now c.in-Forall.range c.in-Forall.inner c.in-Forall.is c.deref-in-Forall-2.ensures) c.decreases, (within.0, (within.1.0, (within.1.1.0, (within.1.1.1.0, (within.1.1.1.1, (c.requires.own, subst (λ v. increases_of v ≤ most_increases) (view-Each c.args.change.now c.in-Forall.range c.in-Forall.inner c.deref-in-Forall.result.now c.deref-in-Forall-2.result.now c.in-Forall.is c.deref-in-Forall.ensures.value c.deref-in-Forall-2.ensures) c.requires.few)))))))
 
 pub spent-spent-requires : goal.spent-spent-requires
 spent-spent-requires g t c κs within =
-    (omega (arith, under_when g.row.A g.A.Allocator g.A.laws c.args.change.now c.deref-then-branch.result.now c.in-When.condition c.in-When.inner c.in-When.is c.deref-then-branch.ensures, c.decreases), (within.0, (within.1.0, (within.1.1.0, (within.1.1.1.0, (within.1.1.1.1, (c.requires.own, subst (λ v. increases_of v ≤ most_increases) (view-When c.args.change.now c.in-When.condition c.in-When.inner c.deref-then-branch.result.now c.in-When.is c.deref-then-branch.ensures) c.requires.few)))))))
+    (to_part _ _ t (under_when g.row.A g.A.Allocator g.A.laws c.args.change.now c.deref-then-branch.result.now c.in-When.condition c.in-When.inner c.in-When.is c.deref-then-branch.ensures) c.decreases, (within.0, (within.1.0, (within.1.1.0, (within.1.1.1.0, (within.1.1.1.1, (c.requires.own, subst (λ v. increases_of v ≤ most_increases) (view-When c.args.change.now c.in-When.condition c.in-When.inner c.deref-then-branch.result.now c.in-When.is c.deref-then-branch.ensures) c.requires.few)))))))
 
 pub spent_by_all-returns-in_err-total : goal.spent_by_all-returns-in_err-total
 spent_by_all-returns-in_err-total g t c =
@@ -161,7 +161,7 @@ spent_by_all-returns g t c =
 
 pub spent_by_all-spent-requires : goal.spent_by_all-spent-requires
 spent_by_all-spent-requires g t c κs within =
-    (omega (arith, among (λ e. the_size g.row.A g.A.Allocator g.A.laws e) c.args.changes.now c.loop-change.change-index c.change-item.result c.loop-change-test.true c.change-item.is, c.decreases), (within.0, (within.1.0, (within.1.1.0, (within.1.1.1.0, (within.1.1.1.1, (c.requires.own, few_more (λ cs. increases_in (changes_view cs)) (λ k. increases_of (change_view k)) (λ y ys. refl) (front c.args.changes.now c.loop-change.change-index c.change-item.result c.loop-change-test.true c.change-item.is) c.loop-change.total (increases_in (changes_view c.args.changes.now)) c.loop-change.invariant.room c.requires.few)))))))
+    (from_parts _ _ t (among (λ e. the_size g.row.A g.A.Allocator g.A.laws e) c.args.changes.now c.loop-change.change-index c.change-item.result c.loop-change-test.true c.change-item.is) c.decreases, (within.0, (within.1.0, (within.1.1.0, (within.1.1.1.0, (within.1.1.1.1, (c.requires.own, few_more (λ cs. increases_in (changes_view cs)) (λ k. increases_of (change_view k)) (λ y ys. refl) (front c.args.changes.now c.loop-change.change-index c.change-item.result c.loop-change-test.true c.change-item.is) c.loop-change.total (increases_in (changes_view c.args.changes.now)) c.loop-change.invariant.room c.requires.few)))))))
 
 pub spent_by_each-returns-in_err-total : goal.spent_by_each-returns-in_err-total
 spent_by_each-returns-in_err-total g t c =
@@ -201,4 +201,4 @@ spent_by_each-returns g t c =
 
 pub spent_by_each-spent-requires : goal.spent_by_each-spent-requires
 spent_by_each-spent-requires g t c κs within =
-    (omega (arith, c.decreases), (within.0, (within.1.0, (within.1.1.0, (within.1.1.1.0, (within.1.1.1.1, (c.requires.own, few_more (sum_by (λ o. increases_of (change_view c.args.change.now))) (λ o. increases_of (change_view c.args.change.now)) (sum_by-cons (λ o. increases_of (change_view c.args.change.now))) (front_number c.args.range.now c.loop-object.object-index c.loop-object-test.true) c.loop-object.total (sum_by (λ o. increases_of (change_view c.args.change.now)) c.args.range.now) c.loop-object.invariant.room c.requires.few)))))))
+    (from_each _ t c.decreases, (within.0, (within.1.0, (within.1.1.0, (within.1.1.1.0, (within.1.1.1.1, (c.requires.own, few_more (sum_by (λ o. increases_of (change_view c.args.change.now))) (λ o. increases_of (change_view c.args.change.now)) (sum_by-cons (λ o. increases_of (change_view c.args.change.now))) (front_number c.args.range.now c.loop-object.object-index c.loop-object-test.true) c.loop-object.total (sum_by (λ o. increases_of (change_view c.args.change.now)) c.args.range.now) c.loop-object.invariant.room c.requires.few)))))))

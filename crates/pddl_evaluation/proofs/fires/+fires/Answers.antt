@@ -1,4 +1,4 @@
-use Rattle.std.proofs.Common.{arith, ◌≡◌, ◌||◌, ◌&&◌, ◌∷◌, length, get_or, ap, subst, sym, ◌∙◌, refl}
+use Rattle.std.proofs.Common.{◌≡◌, ◌||◌, ◌&&◌, ◌∷◌, length, get_or, ap, subst, sym, ◌∙◌, refl}
 use Rattle.std.specs.Prelude.{OnOk}
 use Rattle.std.specs.List.{list_any}
 use Rattle.std.proofs.lemmas.List.{at_drop_all}
@@ -8,7 +8,7 @@ use Rattle.pddl_state.specs.Atoms.{AtomValue, atom_eq}
 use Rattle.pddl_compiled.specs.Views.{change_view, changes_view, frame_view}
 use Rattle.pddl_evaluation.specs.Fires.{added, all_added, deleted, all_deleted}
 use Rattle.pddl_compiled.proofs.compiled.Change.TheLaws.{the_size}
-use Rattle.pddl_evaluation.proofs.Depths.{under_all, under_each, under_when, among}
+use Rattle.pddl_evaluation.proofs.Depths.{from_each, from_parts, to_part, to_parts, under_all, under_each, under_when, among}
 use Rattle.pddl_evaluation.proofs.Views.{view-Both, view-Each, view-When, view-Add, view-Del, view-Increase, view-IncreaseBy}
 use Rattle.pddl_evaluation.proofs.More.{front, front_number, one_more, on_ok, on_any}
 use Rattle.pddl_evaluation.proofs.fires.+fires.Goals as goal
@@ -151,19 +151,19 @@ add_fired-returns-else-branch g t c =
 
 pub add_fired-add_all_fired-requires : goal.add_fired-add_all_fired-requires
 add_fired-add_all_fired-requires g t c κs within =
-    (omega (arith, under_all g.row.A g.A.Allocator g.A.laws c.args.change.now c.deref.result.now c.in-And.parts c.in-And.is c.deref.ensures.value, c.decreases), (within.0, (within.1.0, (within.1.1.0, (within.1.1.1, (c.requires.state_own, (c.requires.adds_own, c.requires.dels_own)))))))
+    (to_parts _ _ t (under_all g.row.A g.A.Allocator g.A.laws c.args.change.now c.deref.result.now c.in-And.parts c.in-And.is c.deref.ensures.value) c.decreases, (within.0, (within.1.0, (within.1.1.0, (within.1.1.1, (c.requires.state_own, (c.requires.adds_own, c.requires.dels_own)))))))
 
 pub add_fired-add_fired_of_each-requires : goal.add_fired-add_fired_of_each-requires
 add_fired-add_fired_of_each-requires g t c κs within =
-    (omega (arith, under_each g.row.A g.A.Allocator g.A.laws c.args.change.now c.deref-in-Forall-2.result.now c.in-Forall.range c.in-Forall.inner c.in-Forall.is c.deref-in-Forall-2.ensures, c.decreases), (within.0, (within.1.0, (within.1.1.0, (within.1.1.1, (c.requires.state_own, (c.requires.adds_own, c.requires.dels_own)))))))
+    (to_parts _ _ t (under_each g.row.A g.A.Allocator g.A.laws c.args.change.now c.deref-in-Forall-2.result.now c.in-Forall.range c.in-Forall.inner c.in-Forall.is c.deref-in-Forall-2.ensures) c.decreases, (within.0, (within.1.0, (within.1.1.0, (within.1.1.1, (c.requires.state_own, (c.requires.adds_own, c.requires.dels_own)))))))
 
 pub add_fired-add_fired-requires : goal.add_fired-add_fired-requires
 add_fired-add_fired-requires g t c κs within =
-    (omega (arith, under_when g.row.A g.A.Allocator g.A.laws c.args.change.now c.deref-then-branch.result.now c.in-When.condition c.in-When.inner c.in-When.is c.deref-then-branch.ensures, c.decreases), (within.0, (within.1.0, (within.1.1.0, (within.1.1.1, (c.requires.state_own, (c.requires.adds_own, c.requires.dels_own)))))))
+    (to_part _ _ t (under_when g.row.A g.A.Allocator g.A.laws c.args.change.now c.deref-then-branch.result.now c.in-When.condition c.in-When.inner c.in-When.is c.deref-then-branch.ensures) c.decreases, (within.0, (within.1.0, (within.1.1.0, (within.1.1.1, (c.requires.state_own, (c.requires.adds_own, c.requires.dels_own)))))))
 
 pub add_all_fired-add_fired-requires : goal.add_all_fired-add_fired-requires
 add_all_fired-add_fired-requires g t c κs within =
-    (omega (arith, among (λ e. the_size g.row.A g.A.Allocator g.A.laws e) c.args.changes.now c.loop-change.change-index c.change-item.result c.loop-change-test.true c.change-item.is, c.decreases), (within.0, (within.1.0, (within.1.1.0, (within.1.1.1, (c.loop-change.invariant.others_own c.args.state.now c.requires.state_own, (c.loop-change.invariant.adds_own, c.loop-change.invariant.dels_own)))))))
+    (from_parts _ _ t (among (λ e. the_size g.row.A g.A.Allocator g.A.laws e) c.args.changes.now c.loop-change.change-index c.change-item.result c.loop-change-test.true c.change-item.is) c.decreases, (within.0, (within.1.0, (within.1.1.0, (within.1.1.1, (c.loop-change.invariant.others_own c.args.state.now c.requires.state_own, (c.loop-change.invariant.adds_own, c.loop-change.invariant.dels_own)))))))
 
 pub add_all_fired-returns-in_err-add_fired : goal.add_all_fired-returns-in_err-add_fired
 add_all_fired-returns-in_err-add_fired g t c =
@@ -216,7 +216,7 @@ add_all_fired-returns g t c =
 
 pub add_fired_of_each-add_fired-requires : goal.add_fired_of_each-add_fired-requires
 add_fired_of_each-add_fired-requires g t c κs within =
-    (omega (arith, c.decreases), (within.0, (within.1.0, (within.1.1.0, (within.1.1.1, (c.loop-object.invariant.others_own c.args.state.now c.requires.state_own, (c.loop-object.invariant.adds_own, c.loop-object.invariant.dels_own)))))))
+    (from_each _ t c.decreases, (within.0, (within.1.0, (within.1.1.0, (within.1.1.1, (c.loop-object.invariant.others_own c.args.state.now c.requires.state_own, (c.loop-object.invariant.adds_own, c.loop-object.invariant.dels_own)))))))
 
 pub add_fired_of_each-returns-in_err-add_fired : goal.add_fired_of_each-returns-in_err-add_fired
 add_fired_of_each-returns-in_err-add_fired g t c =

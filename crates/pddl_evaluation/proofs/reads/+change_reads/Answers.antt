@@ -1,4 +1,4 @@
-use Rattle.std.proofs.Common.{arith, ◌≡◌, ◌||◌, ◌∷◌, length, ap, subst, sym, ◌∙◌, refl}
+use Rattle.std.proofs.Common.{◌≡◌, ◌||◌, ◌∷◌, length, ap, subst, sym, ◌∙◌, refl}
 use Rattle.std.specs.Prelude.{OnOk}
 use Rattle.std.specs.List.{list_any}
 use Rattle.std.proofs.lemmas.List.{at_drop_all}
@@ -9,7 +9,7 @@ use Rattle.pddl_compiled.specs.Views.{condition_view, change_view, changes_view,
 use Rattle.pddl_compiled.specs.CompiledMeaning.{some_tested}
 use Rattle.pddl_compiled.proofs.compiled.Change.TheLaws.{the_size}
 use Rattle.pddl_evaluation.specs.Reads.{tested_by, tested_by_all}
-use Rattle.pddl_evaluation.proofs.Depths.{under_all, under_each, under_when, among}
+use Rattle.pddl_evaluation.proofs.Depths.{from_each, from_parts, to_part, to_parts, under_all, under_each, under_when, among}
 use Rattle.pddl_evaluation.proofs.Views.{view-Both, view-Each, view-When, view-Add, view-Del, view-Increase, view-IncreaseBy}
 use Rattle.pddl_evaluation.proofs.More.{front, front_number, one_more, both_more, on_ok}
 use Rattle.pddl_evaluation.proofs.reads.+change_reads.Goals as goal
@@ -106,16 +106,16 @@ add_change_reads-returns-in-IncreaseBy g t c =
     }
 
 pub add_change_reads-add_changes_reads-requires : goal.add_change_reads-add_changes_reads-requires
-add_change_reads-add_changes_reads-requires g t c κs within = (omega (arith, under_all g.row.A g.A.Allocator g.A.laws c.args.change.now c.deref.result.now c.in-And.parts c.in-And.is c.deref.ensures.value, c.decreases), (within.0, (within.1.0, (within.1.1.0, (within.1.1.1, c.requires)))))
+add_change_reads-add_changes_reads-requires g t c κs within = (to_parts _ _ t (under_all g.row.A g.A.Allocator g.A.laws c.args.change.now c.deref.result.now c.in-And.parts c.in-And.is c.deref.ensures.value) c.decreases, (within.0, (within.1.0, (within.1.1.0, (within.1.1.1, c.requires)))))
 
 pub add_change_reads-add_change_reads_of_each-requires : goal.add_change_reads-add_change_reads_of_each-requires
-add_change_reads-add_change_reads_of_each-requires g t c κs within = (omega (arith, under_each g.row.A g.A.Allocator g.A.laws c.args.change.now c.deref-in-Forall-2.result.now c.in-Forall.range c.in-Forall.inner c.in-Forall.is c.deref-in-Forall-2.ensures, c.decreases), (within.0, (within.1.0, (within.1.1.0, (within.1.1.1, c.requires)))))
+add_change_reads-add_change_reads_of_each-requires g t c κs within = (to_parts _ _ t (under_each g.row.A g.A.Allocator g.A.laws c.args.change.now c.deref-in-Forall-2.result.now c.in-Forall.range c.in-Forall.inner c.in-Forall.is c.deref-in-Forall-2.ensures) c.decreases, (within.0, (within.1.0, (within.1.1.0, (within.1.1.1, c.requires)))))
 
 pub add_change_reads-add_change_reads-requires : goal.add_change_reads-add_change_reads-requires
-add_change_reads-add_change_reads-requires g t c κs within = (omega (arith, under_when g.row.A g.A.Allocator g.A.laws c.args.change.now c.deref-in-When.result.now c.in-When.condition c.in-When.inner c.in-When.is c.deref-in-When.ensures, c.decreases), (within.0, (within.1.0, (within.1.1.0, (within.1.1.1, c.add_reads.ensures.own)))))
+add_change_reads-add_change_reads-requires g t c κs within = (to_part _ _ t (under_when g.row.A g.A.Allocator g.A.laws c.args.change.now c.deref-in-When.result.now c.in-When.condition c.in-When.inner c.in-When.is c.deref-in-When.ensures) c.decreases, (within.0, (within.1.0, (within.1.1.0, (within.1.1.1, c.add_reads.ensures.own)))))
 
 pub add_changes_reads-add_change_reads-requires : goal.add_changes_reads-add_change_reads-requires
-add_changes_reads-add_change_reads-requires g t c κs within = (omega (arith, among (λ f. the_size g.row.A g.A.Allocator g.A.laws f) c.args.changes.now c.loop-change.change-index c.change-item.result c.loop-change-test.true c.change-item.is, c.decreases), (within.0, (within.1.0, (within.1.1.0, (within.1.1.1, c.loop-change.invariant.own)))))
+add_changes_reads-add_change_reads-requires g t c κs within = (from_parts _ _ t (among (λ f. the_size g.row.A g.A.Allocator g.A.laws f) c.args.changes.now c.loop-change.change-index c.change-item.result c.loop-change-test.true c.change-item.is) c.decreases, (within.0, (within.1.0, (within.1.1.0, (within.1.1.1, c.loop-change.invariant.own)))))
 
 pub add_changes_reads-returns-in_err-add_change_reads : goal.add_changes_reads-returns-in_err-add_change_reads
 add_changes_reads-returns-in_err-add_change_reads g t c =
@@ -156,7 +156,7 @@ add_changes_reads-returns g t c =
     }
 
 pub add_change_reads_of_each-add_change_reads-requires : goal.add_change_reads_of_each-add_change_reads-requires
-add_change_reads_of_each-add_change_reads-requires g t c κs within = (omega (arith, c.decreases), (within.0, (within.1.0, (within.1.1.0, (within.1.1.1, c.loop-object.invariant.own)))))
+add_change_reads_of_each-add_change_reads-requires g t c κs within = (from_each _ t c.decreases, (within.0, (within.1.0, (within.1.1.0, (within.1.1.1, c.loop-object.invariant.own)))))
 
 pub add_change_reads_of_each-returns-in_err-add_change_reads : goal.add_change_reads_of_each-returns-in_err-add_change_reads
 add_change_reads_of_each-returns-in_err-add_change_reads g t c =

@@ -1,4 +1,4 @@
-use Rattle.std.proofs.Common.{arith, ◌≡◌, ◌||◌, ◌∷◌, length, ap, subst, sym, ◌∙◌, refl}
+use Rattle.std.proofs.Common.{◌≡◌, ◌||◌, ◌∷◌, length, ap, subst, sym, ◌∙◌, refl}
 use Rattle.std.specs.Prelude.{OnOk}
 use Rattle.std.specs.List.{list_any}
 use Rattle.std.proofs.lemmas.List.{at_drop_all}
@@ -9,7 +9,7 @@ use Rattle.pddl_compiled.specs.Views.{condition_view, conditions_view, frame_vie
 use Rattle.pddl_compiled.specs.CompiledMeaning.{some_tested, some_tested_in}
 use Rattle.pddl_compiled.proofs.compiled.Condition.TheLaws.{the_size}
 use Rattle.pddl_compiled.proofs.Rows.{view_known}
-use Rattle.pddl_evaluation.proofs.Depths.{under_not, under_imply, under_and, under_or, under_exists, under_forall, among}
+use Rattle.pddl_evaluation.proofs.Depths.{from_each, from_parts, to_part, to_parts, under_not, under_imply, under_and, under_or, under_exists, under_forall, among}
 use Rattle.pddl_evaluation.proofs.Views.{view-Atom, view-Equal, view-Not, view-And, view-Or, view-Imply, view-Exists, view-Forall}
 use Rattle.pddl_evaluation.proofs.More.{front, front_number, one_more, both_more, on_ok}
 use Rattle.pddl_evaluation.proofs.reads.+reads.Goals as goal
@@ -128,28 +128,28 @@ add_reads-returns-in_ok-add_reads-in-Imply g t c =
     }
 
 pub add_reads-add_reads-requires : goal.add_reads-add_reads-requires
-add_reads-add_reads-requires g t c κs within = (omega (arith, under_not g.row.A g.A.Allocator g.A.laws c.args.condition.now c.deref-in-Not.result.now c.in-Not.inner c.in-Not.is c.deref-in-Not.ensures, c.decreases), (within.0, (within.1.0, (within.1.1.0, (within.1.1.1, c.requires)))))
+add_reads-add_reads-requires g t c κs within = (to_part _ _ t (under_not g.row.A g.A.Allocator g.A.laws c.args.condition.now c.deref-in-Not.result.now c.in-Not.inner c.in-Not.is c.deref-in-Not.ensures) c.decreases, (within.0, (within.1.0, (within.1.1.0, (within.1.1.1, c.requires)))))
 
 pub add_reads-add_reads-requires-in-Imply : goal.add_reads-add_reads-requires-in-Imply
-add_reads-add_reads-requires-in-Imply g t c κs within = (omega (arith, (under_imply g.row.A g.A.Allocator g.A.laws c.args.condition.now c.deref-in-Imply.result.now c.in-Imply.right.value c.in-Imply.left c.in-Imply.right c.in-Imply.is c.deref-in-Imply.ensures refl).0, c.decreases), (within.0, (within.1.0, (within.1.1.0, (within.1.1.1, c.requires)))))
+add_reads-add_reads-requires-in-Imply g t c κs within = (to_part _ _ t ((under_imply g.row.A g.A.Allocator g.A.laws c.args.condition.now c.deref-in-Imply.result.now c.in-Imply.right.value c.in-Imply.left c.in-Imply.right c.in-Imply.is c.deref-in-Imply.ensures refl).0) c.decreases, (within.0, (within.1.0, (within.1.1.0, (within.1.1.1, c.requires)))))
 
 pub add_reads-add_reads-requires-in-Imply-2 : goal.add_reads-add_reads-requires-in-Imply-2
-add_reads-add_reads-requires-in-Imply-2 g t c κs within = (omega (arith, (under_imply g.row.A g.A.Allocator g.A.laws c.args.condition.now c.deref-in-Imply.result.now c.deref-in-Imply-2.result.now c.in-Imply.left c.in-Imply.right c.in-Imply.is c.deref-in-Imply.ensures c.deref-in-Imply-2.ensures).1, c.decreases), (within.0, (within.1.0, (within.1.1.0, (within.1.1.1, c.add_reads-in-Imply.ensures.own)))))
+add_reads-add_reads-requires-in-Imply-2 g t c κs within = (to_part _ _ t ((under_imply g.row.A g.A.Allocator g.A.laws c.args.condition.now c.deref-in-Imply.result.now c.deref-in-Imply-2.result.now c.in-Imply.left c.in-Imply.right c.in-Imply.is c.deref-in-Imply.ensures c.deref-in-Imply-2.ensures).1) c.decreases, (within.0, (within.1.0, (within.1.1.0, (within.1.1.1, c.add_reads-in-Imply.ensures.own)))))
 
 pub add_reads-add_all_reads-requires : goal.add_reads-add_all_reads-requires
-add_reads-add_all_reads-requires g t c κs within = (omega (arith, under_and g.row.A g.A.Allocator g.A.laws c.args.condition.now c.deref-in-And.result.now c.in-And.parts c.in-And.is c.deref-in-And.ensures.value, c.decreases), (within.0, (within.1.0, (within.1.1.0, (within.1.1.1, c.requires)))))
+add_reads-add_all_reads-requires g t c κs within = (to_parts _ _ t (under_and g.row.A g.A.Allocator g.A.laws c.args.condition.now c.deref-in-And.result.now c.in-And.parts c.in-And.is c.deref-in-And.ensures.value) c.decreases, (within.0, (within.1.0, (within.1.1.0, (within.1.1.1, c.requires)))))
 
 pub add_reads-add_all_reads-requires-in-Or : goal.add_reads-add_all_reads-requires-in-Or
-add_reads-add_all_reads-requires-in-Or g t c κs within = (omega (arith, under_or g.row.A g.A.Allocator g.A.laws c.args.condition.now c.deref-in-Or.result.now c.in-Or.parts c.in-Or.is c.deref-in-Or.ensures.value, c.decreases), (within.0, (within.1.0, (within.1.1.0, (within.1.1.1, c.requires)))))
+add_reads-add_all_reads-requires-in-Or g t c κs within = (to_parts _ _ t (under_or g.row.A g.A.Allocator g.A.laws c.args.condition.now c.deref-in-Or.result.now c.in-Or.parts c.in-Or.is c.deref-in-Or.ensures.value) c.decreases, (within.0, (within.1.0, (within.1.1.0, (within.1.1.1, c.requires)))))
 
 pub add_reads-add_reads_of_each-requires : goal.add_reads-add_reads_of_each-requires
-add_reads-add_reads_of_each-requires g t c κs within = (omega (arith, under_exists g.row.A g.A.Allocator g.A.laws c.args.condition.now c.deref-in-Exists-2.result.now c.in-Exists.range c.in-Exists.inner c.in-Exists.is c.deref-in-Exists-2.ensures, c.decreases), (within.0, (within.1.0, (within.1.1.0, (within.1.1.1, c.requires)))))
+add_reads-add_reads_of_each-requires g t c κs within = (to_parts _ _ t (under_exists g.row.A g.A.Allocator g.A.laws c.args.condition.now c.deref-in-Exists-2.result.now c.in-Exists.range c.in-Exists.inner c.in-Exists.is c.deref-in-Exists-2.ensures) c.decreases, (within.0, (within.1.0, (within.1.1.0, (within.1.1.1, c.requires)))))
 
 pub add_reads-add_reads_of_each-requires-in-Forall : goal.add_reads-add_reads_of_each-requires-in-Forall
-add_reads-add_reads_of_each-requires-in-Forall g t c κs within = (omega (arith, under_forall g.row.A g.A.Allocator g.A.laws c.args.condition.now c.deref-in-Forall-2.result.now c.in-Forall.range c.in-Forall.inner c.in-Forall.is c.deref-in-Forall-2.ensures, c.decreases), (within.0, (within.1.0, (within.1.1.0, (within.1.1.1, c.requires)))))
+add_reads-add_reads_of_each-requires-in-Forall g t c κs within = (to_parts _ _ t (under_forall g.row.A g.A.Allocator g.A.laws c.args.condition.now c.deref-in-Forall-2.result.now c.in-Forall.range c.in-Forall.inner c.in-Forall.is c.deref-in-Forall-2.ensures) c.decreases, (within.0, (within.1.0, (within.1.1.0, (within.1.1.1, c.requires)))))
 
 pub add_all_reads-add_reads-requires : goal.add_all_reads-add_reads-requires
-add_all_reads-add_reads-requires g t c κs within = (omega (arith, among (λ f. the_size g.row.A g.A.Allocator g.A.laws f) c.args.conditions.now c.loop-condition.condition-index c.condition-item.result c.loop-condition-test.true c.condition-item.is, c.decreases), (within.0, (within.1.0, (within.1.1.0, (within.1.1.1, c.loop-condition.invariant.own)))))
+add_all_reads-add_reads-requires g t c κs within = (from_parts _ _ t (among (λ f. the_size g.row.A g.A.Allocator g.A.laws f) c.args.conditions.now c.loop-condition.condition-index c.condition-item.result c.loop-condition-test.true c.condition-item.is) c.decreases, (within.0, (within.1.0, (within.1.1.0, (within.1.1.1, c.loop-condition.invariant.own)))))
 
 pub add_all_reads-returns-in_err-add_reads : goal.add_all_reads-returns-in_err-add_reads
 add_all_reads-returns-in_err-add_reads g t c =
@@ -190,7 +190,7 @@ add_all_reads-returns g t c =
     }
 
 pub add_reads_of_each-add_reads-requires : goal.add_reads_of_each-add_reads-requires
-add_reads_of_each-add_reads-requires g t c κs within = (omega (arith, c.decreases), (within.0, (within.1.0, (within.1.1.0, (within.1.1.1, c.loop-object.invariant.own)))))
+add_reads_of_each-add_reads-requires g t c κs within = (from_each _ t c.decreases, (within.0, (within.1.0, (within.1.1.0, (within.1.1.1, c.loop-object.invariant.own)))))
 
 pub add_reads_of_each-returns-in_err-add_reads : goal.add_reads_of_each-returns-in_err-add_reads
 add_reads_of_each-returns-in_err-add_reads g t c =

@@ -1,4 +1,4 @@
-use Rattle.std.proofs.Common.{arith, ◌≡◌, ◌∷◌, ◌∙◌, not, ◌||◌, eqb, length, ap, subst, sym, refl}
+use Rattle.std.proofs.Common.{◌≡◌, ◌∷◌, ◌∙◌, not, ◌||◌, eqb, length, ap, subst, sym, refl}
 use Rattle.std.specs.Prelude.{IfOk}
 use Rattle.std.specs.List.{list_any, list_all}
 use Rattle.std.proofs.lemmas.List.{at_drop_all}
@@ -8,7 +8,7 @@ use Rattle.pddl_compiled.specs.Views.{condition_view, conditions_view, frame_vie
 use Rattle.pddl_compiled.specs.CompiledMeaning.{is_true, are_true, is_some_true, object_in}
 use Rattle.pddl_compiled.proofs.Rows.{view_known}
 use Rattle.pddl_compiled.proofs.compiled.Condition.TheLaws.{the_size}
-use Rattle.pddl_evaluation.proofs.Depths.{under_not, under_imply, under_and, under_or, under_exists, under_forall, among}
+use Rattle.pddl_evaluation.proofs.Depths.{from_each, from_parts, to_part, to_parts, under_not, under_imply, under_and, under_or, under_exists, under_forall, among}
 use Rattle.pddl_evaluation.proofs.Views.{view-Atom, view-Equal, view-Not, view-Imply, view-And, view-Or, view-Exists, view-Forall}
 use Rattle.pddl_evaluation.proofs.More.{front, front_number, any_more, some_one, all_more, not_all}
 use Rattle.pddl_evaluation.proofs.truth.+holds.Goals as goal
@@ -35,19 +35,19 @@ is_true-returns-in-Forall g t c =
 
 pub is_true-are_true-requires : goal.is_true-are_true-requires
 is_true-are_true-requires g t c κs within =
-    (omega (arith, under_and g.row.A g.A.Allocator g.A.laws c.args.condition.now c.deref-in-And.result.now c.in-And.parts c.in-And.is c.deref-in-And.ensures.value, c.decreases), (within.0, (within.1.0, (within.1.1.0, (within.1.1.1, c.requires)))))
+    (to_parts _ _ t (under_and g.row.A g.A.Allocator g.A.laws c.args.condition.now c.deref-in-And.result.now c.in-And.parts c.in-And.is c.deref-in-And.ensures.value) c.decreases, (within.0, (within.1.0, (within.1.1.0, (within.1.1.1, c.requires)))))
 
 pub is_true-is_some_true-requires : goal.is_true-is_some_true-requires
 is_true-is_some_true-requires g t c κs within =
-    (omega (arith, under_or g.row.A g.A.Allocator g.A.laws c.args.condition.now c.deref-in-Or.result.now c.in-Or.parts c.in-Or.is c.deref-in-Or.ensures.value, c.decreases), (within.0, (within.1.0, (within.1.1.0, (within.1.1.1, c.requires)))))
+    (to_parts _ _ t (under_or g.row.A g.A.Allocator g.A.laws c.args.condition.now c.deref-in-Or.result.now c.in-Or.parts c.in-Or.is c.deref-in-Or.ensures.value) c.decreases, (within.0, (within.1.0, (within.1.1.0, (within.1.1.1, c.requires)))))
 
 pub are_true-is_true-requires : goal.are_true-is_true-requires
 are_true-is_true-requires g t c κs within =
-    (omega (arith, among (λ f. the_size g.row.A g.A.Allocator g.A.laws f) c.args.conditions.now c.loop-condition.condition-index c.condition-item.result c.loop-condition-test.true c.condition-item.is, c.decreases), (within.0, (within.1.0, (within.1.1.0, (within.1.1.1, c.requires)))))
+    (from_parts _ _ t (among (λ f. the_size g.row.A g.A.Allocator g.A.laws f) c.args.conditions.now c.loop-condition.condition-index c.condition-item.result c.loop-condition-test.true c.condition-item.is) c.decreases, (within.0, (within.1.0, (within.1.1.0, (within.1.1.1, c.requires)))))
 
 pub is_some_true-is_true-requires : goal.is_some_true-is_true-requires
 is_some_true-is_true-requires g t c κs within =
-    (omega (arith, among (λ f. the_size g.row.A g.A.Allocator g.A.laws f) c.args.conditions.now c.loop-condition.condition-index c.condition-item.result c.loop-condition-test.true c.condition-item.is, c.decreases), (within.0, (within.1.0, (within.1.1.0, (within.1.1.1, c.requires)))))
+    (from_parts _ _ t (among (λ f. the_size g.row.A g.A.Allocator g.A.laws f) c.args.conditions.now c.loop-condition.condition-index c.condition-item.result c.loop-condition-test.true c.condition-item.is) c.decreases, (within.0, (within.1.0, (within.1.1.0, (within.1.1.1, c.requires)))))
 
 pub are_true-returns-in_err-is_true : goal.are_true-returns-in_err-is_true
 are_true-returns-in_err-is_true g t c = IfOk-from_err c.from_residual.result _ c.from_residual.ensures.0
@@ -154,25 +154,25 @@ is_true_of_some-returns g t c =
     sym (at_drop_all (list_any (λ o. is_true s (condition_view c.args.condition.now) (o ∷ env))) c.args.range.now c.loop-object.object-index c.loop-object-test.false) ∙ c.loop-object.invariant
 
 pub is_true-is_true-requires : goal.is_true-is_true-requires
-is_true-is_true-requires g t c κs within = (omega (arith, under_not g.row.A g.A.Allocator g.A.laws c.args.condition.now c.deref-in-Not.result.now c.in-Not.inner c.in-Not.is c.deref-in-Not.ensures, c.decreases), (within.0, (within.1.0, (within.1.1.0, (within.1.1.1, c.requires)))))
+is_true-is_true-requires g t c κs within = (to_part _ _ t (under_not g.row.A g.A.Allocator g.A.laws c.args.condition.now c.deref-in-Not.result.now c.in-Not.inner c.in-Not.is c.deref-in-Not.ensures) c.decreases, (within.0, (within.1.0, (within.1.1.0, (within.1.1.1, c.requires)))))
 
 pub is_true-is_true-requires-in-Imply : goal.is_true-is_true-requires-in-Imply
-is_true-is_true-requires-in-Imply g t c κs within = (omega (arith, (under_imply g.row.A g.A.Allocator g.A.laws c.args.condition.now c.deref-in-Imply.result.now c.in-Imply.right.value c.in-Imply.left c.in-Imply.right c.in-Imply.is c.deref-in-Imply.ensures refl).0, c.decreases), (within.0, (within.1.0, (within.1.1.0, (within.1.1.1, c.requires)))))
+is_true-is_true-requires-in-Imply g t c κs within = (to_part _ _ t ((under_imply g.row.A g.A.Allocator g.A.laws c.args.condition.now c.deref-in-Imply.result.now c.in-Imply.right.value c.in-Imply.left c.in-Imply.right c.in-Imply.is c.deref-in-Imply.ensures refl).0) c.decreases, (within.0, (within.1.0, (within.1.1.0, (within.1.1.1, c.requires)))))
 
 pub is_true-is_true-requires-then-branch : goal.is_true-is_true-requires-then-branch
-is_true-is_true-requires-then-branch g t c κs within = (omega (arith, (under_imply g.row.A g.A.Allocator g.A.laws c.args.condition.now c.deref-in-Imply.result.now c.deref-then-branch.result.now c.in-Imply.left c.in-Imply.right c.in-Imply.is c.deref-in-Imply.ensures c.deref-then-branch.ensures).1, c.decreases), (within.0, (within.1.0, (within.1.1.0, (within.1.1.1, c.requires)))))
+is_true-is_true-requires-then-branch g t c κs within = (to_part _ _ t ((under_imply g.row.A g.A.Allocator g.A.laws c.args.condition.now c.deref-in-Imply.result.now c.deref-then-branch.result.now c.in-Imply.left c.in-Imply.right c.in-Imply.is c.deref-in-Imply.ensures c.deref-then-branch.ensures).1) c.decreases, (within.0, (within.1.0, (within.1.1.0, (within.1.1.1, c.requires)))))
 
 pub is_true-is_true_of_some-requires : goal.is_true-is_true_of_some-requires
-is_true-is_true_of_some-requires g t c κs within = (omega (arith, under_exists g.row.A g.A.Allocator g.A.laws c.args.condition.now c.deref-in-Exists-2.result.now c.in-Exists.range c.in-Exists.inner c.in-Exists.is c.deref-in-Exists-2.ensures, c.decreases), (within.0, (within.1.0, (within.1.1.0, (within.1.1.1, c.requires)))))
+is_true-is_true_of_some-requires g t c κs within = (to_parts _ _ t (under_exists g.row.A g.A.Allocator g.A.laws c.args.condition.now c.deref-in-Exists-2.result.now c.in-Exists.range c.in-Exists.inner c.in-Exists.is c.deref-in-Exists-2.ensures) c.decreases, (within.0, (within.1.0, (within.1.1.0, (within.1.1.1, c.requires)))))
 
 pub is_true-is_true_of_all-requires : goal.is_true-is_true_of_all-requires
-is_true-is_true_of_all-requires g t c κs within = (omega (arith, under_forall g.row.A g.A.Allocator g.A.laws c.args.condition.now c.deref-in-Forall-2.result.now c.in-Forall.range c.in-Forall.inner c.in-Forall.is c.deref-in-Forall-2.ensures, c.decreases), (within.0, (within.1.0, (within.1.1.0, (within.1.1.1, c.requires)))))
+is_true-is_true_of_all-requires g t c κs within = (to_parts _ _ t (under_forall g.row.A g.A.Allocator g.A.laws c.args.condition.now c.deref-in-Forall-2.result.now c.in-Forall.range c.in-Forall.inner c.in-Forall.is c.deref-in-Forall-2.ensures) c.decreases, (within.0, (within.1.0, (within.1.1.0, (within.1.1.1, c.requires)))))
 
 pub is_true_of_all-is_true-requires : goal.is_true_of_all-is_true-requires
-is_true_of_all-is_true-requires g t c κs within = (omega (arith, c.decreases), (within.0, (within.1.0, (within.1.1.0, (within.1.1.1, c.requires)))))
+is_true_of_all-is_true-requires g t c κs within = (from_each _ t c.decreases, (within.0, (within.1.0, (within.1.1.0, (within.1.1.1, c.requires)))))
 
 pub is_true_of_some-is_true-requires : goal.is_true_of_some-is_true-requires
-is_true_of_some-is_true-requires g t c κs within = (omega (arith, c.decreases), (within.0, (within.1.0, (within.1.1.0, (within.1.1.1, c.requires)))))
+is_true_of_some-is_true-requires g t c κs within = (from_each _ t c.decreases, (within.0, (within.1.0, (within.1.1.0, (within.1.1.1, c.requires)))))
 
 pub is_true-returns-in_err-is_true-in-Not : goal.is_true-returns-in_err-is_true-in-Not
 is_true-returns-in_err-is_true-in-Not g t c = IfOk-from_err c.from_residual.result _ c.from_residual.ensures.0
