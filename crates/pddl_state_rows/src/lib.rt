@@ -74,12 +74,48 @@ pub fn merge<A: Allocator, S: AtomStore<A>>(
         ≡ union (S.content store.now set.old) (S.content store.now more.now)) }
 {
     let shared = store.common(set, more)?;
+    let added = lacking(store, set, more)?;
+    let all = unite_listed(store, set, more)?;
+    Ok(Merged { shared, added, all })
+}
+
+/// The atoms of another set that a set lacks.
+fn lacking<A: Allocator, S: AtomStore<A>>(
+    store: &S,
+    set: &S::Set,
+    more: &S::Set,
+) -> Result<Vec<Atom<A>, A>, AllocError>
+    requires set_own { S.owns store.now set.now }
+    requires more_own { S.owns store.now more.now }
+    ensures rising { IfOk result (λ atoms. IsRising atoms.items) }
+    ensures content { IfOk result (λ atoms. is_listed atoms.items
+        ≡ difference (S.content store.now more.now) (S.content store.now set.now)) }
+{
     let mut rest = store.copy(more)?;
     store.subtract(&mut rest, set);
-    let added = store.list(&rest)?;
+    let atoms = store.list(&rest);
+    drop(rest);
+    atoms
+}
+
+/// Adds the atoms of another set to a set, and lists those that it has then. Where memory is refused, it has what it had.
+fn unite_listed<A: Allocator, S: AtomStore<A>>(
+    store: &S,
+    set: &mut S::Set,
+    more: &S::Set,
+) -> Result<Vec<Atom<A>, A>, AllocError>
+    requires set_own { S.owns store.now set.old }
+    requires more_own { S.owns store.now more.now }
+    ensures own { S.owns store.now set.new }
+    ensures ok { OnOk result (S.content store.now set.new ≡ union (S.content store.now set.old) (S.content store.now more.now)) }
+    ensures err { OnErr result (S.content store.now set.new ≡ S.content store.now set.old) }
+    ensures rising { IfOk result (λ atoms. IsRising atoms.items) }
+    ensures content { IfOk result (λ atoms. is_listed atoms.items
+        ≡ union (S.content store.now set.old) (S.content store.now more.now)) }
+{
     let mut whole = store.copy(set)?;
     store.unite(&mut whole, more)?;
-    let all = store.list(&whole)?;
+    let atoms = store.list(&whole)?;
     *set = whole;
-    Ok(Merged { shared, added, all })
+    Ok(atoms)
 }
