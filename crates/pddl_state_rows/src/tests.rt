@@ -3,4 +3,6 @@ mod kernels;
 mod memory;
 mod operations;
 mod samples;
+mod sets;
 mod stores;
+mod trials;

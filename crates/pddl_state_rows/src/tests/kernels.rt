@@ -1,22 +1,28 @@
 use pddl_state::{rows_disjoint, rows_subtract, rows_unite};
-use std::process::Abort;
-use std::test::Fail;
 
 #[test]
-fn rows_of_the_table(rt: HostRuntime) -> Result<(), Fail> {
-    assert!(rt; rows_disjoint(&[], &[5]));
-    assert!(rt; rows_disjoint(&[1], &[2, 1]));
-    assert!(rt; !rows_disjoint(&[1, 4], &[2, 6]));
-    let mut row = [1, 4];
-    rows_unite(&mut row, &[2]);
-    assert_eq!(rt; row, [3, 4]);
-    let mut row = [7, 1];
-    rows_subtract(&mut row, &[2]);
-    assert_eq!(rt; row, [5, 1]);
-    let mut row = [7];
-    rows_subtract(&mut row, &[2, 9]);
-    assert_eq!(rt; row, [5]);
-    Ok(())
+fn rows_of_the_table(rt: HostRuntime) {
+    assert!(rt; disjoint_rows(), "disjoint");
+    assert!(rt; unites(&mut [1, 4], &[2], &[3, 4]), "unite");
+    assert!(rt; subtracts(&mut [7, 1], &[2], &[5, 1]), "subtract");
+    assert!(rt; subtracts(&mut [7], &[2, 9], &[5]), "subtract more");
+}
+
+fn disjoint_rows() -> bool {
+    rows_disjoint(&[], &[5]) && rows_disjoint(&[1], &[2, 1]) && !rows_disjoint(&[1, 4], &[2, 6])
+}
+
+// The condition is that the other row is no longer.
+fn unites(row: &mut [u64], more: &[u64], united: &[u64]) -> bool {
+    if more.len() <= row.len() {
+        rows_unite(row, more);
+    }
+    *row == *united
+}
+
+fn subtracts(row: &mut [u64], less: &[u64], rest: &[u64]) -> bool {
+    rows_subtract(row, less);
+    *row == *rest
 }
 
 // Lengths about a whole number of eight words.
@@ -37,64 +43,72 @@ fn first(row: &[u64], length: usize) -> &[u64] {
 fn at_each_length(rt: HostRuntime) {
     for length in LENGTHS {
         for other_length in LENGTHS {
-            disjoint_at(&rt, length, other_length);
-            unite_at(&rt, length, other_length);
-            subtract_at(&rt, length, other_length);
+            assert!(rt;
+                disjoint_at(length, other_length)
+                    && unites_at(length, other_length)
+                    && subtracts_at(length, other_length),
+                "{length} words with {other_length}"
+            );
         }
     }
 }
 
 // No bit in common, but for one that stands in one place of the shorter row in turn.
-fn disjoint_at(rt: &impl Abort, length: usize, other_length: usize) {
-    let row = [OWN; 17];
-    let other = [OTHER; 17];
-    assert!(rt; rows_disjoint(first(&row, length), first(&other, other_length)));
+fn disjoint_at(length: usize, other_length: usize) -> bool {
+    let mut is_right = rows_disjoint(first(&[OWN; 17], length), first(&[OTHER; 17], other_length));
     for at in 0..17usize {
-        let mut touched = other;
-        touched[at] |= 1 << (4 * at % 64);
-        let mut touching = row;
-        touching[at] |= 1 << (4 * at % 64);
-        assert_eq!(rt;
-            rows_disjoint(first(&touching, length), first(&touched, other_length)),
-            at >= length || at >= other_length
-        );
+        let apart = at >= length || at >= other_length;
+        is_right = is_right && disjoint_touched(at, length, other_length) == apart;
+    }
+    is_right
+}
+
+// Whether the rows are disjoint where both have a bit more in one place.
+fn disjoint_touched(at: usize, length: usize, other_length: usize) -> bool {
+    let mut row = [OWN; 17];
+    let mut other = [OTHER; 17];
+    touch(&mut row, at);
+    touch(&mut other, at);
+    rows_disjoint(first(&row, length), first(&other, other_length))
+}
+
+fn touch(row: &mut [u64], at: usize) {
+    if at < row.len() && at < 17 {
+        row[at] |= 1 << (4 * at % 64);
     }
 }
 
-// The condition is that the other row is no longer.
-fn unite_at(rt: &impl Abort, length: usize, other_length: usize) {
+fn unites_at(length: usize, other_length: usize) -> bool {
     let mut row = [OWN | BOTH; 17];
     let other = [OTHER | BOTH; 17];
     let end = length.min(17);
     let more = first(&other, other_length);
+    // The condition is that the other row is no longer.
     if more.len() <= end {
         rows_unite(&mut row[..end], more);
     }
-    for at in 0..17usize {
-        let united = at < other_length && other_length <= length;
-        assert_eq!(rt;
-            row[at],
-            if united {
-                OWN | OTHER | BOTH
-            } else {
-                OWN | BOTH
-            },
-            "word {at} of {length} with {other_length}"
-        );
-    }
+    let united = if other_length <= length {
+        other_length
+    } else {
+        0
+    };
+    has_words(&row, united, OWN | OTHER | BOTH, OWN | BOTH)
 }
 
-fn subtract_at(rt: &impl Abort, length: usize, other_length: usize) {
+fn subtracts_at(length: usize, other_length: usize) -> bool {
     let mut row = [OWN | BOTH; 17];
     let other = [OTHER | BOTH; 17];
     let end = length.min(17);
     rows_subtract(&mut row[..end], first(&other, other_length));
-    for at in 0..17usize {
-        let taken = at < other_length && at < length;
-        assert_eq!(rt;
-            row[at],
-            if taken { OWN } else { OWN | BOTH },
-            "word {at} of {length} with {other_length}"
-        );
+    has_words(&row, length.min(other_length), OWN, OWN | BOTH)
+}
+
+// Whether each word before a place is the one, and each from it on the other.
+fn has_words(row: &[u64], place: usize, before: u64, after: u64) -> bool {
+    for at in 0..row.len() {
+        if row[at] != if at < place { before } else { after } {
+            return false;
+        }
     }
+    true
 }

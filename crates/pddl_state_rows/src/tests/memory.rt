@@ -1,10 +1,11 @@
-use super::operations::{Operation, done, marks_after};
-use super::samples::{has_marked, is_least_marked, lists_marked, samples};
+use super::operations::Operation;
+use super::samples::has_marked;
+use super::sets::{TwoSets, agrees, are_disjoint_as_marked, runs};
+use super::trials::{Kind, Trial, goes_right};
 use pddl_fakes::Refusing;
-use pddl_state::{Atom, AtomStore, BitStore, SortedStore};
-use std::alloc::{AllocError, Allocator};
+use pddl_state::{Atom, AtomStore};
+use std::alloc::Allocator;
 use std::process::Abort;
-use std::test::Fail;
 
 // Operations that make each set grow, from nothing and past its first word, and take from it.
 const SCRIPT: [(Operation, usize); 12] = [
@@ -22,179 +23,167 @@ const SCRIPT: [(Operation, usize); 12] = [
     (Operation::Unite, 0),
 ];
 
-/// Runs the script. A call that is refused has changed no set, and does its work when it is called again.
-fn keeps_its_sets<'a, B: Allocator, S: AtomStore<&'a Refusing<B>>>(
-    rt: &impl Abort,
-    alloc: &'a Refusing<B>,
-    store: &mut S,
-    atoms: &[Atom<&'a Refusing<B>>],
-) -> Result<(), AllocError> {
-    let mut first = store.empty();
-    let mut second = store.empty();
-    let mut marks = (0, 0);
-    for (operation, number) in SCRIPT {
-        if let Some(atom) = atoms.get(number) {
-            if done(store, &mut first, &mut second, operation, atom).is_err() {
-                assert!(rt; alloc.has_refused());
-                assert!(rt; has_marked(store, &first, marks.0, atoms));
-                assert!(rt; has_marked(store, &second, marks.1, atoms));
-                done(store, &mut first, &mut second, operation, atom)?;
-            }
-            marks = marks_after(marks, operation, number);
+/// Runs the script, and then the calls that take no memory.
+pub fn runs_script<A: Allocator, B: Allocator, S: AtomStore<A>>(
+    refusing: &Refusing<B>,
+    sets: &mut TwoSets<A, S>,
+) -> bool
+    requires first_own { S.owns sets.old.store sets.old.first }
+    requires second_own { S.owns sets.old.store sets.old.second }
+{
+    for step in SCRIPT.iter() {
+        if !runs_step(refusing, sets, *step) {
+            return false;
         }
-        let (in_first, in_second) = marks;
-        assert!(rt; has_marked(store, &first, in_first, atoms));
-        assert!(rt; has_marked(store, &second, in_second, atoms));
-        lists(rt, alloc, store, &first, in_first, atoms)?;
-        shares(
-            rt,
-            alloc,
-            store,
-            &first,
-            &second,
-            in_first & in_second,
-            atoms,
-        )?;
     }
-    takes_no_memory(rt, alloc, store, &first, &mut second, marks, atoms);
-    Ok(())
+    takes_no_memory(refusing, sets)
 }
 
-fn lists<'a, B: Allocator, S: AtomStore<&'a Refusing<B>>>(
-    rt: &impl Abort,
-    alloc: &'a Refusing<B>,
-    store: &S,
-    set: &S::Set,
-    marks: u128,
-    atoms: &[Atom<&'a Refusing<B>>],
-) -> Result<(), AllocError>
-    requires { S.owns store.now set.now }
+fn runs_step<A: Allocator, B: Allocator, S: AtomStore<A>>(
+    refusing: &Refusing<B>,
+    sets: &mut TwoSets<A, S>,
+    step: (Operation, usize),
+) -> bool
+    requires first_own { S.owns sets.old.store sets.old.first }
+    requires second_own { S.owns sets.old.store sets.old.second }
+    ensures first_own { S.owns sets.new.store sets.new.first }
+    ensures second_own { S.owns sets.new.store sets.new.second }
 {
-    let list = match store.list(set) {
-        Ok(list) => list,
-        Err(AllocError) => {
-            assert!(rt; alloc.has_refused());
-            assert!(rt; has_marked(store, set, marks, atoms));
-            store.list(set)?
-        }
-    };
-    assert!(rt; lists_marked(&list, marks, atoms));
-    Ok(())
-}
-
-fn shares<'a, B: Allocator, S: AtomStore<&'a Refusing<B>>>(
-    rt: &impl Abort,
-    alloc: &'a Refusing<B>,
-    store: &S,
-    first: &S::Set,
-    second: &S::Set,
-    marks: u128,
-    atoms: &[Atom<&'a Refusing<B>>],
-) -> Result<(), AllocError>
-    requires first_own { S.owns store.now first.now }
-    requires second_own { S.owns store.now second.now }
-{
-    let shared = match store.common(first, second) {
-        Ok(shared) => shared,
-        Err(AllocError) => {
-            assert!(rt; alloc.has_refused());
-            store.common(first, second)?
-        }
-    };
-    assert!(rt; is_least_marked(&shared, marks, atoms));
-    Ok(())
+    match sets.atoms.get(step.1) {
+        Some(atom) => runs(refusing, sets, step, atom) && agrees(refusing, sets),
+        None => false,
+    }
 }
 
 /// The calls that take no memory: where the next growth would be refused, none is asked for.
-fn takes_no_memory<'a, B: Allocator, S: AtomStore<&'a Refusing<B>>>(
-    rt: &impl Abort,
-    alloc: &'a Refusing<B>,
-    store: &S,
-    first: &S::Set,
-    second: &mut S::Set,
-    marks: (u128, u128),
-    atoms: &[Atom<&'a Refusing<B>>],
-)
-    requires first_own { S.owns store.now first.now }
-    requires second_own { S.owns store.now second.old }
+fn takes_no_memory<A: Allocator, B: Allocator, S: AtomStore<A>>(
+    refusing: &Refusing<B>,
+    sets: &mut TwoSets<A, S>,
+) -> bool
+    requires first_own { S.owns sets.old.store sets.old.first }
+    requires second_own { S.owns sets.old.store sets.old.second }
 {
-    let before = alloc.has_refused();
-    let (in_first, in_second) = marks;
-    let none = store.empty();
-    assert!(rt; has_marked(store, &none, 0, atoms));
-    assert!(rt; store.disjoint(&none, first));
-    assert_eq!(rt; store.disjoint(first, second), in_first & in_second == 0);
-    store.subtract(second, first);
-    assert!(rt; has_marked(store, second, in_second & !in_first, atoms));
-    store.subtract(second, &none);
-    assert!(rt; has_marked(store, second, in_second & !in_first, atoms));
-    assert_eq!(rt; alloc.has_refused(), before);
+    let before = refusing.has_refused();
+    let none = sets.store.empty();
+    let is_right = reads_and_takes(sets, &none);
+    drop(none);
+    is_right && refusing.has_refused() == before
 }
 
-#[test]
-fn sorted_store_refused_in_turn(rt: HostRuntime) -> Result<(), Fail> {
-    let mut runs = 0u64;
-    for n in 1..2000u64 {
-        let alloc = Refusing::nth(rt.alloc(), n);
-        let Ok(atoms) = samples(&alloc, 70) else {
-            continue;
-        };
-        let kept = keeps_its_sets(&rt, &alloc, &mut SortedStore::new(&alloc), &atoms);
-        drop(atoms);
-        kept?;
-        if !alloc.has_refused() {
-            break;
-        }
-        runs = n;
-    }
-    // The last run met no refusal: each growth was refused once, and those of the samples were 72.
-    assert!(rt; runs > 100 && runs < 1999, "{runs} runs");
-    Ok(())
+fn reads_and_takes<A: Allocator, S: AtomStore<A>>(sets: &mut TwoSets<A, S>, none: &S::Set) -> bool
+    requires first_own { S.owns sets.old.store sets.old.first }
+    requires second_own { S.owns sets.old.store sets.old.second }
+    requires none_own { S.owns sets.old.store none.now }
+{
+    let rest = sets.marks.1 & !sets.marks.0;
+    has_marked(&sets.store, none, 0, sets.atoms)
+        && sets.store.disjoint(none, &sets.first)
+        && are_disjoint_as_marked(sets)
+        && has_after(&sets.store, &mut sets.second, &sets.first, rest, sets.atoms)
+        && has_after(&sets.store, &mut sets.second, none, rest, sets.atoms)
 }
 
-#[test]
-fn bit_store_refused_in_turn(rt: HostRuntime) -> Result<(), Fail> {
-    let mut runs = 0u64;
-    for n in 1..2000u64 {
-        let alloc = Refusing::nth(rt.alloc(), n);
-        let Ok(atoms) = samples(&alloc, 70) else {
-            continue;
-        };
-        let kept = keeps_its_sets(&rt, &alloc, &mut BitStore::new(&alloc), &atoms);
-        drop(atoms);
-        kept?;
-        if !alloc.has_refused() {
-            break;
-        }
-        runs = n;
-    }
-    assert!(rt; runs > 100 && runs < 1999, "{runs} runs");
-    Ok(())
+fn has_after<A: Allocator, S: AtomStore<A>>(
+    store: &S,
+    set: &mut S::Set,
+    less: &S::Set,
+    marks: u128,
+    atoms: &[Atom<A>],
+) -> bool
+    requires set_own { S.owns store.now set.old }
+    requires less_own { S.owns store.now less.now }
+    ensures { S.owns store.now set.new }
+{
+    store.subtract(set, less);
+    has_marked(store, set, marks, atoms)
 }
 
 /// With each growth refused a store is made, its empty sets are read and taken from, and none takes an atom.
-fn holds_nothing<'a, B: Allocator, S: AtomStore<&'a Refusing<B>>>(
-    rt: &impl Abort,
-    alloc: &'a Refusing<B>,
-    store: &mut S,
-) {
+pub fn holds_nothing<A: Allocator, S: AtomStore<A>>(alloc: A, mut store: S) -> bool {
     let atom = Atom {
         predicate: 4,
         args: Vec::new(alloc),
     };
     let mut first = store.empty();
     let second = store.empty();
-    assert!(rt; !store.has(&first, &atom));
-    assert!(rt; store.insert(&mut first, &atom).is_err());
-    assert!(rt; !store.has(&first, &atom));
-    assert!(rt; store.disjoint(&first, &second));
-    store.subtract(&mut first, &second);
-    assert!(rt; !store.has(&first, &atom));
+    let is_right = stays_empty(&mut store, &mut first, &second, &atom);
+    drop(second);
+    drop(first);
+    drop(atom);
+    drop(store);
+    is_right
+}
+
+fn stays_empty<A: Allocator, S: AtomStore<A>>(
+    store: &mut S,
+    first: &mut S::Set,
+    second: &S::Set,
+    atom: &Atom<A>,
+) -> bool
+    requires first_own { S.owns store.old first.old }
+    requires second_own { S.owns store.old second.now }
+{
+    !store.has(first, atom)
+        && store.insert(first, atom).is_err()
+        && !store.has(first, atom)
+        && store.disjoint(first, second)
+        && lacks_after(store, first, second, atom)
+}
+
+fn lacks_after<A: Allocator, S: AtomStore<A>>(
+    store: &S,
+    set: &mut S::Set,
+    less: &S::Set,
+    atom: &Atom<A>,
+) -> bool
+    requires set_own { S.owns store.now set.old }
+    requires less_own { S.owns store.now less.now }
+{
+    store.subtract(set, less);
+    !store.has(set, atom)
+}
+
+// Runs the script with each growth refused in turn, until none is.
+fn refused_in_turn<B: Allocator + Copy>(rt: &impl Abort, alloc: B, kind: Kind) {
+    let mut runs = 0u64;
+    for n in 1..2000u64 {
+        if !is_refused(rt, alloc, kind, n) {
+            break;
+        }
+        runs = n;
+    }
+    // The last run met no refusal: each growth was refused once, and those of the samples were 72.
+    assert!(rt; runs > 100 && runs < 1999, "{runs} runs");
+}
+
+fn is_refused<B: Allocator>(rt: &impl Abort, alloc: B, kind: Kind, n: u64) -> bool {
+    let alloc = Refusing::nth(alloc, n);
+    let is_right = goes_right(&alloc, &alloc, kind, Trial::Script);
+    let has_refused = alloc.has_refused();
+    drop(alloc);
+    assert!(rt; is_right, "growth {n} refused");
+    has_refused
+}
+
+#[test]
+fn sorted_store_refused_in_turn(rt: HostRuntime) {
+    refused_in_turn(&rt, rt.alloc(), Kind::Sorted);
+}
+
+#[test]
+fn bit_store_refused_in_turn(rt: HostRuntime) {
+    refused_in_turn(&rt, rt.alloc(), Kind::Bits);
 }
 
 #[test]
 fn every_growth_refused(rt: HostRuntime) {
-    let alloc = Refusing::each(rt.alloc());
-    holds_nothing(&rt, &alloc, &mut SortedStore::new(&alloc));
-    holds_nothing(&rt, &alloc, &mut BitStore::new(&alloc));
+    nothing_held(&rt, rt.alloc(), Kind::Sorted);
+    nothing_held(&rt, rt.alloc(), Kind::Bits);
+}
+
+fn nothing_held<B: Allocator>(rt: &impl Abort, alloc: B, kind: Kind) {
+    let alloc = Refusing::each(alloc);
+    let is_right = goes_right(&alloc, &alloc, kind, Trial::Nothing);
+    drop(alloc);
+    assert!(rt; is_right);
 }

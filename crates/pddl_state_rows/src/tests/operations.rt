@@ -28,13 +28,31 @@ pub fn done<A: Allocator, S: AtomStore<A>>(
     ensures second_own { S.owns store.new second.new }
 {
     match operation {
-        Operation::InsertInFirst => store.insert(first, atom)?,
-        Operation::InsertInSecond => store.insert(second, atom)?,
-        Operation::Unite => store.unite(first, second)?,
-        Operation::Subtract => store.subtract(second, first),
-        Operation::Copy => *second = store.copy(first)?,
-        Operation::Empty => *first = store.empty(),
+        Operation::InsertInFirst => store.insert(first, atom),
+        Operation::InsertInSecond => store.insert(second, atom),
+        Operation::Unite => store.unite(first, second),
+        Operation::Subtract => {
+            store.subtract(second, first);
+            Ok(())
+        }
+        Operation::Copy => becomes_copy(store, second, first),
+        Operation::Empty => {
+            *first = store.empty();
+            Ok(())
+        }
     }
+}
+
+fn becomes_copy<A: Allocator, S: AtomStore<A>>(
+    store: &S,
+    set: &mut S::Set,
+    other: &S::Set,
+) -> Result<(), AllocError>
+    requires set_own { S.owns store.now set.old }
+    requires other_own { S.owns store.now other.now }
+    ensures { S.owns store.now set.new }
+{
+    *set = store.copy(other)?;
     Ok(())
 }
 

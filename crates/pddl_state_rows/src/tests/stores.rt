@@ -1,9 +1,11 @@
-use super::operations::{Operation, done, marks_after};
-use super::samples::{has_marked, is_least_marked, lists_marked, mark, sample, samples};
+use super::operations::Operation;
+use super::samples::{is_least_marked, lists_marked, mark, sample, samples};
+use super::sets::{TwoSets, agrees, runs};
+use super::trials::{Kind, Trial, goes_right_unrefused};
 use crate::{Merged, merge, two_sets};
-use pddl_state::{Atom, AtomStore, BitStore, SortedStore};
-use std::alloc::{AllocError, Allocator};
-use std::process::Abort;
+use pddl_fakes::Refusing;
+use pddl_state::{Atom, AtomStore};
+use std::alloc::Allocator;
 use std::test::Fail;
 
 // A fixed sequence of draws, and what each stands for.
@@ -19,58 +21,60 @@ fn drawn(draw: u32) -> (Operation, usize) {
     (operation, (draw % 70) as usize)
 }
 
-// What both sets have, singly and together, is what their marks say.
-fn agrees<A: Allocator, S: AtomStore<A>>(
-    rt: &impl Abort,
-    store: &S,
-    first: &S::Set,
-    second: &S::Set,
-    marks: (u128, u128),
-    atoms: &[Atom<A>],
-) -> Result<(), AllocError>
-    requires first_own { S.owns store.now first.now }
-    requires second_own { S.owns store.now second.now }
-{
-    let (in_first, in_second) = marks;
-    assert!(rt; has_marked(store, first, in_first, atoms));
-    assert!(rt; lists_marked(&store.list(first)?, in_first, atoms));
-    assert!(rt; lists_marked(&store.list(second)?, in_second, atoms));
-    assert_eq!(rt; store.disjoint(first, second), in_first & in_second == 0);
-    let shared = store.common(first, second)?;
-    assert!(rt; is_least_marked(&shared, in_first & in_second, atoms));
-    Ok(())
-}
-
-// Four hundred operations on two sets of a store, each compared with what it does to their marks.
-fn keeps_to_the_marks<A: Allocator + Copy, S: AtomStore<A>>(
-    rt: &impl Abort,
+/// Four hundred operations on two sets of a store, each compared with what it does to their marks.
+pub fn runs_draws<A: Allocator + Copy, B: Allocator, S: AtomStore<A>>(
+    refusing: &Refusing<B>,
     alloc: A,
-    store: &mut S,
-) -> Result<(), AllocError> {
-    let atoms = samples(alloc, 70)?;
-    let mut first = store.empty();
-    let mut second = store.empty();
-    let mut marks = (0, 0);
+    sets: &mut TwoSets<A, S>,
+) -> bool
+    requires first_own { S.owns sets.old.store sets.old.first }
+    requires second_own { S.owns sets.old.store sets.old.second }
+{
     let mut draw = 1u32;
     for _ in 0..400 {
         draw = (draw % 65536 * 1103 + 12345) % 65536;
-        let (operation, number) = drawn(draw);
-        let atom = sample(alloc, number)?;
-        done(store, &mut first, &mut second, operation, &atom)?;
-        marks = marks_after(marks, operation, number);
-        agrees(rt, store, &first, &second, marks, &atoms)?;
+        if !runs_draw(refusing, alloc, sets, drawn(draw)) {
+            return false;
+        }
     }
-    Ok(())
+    true
+}
+
+fn runs_draw<A: Allocator + Copy, B: Allocator, S: AtomStore<A>>(
+    refusing: &Refusing<B>,
+    alloc: A,
+    sets: &mut TwoSets<A, S>,
+    step: (Operation, usize),
+) -> bool
+    requires first_own { S.owns sets.old.store sets.old.first }
+    requires second_own { S.owns sets.old.store sets.old.second }
+    ensures first_own { S.owns sets.new.store sets.new.first }
+    ensures second_own { S.owns sets.new.store sets.new.second }
+{
+    let Ok(atom) = sample(alloc, step.1) else {
+        return false;
+    };
+    let is_done = runs(refusing, sets, step, &atom);
+    drop(atom);
+    is_done && agrees(refusing, sets)
 }
 
 #[test]
-fn both_stores_keep_to_the_marks(rt: HostRuntime) -> Result<(), Fail> {
+fn both_stores_keep_to_the_marks(rt: HostRuntime) {
     let alloc = rt.alloc();
-    keeps_to_the_marks(&rt, alloc, &mut SortedStore::new(alloc))?;
-    keeps_to_the_marks(&rt, alloc, &mut BitStore::new(alloc))?;
+    assert!(rt;
+        goes_right_unrefused(alloc, Kind::Sorted, Trial::Draws),
+        "sorted store"
+    );
+    assert!(rt;
+        goes_right_unrefused(alloc, Kind::Bits, Trial::Draws),
+        "bit store"
+    );
     // A lent allocator serves too.
-    keeps_to_the_marks(&rt, &alloc, &mut BitStore::new(&alloc))?;
-    Ok(())
+    assert!(rt;
+        goes_right_unrefused(&alloc, Kind::Bits, Trial::Draws),
+        "lent allocator"
+    );
 }
 
 // Whether two sets had the first marks in common, of which the least is told, and one got the second from the other and has the third.
@@ -81,56 +85,96 @@ fn shows<A: Allocator>(merged: &Merged<A>, marks: (u128, u128, u128), atoms: &[A
         && lists_marked(&merged.all, all, atoms)
 }
 
-// A set is merged with another, which shows these marks.
+// Whether a set that is merged with another shows these marks.
 fn merges_to<A: Allocator, S: AtomStore<A>>(
-    rt: &impl Abort,
     store: &S,
     set: &mut S::Set,
     more: &S::Set,
     marks: (u128, u128, u128),
     atoms: &[Atom<A>],
-) -> Result<(), AllocError>
+) -> bool
     requires set_own { S.owns store.now set.old }
     requires more_own { S.owns store.now more.now }
 {
-    let merged = merge(store, set, more)?;
+    let Ok(merged) = merge(store, set, more) else {
+        return false;
+    };
     let is_right = shows(&merged, marks, atoms);
     drop(merged);
-    assert!(rt; is_right);
-    Ok(())
+    is_right
 }
 
-// The sets of atoms 7 and of 7 and 60 are merged with those of 60 and of 60 and 3.
-fn merges<A: Allocator, S: AtomStore<A>>(
-    rt: &impl Abort,
-    store: &mut S,
+/// The sets of atoms 7 and of 7 and 60 are merged with those of 60 and of 60 and 3.
+pub fn merges<A: Allocator, S: AtomStore<A>>(store: &mut S, atoms: &[Atom<A>]) -> bool {
+    if atoms.len() != 70 {
+        return false;
+    }
+    let Ok(mut sets) = two_sets(store, &atoms[7], &atoms[60]) else {
+        return false;
+    };
+    let Ok(others) = two_sets(store, &atoms[60], &atoms[3]) else {
+        return false;
+    };
+    both_merge(store, &mut sets, &others, atoms)
+}
+
+fn both_merge<A: Allocator, S: AtomStore<A>>(
+    store: &S,
+    sets: &mut (S::Set, S::Set),
+    others: &(S::Set, S::Set),
     atoms: &[Atom<A>],
-) -> Result<(), AllocError> {
-    assert!(rt; atoms.len() == 70);
-    let (mut one, mut two) = two_sets(store, &atoms[7], &atoms[60])?;
-    let (more, most) = two_sets(store, &atoms[60], &atoms[3])?;
-    let marks = (0, mark(60), mark(7) | mark(60));
-    merges_to(rt, store, &mut one, &more, marks, atoms)?;
-    let marks = (mark(60), mark(3), mark(3) | mark(7) | mark(60));
-    merges_to(rt, store, &mut two, &most, marks, atoms)
+) -> bool
+    requires one_own { S.owns store.now sets.old.0 }
+    requires two_own { S.owns store.now sets.old.1 }
+    requires more_own { S.owns store.now others.now.0 }
+    requires most_own { S.owns store.now others.now.1 }
+{
+    let of_one = (0, mark(60), mark(7) | mark(60));
+    let of_two = (mark(60), mark(3), mark(3) | mark(7) | mark(60));
+    merges_to(store, &mut sets.0, &others.0, of_one, atoms)
+        && merges_to(store, &mut sets.1, &others.1, of_two, atoms)
 }
 
 #[test]
-fn both_stores_serve_a_caller(rt: HostRuntime) -> Result<(), Fail> {
-    let alloc = rt.alloc();
-    let atoms = samples(alloc, 70)?;
-    merges(&rt, &mut SortedStore::new(alloc), &atoms)?;
-    merges(&rt, &mut BitStore::new(alloc), &atoms)?;
-    Ok(())
+fn both_stores_serve_a_caller(rt: HostRuntime) {
+    assert!(rt;
+        goes_right_unrefused(rt.alloc(), Kind::Sorted, Trial::Merges),
+        "sorted store"
+    );
+    assert!(rt;
+        goes_right_unrefused(rt.alloc(), Kind::Bits, Trial::Merges),
+        "bit store"
+    );
 }
 
 #[test]
 fn atoms_rise(rt: HostRuntime) -> Result<(), Fail> {
     let atoms = samples(rt.alloc(), 70)?;
-    for pair in atoms.windows(2) {
-        assert!(rt; pair[0] < pair[1]);
-        assert!(rt; pair[0] != pair[1]);
-        assert!(rt; pair[0] == pair[0].copy(rt.alloc())?);
-    }
+    let is_right = rise(rt.alloc(), &atoms);
+    drop(atoms);
+    assert!(rt; is_right);
     Ok(())
+}
+
+fn rise<A: Allocator + Copy>(alloc: A, atoms: &[Atom<A>]) -> bool {
+    for number in 1..atoms.len() {
+        if !is_before(alloc, &atoms[number - 1], &atoms[number]) {
+            return false;
+        }
+    }
+    true
+}
+
+// Whether an atom comes before the next, differs from it and is equal to its copy.
+fn is_before<A: Allocator>(alloc: A, atom: &Atom<A>, next: &Atom<A>) -> bool {
+    *atom < *next && *atom != *next && is_copied(alloc, atom)
+}
+
+fn is_copied<A: Allocator>(alloc: A, atom: &Atom<A>) -> bool {
+    let Ok(copy) = atom.copy(alloc) else {
+        return false;
+    };
+    let is_equal = *atom == copy;
+    drop(copy);
+    is_equal
 }
