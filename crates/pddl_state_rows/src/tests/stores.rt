@@ -2,7 +2,7 @@ use super::operations::Operation;
 use super::samples::{is_least_marked, lists_marked, mark, sample, samples};
 use super::sets::{TwoSets, agrees, runs};
 use super::trials::{Kind, Trial, goes_right_unrefused};
-use crate::{Merged, merge, two_sets};
+use crate::caller::{Merged, merge, two_sets};
 use pddl_fakes::Refusing;
 use pddl_state::{Atom, AtomStore};
 use std::alloc::Allocator;
