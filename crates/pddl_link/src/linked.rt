@@ -111,31 +111,7 @@ fn look_at_uses<'t, 'm, 'a, A: Allocator, B: Allocator>(
     )
 }
 
-/// These tables, with how many of the objects fit each type, and without the places of their types.
-///
-/// Fails where memory for the counts is refused.
-fn with_counts<'m, 'a, A: Allocator, B: Allocator>(
-    alloc: &'a B,
-    types: &Types<'m, 'a, A, B>,
-    objects: Objects<'m, 'a, A, B>,
-    declared: Declared<'m, 'a, A, B>,
-) -> Result<Tables<'m, 'a, A, B>, AllocError>
-    ensures objects { IfOk result (λ tables. tables.objects ≡ objects.entry) }
-    ensures declared { IfOk result (λ tables. tables.declared ≡ declared.entry) }
-    ensures counts { IfOk result (λ tables. AreCountsOf types.now (map object_in tables.objects.entries) tables.counts.entries) }
-{
-    match types.counts(alloc, &objects) {
-        Ok(counts) => Ok(Tables {
-            objects,
-            declared,
-            counts,
-            places: ObjectPlaces::none(alloc),
-        }),
-        Err(error) => Err(error),
-    }
-}
-
-/// The tables of objects and of what a domain declares, where no predicate and no function stands twice, without the places of the objects' types.
+/// The tables of objects and of what a domain declares, where no predicate and no function stands twice.
 ///
 /// Fails where memory for them is refused.
 fn tables_of<'m, 'a, A: Allocator, B: Allocator>(
@@ -151,49 +127,15 @@ fn tables_of<'m, 'a, A: Allocator, B: Allocator>(
     ensures functions { IfOk result (λ tables. map signature_in tables.declared.functions.entries ≡ function_signatures (domain_view domain.now)) }
     ensures counts { IfOk result (λ tables. AreCountsOf types.now (map object_in tables.objects.entries) tables.counts.entries) }
 {
-    match Declared::of(alloc, types, domain) {
-        Ok(declared) => with_counts(alloc, types, objects, declared),
-        Err(error) => Err(error),
-    }
-}
-
-/// The lowest fault of what a domain and a problem use, by their tables, which get the places of the objects' types. The values of functions of objects are
-/// added to none.
-fn look_by_tables<'m, 'a, A: Allocator, B: Allocator>(
-    alloc: &'a B,
-    types: &Types<'m, 'a, A, B>,
-    constants: &Objects<'m, 'a, A, B>,
-    tables: &mut Tables<'m, 'a, A, B>,
-    values: &mut Values<'m, 'a, A, B>,
-    domain: &'m Domain<A>,
-    problem: &'m Problem<A>,
-) -> Result<(), LinkFault<'m>>
-    requires types { types.now ≡ (domain_view domain.now).types }
-    requires constants { map object_in constants.now.entries ≡ firsts (domain_view domain.now).constants }
-    requires objects { map object_in tables.old.objects.entries ≡ objects_of (domain_view domain.now) (problem_view problem.now) }
-    requires predicates { map signature_in tables.old.declared.predicates.entries ≡ (domain_view domain.now).predicates }
-    requires functions { map signature_in tables.old.declared.functions.entries ≡ function_signatures (domain_view domain.now) }
-    requires counts { AreCountsOf types.now (map object_in tables.old.objects.entries) tables.old.counts.entries }
-    requires none { values.old.entries ≡ [] }
-    ensures objects { tables.new.objects ≡ tables.old.objects }
-    ensures declared { tables.new.declared ≡ tables.old.declared }
-    ensures counts { tables.new.counts ≡ tables.old.counts }
-    ensures values { OnOk result (HoldsValues (problem_view problem.now).init values.new.entries) }
-    ensures verdict { Verdict (map (fault_in (domain_view domain.now) (problem_view problem.now)) use_rules) result }
-{
-    tables.places = ObjectPlaces::of(alloc, types, &tables.objects)?;
-    look_at_uses(
-        alloc,
-        types,
-        constants,
-        &tables.objects,
-        &tables.declared,
-        &tables.counts,
-        tables.places.places(),
-        values,
-        domain,
-        problem,
-    )
+    let counts = types.counts(alloc, &objects)?;
+    let places = ObjectPlaces::of(alloc, types, &objects)?;
+    let declared = Declared::of(alloc, types, domain)?;
+    Ok(Tables {
+        objects,
+        declared,
+        counts,
+        places,
+    })
 }
 
 /// The tables of a domain and a problem behind their objects, where no fault of what is used stands. The values of functions of objects are added to none.
@@ -216,12 +158,15 @@ fn tables_behind<'m, 'a, A: Allocator, B: Allocator>(
     ensures tables { IfOk result (λ tables. HoldBehindTypes (domain_view domain.now) (problem_view problem.now) types.now tables.declared.predicates.entries tables.objects.entries tables.counts.entries values.new.entries) }
     ensures verdict { Verdict (map (fault_in (domain_view domain.now) (problem_view problem.now)) use_rules) result }
 {
-    let mut tables = tables_of(alloc, types, objects, domain)?;
-    match look_by_tables(
+    let tables = tables_of(alloc, types, objects, domain)?;
+    match look_at_uses(
         alloc,
         types,
         constants,
-        &mut tables,
+        &tables.objects,
+        &tables.declared,
+        &tables.counts,
+        tables.places.places(),
         values,
         domain,
         problem,

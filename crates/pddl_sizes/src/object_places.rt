@@ -31,14 +31,6 @@ fn in_order<'m, 't, 'c, A: Allocator, B: Allocator, C: Allocator>(
 }
 
 impl<'a, B: Allocator> ObjectPlaces<'a, B> {
-    /// Those of no objects.
-    pub fn none(alloc: &'a B) -> ObjectPlaces<'a, B> {
-        ObjectPlaces {
-            places: Vec::new(alloc),
-            order: Vec::new(alloc),
-        }
-    }
-
     /// Those of objects.
     ///
     /// Fails where memory for them is refused.
