@@ -1,0 +1,33 @@
+-- What is said of files that are good.
+use Rattle.std.proofs.Common.{◌≡◌, List, ℕ, sym, subst}
+use Rattle.std.specs.Prelude.{codes, Result, Ok, Err}
+use Rattle.std.specs.Result.{result_and}
+use Rattle.pddl_domain.specs.Domains.{DomainValue}
+use Rattle.pddl_domain_reader.specs.DomainTexts.{SpellsDomain}
+use Rattle.pddl_problem.specs.Problems.{ProblemValue}
+use Rattle.pddl_task.specs.Linked.{faults, domain_faults, IsGood}
+use Rattle.pddl_faults.specs.declared.fault.LinkFault.{LinkFault}
+use Rattle.pddl_faults.specs.Passes.{Verdict}
+use Rattle.pddl_file_layout.specs.DomainLayout.{domain_text}
+use Rattle.pddl_kind.specs.declared.Kind.TheVariants.{Domain}
+use Rattle.pddl_commands.specs.declared.outcome.Outcome.{Outcome}
+use Rattle.pddl_commands.specs.declared.outcome.Outcome.TheVariants.{Good}
+use Rattle.pddl_commands.specs.Checks.{good_line, IsDomainJudged}
+use Rattle.pddl_commands.specs.Formats.{IsFormatted}
+
+-- what a verdict says holds of it without what goes with it
+pub verdict_alone : {T : Type 0} (d : DomainValue) (p : ProblemValue) (r : Result T LinkFault) (alone : Result (Unit {0}) LinkFault) → alone ≡ result_and r (Ok (tt {0})) → Verdict (faults d p) r → Verdict (faults d p) alone
+verdict_alone d p (Ok x) alone is h = subst (λ v. Verdict (faults d p) v) (sym is) h
+verdict_alone d p (Err e) alone is h = subst (λ v. Verdict (faults d p) v) (sym is) h
+
+-- a domain whose verdict is no fault is good
+pub good_by_verdict : {T : Type 0} (d : DomainValue) (r : Result T LinkFault) (x : T) → r ≡ Ok x → Verdict (domain_faults d) r → IsGood d
+good_by_verdict d r x is h = subst (λ v. Verdict (domain_faults d) v) is h
+
+-- a domain that shows no fault is judged good
+pub judged_good : (d : DomainValue) (printed : List ℕ) (outcome : Outcome) → outcome ≡ Good → IsGood d → printed ≡ good_line (codes "domain") d.name → IsDomainJudged d printed outcome
+judged_good d printed outcome is good line = subst (λ o. IsDomainJudged d printed o) (sym is) (good, line)
+
+-- the canonical text of a domain is printed
+pub printed_good : (d : DomainValue) (text printed : List ℕ) (outcome : Outcome) → outcome ≡ Good → SpellsDomain d text → printed ≡ domain_text d → IsFormatted Domain text printed outcome
+printed_good d text printed outcome is spells line = subst (λ o. IsFormatted Domain text printed o) (sym is) (record { value = d; spells = spells; printed_is = line })
