@@ -5,7 +5,7 @@ use Rattle.pddl_task.specs.Tasks.{TaskValue}
 use Rattle.pddl_state.specs.Atoms.{AtomValue, atom_eq}
 use Rattle.pddl_happenings.specs.Steps.{Step}
 use Rattle.pddl_compiled.specs.Compiled.{ConditionValue, ChangeValue}
-use Rattle.pddl_compiled.specs.CompiledMeaning.{is_true, some_tested, spent}
+use Rattle.pddl_compiled.specs.CompiledMeaning.{FrameValue, is_true, some_tested, spent}
 use Rattle.pddl_compiled.specs.Compiler.{ScopeValue, condition_of, change_of}
 use Rattle.pddl_compiled.specs.Frames.{parameter_slot}
 use Rattle.pddl_compiled.specs.TaskTables.{tables_of}
@@ -29,11 +29,15 @@ scope_of a = reverse (map parameter_slot a.parameters)
 abbrev pub form_of : TaskValue → ActionValue → ActionForm
 form_of task a = record { precondition = condition_of (tables_of task) a.precondition (scope_of a); effect = change_of (tables_of task) a.effect (scope_of a) }
 
+-- whether an action reads an atom, with the objects of a frame
+abbrev pub action_reads : ActionForm → FrameValue → AtomValue → Bool
+action_reads f frame x = some_tested f.precondition (atom_eq x) frame || tested_by f.effect (atom_eq x) frame
+
 -- What an action does with objects by numbers, where functions of objects have prices.
 abbrev pub form_step : (AtomValue → ℕ) → ActionForm → List ℕ → Step AtomValue
 form_step price f objects = record {
   ready = λ s. is_true s f.precondition (reverse objects);
-  reads = λ x. some_tested f.precondition (atom_eq x) (reverse objects) || tested_by f.effect (atom_eq x) (reverse objects);
+  reads = action_reads f (reverse objects);
   adds = λ s x. added s f.effect (atom_eq x) (reverse objects);
   dels = λ s x. deleted s f.effect (atom_eq x) (reverse objects);
   cost = λ s. spent price s f.effect (reverse objects);

@@ -4,10 +4,14 @@ ghost use Rattle.std.specs.Prelude.{◌≡◌, ◌<◌, ℕ, false, true, Some, 
 ghost use Rattle.pddl_domain.specs.Actions.{ActionValue, action_view};
 ghost use Rattle.pddl_plan_steps.specs.Link.LinkedTasks.{task_of_files};
 ghost use Rattle.pddl_task.specs.Tasks.{TaskValue};
+ghost use Rattle.pddl_compiled.specs.Compiler.{condition_of, change_of};
+ghost use Rattle.pddl_compiled.specs.Scopes.{scope_view};
 ghost use Rattle.pddl_compiled.specs.TaskTables.{tables_of};
+ghost use Rattle.pddl_compiled.specs.Views.{condition_view, change_view};
 ghost use Rattle.pddl_plan_steps.specs.LinkedPlan.LinkedSteps.{LinkedStepValue};
 ghost use Rattle.pddl_step.specs.CompiledSteps.{form_in, form_of, AreForms, AreHeld, AreMarked, IsHeld};
 
+use pddl_build::both_made;
 use pddl_compiled::{
     Change, Condition, Lookups, Scope, compile_change, compile_condition, parameter_slots,
 };
@@ -26,6 +30,27 @@ pub(crate) struct CompiledAction<A: Allocator> {
 /// The actions of a task by number, those of them that are used.
 pub(crate) type UsedActions<'c, D> = Vec<Option<CompiledAction<&'c D>>, &'c D>;
 
+/// An action by numbers, with what is in scope in it.
+///
+/// Fails where memory for it is refused.
+fn compile_in_scope<'s, 'c, A: Allocator, D: Allocator, L: Lookups<A, D>>(
+    alloc: &'c D,
+    lookups: &L,
+    action: &Action<A>,
+    scope: &'s Scope<'s>,
+) -> Result<CompiledAction<&'c D>, AllocError>
+    ensures precondition { IfOk result (λ c. condition_view c.precondition ≡ condition_of (L.tables lookups.now) (action_view action.now).precondition (scope_view scope.now)) }
+    ensures effect { IfOk result (λ c. change_view c.effect ≡ change_of (L.tables lookups.now) (action_view action.now).effect (scope_view scope.now)) }
+{
+    let precondition = compile_condition(alloc, lookups, &action.precondition, scope);
+    let effect = compile_change(alloc, lookups, &action.effect, scope);
+    let (precondition, effect) = both_made(precondition, effect)?;
+    Ok(CompiledAction {
+        precondition,
+        effect,
+    })
+}
+
 /// An action by numbers.
 ///
 /// Fails where memory for it is refused.
@@ -37,13 +62,14 @@ fn compile_action<'c, A: Allocator, D: Allocator, L: Lookups<A, D>>(
     ensures { (task : TaskValue) → L.tables lookups.now ≡ tables_of task → IfOk result (λ c. form_in c ≡ form_of task (action_view action.now)) }
 {
     let slots = parameter_slots(alloc, &action.parameters)?;
-    let scope = Scope::Inside(&slots, &Scope::Empty);
-    let precondition = compile_condition(alloc, lookups, &action.precondition, &scope)?;
-    let effect = compile_change(alloc, lookups, &action.effect, &scope)?;
-    Ok(CompiledAction {
-        precondition,
-        effect,
-    })
+    let compiled = compile_in_scope(
+        alloc,
+        lookups,
+        action,
+        &Scope::Inside(&slots, &Scope::Empty),
+    );
+    drop(slots);
+    compiled
 }
 
 /// So many marks, none of them set.

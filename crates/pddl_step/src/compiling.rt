@@ -1,17 +1,18 @@
 //! Compiles linked plans.
 
-ghost use Rattle.std.specs.Prelude.{◌≡◌, [], IfOk};
+ghost use Rattle.std.specs.Prelude.{◌≡◌, [], Ok, IfOk};
 ghost use Rattle.pddl_formula.specs.Formulas.{formula_view};
 ghost use Rattle.pddl_plan_steps.specs.Link.LinkedTasks.{task_of_files};
 ghost use Rattle.pddl_compiled.specs.Compiler.{condition_of};
+ghost use Rattle.pddl_compiled.specs.TaskTables.{tables_of};
 ghost use Rattle.pddl_compiled.specs.Views.{condition_view};
 ghost use Rattle.pddl_tables.specs.Lookups.{task_in};
 ghost use Rattle.pddl_plan_steps.specs.LinkedPlan.LinkedSteps.{AreLinkedSteps};
+ghost use Rattle.pddl_step.specs.CompiledSteps.{AreForms, AreHeld};
 ghost use Rattle.pddl_step.specs.HeldPlans.{plan_task, plan_steps};
 
-use crate::actions::used_actions;
+use crate::actions::{UsedActions, used_actions};
 use crate::plan::CompiledPlan;
-use pddl_build::both_made;
 use pddl_compiled::{Condition, Lookups, Scope, compile_condition};
 use pddl_formula::Formula;
 use pddl_plan_steps::pddl_link::Task;
@@ -30,6 +31,53 @@ fn compile_closed<'c, A: Allocator, D: Allocator, L: Lookups<A, D>>(
     ensures { IfOk result (λ c. condition_view c ≡ condition_of (L.tables lookups.now) (formula_view formula.now) []) }
 {
     compile_condition(alloc, lookups, formula, &Scope::Empty)
+}
+
+/// A list and two values, where all of them were made.
+///
+/// Fails as the first of them that failed.
+fn all_made<T: Drop, A: Allocator, U: Drop, V: Drop>(
+    list: Result<Vec<T, A>, AllocError>,
+    first: Result<U, AllocError>,
+    second: Result<V, AllocError>,
+) -> Result<(Vec<T, A>, U, V), AllocError>
+    ensures list { IfOk result (λ made. list ≡ Ok made.0) }
+    ensures first { IfOk result (λ made. first ≡ Ok made.1) }
+    ensures second { IfOk result (λ made. second ≡ Ok made.2) }
+{
+    let list = list?;
+    let first = first?;
+    let second = second?;
+    Ok((list, first, second))
+}
+
+/// The actions that steps use, and the goal, by numbers, with the prices that were made.
+///
+/// Fails as the prices failed, and where memory for the others is refused.
+fn compile_parts<'m, 'a, 'b, 'c, A, B, C, D, L, P>(
+    alloc: &'c D,
+    lookups: &L,
+    task: &Task<'m, 'a, A, B>,
+    steps: &Steps<'b, C>,
+    prices: Result<P, AllocError>,
+) -> Result<(UsedActions<'c, D>, Condition<&'c D>, P), AllocError>
+where
+    A: Allocator,
+    B: Allocator,
+    C: Allocator,
+    D: Allocator,
+    L: Lookups<A, D>,
+    P: Drop,
+    requires tables { L.tables lookups.now ≡ tables_of (task_of_files task.now) }
+    requires linked { AreLinkedSteps (task_of_files task.now) steps.now }
+    ensures forms { IfOk result (λ made. AreForms (task_of_files task.now) made.0.items) }
+    ensures used { IfOk result (λ made. AreHeld steps.now made.0.items) }
+    ensures goal { IfOk result (λ made. condition_view made.1 ≡ condition_of (tables_of (task_of_files task.now)) (task_of_files task.now).goal []) }
+    ensures prices { IfOk result (λ made. prices ≡ Ok made.2) }
+{
+    let actions = used_actions(alloc, lookups, task, steps);
+    let goal = compile_closed(alloc, lookups, task.goal());
+    all_made(actions, goal, prices)
 }
 
 /// The plan of a task and of steps that are linked to it, by what is looked up in the task.
@@ -51,10 +99,8 @@ where
     ensures task { IfOk result (λ plan. plan_task plan ≡ task_of_files task.now) }
     ensures steps { IfOk result (λ plan. plan_steps plan ≡ steps.now) }
 {
-    let actions = used_actions(alloc, lookups, task, steps)?;
     let prices = task_prices(alloc, lookups);
-    let goal = compile_closed(alloc, lookups, task.goal());
-    let (prices, goal) = both_made(prices, goal)?;
+    let (actions, goal, prices) = compile_parts(alloc, lookups, task, steps, prices)?;
     Ok(CompiledPlan {
         alloc,
         task,

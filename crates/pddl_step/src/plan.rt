@@ -4,12 +4,12 @@ ghost use Rattle.std.specs.Prelude.{◌≡◌, ◌<◌, ◌≤◌, ◌||◌, len
 ghost use Rattle.pddl_plan_steps.specs.Link.LinkedTasks.{task_of_files};
 ghost use Rattle.pddl_state.specs.Atoms.{AtomValue};
 ghost use Rattle.pddl_state.specs.AtomSets.{is_listed};
-ghost use Rattle.pddl_compiled.specs.Views.{change_view};
+ghost use Rattle.pddl_compiled.specs.Views.{change_view, frame_view};
 ghost use Rattle.pddl_evaluation.specs.Costs.{increases_of, most_increases};
 ghost use Rattle.pddl_tables.specs.Lookups.{price_in};
 ghost use Rattle.pddl_tables.specs.Prices.{prices_of};
 ghost use Rattle.pddl_plan_steps.specs.PlanSteps.{numbered_steps};
-ghost use Rattle.pddl_step.specs.CompiledSteps.{form_in, form_step, IsHeldPlan};
+ghost use Rattle.pddl_step.specs.CompiledSteps.{form_in, form_step, action_reads, IsHeldPlan};
 
 use crate::actions::{CompiledAction, UsedActions};
 use pddl_compiled::{Condition, Frame};
@@ -71,6 +71,24 @@ fn add_atoms<A: Allocator, S: AtomStore<A>>(
         store.insert(set, atom)?;
     }
     Ok(())
+}
+
+/// Puts the atoms that an action reads with objects into a set.
+fn add_action_reads<'f, A: Allocator, B: Allocator, S: AtomStore<B>>(
+    action: &'f CompiledAction<A>,
+    frame: &'f Frame<'f>,
+    atom: &mut Atom<B>,
+    store: &mut S,
+    into: &mut S::Set,
+) -> Result<(), AllocError>
+    requires { S.owns store.old into.old }
+    ensures own { S.owns store.new into.new }
+    ensures others_own { (t : S.Set) → S.owns store.old t → S.owns store.new t }
+    ensures others { (t : S.Set) → S.owns store.old t → S.content store.new t ≡ S.content store.old t }
+    ensures ok { OnOk result ((x : AtomValue) → S.content store.new into.new x ≡ (action_reads (form_in action.now) (frame_view frame.now) x || S.content store.old into.old x)) }
+{
+    add_reads(&action.precondition, frame, atom, store, into)?;
+    add_change_reads(&action.effect, frame, atom, store, into)
 }
 
 impl<'t, 'm, 'a, 's, 'b, 'c, A, B, C, D> CompiledPlan<'t, 'm, 'a, 's, 'b, 'c, A, B, C, D>
@@ -151,9 +169,8 @@ where
         let frame = Frame::Step(own.objects);
         let mut atom = blank(self.alloc);
         let mut set = store.empty();
-        add_reads(&own.action.precondition, &frame, &mut atom, store, &mut set)?;
-        add_change_reads(&own.action.effect, &frame, &mut atom, store, &mut set)?;
-        Ok(set)
+        let added = add_action_reads(own.action, &frame, &mut atom, store, &mut set);
+        added.and(Ok(set))
     }
 
     fn fired(
@@ -167,7 +184,7 @@ where
         let mut atom = blank(self.alloc);
         let mut adds = store.empty();
         let mut dels = store.empty();
-        add_fired(
+        let added = add_fired(
             &own.action.effect,
             &frame,
             &mut atom,
@@ -175,8 +192,8 @@ where
             state,
             &mut adds,
             &mut dels,
-        )?;
-        Ok((adds, dels))
+        );
+        added.and(Ok((adds, dels)))
     }
 
     fn cost(&self, step: u32, store: &S, state: &S::Set) -> Result<u128, AllocError> {
