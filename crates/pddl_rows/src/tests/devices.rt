@@ -28,15 +28,19 @@ static PAST: [(usize, usize, usize); 5] = [
     (3, 0, 17),
 ];
 
+/// Whether so many bytes are left past each limit.
+fn are_left_past(alloc: Global) -> bool {
+    for (size, limit, left) in PAST.iter() {
+        if left_past(alloc, *size, *limit) != Some(*left) {
+            return false;
+        }
+    }
+    true
+}
+
 #[test]
 fn reads_no_more_than_shows_that_a_text_is_too_long(rt: HostRuntime) -> Result<(), Fail> {
-    for (size, limit, left) in PAST.iter() {
-        assert_eq!(rt;
-            left_past(rt.alloc(), *size, *limit),
-            Some(*left),
-            "{size} {limit}"
-        );
-    }
+    assert!(rt; are_left_past(rt.alloc()));
     Ok(())
 }
 
@@ -69,32 +73,36 @@ static BEHIND: [(usize, u64, Option<usize>); 12] = [
     (4096, 3, None),
 ];
 
+/// Whether so many bytes are read behind each read that fails.
+fn are_read_behind(alloc: Global) -> bool {
+    for (size, number, left) in BEHIND.iter() {
+        if read_behind(alloc, *size, *number) != *left {
+            return false;
+        }
+    }
+    true
+}
+
 #[test]
 fn reads_on_behind_a_read_that_fails(rt: HostRuntime) -> Result<(), Fail> {
-    for (size, number, left) in BEHIND.iter() {
-        assert_eq!(rt;
-            read_behind(rt.alloc(), *size, *number),
-            *left,
-            "{size} {number}"
-        );
-    }
+    assert!(rt; are_read_behind(rt.alloc()));
     Ok(())
 }
 
 /// Whether nothing but the empty text is read where each growth is refused.
 fn reads_nothing_without_memory(alloc: Global) -> bool {
     let none = Refusing::each(alloc);
-    let text = read_all(&none, &mut FakeSource::new(TEXT, 3, 0), 100);
-    let empty = read_all(&none, &mut FakeSource::new(b"", 3, 0), 100);
-    matches!(text, Err(SourceFault::Memory)) && empty.is_ok()
+    let text = read_all(&none, &mut FakeSource::new(TEXT, 3, 0), 100).err();
+    let empty = read_all(&none, &mut FakeSource::new(b"", 3, 0), 100).err();
+    matches!(text, Some(SourceFault::Memory)) && empty.is_none()
 }
 
 /// Whether a stray byte, and that there is no word, are found where each growth is refused.
 fn finds_words_without_memory(alloc: Global) -> bool {
     let none = Refusing::each(alloc);
     let stray = lex(&none, b"&").err();
-    let nothing = lex(&none, b" ; nothing");
-    stray == Some(TextFault::Stray { at: 0 }) && nothing.is_ok() && !none.has_refused()
+    let nothing = lex(&none, b" ; nothing").err();
+    stray == Some(TextFault::Stray { at: 0 }) && nothing.is_none() && !none.has_refused()
 }
 
 #[test]
@@ -107,27 +115,40 @@ fn goes_without_memory_where_it_can(rt: HostRuntime) -> Result<(), Fail> {
 /// Whether twenty and then a hundred bytes are written into memory, or a growth was refused and a write then failed.
 fn writes_into_memory(alloc: &Refusing<Global>) -> bool {
     let mut out = ToWrite::new(Vec::new(alloc));
-    let first = write_text(&mut out, TEXT);
-    let second = write_text(&mut out, &[b'x'; 100]);
+    let first = write_text(&mut out, TEXT).is_err();
+    let second = write_text(&mut out, &[b'x'; 100]).is_err();
     let text = out.into_inner();
+    let is_whole = text.starts_with(TEXT) && text.len() == 120;
+    drop(text);
     if alloc.has_refused() {
-        first.is_err() || second.is_err()
+        first || second
     } else {
-        text.starts_with(TEXT) && text.len() == 120
+        is_whole
     }
+}
+
+/// Whether that is so where the growth of this number is refused, and whether it was.
+fn writes_without(alloc: Global, number: u64) -> (bool, bool) {
+    let alloc = Refusing::nth(alloc, number);
+    let holds = writes_into_memory(&alloc);
+    (holds, alloc.has_refused())
+}
+
+/// Whether that is so with each growth refused in turn, up to a run in which none is, of which there are two at least.
+fn writes_with_each_refused(alloc: Global) -> bool {
+    for number in 1..1000 {
+        match writes_without(alloc, number) {
+            (true, true) => {}
+            (holds, _) => return holds && number > 2,
+        }
+    }
+    false
 }
 
 #[test]
 fn writes_into_memory_with_each_growth_refused_in_turn(rt: HostRuntime) -> Result<(), Fail> {
-    for number in 1..1000 {
-        let alloc = Refusing::nth(rt.alloc(), number);
-        assert!(rt; writes_into_memory(&alloc), "growth {number}");
-        if !alloc.has_refused() {
-            assert!(rt; number > 2, "only {number} growths");
-            return Ok(());
-        }
-    }
-    Err("no run without a refusal")?
+    assert!(rt; writes_with_each_refused(rt.alloc()));
+    Ok(())
 }
 
 /// Whether a reader of std gives the whole text, and nothing is left.
@@ -187,14 +208,20 @@ fn list_of(alloc: Global, words: &[Token<'_>]) -> Option<Span> {
 
 #[test]
 fn lists_words_of_two_texts(rt: HostRuntime) -> Result<(), Fail> {
-    let span = list_of(rt.alloc(), &WORDS);
-    assert_eq!(rt; span, Some(Span { start: 0, end: 2 }));
+    assert!(rt; list_of(rt.alloc(), &WORDS) == Some(Span { start: 0, end: 2 }));
     Ok(())
+}
+
+/// Whether this is what a fault says.
+fn says(alloc: Global, fault: TextFault, words: &str) -> bool {
+    match format!(in alloc; "{fault}") {
+        Ok(said) => said.as_str() == words,
+        Err(_) => false,
+    }
 }
 
 #[test]
 fn says_that_memory_was_refused(rt: HostRuntime) -> Result<(), Fail> {
-    let shown = format!(in rt.alloc(); "{}", TextFault::Memory)?;
-    assert_eq!(rt; shown.as_str(), "memory was refused");
+    assert!(rt; says(rt.alloc(), TextFault::Memory, "memory was refused"));
     Ok(())
 }

@@ -1,8 +1,9 @@
 //! Forests whose places are numbered.
 
+ghost use Rattle.std.specs.Prelude.{◌≡◌, IfOk, IfSome};
+
 use pddl_forest::Preorder;
 use std::alloc::{AllocError, Allocator};
-use std::process::Abort;
 use std::test::Fail;
 
 /// Whether a place is come to from another, from parent to parent.
@@ -20,37 +21,83 @@ fn climbs(parents: &[usize], from: usize, to: usize) -> bool {
     false
 }
 
-/// Numbers are found for the forest, and by them the same is under the same as by climbing.
-fn holds_of<B: Allocator>(rt: &impl Abort, alloc: &B, parents: &[usize]) -> Result<(), AllocError> {
-    let Some(forest) = Preorder::of(alloc, parents.to_vec(alloc)?)? else {
-        assert!(rt; false, "no numbers");
-        return Ok(());
-    };
+/// Whether by a forest's numbers the same is under the same as by climbing.
+fn agrees<B: Allocator>(forest: &Preorder<'_, B>, parents: &[usize]) -> bool
+    requires { forest.now ≡ parents.now }
+{
     for place in 0..parents.len() {
         for over in 0..parents.len() {
-            assert_eq!(rt; forest.is_under(place, over), climbs(parents, place, over));
+            if forest.is_under(place, over) != climbs(parents, place, over) {
+                return false;
+            }
         }
     }
-    Ok(())
+    true
+}
+
+/// The forest of these parents with its numbers, if there are some.
+fn numbered<'a, B: Allocator>(
+    alloc: &'a B,
+    parents: &[usize],
+) -> Result<Option<Preorder<'a, B>>, AllocError>
+    ensures { IfOk result (λ found. IfSome found (λ forest. forest ≡ parents.now)) }
+{
+    Preorder::of(alloc, parents.to_vec(alloc)?)
+}
+
+/// Whether by the numbers of the forest the same is under the same as by climbing; `None` where no numbers are found.
+fn holds_of<B: Allocator>(alloc: &B, parents: &[usize]) -> Option<bool> {
+    match numbered(alloc, parents) {
+        Ok(Some(forest)) => {
+            let agrees = agrees(&forest, parents);
+            drop(forest);
+            Some(agrees)
+        }
+        Ok(None) => None,
+        Err(_) => Some(false),
+    }
+}
+
+/// The parents of each place of forests.
+static FORESTS: [&[usize]; 5] = [
+    &[0],
+    &[0, 0, 1, 2, 3, 4],
+    &[0, 2, 3, 4, 5, 0],
+    &[0, 0, 0, 0, 0],
+    &[0, 6, 6, 1, 1, 2, 0, 2, 3, 8, 4],
+];
+
+/// Whether each forest is numbered so.
+fn are_numbered<B: Allocator>(alloc: &B) -> bool {
+    for parents in FORESTS.iter() {
+        if holds_of(alloc, parents) != Some(true) {
+            return false;
+        }
+    }
+    true
 }
 
 #[test]
 fn forests_are_numbered(rt: HostRuntime) -> Result<(), Fail> {
-    let alloc = rt.alloc();
-    holds_of(&rt, &alloc, &[0])?;
-    holds_of(&rt, &alloc, &[0, 0, 1, 2, 3, 4])?;
-    holds_of(&rt, &alloc, &[0, 2, 3, 4, 5, 0])?;
-    holds_of(&rt, &alloc, &[0, 0, 0, 0, 0])?;
-    holds_of(&rt, &alloc, &[0, 6, 6, 1, 1, 2, 0, 2, 3, 8, 4])?;
+    assert!(rt; are_numbered(&rt.alloc()));
     Ok(())
+}
+
+/// Parents that go round in a cycle.
+static CYCLES: [&[usize]; 4] = [&[0, 2, 1, 0], &[1, 0, 0, 0], &[0, 1, 0, 0], &[0, 2, 3, 1]];
+
+/// Whether no numbers are found for the cycles.
+fn have_no_numbers<B: Allocator>(alloc: &B) -> bool {
+    for parents in CYCLES.iter() {
+        if holds_of(alloc, parents).is_some() {
+            return false;
+        }
+    }
+    true
 }
 
 #[test]
 fn a_cycle_has_no_numbers(rt: HostRuntime) -> Result<(), Fail> {
-    let alloc = rt.alloc();
-    for parents in [[0, 2, 1, 0], [1, 0, 0, 0], [0, 1, 0, 0], [0, 2, 3, 1]] {
-        let found = Preorder::of(&alloc, parents.to_vec(&alloc)?)?;
-        assert!(&rt; found.is_none());
-    }
+    assert!(rt; have_no_numbers(&rt.alloc()));
     Ok(())
 }

@@ -21,87 +21,85 @@ fn feed_times<B: Allocator>(
     Ok(())
 }
 
-/// Whether a reader takes a million blanks, and as many bytes of a comment, where each growth is refused, and finds no step.
-fn takes_blanks(alloc: Global) -> Result<(), TextFault> {
+/// Gives a reader a million blanks, and as many bytes of a comment.
+fn feed_blanks<B: Allocator>(reader: &mut PlanReader<&B>) -> Result<(), TextFault> {
+    feed_times(reader, &[b' '; 1000], 1000)?;
+    reader.feed(b";")?;
+    feed_times(reader, &[b'x'; 1000], 1000)
+}
+
+/// Whether a reader takes these where each growth is refused, and finds no step.
+fn takes_blanks(alloc: Global) -> bool {
     let none = Refusing::each(alloc);
     let mut reader = PlanReader::new(&none);
-    feed_times(&mut reader, &[b' '; 1000], 1000)?;
-    reader.feed(b";")?;
-    feed_times(&mut reader, &[b'x'; 1000], 1000)?;
-    match reader.finish() {
-        Ok(plan) if plan.len() == 0 && !none.has_refused() => Ok(()),
-        _ => Err(TextFault::Memory),
-    }
+    let takes = feed_blanks(&mut reader).is_ok();
+    let read = told(reader.finish());
+    takes && read == (0, 0) && !none.has_refused()
 }
 
 #[test]
 fn keeps_no_blanks(rt: HostRuntime) -> Result<(), Fail> {
-    assert!(rt; takes_blanks(rt.alloc()).is_ok());
+    assert!(rt; takes_blanks(rt.alloc()));
     Ok(())
 }
 
-/// What the reader of the longest text of blanks answers for so many bytes more, for the piece after them, and at the end.
-fn answers_past(alloc: &Global, more: &[u8]) -> (Option<TextFault>, Option<TextFault>, bool) {
-    let mut reader = PlanReader::new(alloc);
-    if feed_times(&mut reader, &[b' '; PIECE], LONGEST / PIECE).is_err() {
-        return (Some(TextFault::Memory), None, false);
-    }
-    let first = reader.feed(more).err();
+/// Whether a reader answers this fault, or none, for a piece, and then for the piece after it that it has failed.
+fn answers<B: Allocator>(
+    reader: &mut PlanReader<&B>,
+    piece: &[u8],
+    fault: Option<TextFault>,
+) -> bool {
+    let first = reader.feed(piece).err();
     let second = reader.feed(b"").err();
-    let has_failed = matches!(
-        reader.finish(),
-        Err(ReadFault::Text(TextFault::AlreadyFailed))
-    );
-    (first, second, has_failed)
+    first == fault && second == fault.and(Some(TextFault::AlreadyFailed))
+}
+
+/// Whether a reader answered at the end that it has failed.
+fn has_failed<A: Allocator>(read: Result<Plan<A>, ReadFault>) -> bool {
+    matches!(read, Err(ReadFault::Text(TextFault::AlreadyFailed)))
+}
+
+/// Whether the reader of the longest text of blanks answers this fault for so many bytes more and fails for good, or answers none.
+fn answers_past(alloc: Global, more: &[u8], fault: Option<TextFault>) -> bool {
+    let mut reader = PlanReader::new(&alloc);
+    let takes = feed_times(&mut reader, &[b' '; PIECE], LONGEST / PIECE).is_ok();
+    let answers = answers(&mut reader, more, fault);
+    let failed = has_failed(reader.finish());
+    takes && answers && failed == fault.is_some()
 }
 
 #[test]
 fn takes_the_longest_text(rt: HostRuntime) -> Result<(), Fail> {
-    let alloc = rt.alloc();
-    assert_eq!(rt; answers_past(&alloc, b""), (None, None, false));
-    assert_eq!(rt;
-        answers_past(&alloc, b" "),
-        (
-            Some(TextFault::TooLong),
-            Some(TextFault::AlreadyFailed),
-            true
-        )
-    );
+    assert!(rt; answers_past(rt.alloc(), b"", None));
+    assert!(rt; answers_past(rt.alloc(), b" ", Some(TextFault::TooLong)));
     Ok(())
 }
 
-/// What a reader answers for a plan of which a growth is refused, for the piece after it, and at the end.
-fn answers_without_memory(alloc: Global) -> (Option<TextFault>, Option<TextFault>, bool) {
+/// Whether a reader fails for good by a plan of which a growth is refused.
+fn fails_without_memory(alloc: Global) -> bool {
     let none = Refusing::each(alloc);
     let mut reader = PlanReader::new(&none);
-    let first = reader.feed(b"(light a)\n").err();
-    let second = reader.feed(b"").err();
-    let has_failed = matches!(
-        reader.finish(),
-        Err(ReadFault::Text(TextFault::AlreadyFailed))
-    );
-    (first, second, has_failed)
+    let answers = answers(&mut reader, b"(light a)\n", Some(TextFault::Memory));
+    let failed = has_failed(reader.finish());
+    answers && failed
 }
 
 /// The same of a lexer.
-fn lexes_without_memory(alloc: Global) -> (Option<TextFault>, Option<TextFault>, bool) {
+fn lexer_fails_without_memory(alloc: Global) -> bool {
     let none = Refusing::each(alloc);
     let mut lexer = PlanLexer::new(&none);
     let first = lexer.feed(b"(light a)\n").err();
     let second = lexer.feed(b"").err();
-    let has_failed = matches!(lexer.finish(), Err(TextFault::AlreadyFailed));
-    (first, second, has_failed)
+    let last = lexer.finish().err();
+    first == Some(TextFault::Memory)
+        && second == Some(TextFault::AlreadyFailed)
+        && last == Some(TextFault::AlreadyFailed)
 }
 
 #[test]
 fn fails_for_good_where_memory_is_refused(rt: HostRuntime) -> Result<(), Fail> {
-    let failed = (
-        Some(TextFault::Memory),
-        Some(TextFault::AlreadyFailed),
-        true,
-    );
-    assert_eq!(rt; answers_without_memory(rt.alloc()), failed);
-    assert_eq!(rt; lexes_without_memory(rt.alloc()), failed);
+    assert!(rt; fails_without_memory(rt.alloc()));
+    assert!(rt; lexer_fails_without_memory(rt.alloc()));
     Ok(())
 }
 
@@ -133,25 +131,38 @@ fn told<A: Allocator>(read: Result<Plan<A>, ReadFault>) -> (u64, u64) {
     }
 }
 
+/// Whether a reader takes two pieces.
+fn takes_both<B: Allocator>(reader: &mut PlanReader<&B>, front: &[u8], rest: &[u8]) -> bool {
+    reader.feed(front).is_ok() && reader.feed(rest).is_ok()
+}
+
 /// What two pieces read as.
 fn told_in_two(alloc: &Global, front: &[u8], rest: &[u8]) -> (u64, u64) {
     let mut reader = PlanReader::new(alloc);
-    if reader.feed(front).is_err() || reader.feed(rest).is_err() {
-        return (u64::MAX, 1);
+    let takes = takes_both(&mut reader, front, rest);
+    let told = told(reader.finish());
+    if takes { told } else { (u64::MAX, 1) }
+}
+
+/// Whether each front reads as it should, as one piece and cut in two at each place.
+fn reads_fronts(alloc: &Global) -> bool {
+    for size in 0..=TRUNCATED.len() {
+        let text = TRUNCATED.split_at(size).0;
+        if told(read_plan(alloc, text)) != wanted(size) {
+            return false;
+        }
+        for cut in 0..=size {
+            let (front, rest) = text.split_at(cut);
+            if told_in_two(alloc, front, rest) != wanted(size) {
+                return false;
+            }
+        }
     }
-    told(reader.finish())
+    true
 }
 
 #[test]
 fn reads_truncated_plans(rt: HostRuntime) -> Result<(), Fail> {
-    let alloc = rt.alloc();
-    for size in 0..=TRUNCATED.len() {
-        let text = TRUNCATED.split_at(size).0;
-        assert_eq!(rt; told(read_plan(&alloc, text)), wanted(size));
-        for cut in 0..=size {
-            let (front, rest) = text.split_at(cut);
-            assert_eq!(rt; told_in_two(&alloc, front, rest), wanted(size));
-        }
-    }
+    assert!(rt; reads_fronts(&rt.alloc()));
     Ok(())
 }
