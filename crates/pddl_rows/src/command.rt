@@ -8,7 +8,7 @@ use pddl_row_driver::{Files, Memory, Sources};
 use std::alloc::Global;
 
 /// What is listed of files, in lines: what calls below the commands answer.
-#[derive(Clone, Copy, Debug)]
+#[derive(Clone, Copy)]
 pub enum Listing {
     /// The words of a text.
     Words,
@@ -29,7 +29,7 @@ pub enum Listing {
 }
 
 /// What is listed of a task.
-#[derive(Clone, Copy, Debug)]
+#[derive(Clone, Copy)]
 pub enum Listed {
     /// The numbers of its objects and predicates.
     Numbers,
@@ -40,7 +40,7 @@ pub enum Listed {
 }
 
 /// What a line asks of a task.
-#[derive(Clone, Copy, Debug)]
+#[derive(Clone, Copy)]
 pub enum Asked {
     /// The number of the object and of the predicate of a name.
     Names,
@@ -53,7 +53,7 @@ pub enum Asked {
 }
 
 /// What a row runs.
-#[derive(Clone, Copy, Debug)]
+#[derive(Clone, Copy)]
 pub enum Command {
     Format(Kind),
     Domain,

@@ -13,7 +13,7 @@ use std::alloc::{AllocError, Allocator};
 use std::str;
 
 /// How a canonical text is written.
-#[derive(Clone, Copy, Debug)]
+#[derive(Clone, Copy)]
 pub enum Layout {
     /// Made in memory, and then written.
     Text,

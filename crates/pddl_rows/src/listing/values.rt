@@ -7,7 +7,7 @@ use pddl_token::{Fixed, Name, value_of};
 use std::alloc::Allocator;
 
 /// What each line of a text is.
-#[derive(Clone, Copy, Debug)]
+#[derive(Clone, Copy)]
 pub enum Value {
     /// A number, of which the billionths are listed.
     Number,
