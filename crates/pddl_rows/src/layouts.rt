@@ -40,90 +40,70 @@ fn write_made<A: Allocator, W: Sink>(
     }
 }
 
-/// Writes a domain's text, made in memory or in pieces.
-fn write_domain_text<A: Allocator, B: Allocator, W: Sink>(
-    alloc: &B,
-    layout: Layout,
-    domain: &Domain<A>,
-    out: &mut W,
-) -> Result<Outcome, RunFault> {
-    match layout {
-        Layout::Text => write_made(domain_text(alloc, domain), out),
-        Layout::Pieces => written(write_domain(domain, out)),
-    }
+/// What has a canonical text.
+trait Laid {
+    /// Writes the text, made in memory or in pieces.
+    fn write<B: Allocator, W: Sink>(
+        &self,
+        alloc: &B,
+        layout: Layout,
+        out: &mut W,
+    ) -> Result<Outcome, RunFault>;
 }
 
-/// Writes a problem's text, made in memory or in pieces.
-fn write_problem_text<A: Allocator, B: Allocator, W: Sink>(
-    alloc: &B,
-    layout: Layout,
-    problem: &Problem<A>,
-    out: &mut W,
-) -> Result<Outcome, RunFault> {
-    match layout {
-        Layout::Text => write_made(problem_text(alloc, problem), out),
-        Layout::Pieces => written(write_problem(problem, out)),
-    }
-}
-
-/// Writes a plan's text, made in memory or in pieces.
-fn write_plan_text<A: Allocator, B: Allocator, W: Sink>(
-    alloc: &B,
-    layout: Layout,
-    plan: &Plan<A>,
-    out: &mut W,
-) -> Result<Outcome, RunFault> {
-    match layout {
-        Layout::Text => write_made(plan_text(alloc, plan), out),
-        Layout::Pieces => written(write_plan(plan, out)),
-    }
-}
-
-/// Reads a domain and writes its canonical text. A file that is not read counts as want of memory.
-fn write_domain_file<B: Allocator, W: Sink>(
-    alloc: &B,
-    layout: Layout,
-    text: &[u8],
-    out: &mut W,
-) -> Result<Outcome, RunFault> {
-    match read_domain(alloc, text) {
-        Ok(domain) => {
-            let written = write_domain_text(alloc, layout, &domain, out);
-            drop(domain);
-            written
+impl<A: Allocator> Laid for Domain<A> {
+    fn write<B: Allocator, W: Sink>(
+        &self,
+        alloc: &B,
+        layout: Layout,
+        out: &mut W,
+    ) -> Result<Outcome, RunFault> {
+        match layout {
+            Layout::Text => write_made(domain_text(alloc, self), out),
+            Layout::Pieces => written(write_domain(self, out)),
         }
-        Err(_) => Err(RunFault::Memory),
     }
 }
 
-/// Reads a problem and writes its canonical text. A file that is not read counts as want of memory.
-fn write_problem_file<B: Allocator, W: Sink>(
-    alloc: &B,
-    layout: Layout,
-    text: &[u8],
-    out: &mut W,
-) -> Result<Outcome, RunFault> {
-    match read_problem(alloc, text) {
-        Ok(problem) => {
-            let written = write_problem_text(alloc, layout, &problem, out);
-            drop(problem);
-            written
+impl<A: Allocator> Laid for Problem<A> {
+    fn write<B: Allocator, W: Sink>(
+        &self,
+        alloc: &B,
+        layout: Layout,
+        out: &mut W,
+    ) -> Result<Outcome, RunFault> {
+        match layout {
+            Layout::Text => write_made(problem_text(alloc, self), out),
+            Layout::Pieces => written(write_problem(self, out)),
         }
-        Err(_) => Err(RunFault::Memory),
     }
 }
 
-/// Reads a plan and writes its canonical text. A file that is not read counts as want of memory.
-fn write_plan_file<B: Allocator, W: Sink>(
+impl<A: Allocator> Laid for Plan<A> {
+    fn write<B: Allocator, W: Sink>(
+        &self,
+        alloc: &B,
+        layout: Layout,
+        out: &mut W,
+    ) -> Result<Outcome, RunFault> {
+        match layout {
+            Layout::Text => write_made(plan_text(alloc, self), out),
+            Layout::Pieces => written(write_plan(self, out)),
+        }
+    }
+}
+
+/// Writes the canonical text of what was read. A file that is not read counts as want of memory.
+fn write_laid<T: Laid + Drop, F: Drop, B: Allocator, W: Sink>(
     alloc: &B,
     layout: Layout,
-    text: &[u8],
+    read: Result<T, F>,
     out: &mut W,
 ) -> Result<Outcome, RunFault> {
-    match read_plan(alloc, text) {
-        Ok(plan) => {
-            let written = write_plan_text(alloc, layout, &plan, out);
-            drop(plan);
+    match read {
+        Ok(laid) => {
+            let written = laid.write(alloc, layout, out);
+            drop(laid);
             written
         }
         Err(_) => Err(RunFault::Memory),
@@ -139,9 +119,9 @@ pub fn write_file<B: Allocator, W: Sink>(
     out: &mut W,
 ) -> Result<Outcome, RunFault> {
     match kind {
-        Kind::Domain => write_domain_file(alloc, layout, text, out),
-        Kind::Problem => write_problem_file(alloc, layout, text, out),
-        Kind::Plan => write_plan_file(alloc, layout, text, out),
+        Kind::Domain => write_laid(alloc, layout, read_domain(alloc, text), out),
+        Kind::Problem => write_laid(alloc, layout, read_problem(alloc, text), out),
+        Kind::Plan => write_laid(alloc, layout, read_plan(alloc, text), out),
     }
 }
 

@@ -21,7 +21,32 @@ fn add_named<A: Allocator, C: Allocator, B: Allocator>(
     lines.place_or_none(task.predicate_number(name));
 }
 
-/// Adds whether the first of two types is a subtype of the second.
+/// Adds whether the first of two types is a subtype of the second, where both have names.
+fn add_subtype<A: Allocator, C: Allocator, N: Allocator, B: Allocator>(
+    task: &Task<'_, '_, A, C>,
+    sub: &Option<Name<N>>,
+    over: &Option<Name<N>>,
+    lines: &mut Lines<'_, B>,
+) {
+    if let (Some(sub), Some(over)) = (sub, over) {
+        lines.shown(&task.is_a(sub, over));
+    }
+}
+
+/// Adds whether the first of two types that are named so is a subtype of the second.
+fn add_named_subtype<A: Allocator, C: Allocator, B: Allocator>(
+    alloc: &B,
+    task: &Task<'_, '_, A, C>,
+    sub: &str,
+    over: &str,
+    lines: &mut Lines<'_, B>,
+) {
+    let sub = lines.kept(Name::new(alloc, sub.as_bytes()));
+    let over = lines.kept(Name::new(alloc, over.as_bytes()));
+    add_subtype(task, &sub, &over, lines);
+}
+
+/// Adds whether the first of the two types of a line is a subtype of the second.
 fn add_is_a<A: Allocator, C: Allocator, B: Allocator>(
     alloc: &B,
     task: &Task<'_, '_, A, C>,
@@ -29,11 +54,7 @@ fn add_is_a<A: Allocator, C: Allocator, B: Allocator>(
     lines: &mut Lines<'_, B>,
 ) {
     let (sub, over) = line.split_once(' ').unwrap_or((line, ""));
-    let sub = lines.kept(Name::new(alloc, sub.as_bytes()));
-    let over = lines.kept(Name::new(alloc, over.as_bytes()));
-    if let (Some(sub), Some(over)) = (&sub, &over) {
-        lines.shown(&task.is_a(sub, over));
-    }
+    add_named_subtype(alloc, task, sub, over, lines);
 }
 
 /// Adds the primitive of a name, if it has one, to those of a type.

@@ -2,6 +2,7 @@
 
 use pddl_commands::Outcome;
 use pddl_row_driver::{Lines, add_read_fault};
+use pddl_text::TextFault;
 use pddl_token::Name;
 use pddl_tree::{Plan, PlanReader, ReadFault, Step, read_plan};
 use std::alloc::Allocator;
@@ -52,6 +53,20 @@ fn add_read<A: Allocator, B: Allocator>(
     }
 }
 
+/// Gives a reader a first piece, and others of so many bytes behind it.
+fn feed_pieces<B: Allocator>(
+    reader: &mut PlanReader<&B>,
+    first: &[u8],
+    rest: &[u8],
+    size: usize,
+) -> Result<(), TextFault> {
+    reader.feed(first)?;
+    for piece in rest.chunks(size.max(1)) {
+        reader.feed(piece)?;
+    }
+    Ok(())
+}
+
 /// The plan of a text that comes in pieces of so many bytes behind a first one.
 fn read_pieces<'a, B: Allocator>(
     alloc: &'a B,
@@ -60,15 +75,9 @@ fn read_pieces<'a, B: Allocator>(
     size: usize,
 ) -> Result<Plan<&'a B>, ReadFault> {
     let mut reader = PlanReader::new(alloc);
-    if let Err(fault) = reader.feed(first) {
-        return Err(ReadFault::Text(fault));
-    }
-    for piece in rest.chunks(size.max(1)) {
-        if let Err(fault) = reader.feed(piece) {
-            return Err(ReadFault::Text(fault));
-        }
-    }
-    reader.finish()
+    let fed = feed_pieces(&mut reader, first, rest, size);
+    let read = reader.finish();
+    fed.map_err(ReadFault::Text).and(read)
 }
 
 /// Adds what a plan reads as, cut in two at each place and byte by byte, where that is not what the text reads as that

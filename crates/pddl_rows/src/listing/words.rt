@@ -63,20 +63,29 @@ fn add_all<A: Allocator, B: Allocator>(items: &[Item<'_, A>], lines: &mut Lines<
     Outcome::Good
 }
 
-/// Adds the lines for the items of a text.
-pub fn add_items<B: Allocator>(alloc: &B, text: &[u8], lines: &mut Lines<'_, B>) -> Outcome {
-    match items_of(alloc, text) {
-        Ok(items) => add_all(&items, lines),
+/// Adds the lines for items that were read, or the fault of their text.
+fn add_read<A: Allocator, B: Allocator>(
+    read: Result<Vec<Item<'_, A>, A>, TextFault>,
+    lines: &mut Lines<'_, B>,
+) -> Outcome {
+    match read {
+        Ok(items) => {
+            let outcome = add_all(&items, lines);
+            drop(items);
+            outcome
+        }
         Err(fault) => add_text_fault(fault, lines),
     }
 }
 
+/// Adds the lines for the items of a text.
+pub fn add_items<B: Allocator>(alloc: &B, text: &[u8], lines: &mut Lines<'_, B>) -> Outcome {
+    add_read(items_of(alloc, text), lines)
+}
+
 /// Adds the lines for the items of words.
 fn add_nested<B: Allocator>(alloc: &B, tokens: &[Token<'_>], lines: &mut Lines<'_, B>) -> Outcome {
-    match lists(alloc, tokens) {
-        Ok(items) => add_all(&items, lines),
-        Err(fault) => add_text_fault(fault, lines),
-    }
+    add_read(lists(alloc, tokens), lines)
 }
 
 /// Adds the lines for the items of a text's words.
