@@ -20,14 +20,14 @@ use Rattle.pddl_task.specs.Tasks.{TaskValue, task_of, object_names, task_count}
 use Rattle.pddl_state.specs.Atoms.{AtomValue}
 use Rattle.pddl_tables.specs.Prices.{price_at}
 use Rattle.pddl_linked_plan.specs.StepFaults.{action_names, action_named, naming, has_arity, unknown_object, some_costless, step_faults}
-use Rattle.pddl_plan_link.specs.declared.action_table.SizedAction.{SizedAction}
-use Rattle.pddl_plan_link.specs.ChangeCosts.{is_unpriced, some_cost}
-use Rattle.pddl_plan_link.specs.ActionChanges.{effect_of}
+use Rattle.pddl_plan_tables.specs.declared.action_table.SizedAction.{SizedAction}
+use Rattle.pddl_plan_tables.specs.ChangeCosts.{is_unpriced, some_cost}
+use Rattle.pddl_plan_tables.specs.ActionChanges.{effect_of}
 use Rattle.pddl_linked_plan.specs.FittingObjects.{some_unfit}
-use Rattle.pddl_plan_link.specs.StepTables.{named_action, named_in}
+use Rattle.pddl_plan_tables.specs.StepTables.{named_action, named_in}
 use Rattle.pddl_plan_link.proofs.CostWalks.{costless_found}
 use Rattle.pddl_linked_plan.proofs.GoodSteps.{no_other}
-use Rattle.pddl_plan_link.proofs.NamedActions.{Entry, none_named, number_found, IsFound, action_found, action_there}
+use Rattle.pddl_plan_tables.proofs.NamedActions.{Entry, none_named, number_found, IsFound, action_found, action_there}
 use Rattle.pddl_linked_plan.proofs.NumberedObjects.{some_unknown, unfit_is}
 use Rattle.pddl_linked_plan.proofs.StepTests.{IsFirst, unknown_first, arity_first, object_first, type_first, cost_first, size_first, none_stands, found_large, found_small}
 

@@ -25,8 +25,8 @@ use Rattle.pddl_compiled.proofs.Same.{any_nested, call_right}
 use Rattle.pddl_compiled.proofs.Parameters.{parameters_fit}
 use Rattle.pddl_linked_plan.specs.StepFaults.{some_amount, some_increase, some_increase_in, some_costless}
 use Rattle.pddl_tables.specs.Prices.{price_at, prices_of}
-use Rattle.pddl_plan_link.specs.ChangeCosts.{is_unpriced, some_cost, some_cost_in}
-use Rattle.pddl_plan_link.specs.ActionChanges.{scope_of, effect_of}
+use Rattle.pddl_plan_tables.specs.ChangeCosts.{is_unpriced, some_cost, some_cost_in}
+use Rattle.pddl_plan_tables.specs.ActionChanges.{scope_of, effect_of}
 use Rattle.pddl_tables.proofs.PricedCalls.{price_is_cost, tables_are_over}
 
 module _ (w : World) (t : Tables) (price : AtomValue → ℕ) (over : IsOver t w price) (test : AtomValue → Bool) where

@@ -1,7 +1,3 @@
-pub mod NamedActions
-pub mod SomeEffects
-pub mod NoCosts
 pub mod CostWalks
-pub mod HeldChanges
 pub mod CheckedSteps
 pub mod PlanSteps

@@ -1,5 +1,1 @@
-pub mod ChangeCosts
-pub mod ActionChanges
-pub mod StepTables
-pub mod PlanTables
 pub mod StepVerdicts

@@ -4,13 +4,9 @@
 //! whether they fit, how large it is and whether its costs have values. What links is a `Steps`, which names actions and objects by numbers.
 #![tactic(auto)]
 
-mod action_table;
-mod changes;
 mod checks;
-mod costs;
 mod fault;
 mod linked_plan;
-mod tables;
 
 pub use fault::StepFault;
 pub use linked_plan::link_plan;

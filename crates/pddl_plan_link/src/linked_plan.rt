@@ -5,15 +5,14 @@ ghost use Rattle.pddl_tree.specs.Plans.{plan_view, steps_of};
 ghost use Rattle.pddl_tables.specs.Link.LinkedTasks.{task_of_files};
 ghost use Rattle.pddl_linked_plan.specs.StepFaults.{most_steps};
 ghost use Rattle.pddl_linked_plan.specs.LinkedSteps.{linked_steps};
-ghost use Rattle.pddl_plan_link.specs.ActionChanges.{AreChangesOf};
-ghost use Rattle.pddl_plan_link.specs.PlanTables.{ArePlanTables};
+ghost use Rattle.pddl_plan_tables.specs.ActionChanges.{AreChangesOf};
+ghost use Rattle.pddl_plan_tables.specs.PlanTables.{ArePlanTables};
 ghost use Rattle.pddl_plan_link.specs.StepVerdicts.{PlanVerdict};
 
-use crate::changes::{Changes, no_changes};
 use crate::checks::check_step;
 use crate::fault::StepFault;
-use crate::tables::{PlanTables, plan_tables};
 use pddl_linked_plan::Steps;
+use pddl_plan_tables::{Changes, PlanTables, no_changes, plan_tables};
 use pddl_state::Atom;
 use pddl_tables::pddl_link::Task;
 use pddl_tree::Plan;

@@ -3,7 +3,7 @@ use Rattle.std.specs.List.{slice_get}
 use Rattle.pddl_task.specs.Tasks.{TaskValue}
 use Rattle.pddl_tables.specs.Link.LinkedTasks.{files_of, task_of_files}
 use Rattle.pddl_tables.specs.Lookups.{task_in, price_in}
-use Rattle.pddl_plan_link.specs.ActionChanges.{AreChangesOf}
+use Rattle.pddl_plan_tables.specs.ActionChanges.{AreChangesOf}
 use Rattle.pddl_plan_link.proofs.CheckedSteps.{action_unknown, number_is, found_there, arity_differs, object_unknown, numbers_are, type_differs, step_is_large, cost_is_undefined, step_is_good}
 use Rattle.pddl_plan_link.proofs.checks.check_step.Goals as goal
 

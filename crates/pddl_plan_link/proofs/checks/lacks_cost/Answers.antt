@@ -1,8 +1,8 @@
 use Rattle.std.proofs.Common.{◌≡◌, Bool, subst, reverse, IfOk, arith}
 use Rattle.pddl_domain.specs.Actions.{action_view}
 use Rattle.pddl_tables.specs.Lookups.{task_in, price_in}
-use Rattle.pddl_plan_link.specs.ChangeCosts.{is_unpriced}
-use Rattle.pddl_plan_link.proofs.HeldChanges.{place_within, right_there, not_none}
+use Rattle.pddl_plan_tables.specs.ChangeCosts.{is_unpriced}
+use Rattle.pddl_plan_tables.proofs.HeldChanges.{place_within, right_there, not_none}
 use Rattle.pddl_plan_link.proofs.checks.lacks_cost.Goals as goal
 
 pub index-requires : goal.index-requires

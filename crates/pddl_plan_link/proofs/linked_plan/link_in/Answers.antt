@@ -3,8 +3,8 @@ use Rattle.pddl_tree.specs.Plans.{plan_view}
 use Rattle.pddl_tables.specs.Link.LinkedTasks.{task_of_files}
 use Rattle.pddl_linked_plan.specs.LinkedSteps.{linked_steps}
 use Rattle.pddl_plan_link.specs.StepVerdicts.{PlanVerdict}
-use Rattle.pddl_plan_link.proofs.HeldChanges.{none_held}
-use Rattle.pddl_plan_link.proofs.NamedActions.{actions_as_many}
+use Rattle.pddl_plan_tables.proofs.HeldChanges.{none_held}
+use Rattle.pddl_plan_tables.proofs.NamedActions.{actions_as_many}
 use Rattle.pddl_plan_link.proofs.PlanSteps.{verdict_made, steps_made}
 use Rattle.pddl_plan_link.proofs.linked_plan.link_in.Goals as goal
 

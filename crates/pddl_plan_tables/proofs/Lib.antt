@@ -1,0 +1,4 @@
+pub mod NamedActions
+pub mod SomeEffects
+pub mod NoCosts
+pub mod HeldChanges

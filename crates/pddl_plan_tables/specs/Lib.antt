@@ -1,0 +1,4 @@
+pub mod ChangeCosts
+pub mod ActionChanges
+pub mod StepTables
+pub mod PlanTables

@@ -1,0 +1,62 @@
+//! What a plan's steps are looked up in.
+
+ghost use Rattle.std.specs.Prelude.{◌≡◌, IfOk};
+ghost use Rattle.pddl_tables.specs.Link.LinkedTasks.{task_of_files};
+ghost use Rattle.pddl_plan_tables.specs.PlanTables.{AreCostTables, ArePlanTables};
+
+use crate::action_table::{Actions, actions_by_name};
+use pddl_build::both_made;
+use pddl_tables::pddl_link::{SlotTops, Task};
+use pddl_tables::{TaskLookups, TaskPrices, task_lookups, task_prices};
+use std::alloc::{AllocError, Allocator};
+
+/// A task with its actions by name and the tops of their parameters, its functions by name, and its costs by numbers.
+#[derive(Drop)]
+pub struct PlanTables<'t, 'm, 'a, 'c, A: Allocator, B: Allocator, C: Allocator> {
+    pub alloc: &'c C,
+    pub task: &'t Task<'m, 'a, A, B>,
+    pub actions: Actions<'m, 'c, A, C>,
+    pub tops: SlotTops<'c, C>,
+    pub lookups: TaskLookups<'t, 'm, 'a, 'c, A, B, C>,
+    pub prices: TaskPrices<'c, C>,
+}
+
+/// What costs are looked up in.
+///
+/// Fails where memory for it is refused.
+fn cost_tables<'t, 'm, 'a, 'c, A: Allocator, B: Allocator, C: Allocator>(
+    alloc: &'c C,
+    task: &'t Task<'m, 'a, A, B>,
+) -> Result<(TaskLookups<'t, 'm, 'a, 'c, A, B, C>, TaskPrices<'c, C>), AllocError>
+    ensures { IfOk result (λ tables. AreCostTables (task_of_files task.now) tables.0 tables.1) }
+{
+    let lookups = task_lookups(alloc, task)?;
+    let prices = task_prices(alloc, &lookups);
+    both_made(Ok(lookups), prices)
+}
+
+/// A task with its tables.
+///
+/// Fails where memory for one of them is refused.
+pub fn plan_tables<'t, 'm, 'a, 'c, A: Allocator, B: Allocator, C: Allocator>(
+    alloc: &'c C,
+    task: &'t Task<'m, 'a, A, B>,
+) -> Result<PlanTables<'t, 'm, 'a, 'c, A, B, C>, AllocError>
+    ensures task { IfOk result (λ tables. tables.task.now ≡ task.now) }
+    ensures tables { IfOk result (λ tables. ArePlanTables tables) }
+{
+    let domain = task.domain();
+    let actions = actions_by_name(alloc, task, &domain.actions);
+    let tops = task.action_tops(alloc);
+    let steps = both_made(actions, tops);
+    let costs = cost_tables(alloc, task);
+    let (steps, costs) = both_made(steps, costs)?;
+    Ok(PlanTables {
+        alloc,
+        task,
+        actions: steps.0,
+        tops: steps.1,
+        lookups: costs.0,
+        prices: costs.1,
+    })
+}
