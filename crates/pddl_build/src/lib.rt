@@ -10,5 +10,7 @@ mod results;
 mod slots;
 
 pub use found::{append_found, fill_found, set_found, set_list};
-pub use results::{both, both_boxed, both_in_boxes, both_made, boxed, if_right, list_if_right};
+pub use results::{
+    all_made, both, both_boxed, both_in_boxes, both_made, boxed, if_right, list_if_right,
+};
 pub use slots::{fill, push_found, pushed};

@@ -1,6 +1,6 @@
 //! Parts as they were read, put together.
 
-ghost use Rattle.std.specs.Prelude.{◌≡◌};
+ghost use Rattle.std.specs.Prelude.{◌≡◌, Ok, IfOk};
 ghost use Rattle.pddl_build.specs.Results.{right_of, both_of, both_made, Boxes, BothBoxed, BothInBoxes};
 
 use std::alloc::{AllocError, Allocator};
@@ -50,6 +50,24 @@ pub fn both_made<T: Drop, U: Drop, E: Drop>(
     let first = first?;
     let second = second?;
     Ok((first, second))
+}
+
+/// A list and two values, where all of them were made.
+///
+/// Fails as the first of them that failed.
+pub fn all_made<T: Drop, A: Allocator, U: Drop, V: Drop>(
+    list: Result<Vec<T, A>, AllocError>,
+    first: Result<U, AllocError>,
+    second: Result<V, AllocError>,
+) -> Result<(Vec<T, A>, U, V), AllocError>
+    ensures list { IfOk result (λ made. list ≡ Ok made.0) }
+    ensures first { IfOk result (λ made. first ≡ Ok made.1) }
+    ensures second { IfOk result (λ made. second ≡ Ok made.2) }
+{
+    let list = list?;
+    let first = first?;
+    let second = second?;
+    Ok((list, first, second))
 }
 
 /// The value in a box, or `None` where it is missing.

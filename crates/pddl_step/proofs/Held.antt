@@ -1,16 +1,14 @@
 -- Marks set one after another, and forms held one behind another.
 use Rattle.std.proofs.Common.{◌≡◌, ◌<◌, ◌+◌, ◌++◌, ℕ, zero, suc, Bool, true, false, List, [], ◌∷◌, length, get_or, set, eqb, eq-eqb, refl, sym, ap, ◌∙◌, subst, arith, inl, inr}
-use Rattle.std.specs.Prelude.{◌⊎◌, Option, Some, None, slice_get, unwrap_or, MatchOption}
+use Rattle.std.specs.Prelude.{◌⊎◌, Option, Some, None, slice_get, MatchOption}
 use Rattle.std.proofs.lemmas.Bool.{true≢false, eqb-true}
 use Rattle.std.proofs.lemmas.List.{get_or-set_same, get_or-set_other, length-set}
 use Rattle.std.proofs.lemmas.Option.{slice_get_within, slice_get-get_or, get_or_from_slice_get}
 use Rattle.pddl_domain.specs.Actions.{ActionValue}
 use Rattle.pddl_task.specs.Tasks.{TaskValue}
-use Rattle.pddl_step.specs.CompiledSteps.{form_in, form_of, AreForms, IsHeld}
-use Rattle.pddl_step.specs.declared.actions.CompiledAction.{CompiledAction}
-
-pub same_some : {X : Type 0} (x y : X) → Some x ≡ Some y → x ≡ y
-same_some x y e = ap (λ o. unwrap_or o x) e
+use Rattle.pddl_compiled_plan.specs.CompiledSteps.{form_in, form_of, AreForms, IsHeld}
+use Rattle.pddl_compiled_plan.specs.declared.action.CompiledAction.{CompiledAction}
+use Rattle.pddl_compiled_plan.proofs.Forms.{same_some}
 
 -- ---- marks
 

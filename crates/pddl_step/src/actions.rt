@@ -9,26 +9,16 @@ ghost use Rattle.pddl_compiled.specs.Scopes.{scope_view};
 ghost use Rattle.pddl_compiled.specs.TaskTables.{tables_of};
 ghost use Rattle.pddl_compiled.specs.Views.{condition_view, change_view};
 ghost use Rattle.pddl_plan_steps.specs.LinkedPlan.LinkedSteps.{LinkedStepValue};
-ghost use Rattle.pddl_step.specs.CompiledSteps.{form_in, form_of, AreForms, AreHeld, AreMarked, IsHeld};
+ghost use Rattle.pddl_compiled_plan.specs.CompiledSteps.{form_in, form_of, AreForms, AreHeld, IsHeld};
+ghost use Rattle.pddl_step.specs.Marks.{AreMarked};
 
 use pddl_build::both_made;
-use pddl_compiled::{
-    Change, Condition, Lookups, Scope, compile_change, compile_condition, parameter_slots,
-};
+use pddl_compiled::{Lookups, Scope, compile_change, compile_condition, parameter_slots};
+use pddl_compiled_plan::{CompiledAction, UsedActions};
 use pddl_domain::Action;
 use pddl_plan_steps::pddl_link::Task;
 use pddl_plan_steps::pddl_linked_plan::Steps;
 use std::alloc::{AllocError, Allocator};
-
-/// An action's precondition and effect by numbers.
-#[derive(Drop)]
-pub(crate) struct CompiledAction<A: Allocator> {
-    pub precondition: Condition<A>,
-    pub effect: Change<A>,
-}
-
-/// The actions of a task by number, those of them that are used.
-pub(crate) type UsedActions<'c, D> = Vec<Option<CompiledAction<&'c D>>, &'c D>;
 
 /// An action by numbers, with what is in scope in it.
 ///

@@ -8,12 +8,13 @@ ghost use Rattle.pddl_compiled.specs.TaskTables.{tables_of};
 ghost use Rattle.pddl_compiled.specs.Views.{condition_view};
 ghost use Rattle.pddl_tables.specs.Lookups.{task_in};
 ghost use Rattle.pddl_plan_steps.specs.LinkedPlan.LinkedSteps.{AreLinkedSteps};
-ghost use Rattle.pddl_step.specs.CompiledSteps.{AreForms, AreHeld};
-ghost use Rattle.pddl_step.specs.HeldPlans.{plan_task, plan_steps};
+ghost use Rattle.pddl_compiled_plan.specs.CompiledSteps.{AreForms, AreHeld};
+ghost use Rattle.pddl_compiled_plan.specs.HeldPlans.{plan_task, plan_steps};
 
-use crate::actions::{UsedActions, used_actions};
-use crate::plan::CompiledPlan;
+use crate::actions::used_actions;
+use pddl_build::all_made;
 use pddl_compiled::{Condition, Lookups, Scope, compile_condition};
+use pddl_compiled_plan::{CompiledPlan, UsedActions};
 use pddl_formula::Formula;
 use pddl_plan_steps::pddl_link::Task;
 use pddl_plan_steps::pddl_linked_plan::Steps;
@@ -31,24 +32,6 @@ fn compile_closed<'c, A: Allocator, D: Allocator, L: Lookups<A, D>>(
     ensures { IfOk result (λ c. condition_view c ≡ condition_of (L.tables lookups.now) (formula_view formula.now) []) }
 {
     compile_condition(alloc, lookups, formula, &Scope::Empty)
-}
-
-/// A list and two values, where all of them were made.
-///
-/// Fails as the first of them that failed.
-fn all_made<T: Drop, A: Allocator, U: Drop, V: Drop>(
-    list: Result<Vec<T, A>, AllocError>,
-    first: Result<U, AllocError>,
-    second: Result<V, AllocError>,
-) -> Result<(Vec<T, A>, U, V), AllocError>
-    ensures list { IfOk result (λ made. list ≡ Ok made.0) }
-    ensures first { IfOk result (λ made. first ≡ Ok made.1) }
-    ensures second { IfOk result (λ made. second ≡ Ok made.2) }
-{
-    let list = list?;
-    let first = first?;
-    let second = second?;
-    Ok((list, first, second))
 }
 
 /// The actions that steps use, and the goal, by numbers, with the prices that were made.
@@ -101,14 +84,7 @@ where
 {
     let prices = task_prices(alloc, lookups);
     let (actions, goal, prices) = compile_parts(alloc, lookups, task, steps, prices)?;
-    Ok(CompiledPlan {
-        alloc,
-        task,
-        steps,
-        actions,
-        goal,
-        prices,
-    })
+    Ok(CompiledPlan::of(alloc, task, steps, actions, goal, prices))
 }
 
 /// The plan of a task and of steps that are linked to it, ready to be executed.

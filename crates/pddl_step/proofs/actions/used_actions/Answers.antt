@@ -2,7 +2,7 @@ use Rattle.std.proofs.Common.{◌≡◌, ℕ, true, ap, ◌∙◌, drop, length}
 use Rattle.std.specs.Prelude.{Some, slice_get}
 use Rattle.std.proofs.lemmas.List.{take_at}
 use Rattle.std.proofs.lemmas.Result.{IfOk-weaker}
-use Rattle.pddl_step.specs.CompiledSteps.{AreHeld, IsHeld}
+use Rattle.pddl_compiled_plan.specs.CompiledSteps.{AreHeld, IsHeld}
 use Rattle.pddl_step.proofs.actions.used_actions.Goals as goal
 
 pub returns-clause-used : goal.returns-clause-used

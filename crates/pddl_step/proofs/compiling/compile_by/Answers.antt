@@ -5,15 +5,13 @@ use Rattle.pddl_tables.specs.Lookups.{task_in, price_in}
 use Rattle.pddl_tables.specs.Prices.{price_at}
 use Rattle.pddl_step.proofs.compiling.compile_by.Goals as goal
 
-pub invariant_of-result : goal.invariant_of-result
-invariant_of-result g c =
+pub of-requires : goal.of-requires
+of-requires g c =
     let parts = c.in_ok-actions.ensures in
     record {
-      held = ∣ record {
-        linked = c.requires.linked;
-        forms = parts.forms;
-        used = parts.used;
-        goal_is = parts.goal;
-        prices_are = λ call. IfOk-at_ok (λ p. (x : AtomValue) → price_in p x ≡ price_at (task_in c.args.lookups.now) x) parts.prices c.task_prices-prices.ensures call ∙ ap (λ t. price_at t call) c.requires.lookups;
-      } ∣₁;
+      linked = c.requires.linked;
+      forms = parts.forms;
+      used = parts.used;
+      goal_is = parts.goal;
+      prices_are = λ call. IfOk-at_ok (λ p. (x : AtomValue) → price_in p x ≡ price_at (task_in c.args.lookups.now) x) parts.prices c.task_prices-prices.ensures call ∙ ap (λ t. price_at t call) c.requires.lookups;
     }

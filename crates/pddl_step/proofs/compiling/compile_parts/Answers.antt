@@ -6,8 +6,8 @@ use Rattle.pddl_plan_steps.specs.Link.LinkedTasks.{files_of, task_of_files}
 use Rattle.pddl_compiled.specs.Compiler.{condition_of}
 use Rattle.pddl_compiled.specs.TaskTables.{tables_of}
 use Rattle.pddl_compiled.specs.Views.{condition_view}
-use Rattle.pddl_step.specs.CompiledSteps.{AreForms, AreHeld}
-use Rattle.pddl_step.proofs.Forms.{action_low}
+use Rattle.pddl_compiled_plan.specs.CompiledSteps.{AreForms, AreHeld}
+use Rattle.pddl_compiled_plan.proofs.Forms.{action_low}
 use Rattle.pddl_step.proofs.compiling.compile_parts.Goals as goal
 
 pub used_actions-actions-requires-clause-range : goal.used_actions-actions-requires-clause-range

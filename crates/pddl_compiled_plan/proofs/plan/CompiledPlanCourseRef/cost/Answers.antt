@@ -3,8 +3,8 @@ use Rattle.std.specs.Prelude.{IfOk}
 use Rattle.pddl_compiled.specs.CompiledMeaning.{spent}
 use Rattle.pddl_compiled.specs.Views.{change_view}
 use Rattle.pddl_plan_steps.specs.Link.LinkedTasks.{files_of}
-use Rattle.pddl_step.proofs.HeldSteps.{prices_are}
-use Rattle.pddl_step.proofs.plan.CompiledPlanCourseRef.cost.Goals as goal
+use Rattle.pddl_compiled_plan.proofs.HeldSteps.{prices_are}
+use Rattle.pddl_compiled_plan.proofs.plan.CompiledPlanCourseRef.cost.Goals as goal
 
 pub returns-clause-value : goal.returns-clause-value
 returns-clause-value g c =

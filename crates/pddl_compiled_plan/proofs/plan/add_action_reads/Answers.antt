@@ -5,8 +5,8 @@ use Rattle.pddl_compiled.specs.CompiledMeaning.{some_tested}
 use Rattle.pddl_compiled.specs.Views.{condition_view, change_view, frame_view}
 use Rattle.pddl_evaluation.specs.Reads.{tested_by}
 use Rattle.pddl_evaluation.proofs.More.{both_more, on_ok}
-use Rattle.pddl_step.specs.CompiledSteps.{form_in, action_reads}
-use Rattle.pddl_step.proofs.plan.add_action_reads.Goals as goal
+use Rattle.pddl_compiled_plan.specs.CompiledSteps.{form_in, action_reads}
+use Rattle.pddl_compiled_plan.proofs.plan.add_action_reads.Goals as goal
 
 pub returns-in_err-add_reads : goal.returns-in_err-add_reads
 returns-in_err-add_reads g c =

@@ -1,8 +1,8 @@
 use Rattle.std.proofs.Common.{◌≡◌, subst}
 use Rattle.std.specs.Prelude.{IfOk}
 use Rattle.pddl_plan_steps.specs.Link.LinkedTasks.{files_of}
-use Rattle.pddl_step.proofs.HeldSteps.{goal_means}
-use Rattle.pddl_step.proofs.plan.CompiledPlanCourseRef.goal_holds.Goals as goal
+use Rattle.pddl_compiled_plan.proofs.HeldSteps.{goal_means}
+use Rattle.pddl_compiled_plan.proofs.plan.CompiledPlanCourseRef.goal_holds.Goals as goal
 
 pub returns : goal.returns
 returns g c =

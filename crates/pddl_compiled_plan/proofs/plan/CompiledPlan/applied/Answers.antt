@@ -2,8 +2,8 @@ use Rattle.std.proofs.Common.{sym, ap, ◌∙◌, arith}
 use Rattle.std.specs.Option.{option_copied}
 use Rattle.pddl_plan_steps.specs.Link.LinkedTasks.{files_of}
 use Rattle.pddl_plan_steps.specs.LinkedPlan.StepParts.{lent_step}
-use Rattle.pddl_step.proofs.HeldSteps.{action_within, action_there, action_does, action_increases}
-use Rattle.pddl_step.proofs.plan.CompiledPlan.applied.Goals as goal
+use Rattle.pddl_compiled_plan.proofs.HeldSteps.{action_within, action_there, action_does, action_increases}
+use Rattle.pddl_compiled_plan.proofs.plan.CompiledPlan.applied.Goals as goal
 
 pub index-requires : goal.index-requires
 index-requires g c =

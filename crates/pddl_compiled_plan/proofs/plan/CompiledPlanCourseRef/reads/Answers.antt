@@ -1,9 +1,9 @@
 use Rattle.std.proofs.Common.{◌≡◌, ◌∙◌, sym, ap, reverse}
 use Rattle.pddl_plan_steps.specs.PlanSteps.{numbered_steps}
-use Rattle.pddl_step.specs.HeldPlans.{plan_task, plan_steps}
-use Rattle.pddl_step.specs.CompiledSteps.{form_in, action_reads}
-use Rattle.pddl_step.proofs.Filled.{from_empty, handed, handed_then}
-use Rattle.pddl_step.proofs.plan.CompiledPlanCourseRef.reads.Goals as goal
+use Rattle.pddl_compiled_plan.specs.HeldPlans.{plan_task, plan_steps}
+use Rattle.pddl_compiled_plan.specs.CompiledSteps.{form_in, action_reads}
+use Rattle.pddl_compiled_plan.proofs.Filled.{from_empty, handed, handed_then}
+use Rattle.pddl_compiled_plan.proofs.plan.CompiledPlanCourseRef.reads.Goals as goal
 
 pub returns : goal.returns
 returns g c =

@@ -1,5 +1,5 @@
 -- Actions and plans by numbers alone: what is kept of them while a plan is judged (own).
-use Rattle.std.specs.Prelude.{◌≡◌, ℕ, Bool, true, ◌||◌, List, [], map, reverse, Option, Some, slice_get}
+use Rattle.std.specs.Prelude.{◌≡◌, ℕ, Bool, ◌||◌, List, [], map, reverse, Option, Some, slice_get}
 use Rattle.pddl_domain.specs.Actions.{ActionValue}
 use Rattle.pddl_task.specs.Tasks.{TaskValue}
 use Rattle.pddl_state.specs.Atoms.{AtomValue, atom_eq}
@@ -15,7 +15,7 @@ use Rattle.pddl_evaluation.specs.Reads.{tested_by}
 use Rattle.pddl_evaluation.specs.Fires.{added, deleted}
 use Rattle.pddl_tables.specs.Prices.{price_at}
 use Rattle.pddl_plan_steps.specs.LinkedPlan.LinkedSteps.{LinkedStepValue, AreLinkedSteps}
-use Rattle.pddl_step.specs.declared.actions.CompiledAction.{CompiledAction}
+use Rattle.pddl_compiled_plan.specs.declared.action.CompiledAction.{CompiledAction}
 
 -- an action's precondition and effect by numbers
 pub record ActionForm : Type 0 where
@@ -58,10 +58,6 @@ IsHeld {A} held n = (c : CompiledAction A) × (slice_get held n ≡ Some (Some c
 -- those of the actions of all steps are
 abbrev pub AreHeld : {A : _} → List LinkedStepValue → List (Option (CompiledAction A)) → Type 0
 AreHeld steps held = (k : ℕ) (s : LinkedStepValue) → slice_get steps k ≡ Some s → IsHeld held s.action
-
--- actions are marked by their numbers: those of all steps
-abbrev pub AreMarked : List LinkedStepValue → List Bool → Type 0
-AreMarked steps marks = (k : ℕ) (s : LinkedStepValue) → slice_get steps k ≡ Some s → slice_get marks s.action ≡ Some true
 
 -- What is held of a linked plan with its task: the form of each action that a step has, that of the goal, and the prices.
 pub record IsHeldPlan {A : _} (task : TaskValue) (steps : List LinkedStepValue) (actions : List (Option (CompiledAction A))) (goal : Condition A) (prices : AtomValue → Option ℕ) : Type 0 where

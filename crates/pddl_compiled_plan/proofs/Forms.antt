@@ -1,6 +1,6 @@
 -- What an action's form does is what the action does, and how many increases it has.
 use Rattle.std.proofs.Common.{◌≡◌, ◌≤◌, ◌+◌, ◌*◌, ℕ, Bool, true, ◌||◌, cond, List, [], ◌∷◌, map, length, reverse, sym, ap, ◌∙◌, subst, arith}
-use Rattle.std.specs.Prelude.{◌<◌, Some, slice_get}
+use Rattle.std.specs.Prelude.{◌<◌, Some, slice_get, unwrap_or}
 use Rattle.std.specs.List.{list_all}
 use Rattle.std.specs.Option.{option_map_or}
 use Rattle.std.proofs.lemmas.List.{length-map}
@@ -37,9 +37,11 @@ use Rattle.pddl_plan_steps.specs.LinkedPlan.LinkedSteps.{LinkedStepValue, AreLin
 use Rattle.pddl_plan_steps.specs.LinkedPlan.LinkedLaws.{named_step, IsLinkedStep}
 use Rattle.pddl_plan_steps.specs.NumberedSteps.{numbered_step}
 use Rattle.pddl_plan_steps.specs.PlanSteps.{idle, numbered_steps, numbered_goal}
-use Rattle.pddl_step.specs.CompiledSteps.{scope_of, form_of, form_step}
-use Rattle.pddl_step.proofs.Held.{same_some}
+use Rattle.pddl_compiled_plan.specs.CompiledSteps.{scope_of, form_of, form_step}
 use Rattle.pddl_plan_steps.proofs.PlanSteps.{objects_known, as_many, each_linked}
+
+pub same_some : {X : Type 0} (x y : X) → Some x ≡ Some y → x ≡ y
+same_some x y e = ap (λ o. unwrap_or o x) e
 
 -- ---- what a form does
 

@@ -9,9 +9,9 @@ ghost use Rattle.pddl_evaluation.specs.Costs.{increases_of, most_increases};
 ghost use Rattle.pddl_tables.specs.Lookups.{price_in};
 ghost use Rattle.pddl_tables.specs.Prices.{prices_of};
 ghost use Rattle.pddl_plan_steps.specs.PlanSteps.{numbered_steps};
-ghost use Rattle.pddl_step.specs.CompiledSteps.{form_in, form_step, action_reads, IsHeldPlan};
+ghost use Rattle.pddl_compiled_plan.specs.CompiledSteps.{form_in, form_step, action_reads, IsHeldPlan};
 
-use crate::actions::{CompiledAction, UsedActions};
+use crate::action::{CompiledAction, UsedActions};
 use pddl_compiled::{Condition, Frame};
 use pddl_evaluation::{add_change_reads, add_fired, add_reads, is_true, spent};
 use pddl_judge::Course;
@@ -33,12 +33,12 @@ where
     C: Allocator,
     D: Allocator,
 {
-    pub(crate) alloc: &'c D,
-    pub(crate) task: &'t Task<'m, 'a, A, B>,
-    pub(crate) steps: &'s Steps<'b, C>,
-    pub(crate) actions: UsedActions<'c, D>,
-    pub(crate) goal: Condition<&'c D>,
-    pub(crate) prices: TaskPrices<'c, D>,
+    alloc: &'c D,
+    task: &'t Task<'m, 'a, A, B>,
+    steps: &'s Steps<'b, C>,
+    actions: UsedActions<'c, D>,
+    goal: Condition<&'c D>,
+    prices: TaskPrices<'c, D>,
     ghost held: { ∥ IsHeldPlan (task_of_files task.now) steps.now actions.items goal (price_in prices) ∥₁ },
 }
 
@@ -98,7 +98,30 @@ where
     C: Allocator,
     D: Allocator,
 {
-    ghost use Rattle.pddl_step.specs.HeldPlans.{plan_task, plan_steps};
+    ghost use Rattle.pddl_compiled_plan.specs.HeldPlans.{plan_task, plan_steps};
+
+    /// The plan of a task and of steps that are linked to it, with what was compiled of them: each action that they use, the goal, and the costs of functions.
+    pub fn of(
+        alloc: &'c D,
+        task: &'t Task<'m, 'a, A, B>,
+        steps: &'s Steps<'b, C>,
+        actions: UsedActions<'c, D>,
+        goal: Condition<&'c D>,
+        prices: TaskPrices<'c, D>,
+    ) -> CompiledPlan<'t, 'm, 'a, 's, 'b, 'c, A, B, C, D>
+        requires { IsHeldPlan (task_of_files task.now) steps.now actions.items goal (price_in prices) }
+        ensures task { plan_task result ≡ task_of_files task.now }
+        ensures steps { plan_steps result ≡ steps.now }
+    {
+        CompiledPlan {
+            alloc,
+            task,
+            steps,
+            actions,
+            goal,
+            prices,
+        }
+    }
 
     /// The action of a step, and its objects.
     fn applied(&self, step: u32) -> Applied<'_, &'c D>
@@ -130,7 +153,7 @@ where
 {
     ghost use Rattle.std.specs.Prelude.{length};
     ghost use Rattle.pddl_plan_steps.proofs.Framed.{steps_framed};
-    ghost use Rattle.pddl_step.specs.HeldPlans.{plan_task, plan_steps};
+    ghost use Rattle.pddl_compiled_plan.specs.HeldPlans.{plan_task, plan_steps};
     ghost use Rattle.pddl_plan_steps.specs.PlanSteps.{numbered_steps, numbered_start, numbered_goal};
 
     ghost count_of = { λ p. length (plan_steps p) };

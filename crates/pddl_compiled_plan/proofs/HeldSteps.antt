@@ -20,9 +20,9 @@ use Rattle.pddl_plan_steps.specs.LinkedPlan.LinkedSteps.{LinkedStepValue}
 use Rattle.pddl_plan_steps.specs.LinkedPlan.LinkedLaws.{IsLinkedStep}
 use Rattle.pddl_plan_steps.specs.PlanSteps.{numbered_steps, numbered_goal}
 use Rattle.pddl_plan_steps.proofs.PlanSteps.{each_linked}
-use Rattle.pddl_step.specs.CompiledSteps.{form_in, form_of, form_step, IsHeldPlan}
-use Rattle.pddl_step.specs.declared.actions.CompiledAction.{CompiledAction}
-use Rattle.pddl_step.proofs.Forms.{step_by_form, few_increases, goal_by_form}
+use Rattle.pddl_compiled_plan.specs.CompiledSteps.{form_in, form_of, form_step, IsHeldPlan}
+use Rattle.pddl_compiled_plan.specs.declared.action.CompiledAction.{CompiledAction}
+use Rattle.pddl_compiled_plan.proofs.Forms.{step_by_form, few_increases, goal_by_form}
 
 module _ {A : Type 0} (files : Files) (linked : IsLinked files.domain files.problem) {steps : List LinkedStepValue} {actions : List (Option (CompiledAction A))} {goal : Condition A}
     {prices : AtomValue → Option ℕ} (kept : ∥ IsHeldPlan (task_in files) steps actions goal prices ∥₁) where

@@ -3,9 +3,9 @@ use Rattle.pddl_state.specs.Atoms.{atom_eq}
 use Rattle.pddl_compiled.specs.Views.{change_view}
 use Rattle.pddl_evaluation.specs.Fires.{added, deleted}
 use Rattle.pddl_plan_steps.specs.PlanSteps.{numbered_steps}
-use Rattle.pddl_step.specs.HeldPlans.{plan_task, plan_steps}
-use Rattle.pddl_step.proofs.Filled.{from_empty, handed, handed_then}
-use Rattle.pddl_step.proofs.plan.CompiledPlanCourseRef.fired.Goals as goal
+use Rattle.pddl_compiled_plan.specs.HeldPlans.{plan_task, plan_steps}
+use Rattle.pddl_compiled_plan.proofs.Filled.{from_empty, handed, handed_then}
+use Rattle.pddl_compiled_plan.proofs.plan.CompiledPlanCourseRef.fired.Goals as goal
 
 pub returns : goal.returns
 returns g c =

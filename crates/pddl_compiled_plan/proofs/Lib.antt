@@ -1,0 +1,3 @@
+pub mod Forms
+pub mod HeldSteps
+pub mod Filled

@@ -1,0 +1,2 @@
+pub mod CompiledSteps
+pub mod HeldPlans
