@@ -18,10 +18,12 @@ use Rattle.pddl_file.specs.Inner.WordReading.{flag_at, head_key}
 use Rattle.pddl_file.proofs.KeywordLaws.{flag_reads, head_key_sound, head_key_complete, key_reads, unseen, noted, stays, notes}
 use Rattle.pddl_file.proofs.MarkLaws.{mark_reads}
 use Rattle.pddl_domain.specs.Declarations.{IsPredicateSignature}
+use Rattle.pddl_declaration_reader.specs.Inner.DeclarationReading.{predicate_signature_at, types_of, functions_of}
+use Rattle.pddl_declaration_reader.specs.Inner.ActionReading.{action_of}
+use Rattle.pddl_declaration_reader.proofs.DeclarationLaws.{predicate_signature_reads, types_sound, types_complete, functions_sound, functions_complete}
+use Rattle.pddl_declaration_reader.proofs.ActionLaws.{action_sound, action_complete}
 use Rattle.pddl_domain_reader.specs.DomainTexts.{Part, requirements, types, constants, predicates, functions, action, part_key, IsContent, IsPart, domain_rules}
-use Rattle.pddl_domain_reader.specs.Inner.DomainReading.{predicate_signature_at, types_of, functions_of, action_of, content_at, part_of, part_at, domain_readers}
-use Rattle.pddl_domain_reader.proofs.DeclarationLaws.{predicate_signature_reads, types_sound, types_complete, functions_sound, functions_complete}
-use Rattle.pddl_domain_reader.proofs.ActionLaws.{action_sound, action_complete}
+use Rattle.pddl_domain_reader.specs.Inner.DomainReading.{content_at, part_of, part_at, domain_readers}
 
 -- ---- content
 

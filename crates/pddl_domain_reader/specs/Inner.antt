@@ -1,5 +1,3 @@
 -- What the code and the proofs go by: second forms of what stands beside this folder, and how values are held.
-pub mod Signatures
 pub mod DomainReading
-pub mod Slots
 pub mod Sections

@@ -3,8 +3,6 @@
 //! It answers a domain exactly where the text spells one, and then that one; else the first fault.
 #![tactic(auto)]
 
-mod action_reader;
-mod declaration_reader;
 mod domain_reader;
 mod section_reader;
 

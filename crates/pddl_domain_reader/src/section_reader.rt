@@ -10,9 +10,10 @@ ghost use Rattle.pddl_domain.specs.Domains.{domain_view};
 ghost use Rattle.pddl_domain_reader.specs.Inner.DomainReading.{content_at, part_of, part_at, domain_readers};
 ghost use Rattle.pddl_domain_reader.specs.Inner.Sections.{domain_verdict, Adds, AddsPart, AddsParts};
 
-use crate::action_reader::action_of;
-use crate::declaration_reader::{declared_functions_of, declared_predicates_of, declared_types_of};
 use pddl_build::{append_found, push_found};
+use pddl_declaration_reader::{
+    action_of, declared_functions_of, declared_predicates_of, declared_types_of,
+};
 use pddl_domain::Domain;
 use pddl_file::{FileFault, SectionKeyword, Seen, flags_of, head_keyword_of, keyword_of, refusal};
 use pddl_formula::TypedList;

@@ -1,5 +1,5 @@
 -- The text of a formula or an effect of the program, and that it is good, by its outermost part.
-use Rattle.std.proofs.Common.{◌≡◌, ℕ, ◌-◌, ◌<◌, List, [], ◌∷◌, ◌++◌, map, length, get_or, take, drop, Vec, Box, refl, sym, ap, ap₂, ◌∙◌, codes, arith}
+use Rattle.std.proofs.Common.{◌≡◌, ℕ, ◌-◌, ◌<◌, List, [], ◌∷◌, ◌++◌, map, length, get_or, take, drop, Vec, Box, refl, sym, ap, ap₂, ◌∙◌, append_assoc, codes, arith}
 use Rattle.std.specs.Prelude.{true, ◌&&◌}
 use Rattle.std.specs.List.{list_all}
 use Rattle.std.proofs.lemmas.List.{take_all, length-drop}
@@ -23,6 +23,11 @@ use Rattle.pddl_file_layout.specs.FormulaValues.{is_term, is_atom, is_typed, is_
 use Rattle.pddl_file_layout.specs.Inner.Texts.{spaced_by, term_text, atom_text, typed_text, variables_text, formula_text, formulas_text, amount_text, effect_text, effects_text}
 
 -- ---- lists of variables
+
+-- what stands before the part of a formula or an effect that binds variables
+head_apart : (quantifier variables part : List ℕ) → (quantifier ++ (variables ++ codes " ")) ++ part ≡ quantifier ++ (variables ++ (codes " " ++ part))
+head_apart quantifier variables part =
+    append_assoc quantifier (variables ++ codes " ") part ∙ ap (λ (x : List ℕ). quantifier ++ x) (append_assoc variables (codes " ") part)
 
 -- those behind the first, as a slice's pattern has them
 rest_is : {X : Type 0} (n : ℕ) (xs : List X) → take (length xs - n) (drop n xs) ≡ drop n xs
@@ -103,16 +108,18 @@ module _ {A : Type 0} where
       ∙ (ap (λ (x : List ℕ). codes "(or" ++ (x ++ codes ")")) (sym (formulas_spaced (map formula_view v.items))) ∙ (ap formula_text (sym (view_or v)) ∙ shown is))
 
   pub exists_text : (f inner : Formula A) (xs : List (Typed A)) (v : Vec (Typed A) A) (p : Box (Formula A) A) → f ≡ Exists v p → xs ≡ v.items → inner ≡ p.value
-      → codes "(exists " ++ (variables_text (map typed_view xs) ++ (codes " " ++ (formula_text (formula_view inner) ++ codes ")"))) ≡ formula_text (formula_view f)
+      → (codes "(exists " ++ (variables_text (map typed_view xs) ++ codes " ")) ++ (formula_text (formula_view inner) ++ codes ")") ≡ formula_text (formula_view f)
   exists_text f inner xs v p is xs_are inner_is =
-      ap₂ (λ (x : List (Typed A)) (y : Formula A). codes "(exists " ++ (variables_text (map typed_view x) ++ (codes " " ++ (formula_text (formula_view y) ++ codes ")")))) xs_are inner_is
-      ∙ (ap formula_text (sym (view_exists v p)) ∙ shown is)
+      head_apart (codes "(exists ") (variables_text (map typed_view xs)) (formula_text (formula_view inner) ++ codes ")")
+      ∙ (ap₂ (λ (x : List (Typed A)) (y : Formula A). codes "(exists " ++ (variables_text (map typed_view x) ++ (codes " " ++ (formula_text (formula_view y) ++ codes ")")))) xs_are inner_is
+      ∙ (ap formula_text (sym (view_exists v p)) ∙ shown is))
 
   pub forall_text : (f inner : Formula A) (xs : List (Typed A)) (v : Vec (Typed A) A) (p : Box (Formula A) A) → f ≡ Forall v p → xs ≡ v.items → inner ≡ p.value
-      → codes "(forall " ++ (variables_text (map typed_view xs) ++ (codes " " ++ (formula_text (formula_view inner) ++ codes ")"))) ≡ formula_text (formula_view f)
+      → (codes "(forall " ++ (variables_text (map typed_view xs) ++ codes " ")) ++ (formula_text (formula_view inner) ++ codes ")") ≡ formula_text (formula_view f)
   forall_text f inner xs v p is xs_are inner_is =
-      ap₂ (λ (x : List (Typed A)) (y : Formula A). codes "(forall " ++ (variables_text (map typed_view x) ++ (codes " " ++ (formula_text (formula_view y) ++ codes ")")))) xs_are inner_is
-      ∙ (ap formula_text (sym (view_forall v p)) ∙ shown is)
+      head_apart (codes "(forall ") (variables_text (map typed_view xs)) (formula_text (formula_view inner) ++ codes ")")
+      ∙ (ap₂ (λ (x : List (Typed A)) (y : Formula A). codes "(forall " ++ (variables_text (map typed_view x) ++ (codes " " ++ (formula_text (formula_view y) ++ codes ")")))) xs_are inner_is
+      ∙ (ap formula_text (sym (view_forall v p)) ∙ shown is))
 
   pub atom_good : (f : Formula A) (a : Atom A) → f ≡ cases.Atom a → is_atom (atom_view a) ≡ true → is_formula (formula_view f) ≡ true
   atom_good f a is good = fits is (view_atom a) good
@@ -170,10 +177,11 @@ module _ {A : Type 0} where
       ∙ (ap (λ (x : List ℕ). codes "(and" ++ (x ++ codes ")")) (sym (effects_spaced (map effect_view v.items))) ∙ (ap effect_text (sym (views.view_and v)) ∙ effect_shown is))
 
   pub each_text : (e inner : Effect A) (xs : List (Typed A)) (v : Vec (Typed A) A) (p : Box (Effect A) A) → e ≡ outcome.Forall v p → xs ≡ v.items → inner ≡ p.value
-      → codes "(forall " ++ (variables_text (map typed_view xs) ++ (codes " " ++ (effect_text (effect_view inner) ++ codes ")"))) ≡ effect_text (effect_view e)
+      → (codes "(forall " ++ (variables_text (map typed_view xs) ++ codes " ")) ++ (effect_text (effect_view inner) ++ codes ")") ≡ effect_text (effect_view e)
   each_text e inner xs v p is xs_are inner_is =
-      ap₂ (λ (x : List (Typed A)) (y : Effect A). codes "(forall " ++ (variables_text (map typed_view x) ++ (codes " " ++ (effect_text (effect_view y) ++ codes ")")))) xs_are inner_is
-      ∙ (ap effect_text (sym (views.view_forall v p)) ∙ effect_shown is)
+      head_apart (codes "(forall ") (variables_text (map typed_view xs)) (effect_text (effect_view inner) ++ codes ")")
+      ∙ (ap₂ (λ (x : List (Typed A)) (y : Effect A). codes "(forall " ++ (variables_text (map typed_view x) ++ (codes " " ++ (effect_text (effect_view y) ++ codes ")")))) xs_are inner_is
+      ∙ (ap effect_text (sym (views.view_forall v p)) ∙ effect_shown is))
 
   pub when_text : (e inner : Effect A) (f : Formula A) (p : Box (Effect A) A) → e ≡ outcome.When f p → inner ≡ p.value
       → codes "(when " ++ (formula_text (formula_view f) ++ (codes " " ++ (effect_text (effect_view inner) ++ codes ")"))) ≡ effect_text (effect_view e)

@@ -108,3 +108,25 @@ words_pass test xs i x lt is so_far here =
 pub wrote : {a b : Option (List ℕ)} {n m : ℕ} {g : Bool} {xs : List ℕ} → Puts a b n m false g xs → g ≡ false → Appends a b xs
 wrote {g = false} first e = first.puts.0
 wrote {g = true} first e = absurd (cc (e))
+
+pub none_failed : {a b : Option (List ℕ)} {n m : ℕ} {g : Bool} {xs : List ℕ} → Puts a b n m false g xs → g ≡ false → m ≡ n
+none_failed {g = false} first e = first.puts.1
+none_failed {g = true} first e = absurd (cc (e))
+
+-- where one failed, a beginning of the text was written
+pub began : {a b : Option (List ℕ)} {n m : ℕ} {g : Bool} {xs : List ℕ} → Puts a b n m false g xs → g ≡ true → AppendsBeginning a b xs
+began {g = false} first e = absurd (cc (e))
+began {g = true} first e = first.puts.0
+
+pub one_failed : {a b : Option (List ℕ)} {n m : ℕ} {g : Bool} {xs : List ℕ} → Puts a b n m false g xs → g ≡ true → HasFailed n m
+one_failed {g = false} first e = absurd (cc (e))
+one_failed {g = true} first e = first.puts.1
+
+-- a text that is printed into an empty vector is what that then has
+pub all_printed : {n m : ℕ} {g : Bool} {text : List ℕ} (empty first last whole : List ℕ) → empty ≡ [] → Some first ≡ Some empty → Puts (Some first) (Some last) n m false g text → g ≡ false
+    → Some whole ≡ Some last → whole ≡ text
+all_printed {text = text} empty first last whole none begins printed good ends =
+    same whole last ends ∙ wrote printed good ∙ ap (λ (t : List ℕ). t ++ text) (same first empty begins ∙ none)
+  where
+    same : (xs ys : List ℕ) → Some xs ≡ Some ys → xs ≡ ys
+    same xs ys e = cc (e)

@@ -1,6 +1,6 @@
 //! The canonical texts of terms, typed lists and formulas.
 
-ghost use Rattle.std.specs.Prelude.{IsTrue, map};
+ghost use Rattle.std.specs.Prelude.{◌++◌, IsTrue, map, codes};
 ghost use Rattle.std.specs.List.{list_all};
 ghost use Rattle.pddl_token.specs.Names.{is_name};
 ghost use Rattle.pddl_formula.specs.Reserved.{is_type};
@@ -133,6 +133,26 @@ pub fn put_variables<A: Allocator, W: Sink>(out: &mut W, failed: &mut bool, vari
     }
 }
 
+/// Writes what stands before the part of an existential formula.
+fn put_exists<A: Allocator, W: Sink>(out: &mut W, failed: &mut bool, variables: &[Typed<A>])
+    ensures printed { Puts (W.contents out.old) (W.contents out.new) (W.failures out.old) (W.failures out.new) failed.old failed.new (codes "(exists " ++ (variables_text (map typed_view variables.now) ++ codes " ")) }
+    ensures good { IsTrue (list_all is_typed (map typed_view variables.now)) }
+{
+    put(out, failed, b"(exists ");
+    put_variables(out, failed, variables);
+    put(out, failed, b" ");
+}
+
+/// Writes what stands before the part of a universal formula or effect.
+pub fn put_forall<A: Allocator, W: Sink>(out: &mut W, failed: &mut bool, variables: &[Typed<A>])
+    ensures printed { Puts (W.contents out.old) (W.contents out.new) (W.failures out.old) (W.failures out.new) failed.old failed.new (codes "(forall " ++ (variables_text (map typed_view variables.now) ++ codes " ")) }
+    ensures good { IsTrue (list_all is_typed (map typed_view variables.now)) }
+{
+    put(out, failed, b"(forall ");
+    put_variables(out, failed, variables);
+    put(out, failed, b" ");
+}
+
 /// Writes a formula.
 #[cycle(formula)]
 pub fn put_formula<A: Allocator, W: Sink>(out: &mut W, failed: &mut bool, formula: &Formula<A>)
@@ -171,16 +191,12 @@ pub fn put_formula<A: Allocator, W: Sink>(out: &mut W, failed: &mut bool, formul
             put(out, failed, b")");
         }
         Formula::Exists(variables, part) => {
-            put(out, failed, b"(exists ");
-            put_variables(out, failed, variables);
-            put(out, failed, b" ");
+            put_exists(out, failed, variables);
             put_formula(out, failed, part);
             put(out, failed, b")");
         }
         Formula::Forall(variables, part) => {
-            put(out, failed, b"(forall ");
-            put_variables(out, failed, variables);
-            put(out, failed, b" ");
+            put_forall(out, failed, variables);
             put_formula(out, failed, part);
             put(out, failed, b")");
         }

@@ -3,8 +3,8 @@ use Rattle.pddl_tree.specs.ItemTrees.{item_trees}
 use Rattle.pddl_build.proofs.FoundParts.{pushed_part}
 use Rattle.pddl_domain.specs.Actions.{action_view}
 use Rattle.pddl_domain.specs.Domains.{domain_view}
+use Rattle.pddl_declaration_reader.specs.Inner.ActionReading.{action_of}
 use Rattle.pddl_domain_reader.specs.DomainTexts.{action}
-use Rattle.pddl_domain_reader.specs.Inner.DomainReading.{action_of}
 use Rattle.pddl_domain_reader.specs.Inner.Sections.{with_part}
 use Rattle.pddl_domain_reader.proofs.section_reader.add_content.Goals as goal
 

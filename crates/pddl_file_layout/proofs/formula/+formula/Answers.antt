@@ -41,12 +41,12 @@ put_formula-returns-in-Or-clause-good g t c = or_good c.args.formula.now c.deref
 pub put_formula-returns-in-Exists-clause-printed : goal.put_formula-returns-in-Exists-clause-printed
 put_formula-returns-in-Exists-clause-printed g t c =
     puts_as (exists_text c.args.formula.now c.deref-in-Exists-2.result.now c.deref-in-Exists.result.now c.in-Exists.variables c.in-Exists.part c.in-Exists.is c.deref-in-Exists.ensures.value c.deref-in-Exists-2.ensures)
-    (puts_on c.put-in-Exists.ensures (puts_on c.put_variables.ensures.printed (puts_on c.put-in-Exists-2.ensures (puts_on c.put_formula-in-Exists.ensures.printed c.put-in-Exists-3.ensures))))
+    (puts_on c.put_exists.ensures.printed (puts_on c.put_formula-in-Exists.ensures.printed c.put-in-Exists.ensures))
 
 pub put_formula-returns-in-Forall-clause-printed : goal.put_formula-returns-in-Forall-clause-printed
 put_formula-returns-in-Forall-clause-printed g t c =
     puts_as (forall_text c.args.formula.now c.deref-in-Forall-2.result.now c.deref-in-Forall.result.now c.in-Forall.variables c.in-Forall.part c.in-Forall.is c.deref-in-Forall.ensures.value c.deref-in-Forall-2.ensures)
-    (puts_on c.put-in-Forall.ensures (puts_on c.put_variables-in-Forall.ensures.printed (puts_on c.put-in-Forall-2.ensures (puts_on c.put_formula-in-Forall.ensures.printed c.put-in-Forall-3.ensures))))
+    (puts_on c.put_forall.ensures.printed (puts_on c.put_formula-in-Forall.ensures.printed c.put-in-Forall.ensures))
 
 pub put_formulas-loop-formula-preserved : goal.put_formulas-loop-formula-preserved
 put_formulas-loop-formula-preserved g t c =
@@ -83,12 +83,12 @@ put_formula-returns-in-Imply-clause-good g t c =
 pub put_formula-returns-in-Exists-clause-good : goal.put_formula-returns-in-Exists-clause-good
 put_formula-returns-in-Exists-clause-good g t c =
     exists_good c.args.formula.now c.deref-in-Exists-2.result.now c.deref-in-Exists.result.now c.in-Exists.variables c.in-Exists.part c.in-Exists.is c.deref-in-Exists.ensures.value c.deref-in-Exists-2.ensures
-    c.put_variables.ensures.good c.put_formula-in-Exists.ensures.good
+    c.put_exists.ensures.good c.put_formula-in-Exists.ensures.good
 
 pub put_formula-returns-in-Forall-clause-good : goal.put_formula-returns-in-Forall-clause-good
 put_formula-returns-in-Forall-clause-good g t c =
     forall_good c.args.formula.now c.deref-in-Forall-2.result.now c.deref-in-Forall.result.now c.in-Forall.variables c.in-Forall.part c.in-Forall.is c.deref-in-Forall.ensures.value c.deref-in-Forall-2.ensures
-    c.put_variables-in-Forall.ensures.good c.put_formula-in-Forall.ensures.good
+    c.put_forall.ensures.good c.put_formula-in-Forall.ensures.good
 
 pub put_formula-put_formula-requires : goal.put_formula-put_formula-requires
 put_formula-put_formula-requires g t c κs within = (omega (arith, under_not g.row.A g.A.Allocator g.A.laws c.args.formula.now c.deref.result.now c.in-Not.part c.in-Not.is c.deref.ensures, c.decreases), within)

@@ -1,0 +1,4 @@
+pub mod DeclarationLaws
+pub mod ActionLaws
+pub mod DeclarationTurns
+pub mod SlotLaws

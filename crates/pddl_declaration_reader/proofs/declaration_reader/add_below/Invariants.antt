@@ -1,0 +1,11 @@
+use Rattle.std.proofs.Common.{◌≡◌, ◌++◌, map}
+use Rattle.pddl_formula.specs.TypedLists.{of_type}
+use Rattle.pddl_domain.specs.Declarations.{type_view}
+use Rattle.pddl_declaration_reader.proofs.declaration_reader.add_below.Given as goal
+
+-- the types so far, with their parents, and those that are left
+abbrev pub invariant-loop-name : goal.invariant-loop-name
+invariant-loop-name g l = record {
+  found : map type_view l.found.items ≡ map type_view l.initial.found.items ++ of_type l.yielded l.parent.value;
+  left : l.yielded ++ l.name-iterator.rest.items ≡ l.fn.names.items;
+}

@@ -1,0 +1,8 @@
+use Rattle.pddl_tree.specs.ItemTrees.{item_trees}
+use Rattle.pddl_tree.proofs.TreeLists.{item_tree_list}
+use Rattle.pddl_declaration_reader.proofs.DeclarationTurns.{predicate_list}
+use Rattle.pddl_declaration_reader.proofs.declaration_reader.declared_predicate_of.Goals as goal
+
+pub returns-in-List : goal.returns-in-List
+returns-in-List g c =
+    rw (c.in-List.is, item_tree_list c.in-List.items c.in-List.field-1, predicate_list (item_trees c.in-List.items.items), ← c.deref.ensures.value) c.predicate_of_list.ensures

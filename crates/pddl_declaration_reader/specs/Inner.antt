@@ -1,0 +1,5 @@
+-- What the code and the proofs go by: second forms of what stands beside this folder, and how values are held.
+pub mod DeclarationReading
+pub mod ActionReading
+pub mod Signatures
+pub mod Slots
