@@ -9,6 +9,7 @@ ghost use Rattle.pddl_faults.specs.Passes.{Verdict};
 ghost use Rattle.pddl_types.specs.KnownNames.{object_in};
 ghost use Rattle.pddl_names.specs.FaultParts.{name_rules, use_rules};
 
+use crate::task::let_go;
 use indexmap::IndexMap;
 use pddl_domain::Domain;
 use pddl_faults::{LinkFault, lower};
@@ -47,7 +48,9 @@ fn look_at_uses<'m, 'a, A: Allocator, B: Allocator>(
     ensures { Verdict (map (domain_fault (domain_view domain.now)) use_rules) result }
 {
     let declared = Declared::of(alloc, types, domain)?;
-    look_at_domain_uses(alloc, &declared.known(types, constants, &[]), domain)
+    let used = look_at_domain_uses(alloc, &declared.known(types, constants, &[]), domain);
+    let_go(declared);
+    used
 }
 
 /// Checks a domain behind a table of its types, each declared once.
@@ -60,10 +63,12 @@ fn check_by_types<'m, 'a, A: Allocator, B: Allocator>(
     ensures { Verdict (map (domain_fault (domain_view domain.now)) (drop 2 rules)) result }
 {
     let mut constants: Objects<'m, 'a, A, B> = IndexMap::new(alloc);
-    match look_at_names(alloc, types, &mut constants, domain) {
+    let checked = match look_at_names(alloc, types, &mut constants, domain) {
         Ok(()) => look_at_uses(alloc, types, &constants, domain),
         Err(fault) => Err(fault),
-    }
+    };
+    drop(constants);
+    checked
 }
 
 /// Checks a domain: the faults 21 to 32 that it shows by itself.
@@ -81,5 +86,7 @@ pub fn check_domain<'d, 'a, A: Allocator, B: Allocator>(
 {
     type_twice(alloc, domain)?;
     let types = Types::of(alloc, &domain.types)?;
-    check_by_types(alloc, &types, domain)
+    let checked = check_by_types(alloc, &types, domain);
+    drop(types);
+    checked
 }

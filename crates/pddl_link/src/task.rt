@@ -22,14 +22,19 @@ use pddl_token::Name;
 use pddl_types::{FunctionNumbers, Objects, SlotTops, Top, TypeCounts, Types, near_of};
 use std::alloc::{AllocError, Allocator};
 
-/// What a domain and a problem name, in tables that borrow from them: objects, predicates and functions, how many objects fit each type, and where the types
-/// of objects stand.
+/// What a domain declares by name, how many objects fit each type, and where the types of objects stand, in tables that borrow from the files.
 #[derive(Drop)]
 pub(crate) struct Tables<'m, 'a, A: Allocator, B: Allocator> {
-    pub(crate) objects: Objects<'m, 'a, A, B>,
     pub(crate) declared: Declared<'m, 'a, A, B>,
     pub(crate) counts: TypeCounts<'m, 'a, B>,
     pub(crate) places: ObjectPlaces<'a, B>,
+}
+
+/// Lets go what a domain declares, table by table. (A call of `drop` with the whole has no proof today.)
+pub(crate) fn let_go<'m, 'a, A: Allocator, B: Allocator>(declared: Declared<'m, 'a, A, B>) {
+    drop(declared.predicates);
+    drop(declared.functions);
+    drop(declared.tops);
 }
 
 /// What a domain and a problem that link say together.
@@ -41,10 +46,11 @@ pub struct Task<'m, 'a, A: Allocator, B: Allocator> {
     pub(crate) domain: &'m Domain<A>,
     pub(crate) problem: &'m Problem<A>,
     pub(crate) types: Types<'m, 'a, A, B>,
+    pub(crate) objects: Objects<'m, 'a, A, B>,
     pub(crate) tables: Tables<'m, 'a, A, B>,
     /// The values that `:init` gives to functions of objects.
     pub(crate) values: Values<'m, 'a, A, B>,
-    ghost held: { AreTablesOf (domain_view domain.now) (problem_view problem.now) types tables.declared.predicates.entries tables.objects.entries tables.counts.entries values.entries },
+    ghost held: { AreTablesOf (domain_view domain.now) (problem_view problem.now) types tables.declared.predicates.entries objects.entries tables.counts.entries values.entries },
 }
 
 impl<'m, 'a, A: Allocator, B: Allocator> Task<'m, 'a, A, B> {
@@ -87,7 +93,7 @@ impl<'m, 'a, A: Allocator, B: Allocator> Task<'m, 'a, A, B> {
     pub fn object_count(&self) -> usize
         ensures { result ≡ length (task_of_files self.now).objects }
     {
-        self.tables.objects.len()
+        self.objects.len()
     }
 
     /// How many predicates there are.
@@ -138,7 +144,7 @@ impl<'m, 'a, A: Allocator, B: Allocator> Task<'m, 'a, A, B> {
         ensures { result ≡ option_map_or (λ o. fits (pairs (task_of_files self.now).types) o.of types.now)
             (slice_get (task_of_files self.now).objects object) false }
     {
-        match self.tables.objects.get_index(object) {
+        match self.objects.get_index(object) {
             Some((_, listed)) => {
                 let near = near_of(self.tables.places.places(), object);
                 self.types.fits_by(&listed.types, near, types, tops)
@@ -167,7 +173,7 @@ impl<'m, 'a, A: Allocator, B: Allocator> Task<'m, 'a, A, B> {
     {
         let counts = ObjectCounts {
             types: &self.types,
-            objects: &self.tables.objects,
+            objects: &self.objects,
             counts: &self.tables.counts,
         };
         fitting_objects(alloc, &counts, &self.tables.places, types)
@@ -179,7 +185,7 @@ impl<'m, 'a, A: Allocator, B: Allocator> Task<'m, 'a, A, B> {
     {
         let counts = ObjectCounts {
             types: &self.types,
-            objects: &self.tables.objects,
+            objects: &self.objects,
             counts: &self.tables.counts,
         };
         ground_size(&counts, formula)
@@ -191,7 +197,7 @@ impl<'m, 'a, A: Allocator, B: Allocator> Task<'m, 'a, A, B> {
     {
         let counts = ObjectCounts {
             types: &self.types,
-            objects: &self.tables.objects,
+            objects: &self.objects,
             counts: &self.tables.counts,
         };
         action_ground_size(&counts, action)
@@ -222,7 +228,7 @@ impl<'m, 'a, A: Allocator, B: Allocator> Task<'m, 'a, A, B> {
     pub fn object_name(&self, number: usize) -> Option<&Name<A>>
         ensures { option_map (λ name. name.now) result ≡ slice_get (object_names (task_of_files self.now)) number }
     {
-        match self.tables.objects.get_index(number) {
+        match self.objects.get_index(number) {
             Some((_, listed)) => Some(&listed.name),
             None => None,
         }
@@ -232,7 +238,7 @@ impl<'m, 'a, A: Allocator, B: Allocator> Task<'m, 'a, A, B> {
     pub fn object_number(&self, name: &[u8]) -> Option<usize>
         ensures { result ≡ position (bytes_eq name.now) (object_names (task_of_files self.now)) }
     {
-        self.tables.objects.get_index_of(name)
+        self.objects.get_index_of(name)
     }
 
     /// The number of the predicate of a name, or `None` where there is none.

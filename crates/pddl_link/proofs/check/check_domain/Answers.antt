@@ -10,8 +10,8 @@ use Rattle.pddl_link.proofs.check.check_domain.Goals as goal
 pub of-requires : goal.of-requires
 of-requires g c = ap (λ ts. repeated [] (map item_of (map type_view ts))) c.deref.ensures.value ∙ c.in_ok-type_twice.ensures
 
-pub check_by_types-requires : goal.check_by_types-requires
-check_by_types-requires g c = c.in_ok-types.ensures ∙ ap (map type_view) c.deref.ensures.value
+pub check_by_types-checked-requires : goal.check_by_types-checked-requires
+check_by_types-checked-requires g c = c.in_ok-types.ensures ∙ ap (map type_view) c.deref.ensures.value
 
 pub returns-in_err-type_twice : goal.returns-in_err-type_twice
 returns-in_err-type_twice g c =
@@ -20,4 +20,4 @@ returns-in_err-type_twice g c =
 
 pub returns : goal.returns
 returns g c =
-    decided_after (fault 20 [] ∷ fault 21 _ ∷ []) (map (domain_fault (domain_view c.args.domain.now)) (drop 2 rules)) c.check_by_types.result (refl, (c.in_ok-type_twice.ensures, tt)) c.check_by_types.ensures
+    decided_after (fault 20 [] ∷ fault 21 _ ∷ []) (map (domain_fault (domain_view c.args.domain.now)) (drop 2 rules)) c.check_by_types-checked.result (refl, (c.in_ok-type_twice.ensures, tt)) c.check_by_types-checked.ensures

@@ -9,8 +9,8 @@ use Rattle.pddl_link.proofs.Settings.{setting_by_parts}
 use Rattle.pddl_link.proofs.Stages.{verdict_of}
 use Rattle.pddl_link.proofs.check.look_at_uses.Goals as goal
 
-pub look_at_domain_uses-requires : goal.look_at_domain_uses-requires
-look_at_domain_uses-requires g c =
+pub look_at_domain_uses-used-requires : goal.look_at_domain_uses-used-requires
+look_at_domain_uses-used-requires g c =
     let d = domain_view c.args.domain.now in
     c.known.ensures ∙ setting_by_parts d c.args.types.now (map signature_in c.in_ok-declared.declared.predicates.entries) (map signature_in c.in_ok-declared.declared.functions.entries) (map object_in c.args.constants.now.entries) (firsts d.constants)
     c.requires.types c.in_ok-declared.ensures.predicates c.in_ok-declared.ensures.functions c.requires.constants
@@ -18,4 +18,4 @@ look_at_domain_uses-requires g c =
 pub returns : goal.returns
 returns g c =
     let d = domain_view c.args.domain.now in
-    verdict_of (joined (domain_uses d)) (map (domain_fault d) use_rules) c.look_at_domain_uses.result (domain_uses_stand d) c.look_at_domain_uses.ensures
+    verdict_of (joined (domain_uses d)) (map (domain_fault d) use_rules) c.look_at_domain_uses-used.result (domain_uses_stand d) c.look_at_domain_uses-used.ensures

@@ -16,14 +16,17 @@ use Rattle.pddl_link.proofs.linked.look_at_uses.Goals as goal
 pub look_at_domain_uses-used-requires : goal.look_at_domain_uses-used-requires
 look_at_domain_uses-used-requires g c =
     let d = domain_view c.args.domain.now in
-    c.known-inner.ensures ∙ setting_by_parts d c.args.types.now (map signature_in c.args.declared.now.predicates.entries) (map signature_in c.args.declared.now.functions.entries) (map object_in c.args.constants.now.entries) (firsts d.constants)
+    c.known-inner.ensures ∙ setting_by_parts d c.args.types.now (map signature_in c.args.tables.now.declared.predicates.entries) (map signature_in c.args.tables.now.declared.functions.entries) (map object_in c.args.constants.now.entries) (firsts d.constants)
     c.requires.types c.requires.predicates c.requires.functions c.requires.constants
 
 pub look_at_problem_uses-requires-clause-known : goal.look_at_problem_uses-requires-clause-known
 look_at_problem_uses-requires-clause-known g c =
     let d = domain_view c.args.domain.now in
-    c.known-outer.ensures ∙ setting_by_parts d c.args.types.now (map signature_in c.args.declared.now.predicates.entries) (map signature_in c.args.declared.now.functions.entries) (map object_in c.args.objects.now.entries) (objects_of d (problem_view c.args.problem.now))
+    c.known-outer.ensures ∙ setting_by_parts d c.args.types.now (map signature_in c.args.tables.now.declared.predicates.entries) (map signature_in c.args.tables.now.declared.functions.entries) (map object_in c.args.objects.now.entries) (objects_of d (problem_view c.args.problem.now))
     c.requires.types c.requires.predicates c.requires.functions c.requires.objects
+
+pub look_at_problem_uses-requires-clause-size : goal.look_at_problem_uses-requires-clause-size
+look_at_problem_uses-requires-clause-size g c = c.goal_size-size.ensures
 
 pub returns-clause-values : goal.returns-clause-values
 returns-clause-values g c =

@@ -1,4 +1,4 @@
-use Rattle.std.proofs.Common.{rules, ◌≡◌, ◌≤◌, length, sym, ap, ap₂, subst}
+use Rattle.std.proofs.Common.{◌≡◌, ◌≤◌, length, sym, ap, ap₂, subst}
 use Rattle.pddl_task.specs.Tasks.{TaskValue, task_of}
 use Rattle.pddl_happenings.specs.Happenings.{HaveEachOnce}
 use Rattle.pddl_judge.specs.HappeningValues.{groups_of, moments_of}
@@ -24,7 +24,7 @@ replay-run-requires-clause-count g c =
 
 pub replay-run-requires-clause-each : goal.replay-run-requires-clause-each
 replay-run-requires-clause-each g c =
-    let same : c.deref.result.now ≡ c.in_ok-groups.groups.items = search rules in
+    let same = c.deref.ensures.value in
     subst (λ l. HaveEachOnce (length l) (groups_of c.deref.result.now)) (sym c.in_ok-plan.ensures.steps)
     (subst (λ hs. HaveEachOnce (length c.args.steps.now) (groups_of hs)) (sym same) c.in_ok-groups.ensures.each)
 
@@ -35,7 +35,7 @@ returns g c =
     let held = plan_task c.in_ok-plan.plan in
     let steps = c.args.steps.now in
     let hs = c.deref.result.now in
-    let same : hs ≡ c.in_ok-groups.groups.items = search rules in
+    let same = c.deref.ensures.value in
     let same_task : held ≡ task = c.in_ok-plan.ensures.task in
     let is = c.in_ok-replayed.ensures in
     let run : IsCourseOf files.domain files.problem steps (numbered_steps held (plan_steps c.in_ok-plan.plan)) (numbered_goal held) (numbered_start held) (moments_of hs) (groups_of hs) = record {

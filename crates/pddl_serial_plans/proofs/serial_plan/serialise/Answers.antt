@@ -1,4 +1,4 @@
-use Rattle.std.proofs.Common.{rules, ◌≡◌, ◌<◌, length, sym, ap, ◌∙◌, subst}
+use Rattle.std.proofs.Common.{◌≡◌, ◌<◌, length, sym, ap, ◌∙◌, subst}
 use Rattle.std.specs.Prelude.{All, IfOk}
 use Rattle.pddl_tree.specs.Plans.{PlanValue, plan_view}
 use Rattle.pddl_happenings.specs.NamedSteps.{by_name}
@@ -16,7 +16,8 @@ pub add_steps-made-requires-clause-within : goal.add_steps-made-requires-clause-
 add_steps-made-requires-clause-within g c =
     let files = files_of c.args.task.now in
     let gs = groups_of c.args.accepted.now.happenings.items in
-    let same : c.deref-2.result.now ≡ in_order c.args.order gs = search rules in
+    let same : c.deref-2.result.now ≡ in_order c.args.order gs =
+    c.deref-2.ensures.value ∙ (c.in_ok-order.ensures ∙ ap (λ hs. in_order c.args.order (groups_of hs)) c.deref.ensures.value) in
     let is = turns files.domain files.problem c.domain-linked.ensures.linked c.requires c.args.order in
     subst (λ l. All (λ k. k < length c.args.steps.now) l) (sym same) (within files.domain files.problem c.domain-linked.ensures.linked c.requires (in_order c.args.order gs) is.each_once)
 
@@ -28,7 +29,8 @@ returns g c =
     let gs = groups_of c.args.accepted.now.happenings.items in
     let order = in_order c.args.order gs in
     let end = by_name (number_of task) (g.S.AtomStore.content c.args.accepted.now.store c.args.accepted.now.end) in
-    let same : c.deref-2.result.now ≡ in_order c.args.order gs = search rules in
+    let same : c.deref-2.result.now ≡ in_order c.args.order gs =
+    c.deref-2.ensures.value ∙ (c.in_ok-order.ensures ∙ ap (λ hs. in_order c.args.order (groups_of hs)) c.deref.ensures.value) in
     let is = turns files.domain files.problem c.domain-linked.ensures.linked c.requires c.args.order in
     let made = c.add_steps-made.result in
     let accepted = serial_accepted files.domain files.problem c.domain-linked.ensures.linked c.requires order is in

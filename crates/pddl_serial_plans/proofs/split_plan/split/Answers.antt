@@ -1,5 +1,5 @@
-use Rattle.std.proofs.Common.{rules, ◌≡◌, ◌<◌, ◌≤◌, List, ℕ, map, length, sym, ap, ap₂, ◌∙◌, subst}
-use Rattle.std.specs.Prelude.{All, Some, Ok, IfOk, IfSome}
+use Rattle.std.proofs.Common.{◌≡◌, ◌<◌, ◌≤◌, List, ℕ, map, length, sym, ap, ap₂, ◌∙◌, subst}
+use Rattle.std.specs.Prelude.{All, IfSome, MatchOption}
 use Rattle.std.specs.List.{concat}
 use Rattle.pddl_tree.specs.Plans.{PlanValue}
 use Rattle.pddl_happenings.specs.Happenings.{HaveEachOnce}
@@ -16,32 +16,35 @@ use Rattle.pddl_serial_plans.proofs.split_plan.split.Goals as goal
 pub split-requires : goal.split-requires
 split-requires g c =
     let files = files_of c.args.task.now in
-    let hs : groups_of c.deref.result.now ≡ groups_of c.args.accepted.now.happenings.items = search rules in
+    let hs = ap groups_of c.deref.ensures.value in
     subst (λ n. HaveEachOnce n (groups_of c.deref.result.now)) (sym c.len.ensures)
     (subst (λ gs. HaveEachOnce (length c.args.steps.now) gs) (sym hs) (each_once files.domain files.problem c.domain-linked.ensures.linked c.requires))
 
 pub timed_plan-requires-clause-within : goal.timed_plan-requires-clause-within
 timed_plan-requires-clause-within g c =
     let files = files_of c.args.task.now in
-    let groups = (map (λ h. h.items) c.args.groups.now) in
-    let order : c.deref-in-Some.result.now ≡ concat (map (λ h. h.items) c.args.groups.now) = search rules in
-    let split : IsSplitOf (groups_of c.args.accepted.now.happenings.items) (map (λ h. h.items) c.args.groups.now) = search rules in
+    let groups = map (λ h. h.items) c.args.groups.now in
+    let order : c.deref-in-Some.result.now ≡ concat groups =
+    c.deref-in-Some.ensures.value ∙ subst (λ o. IfSome o (λ new. new.order.items ≡ concat groups)) c.in-Some.is c.in_ok-new.ensures.order in
+    let Splits = λ (gs : List (List ℕ)). IsSplitOf gs groups in
+    let split = subst Splits (ap groups_of c.deref.ensures.value)
+    (subst (λ o. MatchOption o (Splits (groups_of c.deref.result.now) → ⊥) (λ new. Splits (groups_of c.deref.result.now))) c.in-Some.is c.in_ok-new.ensures.split) in
     subst (λ l. All (λ k. k < length c.args.steps.now) l) (sym order) (within files.domain files.problem c.domain-linked.ensures.linked c.requires (concat groups) split.in_turn.each_once)
 
 pub timed_plan-requires-clause-as_many : goal.timed_plan-requires-clause-as_many
 timed_plan-requires-clause-as_many g c =
-    let groups = (map (λ h. h.items) c.args.groups.now) in
-    let order : c.deref-in-Some.result.now ≡ concat (map (λ h. h.items) c.args.groups.now) = search rules in
-    let moments : c.deref-in-Some-2.result.now ≡ split_moments 1 (map (λ h. h.items) c.args.groups.now) = search rules in
+    let groups = map (λ h. h.items) c.args.groups.now in
+    let order : c.deref-in-Some.result.now ≡ concat groups =
+    c.deref-in-Some.ensures.value ∙ subst (λ o. IfSome o (λ new. new.order.items ≡ concat groups)) c.in-Some.is c.in_ok-new.ensures.order in
+    let moments : c.deref-in-Some-2.result.now ≡ split_moments 1 groups =
+    c.deref-in-Some-2.ensures.value ∙ subst (λ o. IfSome o (λ new. new.moments.items ≡ split_moments 1 groups)) c.in-Some.is c.in_ok-new.ensures.moments in
     ap length moments ∙ (as_many_moments 1 groups ∙ ap length (sym order))
 
 pub timed_plan-requires-clause-small : goal.timed_plan-requires-clause-small
 timed_plan-requires-clause-small g c =
     let files = files_of c.args.task.now in
-    let made : c.split.result ≡ Ok (Some c.in-Some.new) = search rules in
-    let same : c.deref-in-Some-2.result.now ≡ c.in-Some.new.moments.items = search rules in
-    let told = subst (λ r. IfOk r (λ found. IfSome found (λ new. All (λ m. (1 ≤ m) × (m ≤ c.len.result)) new.moments.items))) made c.split.ensures.within in
-    let early = subst (λ (l : List ℕ). All (λ m. (1 ≤ m) × (m ≤ c.len.result)) l) (sym same) told in
+    let told = subst (λ o. IfSome o (λ new. All (λ m. (1 ≤ m) × (m ≤ c.len.result)) new.moments.items)) c.in-Some.is c.in_ok-new.ensures.within in
+    let early = subst (λ (l : List ℕ). All (λ m. (1 ≤ m) × (m ≤ c.len.result)) l) (sym c.deref-in-Some-2.ensures.value) told in
     small files.domain files.problem c.domain-linked.ensures.linked c.requires c.deref-in-Some-2.result.now (subst (λ n. All (λ m. (1 ≤ m) × (m ≤ n)) c.deref-in-Some-2.result.now) c.len.ensures early)
 
 pub returns-in_ok-timed_plan-in-Some-clause-plan : goal.returns-in_ok-timed_plan-in-Some-clause-plan
@@ -49,11 +52,21 @@ returns-in_ok-timed_plan-in-Some-clause-plan g c =
     let files = files_of c.args.task.now in
     let task = task_of_files c.args.task.now in
     let steps = c.args.steps.now in
-    let groups = (map (λ h. h.items) c.args.groups.now) in
+    let groups = map (λ h. h.items) c.args.groups.now in
     let end = by_name (number_of task) (g.S.AtomStore.content c.args.accepted.now.store c.args.accepted.now.end) in
-    let order : c.deref-in-Some.result.now ≡ concat (map (λ h. h.items) c.args.groups.now) = search rules in
-    let moments : c.deref-in-Some-2.result.now ≡ split_moments 1 (map (λ h. h.items) c.args.groups.now) = search rules in
-    let split : IsSplitOf (groups_of c.args.accepted.now.happenings.items) (map (λ h. h.items) c.args.groups.now) = search rules in
+    let order : c.deref-in-Some.result.now ≡ concat groups =
+    c.deref-in-Some.ensures.value ∙ subst (λ o. IfSome o (λ new. new.order.items ≡ concat groups)) c.in-Some.is c.in_ok-new.ensures.order in
+    let moments : c.deref-in-Some-2.result.now ≡ split_moments 1 groups =
+    c.deref-in-Some-2.ensures.value ∙ subst (λ o. IfSome o (λ new. new.moments.items ≡ split_moments 1 groups)) c.in-Some.is c.in_ok-new.ensures.moments in
+    let Splits = λ (gs : List (List ℕ)). IsSplitOf gs groups in
+    let split = subst Splits (ap groups_of c.deref.ensures.value)
+    (subst (λ o. MatchOption o (Splits (groups_of c.deref.result.now) → ⊥) (λ new. Splits (groups_of c.deref.result.now))) c.in-Some.is c.in_ok-new.ensures.split) in
     let plan_is = ap₂ (λ o m. timed_plan task (at_moments (picked steps o) m)) order moments in
     subst (λ (p : PlanValue). IsSplitPlan task steps groups end c.args.accepted.now.cost p) (sym (c.in_ok-timed_plan-in-Some.ensures ∙ plan_is))
     (split_accepted files.domain files.problem c.domain-linked.ensures.linked c.requires groups split)
+
+pub returns-in-None-clause-split : goal.returns-in-None-clause-split
+returns-in-None-clause-split g c = tt
+
+pub returns-in-None-clause-plan : goal.returns-in-None-clause-plan
+returns-in-None-clause-plan g c = tt

@@ -1,5 +1,5 @@
-use Rattle.std.proofs.Common.{rules, ◌≡◌, ◌<◌, ◌≤◌, List, ℕ, length, sym, ap, ap₂, ◌∙◌, subst}
-use Rattle.std.specs.Prelude.{All, Some, Ok, IfOk, IfSome}
+use Rattle.std.proofs.Common.{◌≡◌, ◌<◌, ◌≤◌, List, ℕ, map, length, sym, ap, ap₂, ◌∙◌, subst}
+use Rattle.std.specs.Prelude.{All, IfSome, MatchOption}
 use Rattle.std.specs.List.{concat}
 use Rattle.std.proofs.lemmas.Result.{IfOk-weaker}
 use Rattle.pddl_tree.specs.Plans.{PlanValue}
@@ -18,7 +18,7 @@ use Rattle.pddl_serial_plans.proofs.split_plan.split_in_groups.Goals as goal
 pub split-requires : goal.split-requires
 split-requires g c =
     let files = files_of c.args.task.now in
-    let hs : groups_of c.deref-2.result.now ≡ groups_of c.args.accepted.now.happenings.items = search rules in
+    let hs = ap groups_of c.deref-2.ensures.value in
     subst (λ n. HaveEachOnce n (groups_of c.deref-2.result.now)) (sym c.len.ensures)
     (subst (λ gs. HaveEachOnce (length c.args.steps.now) gs) (sym hs) (each_once files.domain files.problem c.domain-linked.ensures.linked c.requires.accepted))
 
@@ -26,31 +26,44 @@ pub timed_plan-requires-clause-within : goal.timed_plan-requires-clause-within
 timed_plan-requires-clause-within g c =
     let files = files_of c.args.task.now in
     let groups = cut_in_order c.args.size c.args.order (groups_of c.args.accepted.now.happenings.items) in
-    let order : c.deref-in-Some.result.now ≡ concat (cut_in_order c.args.size c.args.order (groups_of c.args.accepted.now.happenings.items)) = search rules in
+    let cut : map (λ h. h.items) c.deref-3.result.now ≡ groups =
+    ap (map (λ h. h.items)) c.deref-3.ensures.value ∙ (c.in_ok-groups.ensures ∙ ap (λ hs. cut_in_order c.args.size c.args.order (groups_of hs)) c.deref.ensures.value) in
+    let order : c.deref-in-Some.result.now ≡ concat groups =
+    c.deref-in-Some.ensures.value
+    ∙ (subst (λ o. IfSome o (λ new. new.order.items ≡ concat (map (λ h. h.items) c.deref-3.result.now))) c.in-Some.is c.in_ok-new.ensures.order ∙ ap concat cut) in
     let split = cuts files.domain files.problem c.domain-linked.ensures.linked c.requires.accepted c.args.size c.args.order c.requires.size in
     subst (λ l. All (λ k. k < length c.args.steps.now) l) (sym order) (within files.domain files.problem c.domain-linked.ensures.linked c.requires.accepted (concat groups) split.in_turn.each_once)
 
 pub timed_plan-requires-clause-as_many : goal.timed_plan-requires-clause-as_many
 timed_plan-requires-clause-as_many g c =
     let groups = cut_in_order c.args.size c.args.order (groups_of c.args.accepted.now.happenings.items) in
-    let order : c.deref-in-Some.result.now ≡ concat (cut_in_order c.args.size c.args.order (groups_of c.args.accepted.now.happenings.items)) = search rules in
-    let moments : c.deref-in-Some-2.result.now ≡ split_moments 1 (cut_in_order c.args.size c.args.order (groups_of c.args.accepted.now.happenings.items)) = search rules in
+    let cut : map (λ h. h.items) c.deref-3.result.now ≡ groups =
+    ap (map (λ h. h.items)) c.deref-3.ensures.value ∙ (c.in_ok-groups.ensures ∙ ap (λ hs. cut_in_order c.args.size c.args.order (groups_of hs)) c.deref.ensures.value) in
+    let order : c.deref-in-Some.result.now ≡ concat groups =
+    c.deref-in-Some.ensures.value
+    ∙ (subst (λ o. IfSome o (λ new. new.order.items ≡ concat (map (λ h. h.items) c.deref-3.result.now))) c.in-Some.is c.in_ok-new.ensures.order ∙ ap concat cut) in
+    let moments : c.deref-in-Some-2.result.now ≡ split_moments 1 groups =
+    c.deref-in-Some-2.ensures.value
+    ∙ (subst (λ o. IfSome o (λ new. new.moments.items ≡ split_moments 1 (map (λ h. h.items) c.deref-3.result.now))) c.in-Some.is c.in_ok-new.ensures.moments ∙ ap (split_moments 1) cut) in
     ap length moments ∙ (as_many_moments 1 groups ∙ ap length (sym order))
 
 pub timed_plan-requires-clause-small : goal.timed_plan-requires-clause-small
 timed_plan-requires-clause-small g c =
     let files = files_of c.args.task.now in
-    let made : c.split.result ≡ Ok (Some c.in-Some.new) = search rules in
-    let same : c.deref-in-Some-2.result.now ≡ c.in-Some.new.moments.items = search rules in
-    let told = subst (λ r. IfOk r (λ found. IfSome found (λ new. All (λ m. (1 ≤ m) × (m ≤ c.len.result)) new.moments.items))) made c.split.ensures.within in
-    let early = subst (λ (l : List ℕ). All (λ m. (1 ≤ m) × (m ≤ c.len.result)) l) (sym same) told in
+    let told = subst (λ o. IfSome o (λ new. All (λ m. (1 ≤ m) × (m ≤ c.len.result)) new.moments.items)) c.in-Some.is c.in_ok-new.ensures.within in
+    let early = subst (λ (l : List ℕ). All (λ m. (1 ≤ m) × (m ≤ c.len.result)) l) (sym c.deref-in-Some-2.ensures.value) told in
     small files.domain files.problem c.domain-linked.ensures.linked c.requires.accepted c.deref-in-Some-2.result.now (subst (λ n. All (λ m. (1 ≤ m) × (m ≤ n)) c.deref-in-Some-2.result.now) c.len.ensures early)
 
 pub unreachable-requires : goal.unreachable-requires
 unreachable-requires g c =
     let files = files_of c.args.task.now in
-    let none : IsSplitOf (groups_of c.args.accepted.now.happenings.items) (cut_in_order c.args.size c.args.order (groups_of c.args.accepted.now.happenings.items)) → ⊥ = search rules in
-    none (cuts files.domain files.problem c.domain-linked.ensures.linked c.requires.accepted c.args.size c.args.order c.requires.size)
+    let groups = cut_in_order c.args.size c.args.order (groups_of c.args.accepted.now.happenings.items) in
+    let cut : map (λ h. h.items) c.deref-3.result.now ≡ groups =
+    ap (map (λ h. h.items)) c.deref-3.ensures.value ∙ (c.in_ok-groups.ensures ∙ ap (λ hs. cut_in_order c.args.size c.args.order (groups_of hs)) c.deref.ensures.value) in
+    let Splits = IsSplitOf (groups_of c.deref-2.result.now) (map (λ h. h.items) c.deref-3.result.now) in
+    let none = subst (λ o. MatchOption o (Splits → ⊥) (λ new. Splits)) c.in-None.is c.in_ok-new.ensures.split in
+    none (subst (λ gs. IsSplitOf gs (map (λ h. h.items) c.deref-3.result.now)) (sym (ap groups_of c.deref-2.ensures.value))
+    (subst (λ gs. IsSplitOf (groups_of c.args.accepted.now.happenings.items) gs) (sym cut) (cuts files.domain files.problem c.domain-linked.ensures.linked c.requires.accepted c.args.size c.args.order c.requires.size)))
 
 pub returns : goal.returns
 returns g c =
@@ -59,8 +72,14 @@ returns g c =
     let steps = c.args.steps.now in
     let groups = cut_in_order c.args.size c.args.order (groups_of c.args.accepted.now.happenings.items) in
     let end = by_name (number_of task) (g.S.AtomStore.content c.args.accepted.now.store c.args.accepted.now.end) in
-    let order : c.deref-in-Some.result.now ≡ concat (cut_in_order c.args.size c.args.order (groups_of c.args.accepted.now.happenings.items)) = search rules in
-    let moments : c.deref-in-Some-2.result.now ≡ split_moments 1 (cut_in_order c.args.size c.args.order (groups_of c.args.accepted.now.happenings.items)) = search rules in
+    let cut : map (λ h. h.items) c.deref-3.result.now ≡ groups =
+    ap (map (λ h. h.items)) c.deref-3.ensures.value ∙ (c.in_ok-groups.ensures ∙ ap (λ hs. cut_in_order c.args.size c.args.order (groups_of hs)) c.deref.ensures.value) in
+    let order : c.deref-in-Some.result.now ≡ concat groups =
+    c.deref-in-Some.ensures.value
+    ∙ (subst (λ o. IfSome o (λ new. new.order.items ≡ concat (map (λ h. h.items) c.deref-3.result.now))) c.in-Some.is c.in_ok-new.ensures.order ∙ ap concat cut) in
+    let moments : c.deref-in-Some-2.result.now ≡ split_moments 1 groups =
+    c.deref-in-Some-2.ensures.value
+    ∙ (subst (λ o. IfSome o (λ new. new.moments.items ≡ split_moments 1 (map (λ h. h.items) c.deref-3.result.now))) c.in-Some.is c.in_ok-new.ensures.moments ∙ ap (split_moments 1) cut) in
     let plan_is = ap₂ (λ o m. timed_plan task (at_moments (picked steps o) m)) order moments in
     let split = cuts files.domain files.problem c.domain-linked.ensures.linked c.requires.accepted c.args.size c.args.order c.requires.size in
     IfOk-weaker c.timed_plan.result _ _
