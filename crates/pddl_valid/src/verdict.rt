@@ -1,12 +1,13 @@
 //! The verdict.
 
-ghost use Rattle.std.specs.Prelude.{◌≡◌, ℕ, false, IfOk};
-ghost use Rattle.pddl_happenings.specs.Accepted.{AllFine, after_all, IsAcceptedRun};
+ghost use Rattle.std.specs.Prelude.{◌≡◌, ◌≤◌, ℕ, false, IfOk};
+ghost use Rattle.pddl_happenings.specs.Accepted.{AllFine, after_all, IsAcceptedRun, NotAccepted};
 ghost use Rattle.pddl_happenings.specs.Failures.{IsFirstUnready, IsFirstClash, AtHappening};
+ghost use Rattle.pddl_happenings.specs.Happenings.{HaveEachOnce};
 ghost use Rattle.pddl_happenings.specs.NamedSteps.{by_name};
 ghost use Rattle.pddl_happenings.specs.Serialisations.{Converges};
 ghost use Rattle.pddl_judge.specs.HappeningValues.{groups_of, moments_of};
-ghost use Rattle.pddl_judge.specs.Verdicts.{IfPrecondition, IfInterference, IfGoal, OnAccepted, OnRefused};
+ghost use Rattle.pddl_judge.specs.Verdicts.{IsLeast, IfPrecondition, IfInterference, IfGoal, OnAccepted, OnRefused};
 ghost use Rattle.pddl_step.specs.Link.LinkedTasks.{task_of_files};
 ghost use Rattle.pddl_meaning.specs.Worlds.{Atoms};
 ghost use Rattle.pddl_step.specs.LinkedPlan.LinkedSteps.{AreLinkedSteps};
@@ -16,12 +17,35 @@ ghost use Rattle.pddl_valid.specs.AcceptedPlans.{AreHappeningsOf, OfHappenings, 
 ghost use Rattle.pddl_valid.specs.NamedClashes.{NamesLeast};
 
 use crate::moments::happenings;
-use pddl_judge::{Course, Verdict, judge};
+use pddl_judge::{Course, Happening, Verdict};
 use pddl_state::AtomStore;
 use pddl_step::compile_plan;
 use pddl_step::pddl_link::Task;
 use pddl_step::pddl_linked_plan::Steps;
 use std::alloc::{AllocError, Allocator};
+
+/// The verdict on the steps of a course from its start, over a store: what [`pddl_judge::judge`] says of it.
+///
+/// Fails only where memory is refused.
+fn judge<A: Allocator, B: Allocator, S: AtomStore<A>, P: Course<A, S>>(
+    course: &P,
+    happenings: Vec<Happening<B>, B>,
+    mut store: S,
+) -> Result<Verdict<A, B, S>, AllocError>
+    requires count { P.count_of course.now ≤ 1000000 }
+    requires each { HaveEachOnce (P.count_of course.now) (groups_of happenings.items) }
+    ensures end_own { IfOk result (λ v. OnAccepted v (λ a. S.owns a.store a.end)) }
+    ensures happenings { IfOk result (λ v. OnAccepted v (λ a. a.happenings ≡ happenings)) }
+    ensures accepted { IfOk result (λ v. OnAccepted v (λ a. IsAcceptedRun (P.steps_of course.now) (P.goal_of course.now) (P.start_of course.now) (groups_of happenings.items) (S.content a.store a.end) a.cost)) }
+    ensures precondition { IfOk result (λ v. OnRefused v (λ r. IfPrecondition r (λ h step. AtHappening (P.steps_of course.now) (λ s g. IsFirstUnready (P.steps_of course.now) s g step) (P.start_of course.now) (groups_of happenings.items) h))) }
+    ensures interference { IfOk result (λ v. OnRefused v (λ r. IfInterference r (λ h first second a. AtHappening (P.steps_of course.now) (λ s g. IsFirstClash (P.steps_of course.now) (IsLeast a) s g first second) (P.start_of course.now) (groups_of happenings.items) h))) }
+    ensures fine_but_goal { IfOk result (λ v. OnRefused v (λ r. IfGoal r (AllFine (P.steps_of course.now) (P.start_of course.now) (groups_of happenings.items)))) }
+    ensures goal { IfOk result (λ v. OnRefused v (λ r. IfGoal r (P.goal_of course.now (after_all (P.steps_of course.now) (P.start_of course.now) (groups_of happenings.items)) ≡ false))) }
+    ensures refused { IfOk result (λ v. OnRefused v (λ r. NotAccepted (P.steps_of course.now) (P.goal_of course.now) (P.start_of course.now) (groups_of happenings.items))) }
+{
+    let start = course.start(&mut store)?;
+    pddl_judge::judge(course, happenings, store, start)
+}
 
 /// The verdict on linked steps, over a store.
 ///
@@ -36,7 +60,7 @@ pub fn validate<'m, 'a, 'b, 'c, A, B, C, D, S>(
     alloc: &'c D,
     task: &Task<'m, 'a, A, B>,
     steps: &Steps<'b, C>,
-    mut store: S,
+    store: S,
 ) -> Result<Verdict<&'c D, &'c D, S>, AllocError>
 where
     A: Allocator,
@@ -56,8 +80,9 @@ where
     ensures refused { IfOk result (λ v. OnRefused v (λ r. (end : Atoms) (cost : ℕ) → IsAcceptedPlan (task_of_files task.now) steps.now end cost → ⊥)) }
 {
     let _linked = task.domain();
-    let plan = compile_plan(alloc, task, steps)?;
     let groups = happenings(alloc, steps)?;
-    let start = plan.start(&mut store)?;
-    judge(&plan, groups, store, start)
+    let plan = compile_plan(alloc, task, steps)?;
+    let verdict = judge(&plan, groups, store);
+    drop(plan);
+    verdict
 }

@@ -1,4 +1,4 @@
-use Rattle.std.proofs.Common.{◌≡◌, ◌≤◌, length, sym, ap, ap₂, ◌∙◌, subst}
+use Rattle.std.proofs.Common.{◌≡◌, ◌≤◌, length, sym, ap, ap₂, subst}
 use Rattle.pddl_task.specs.Tasks.{TaskValue, task_of}
 use Rattle.pddl_happenings.specs.Serialisations.{Converges}
 use Rattle.pddl_judge.specs.HappeningValues.{groups_of, moments_of}
@@ -16,8 +16,8 @@ happenings-requires g c =
     let files = files_of c.args.task.now in
     ((steps_are_sound files.domain files.problem c.domain-linked.ensures.linked c.args.steps.now).0 c.requires).short
 
-pub judge-requires-clause-count : goal.judge-requires-clause-count
-judge-requires-clause-count g c =
+pub judge-verdict-requires-clause-count : goal.judge-verdict-requires-clause-count
+judge-verdict-requires-clause-count g c =
     let files = files_of c.args.task.now in
     subst (λ l. length l ≤ 1000000) (sym c.in_ok-plan.ensures.steps) ((steps_are_sound files.domain files.problem c.domain-linked.ensures.linked c.args.steps.now).0 c.requires).short
 
@@ -29,24 +29,24 @@ returns g c =
     let steps = c.args.steps.now in
     let content = g.S.AtomStore.content in
     let hs = c.in_ok-groups.groups.items in
-    let r = c.judge.result in
+    let r = c.judge-verdict.result in
     let same_task : held ≡ task = c.in_ok-plan.ensures.task in
-    let run : IsCourseOf files.domain files.problem steps (numbered_steps held (plan_steps c.in_ok-plan.plan)) (numbered_goal held) (content c.start.new.store c.in_ok-start.start) (moments_of hs) (groups_of hs) = record {
+    let run : IsCourseOf files.domain files.problem steps (numbered_steps held (plan_steps c.in_ok-plan.plan)) (numbered_goal held) (numbered_start held) (moments_of hs) (groups_of hs) = record {
       linked = c.domain-linked.ensures.linked;
       are = c.requires;
       course_is = ap₂ numbered_steps same_task c.in_ok-plan.ensures.steps;
       goal_is = ap numbered_goal same_task;
-      start_is = c.in_ok-start.ensures.content ∙ ap numbered_start same_task;
+      start_is = ap numbered_start same_task;
       of = c.in_ok-groups.ensures.happenings;
     } in
     record {
-      end_own = c.judge.ensures.end_own;
-      happenings = accepted_so _ _ (λ a e. subst (λ v. AreHappeningsOf steps (moments_of v.items) (groups_of v.items)) (sym e) c.in_ok-groups.ensures.happenings) r c.judge.ensures.happenings;
-      accepted = accepted_so _ _ (λ a. accepted run (content a.store a.end) a.cost) r c.judge.ensures.accepted;
-      converges = accepted_so _ _ (λ a both. subst (λ v. Converges (named_steps task steps) (initial_state task) (groups_of v.items)) (sym both.0) (converges run (length steps) c.in_ok-groups.ensures.each both.1.fine)) r (accepted_both _ _ r c.judge.ensures.happenings c.judge.ensures.accepted);
-      precondition = refused_so _ _ (precondition_so _ _ (unready run)) r c.judge.ensures.precondition;
-      interference = refused_so _ _ (interference_so _ _ (clashes run)) r c.judge.ensures.interference;
-      passes = refused_so _ _ (goal_so _ _ (passes run)) r c.judge.ensures.fine_but_goal;
-      goal = refused_so _ _ (goal_so _ _ (off_goal run)) r c.judge.ensures.goal;
-      refused = refused_so _ _ (λ f. refused run) r c.judge.ensures.refused;
+      end_own = c.judge-verdict.ensures.end_own;
+      happenings = accepted_so _ _ (λ a e. subst (λ v. AreHappeningsOf steps (moments_of v.items) (groups_of v.items)) (sym e) c.in_ok-groups.ensures.happenings) r c.judge-verdict.ensures.happenings;
+      accepted = accepted_so _ _ (λ a. accepted run (content a.store a.end) a.cost) r c.judge-verdict.ensures.accepted;
+      converges = accepted_so _ _ (λ a both. subst (λ v. Converges (named_steps task steps) (initial_state task) (groups_of v.items)) (sym both.0) (converges run (length steps) c.in_ok-groups.ensures.each both.1.fine)) r (accepted_both _ _ r c.judge-verdict.ensures.happenings c.judge-verdict.ensures.accepted);
+      precondition = refused_so _ _ (precondition_so _ _ (unready run)) r c.judge-verdict.ensures.precondition;
+      interference = refused_so _ _ (interference_so _ _ (clashes run)) r c.judge-verdict.ensures.interference;
+      passes = refused_so _ _ (goal_so _ _ (passes run)) r c.judge-verdict.ensures.fine_but_goal;
+      goal = refused_so _ _ (goal_so _ _ (off_goal run)) r c.judge-verdict.ensures.goal;
+      refused = refused_so _ _ (λ f. refused run) r c.judge-verdict.ensures.refused;
     }
