@@ -1,5 +1,5 @@
 use Rattle.std.proofs.Common.{◌∙◌, refl, sym, subst, inl, inr}
-use Rattle.std.proofs.lemmas.Result.{IfOk-weaker}
+use Rattle.std.proofs.lemmas.Result.{IfOk-weaker, on_ok_weaker}
 use Rattle.pddl_domain.specs.Domains.{domain_view}
 use Rattle.pddl_domain_reader.specs.DomainTexts.{SpellsDomain, DomainStands}
 use Rattle.pddl_kind.specs.declared.Kind.TheVariants.{Domain}
@@ -57,3 +57,33 @@ returns-in-Ok-clause-read g c =
     let content = subst (IsContent Domain (g.S.Source.remaining c.args.domain.now) (g.S.Source.at_end c.read_file.new.source)) c.in-Text.is c.in_ok-text.ensures.content in
     IfOk-weaker c.read_problem_and_plan-answer.result _ _
     (λ answer read. (inl content.1, inr read.0, read.1)) c.read_problem_and_plan-answer.ensures.read
+
+pub returns-in-Ok-clause-none_failed : goal.returns-in-Ok-clause-none_failed
+returns-in-Ok-clause-none_failed g c = on_ok_weaker c.read_problem_and_plan-answer.result (λ later. (c.in_ok-text.ensures.none_failed, later.0, later.1)) c.read_problem_and_plan-answer.ensures.none_failed
+
+pub returns-in-Ok-clause-memory : goal.returns-in-Ok-clause-memory
+returns-in-Ok-clause-memory g c = λ is. let later = c.read_problem_and_plan-answer.ensures.memory is in (c.in_ok-text.ensures.none_failed, later.0, later.1)
+
+pub returns-in-Ok-clause-read_failed : goal.returns-in-Ok-clause-read_failed
+returns-in-Ok-clause-read_failed g c = λ is. inr (c.read_problem_and_plan-answer.ensures.read_failed is)
+
+pub returns-in-Ok-clause-no_write : goal.returns-in-Ok-clause-no_write
+returns-in-Ok-clause-no_write g c = c.read_problem_and_plan-answer.ensures.no_write
+
+pub returns-in-Ok-clause-stands : goal.returns-in-Ok-clause-stands
+returns-in-Ok-clause-stands g c = c.read_file.ensures.stands
+
+pub returns-in-Ok-clause-problem_stands : goal.returns-in-Ok-clause-problem_stands
+returns-in-Ok-clause-problem_stands g c = c.read_problem_and_plan-answer.ensures.stands
+
+pub returns-in-Ok-clause-plan_stands : goal.returns-in-Ok-clause-plan_stands
+returns-in-Ok-clause-plan_stands g c = c.read_problem_and_plan-answer.ensures.plan_stands
+
+pub returns-in-Ok-clause-problem_first : goal.returns-in-Ok-clause-problem_first
+returns-in-Ok-clause-problem_first g c = c.read_problem_and_plan-answer.ensures.problem_first
+
+pub returns-in-Ok-clause-no_read_after_domain : goal.returns-in-Ok-clause-no_read_after_domain
+returns-in-Ok-clause-no_read_after_domain g c = λ failed. absurd (failed c.in_ok-text.ensures.none_failed)
+
+pub returns-in-Ok-clause-no_read_after_problem : goal.returns-in-Ok-clause-no_read_after_problem
+returns-in-Ok-clause-no_read_after_problem g c = c.read_problem_and_plan-answer.ensures.no_read_after_failure

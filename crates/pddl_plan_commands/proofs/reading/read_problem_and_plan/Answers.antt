@@ -1,4 +1,5 @@
 use Rattle.std.proofs.Common.{◌∙◌, refl, sym, subst, inl, inr}
+use Rattle.std.proofs.lemmas.Result.{IfOk-weaker, on_ok_weaker}
 use Rattle.pddl_problem.specs.Problems.{problem_view}
 use Rattle.pddl_problem_reader.specs.ProblemTexts.{SpellsProblem, ProblemStands}
 use Rattle.pddl_kind.specs.declared.Kind.TheVariants.{Problem}
@@ -37,3 +38,38 @@ returns-in-Ok-clause-problem_first g c none =
 
 pub returns-in-Ok-clause-read_failed : goal.returns-in-Ok-clause-read_failed
 returns-in-Ok-clause-read_failed g c failed = inr (c.read_plan_checked-answer.ensures.read_failed failed)
+
+pub returns-in-Ok-clause-answer : goal.returns-in-Ok-clause-answer
+returns-in-Ok-clause-answer g c =
+    let content = subst (IsContent Problem (g.S.Source.remaining c.args.problem.now) (g.S.Source.at_end c.read_file.new.source)) c.in-Text.is c.in_ok-text.ensures.content in
+    let spells = subst (λ text. SpellsProblem (problem_view c.in-Ok.read) text) c.deref.ensures.value c.in-Ok.ensures.problem in
+    IfOk-weaker c.read_plan_checked-answer.result _ _
+    (λ answer judged. (c.in-Text.text.items, judged.0, content.0, judged.1, inr (problem_view c.in-Ok.read, spells, judged.2))) c.read_plan_checked-answer.ensures.answer
+
+pub returns-in-Ok-clause-read : goal.returns-in-Ok-clause-read
+returns-in-Ok-clause-read g c =
+    let content = subst (IsContent Problem (g.S.Source.remaining c.args.problem.now) (g.S.Source.at_end c.read_file.new.source)) c.in-Text.is c.in_ok-text.ensures.content in
+    IfOk-weaker c.read_plan_checked-answer.result _ _ (λ answer read. (inl content.1, inr read)) c.read_plan_checked-answer.ensures.read
+
+pub returns-in-Ok-clause-judged_at_end : goal.returns-in-Ok-clause-judged_at_end
+returns-in-Ok-clause-judged_at_end g c =
+    let content = subst (IsContent Problem (g.S.Source.remaining c.args.problem.now) (g.S.Source.at_end c.read_file.new.source)) c.in-Text.is c.in_ok-text.ensures.content in
+    IfOk-weaker c.read_plan_checked-answer.result _ _ (λ answer ends judged. (content.1, ends judged)) c.read_plan_checked-answer.ensures.judged_at_end
+
+pub returns-in-Ok-clause-none_failed : goal.returns-in-Ok-clause-none_failed
+returns-in-Ok-clause-none_failed g c = on_ok_weaker c.read_plan_checked-answer.result (λ later. (c.in_ok-text.ensures.none_failed, later)) c.read_plan_checked-answer.ensures.none_failed
+
+pub returns-in-Ok-clause-memory : goal.returns-in-Ok-clause-memory
+returns-in-Ok-clause-memory g c = λ is. (c.in_ok-text.ensures.none_failed, c.read_plan_checked-answer.ensures.memory is)
+
+pub returns-in-Ok-clause-no_write : goal.returns-in-Ok-clause-no_write
+returns-in-Ok-clause-no_write g c = c.read_plan_checked-answer.ensures.no_write
+
+pub returns-in-Ok-clause-stands : goal.returns-in-Ok-clause-stands
+returns-in-Ok-clause-stands g c = c.read_file.ensures.stands
+
+pub returns-in-Ok-clause-plan_stands : goal.returns-in-Ok-clause-plan_stands
+returns-in-Ok-clause-plan_stands g c = c.read_plan_checked-answer.ensures.stands
+
+pub returns-in-Ok-clause-no_read_after_failure : goal.returns-in-Ok-clause-no_read_after_failure
+returns-in-Ok-clause-no_read_after_failure g c = λ failed. absurd (failed c.in_ok-text.ensures.none_failed)
