@@ -1,7 +1,6 @@
 -- What was read and made is what a command says of its run.
-use Rattle.std.proofs.Common.{◌≡◌, ℕ, true, List, refl}
-use Rattle.std.specs.Prelude.{◌≢◌, ◌⊎◌, Option, Some, None}
-use Rattle.std.specs.Io.KnownBytes.{Keeps}
+use Rattle.std.proofs.Common.{◌≡◌, ℕ, true, List}
+use Rattle.std.specs.Prelude.{◌≢◌, ◌⊎◌}
 use Rattle.pddl_kind.specs.declared.Kind.TheVariants.{Domain, Problem, Plan}
 use Rattle.pddl_commands.specs.declared.outcome.Outcome.{Outcome}
 use Rattle.pddl_commands.specs.declared.outcome.Outcome.TheVariants.{Refused}
@@ -10,11 +9,6 @@ use Rattle.pddl_commands.specs.Formats.{IsLeft}
 use Rattle.pddl_plan_commands.specs.Printings.{Printing}
 use Rattle.pddl_plan_commands.specs.PlanChecks.{IsPlanChecked}
 use Rattle.pddl_plan_commands.specs.Runs.{Readers, IsText}
-
--- a writer to which nothing is written holds what it held
-pub keeps_itself : (bytes : Option (List ℕ)) → Keeps bytes bytes
-keeps_itself None = tt
-keeps_itself (Some known) = refl
 
 -- the parts of what is printed for three texts
 pub is_text : (Prints : Printing) (r : Readers) (printed : List ℕ) (outcome : Outcome)

@@ -3,32 +3,53 @@ use Rattle.std.proofs.lemmas.Result.{IfOk-weaker, on_ok_weaker}
 use Rattle.pddl_problem.specs.Problems.{problem_view}
 use Rattle.pddl_problem_reader.specs.ProblemTexts.{SpellsProblem, ProblemStands}
 use Rattle.pddl_kind.specs.declared.Kind.TheVariants.{Problem}
+use Rattle.pddl_commands.specs.declared.outcome.RunFault.TheVariants.{ReadFailed, WriteFailed}
 use Rattle.pddl_commands.specs.Contents.{IsContent}
 use Rattle.pddl_commands.specs.Formats.{IsRefused}
-use Rattle.pddl_commands.proofs.Left.{some_left}
+use Rattle.pddl_commands.proofs.Left.{some_left, stands_still}
+use Rattle.pddl_commands.proofs.Made.{if_made, only_memory, on_any}
 use Rattle.pddl_plan_commands.proofs.Left.{no_problem_left}
 use Rattle.pddl_plan_commands.proofs.reading.read_problem_and_plan.Goals as goal
 
 pub refused_problem-requires : goal.refused_problem-requires
 refused_problem-requires g c = subst (λ text. ProblemStands c.in-Err.fault text) (c.deref.ensures.value ∙ sym c.deref-in-Err.ensures.value) c.in-Err.ensures.fault
 
-pub returns-in-Text-clause-answer : goal.returns-in-Text-clause-answer
-returns-in-Text-clause-answer g c =
+pub returns-in-Text : goal.returns-in-Text
+returns-in-Text g c =
     let content = subst (IsContent Problem (g.S.Source.remaining c.args.problem.now) (g.S.Source.at_end c.read_file.new.source)) c.in-Text.is c.in_ok-text.ensures.content in
     let steps = some_left (g.T.Source.remaining c.args.plan.now) in
-    let refused = c.in_ok-refused-in-Err.ensures in (
-      c.in-Text.text.items,
-      steps.0,
-      content.0,
-      steps.1,
-      inl (refused.0, subst (λ text. IsRefused Problem text c.in_ok-refused-in-Err.refused.0.items) c.deref-in-Err.ensures.value refused.1),
-    )
+    record {
+      answer = if_made c.refused_problem.result c.or_memory.result _ _ c.or_memory.ensures
+          (λ answer is. (c.in-Text.text.items, steps.0, content.0, steps.1, inl (is.0, subst (λ text. IsRefused Problem text answer.0.items) c.deref-in-Err.ensures.value is.1))) c.refused_problem.ensures;
+      read = if_made c.refused_problem.result c.or_memory.result _ _ c.or_memory.ensures (λ answer is. (inl content.1, inl refl)) c.refused_problem.ensures;
+      judged_at_end = if_made c.refused_problem.result c.or_memory.result _ _ c.or_memory.ensures (λ answer is judged. absurd (judged is.0)) c.refused_problem.ensures;
+      none_failed = on_any c.or_memory.result (c.in_ok-text.ensures.none_failed, refl);
+      memory = λ is. (c.in_ok-text.ensures.none_failed, refl);
+      read_failed = λ is. absurd (cc (only_memory c.refused_problem.result c.or_memory.result ReadFailed c.or_memory.ensures is));
+      no_write = λ is. absurd (cc (only_memory c.refused_problem.result c.or_memory.result WriteFailed c.or_memory.ensures is));
+      stands = c.read_file.ensures.stands;
+      plan_stands = stands_still (g.T.Source.remaining c.args.plan.now);
+      problem_first = λ none. refl;
+      no_read_after_failure = λ failed. refl;
+    }
 
-pub returns-clause-answer : goal.returns-clause-answer
-returns-clause-answer g c =
+pub returns : goal.returns
+returns g c =
     let content = subst (IsContent Problem (g.S.Source.remaining c.args.problem.now) (g.S.Source.at_end c.read_file.new.source)) c.in-TooLong.is c.in_ok-text.ensures.content in
     let steps = some_left (g.T.Source.remaining c.args.plan.now) in
-    (content.1.0, steps.0, content.1.1, steps.1, inl (refl, content.1.2))
+    record {
+      answer = (content.1.0, steps.0, content.1.1, steps.1, inl (refl, content.1.2));
+      read = (inr content.0, inl refl);
+      judged_at_end = λ judged. absurd (judged refl);
+      none_failed = (c.in_ok-text.ensures.none_failed, refl);
+      memory = λ is. absurd (cc (is));
+      read_failed = λ is. absurd (cc (is));
+      no_write = λ is. absurd (cc (is));
+      stands = c.read_file.ensures.stands;
+      plan_stands = stands_still (g.T.Source.remaining c.args.plan.now);
+      problem_first = λ none. refl;
+      no_read_after_failure = λ failed. refl;
+    }
 
 pub returns-in-Ok-clause-problem_first : goal.returns-in-Ok-clause-problem_first
 returns-in-Ok-clause-problem_first g c none =
