@@ -1,5 +1,5 @@
 -- The line of a refused file is one.
-use Rattle.std.proofs.Common.{◌≡◌, ℕ, ◌+◌, List, [], ◌∷◌, ◌++◌, length, take, refl, sym, ap, subst, ◌∙◌, arith, inl, inr, cond}
+use Rattle.std.proofs.Common.{◌≡◌, ℕ, ◌+◌, List, [], ◌∷◌, ◌++◌, length, take, refl, sym, ap, subst, ◌∙◌, append_assoc, arith, inl, inr, cond}
 use Rattle.std.specs.Prelude.{codes, Bool, true, false, not, Option, Some, None, ◌==◌}
 use Rattle.std.specs.List.{AllPass, fold}
 use Rattle.std.specs.Fmt.{decimal}
@@ -71,3 +71,13 @@ one_line word text name other place at line more names places p q =
     let shown = one_shown text at p.shown q.shown (subst (λ here. IsPlaceShown text here p.shown) places p.place_is) q.place_is in
     p.line_is ∙ ap (λ (t : List ℕ). word ++ (codes ": fault " ++ (t ++ (p.shown ++ codes "\n")))) names
     ∙ ap (λ (t : List ℕ). word ++ (codes ": fault " ++ (other ++ (t ++ codes "\n")))) shown ∙ sym q.line_is
+
+-- five pieces are added to nothing
+pub five_pieces : (empty one two three four five a b c d e : List ℕ) → empty ≡ [] → one ≡ empty ++ a → two ≡ one ++ b → three ≡ two ++ c → four ≡ three ++ d → five ≡ four ++ e
+    → five ≡ a ++ (b ++ (c ++ (d ++ e)))
+five_pieces empty one two three four five a b c d e none one_is two_is three_is four_is five_is =
+    five_is
+    ∙ ap (λ (t : List ℕ). t ++ e) (four_is ∙ ap (λ (t : List ℕ). t ++ d) (three_is ∙ ap (λ (t : List ℕ). t ++ c) (two_is ∙ ap (λ (t : List ℕ). t ++ b) (one_is ∙ ap (λ (t : List ℕ). t ++ a) none))))
+    ∙ append_assoc ((a ++ b) ++ c) d e
+    ∙ append_assoc (a ++ b) c (d ++ e)
+    ∙ append_assoc a b (c ++ (d ++ e))

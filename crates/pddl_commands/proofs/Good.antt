@@ -9,7 +9,10 @@ use Rattle.pddl_task.specs.Linked.{faults, domain_faults, IsGood}
 use Rattle.pddl_faults.specs.declared.fault.LinkFault.{LinkFault}
 use Rattle.pddl_faults.specs.Passes.{Verdict}
 use Rattle.pddl_file_layout.specs.DomainLayout.{domain_text}
-use Rattle.pddl_kind.specs.declared.Kind.TheVariants.{Domain}
+use Rattle.pddl_kind.specs.declared.Kind.TheVariants.{Domain, Plan}
+use Rattle.pddl_layout.specs.PlanLayout.{plan_text}
+use Rattle.pddl_tree.specs.Plans.{PlanValue}
+use Rattle.pddl_tree.specs.PlanTexts.{SpellsPlan}
 use Rattle.pddl_commands.specs.declared.outcome.Outcome.{Outcome}
 use Rattle.pddl_commands.specs.declared.outcome.Outcome.TheVariants.{Good}
 use Rattle.pddl_commands.specs.Checks.{good_line, IsDomainJudged}
@@ -31,3 +34,7 @@ judged_good d printed outcome is good line = subst (λ o. IsDomainJudged d print
 -- the canonical text of a domain is printed
 pub printed_good : (d : DomainValue) (text printed : List ℕ) (outcome : Outcome) → outcome ≡ Good → SpellsDomain d text → printed ≡ domain_text d → IsFormatted Domain text printed outcome
 printed_good d text printed outcome is spells line = subst (λ o. IsFormatted Domain text printed o) (sym is) (record { value = d; spells = spells; printed_is = line })
+
+-- so is that of a plan
+pub plan_printed : (p : PlanValue) (text printed : List ℕ) (outcome : Outcome) → outcome ≡ Good → SpellsPlan p text → printed ≡ plan_text p → IsFormatted Plan text printed outcome
+plan_printed p text printed outcome is spells line = subst (λ o. IsFormatted Plan text printed o) (sym is) (record { value = p; spells = spells; printed_is = line })

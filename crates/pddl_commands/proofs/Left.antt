@@ -1,7 +1,7 @@
--- What a reader has left to give, where it is known, and a text past the limit.
+-- What a reader has left to give and a writer holds, where that is known, and a text past the limit.
 use Rattle.std.proofs.Common.{◌≡◌, ℕ, ◌<◌, List, [], length, refl, ap, subst, arith}
 use Rattle.std.specs.Prelude.{Option, Some, None, IfSome}
-use Rattle.std.specs.Io.KnownBytes.{Consumes}
+use Rattle.std.specs.Io.KnownBytes.{Consumes, Keeps}
 use Rattle.std.proofs.lemmas.List.{length-append}
 use Rattle.pddl_text.specs.declared.fault.TextFault.TheVariants as texts
 use Rattle.pddl_tree.specs.declared.fault.ReadFault.TheVariants as plans
@@ -59,3 +59,13 @@ too_long_refused Plan text line longer is = record {
   stands = longer;
   line = record { shown = is.shown; place_is = is.place_is; line_is = is.line_is };
 }
+
+-- a writer to which nothing is written holds what it held
+pub keeps_itself : (bytes : Option (List ℕ)) → Keeps bytes bytes
+keeps_itself None = tt
+keeps_itself (Some known) = refl
+
+-- a reader of which nothing is read has given nothing
+pub stands_still : (remaining : Option (List ℕ)) → (given : List ℕ) × Consumes remaining remaining given
+stands_still None = ([], tt)
+stands_still (Some known) = ([], refl)

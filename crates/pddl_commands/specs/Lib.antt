@@ -1,5 +1,6 @@
 pub mod Lines
 pub mod Formats
 pub mod Contents
+pub mod Made
 pub mod Checks
 pub mod Inner

@@ -11,7 +11,7 @@ ghost use Rattle.pddl_commands.specs.Checks.{ForProblem, IsProblemJudged, IsDoma
 
 use crate::checked::{checked_domain, checked_problem};
 use crate::formatted::{Formatted, refused_domain};
-use crate::outcome::{Outcome, RunFault};
+use crate::outcome::{Outcome, RunFault, or_memory};
 use crate::reading::{Content, read_file};
 use pddl_device::{Sink, Source, write_text};
 use pddl_domain::Domain;
@@ -34,7 +34,7 @@ fn read_domain_checked<'a, B: Allocator, S: Source>(
     ensures stands { (given : List ℕ) × Consumes (S.remaining source.old) (S.remaining source.new) given }
 {
     match read_file(alloc, Kind::Domain, source)? {
-        Content::Text(text) => Ok(checked_domain(alloc, &text)?),
+        Content::Text(text) => or_memory(checked_domain(alloc, &text)),
         Content::TooLong(line) => Ok((line, Outcome::Refused)),
     }
 }
@@ -56,7 +56,7 @@ fn read_problem_checked<'a, B: Allocator, S: Source>(
     ensures stands { (given : List ℕ) × Consumes (S.remaining source.old) (S.remaining source.new) given }
 {
     match read_file(alloc, Kind::Problem, source)? {
-        Content::Text(text) => Ok(checked_problem(alloc, domain, &text)?),
+        Content::Text(text) => or_memory(checked_problem(alloc, domain, &text)),
         Content::TooLong(line) => Ok((line, Outcome::Refused)),
     }
 }
@@ -88,10 +88,7 @@ fn read_both<'a, B: Allocator, S: Source, T: Source>(
                 drop(read);
                 answer
             }
-            Err(fault) => {
-                let refused = refused_domain(alloc, &text, &fault)?;
-                Ok(refused)
-            }
+            Err(fault) => or_memory(refused_domain(alloc, &text, &fault)),
         },
         Content::TooLong(line) => Ok((line, Outcome::Refused)),
     }

@@ -9,7 +9,7 @@ ghost use Rattle.pddl_commands.specs.Contents.{IsRead};
 ghost use Rattle.pddl_commands.specs.Formats.{IsFormatted, IsLeft};
 
 use crate::formatted::{Formatted, formatted_domain, formatted_plan, formatted_problem};
-use crate::outcome::{Outcome, RunFault};
+use crate::outcome::{Outcome, RunFault, or_memory};
 use crate::plan_file::{PlanContent, read_plan_file};
 use crate::reading::{Content, read_file};
 use pddl_device::{Sink, Source, write_text};
@@ -31,7 +31,7 @@ fn read_formatted_domain<'a, B: Allocator, S: Source>(
     ensures stands { (given : List ℕ) × Consumes (S.remaining source.old) (S.remaining source.new) given }
 {
     match read_file(alloc, Kind::Domain, source)? {
-        Content::Text(text) => Ok(formatted_domain(alloc, &text)?),
+        Content::Text(text) => or_memory(formatted_domain(alloc, &text)),
         Content::TooLong(line) => Ok((line, Outcome::Refused)),
     }
 }
@@ -51,7 +51,7 @@ fn read_formatted_problem<'a, B: Allocator, S: Source>(
     ensures stands { (given : List ℕ) × Consumes (S.remaining source.old) (S.remaining source.new) given }
 {
     match read_file(alloc, Kind::Problem, source)? {
-        Content::Text(text) => Ok(formatted_problem(alloc, &text)?),
+        Content::Text(text) => or_memory(formatted_problem(alloc, &text)),
         Content::TooLong(line) => Ok((line, Outcome::Refused)),
     }
 }
@@ -71,7 +71,7 @@ fn read_formatted_plan<'a, B: Allocator, S: Source>(
     ensures stands { (given : List ℕ) × Consumes (S.remaining source.old) (S.remaining source.new) given }
 {
     match read_plan_file(alloc, source)? {
-        PlanContent::Plan(plan) => Ok(formatted_plan(alloc, &plan)?),
+        PlanContent::Plan(plan) => or_memory(formatted_plan(alloc, &plan)),
         PlanContent::Refused(line) => Ok((line, Outcome::Refused)),
     }
 }

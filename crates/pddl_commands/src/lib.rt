@@ -25,7 +25,7 @@ pub use fault_names::FaultName;
 pub use formatted::{Formatted, refused_domain, refused_problem};
 pub use formatting::{format, one_outcome};
 pub use line::{fault_line, push_number};
-pub use outcome::{Outcome, RunFault, status};
+pub use outcome::{Outcome, RunFault, or_memory, status};
 pub use pddl_kind::Kind;
 pub use pddl_link;
 pub use plan_file::{PlanContent, read_plan_file};

@@ -2,6 +2,7 @@
 
 ghost use Rattle.std.specs.Prelude.{◌≡◌, ◌↔◌, Ok, IsErr};
 ghost use Rattle.pddl_commands.specs.declared.outcome.RunFault.TheVariants.{Memory};
+ghost use Rattle.pddl_commands.specs.Made.{or_memory};
 
 use std::alloc::AllocError;
 use thiserror::Error;
@@ -36,6 +37,16 @@ impl From<AllocError> for RunFault {
 
     fn from(_error: AllocError) -> RunFault {
         RunFault::Memory
+    }
+}
+
+/// What was made, or `Memory` where memory for it was refused.
+pub fn or_memory<T: Drop>(made: Result<T, AllocError>) -> Result<T, RunFault>
+    ensures { result ≡ or_memory made }
+{
+    match made {
+        Ok(made) => Ok(made),
+        Err(_) => Err(RunFault::Memory),
     }
 }
 

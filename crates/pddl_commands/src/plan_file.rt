@@ -12,7 +12,7 @@ ghost use Rattle.pddl_commands.specs.Formats.{IsLeft};
 use crate::fault_names::fault_name;
 use crate::formatted::too_long;
 use crate::line::{fault_line_at, position_in};
-use crate::outcome::RunFault;
+use crate::outcome::{RunFault, or_memory};
 use pddl_device::{Source, SourceFault};
 use pddl_kind::Kind;
 use pddl_text::{LONGEST, Places, TextFault};
@@ -171,7 +171,7 @@ pub fn read_plan_file<'a, B: Allocator, S: Source>(
     let mut file = PlanFile::new(alloc);
     let fed = feed_all(&mut file, source);
     match fed.and(Ok(file)) {
-        Ok(file) => Ok(ended(alloc, file)?),
+        Ok(file) => or_memory(ended(alloc, file)),
         Err(SourceFault::TooLong) => Ok(PlanContent::Refused(too_long(alloc, Kind::Plan)?)),
         Err(SourceFault::Memory) => Err(RunFault::Memory),
         Err(SourceFault::ReadFailed) => Err(RunFault::ReadFailed),

@@ -1,8 +1,11 @@
 pub mod Left
+pub mod LinePieces
+pub mod Runs
 pub mod KnownClashes
 pub mod SomeHappenings
 pub mod FirstFailures
 pub mod OneFailure
 pub mod Judged
+pub mod NewTexts
 pub mod OneText
 pub mod OnePlan

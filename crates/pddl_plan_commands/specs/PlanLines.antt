@@ -41,11 +41,13 @@ unready_line happening step =
 abbrev pub atom_text : GroundValue → List ℕ
 atom_text atom = codes "(" ++ (atom.name ++ (spaced atom.objects ++ codes ")"))
 
--- two steps of a happening interfere on an atom
+-- two steps of a happening interfere, up to the atom on which they do
+abbrev pub clash_words : ℕ → ℕ → ℕ → List ℕ
+clash_words happening first second =
+    codes "invalid: happening " ++ (decimal (happening + 1) ++ (codes ", steps " ++ (decimal (first + 1) ++ (codes " and " ++ (decimal (second + 1) ++ codes " interfere on ")))))
+
 abbrev pub clash_line : ℕ → ℕ → ℕ → GroundValue → List ℕ
-clash_line happening first second atom =
-    codes "invalid: happening " ++ (decimal (happening + 1) ++ (codes ", steps " ++ (decimal (first + 1) ++ (codes " and " ++ (decimal (second + 1)
-    ++ (codes " interfere on " ++ (atom_text atom ++ codes "\n")))))))
+clash_line happening first second atom = clash_words happening first second ++ (atom_text atom ++ codes "\n")
 
 -- the goal is false at the end
 abbrev pub goal_line : List ℕ

@@ -1,13 +1,13 @@
 //! What is printed of an accepted plan.
 
-ghost use Rattle.std.specs.Prelude.{◌≡◌, ℕ, List, IfOk};
-ghost use Rattle.std.specs.Int.NonZero.{non_zero_u32_get};
+ghost use Rattle.std.specs.Prelude.{◌≡◌, IfOk, IsOkAnd};
 ghost use Rattle.pddl_happenings.specs.NamedSteps.{by_name};
 ghost use Rattle.pddl_judge.specs.HappeningValues.{groups_of, moments_of};
+ghost use Rattle.pddl_layout.specs.PlanLayout.{plan_text};
 ghost use Rattle.pddl_serial_plans.specs.Link.LinkedTasks.{task_of_files};
 ghost use Rattle.pddl_serial_plans.specs.PlanSteps.NumberedSteps.{number_of};
 ghost use Rattle.pddl_serial_plans.specs.NewPlans.{IsAcceptedOf};
-ghost use Rattle.pddl_plan_commands.specs.Printings.{IsSerialText, IsSplitText};
+ghost use Rattle.pddl_tree.specs.Plans.{plan_view};
 ghost use Rattle.pddl_plan_commands.specs.Inner.WantedPrintings.{printing_of};
 
 use crate::lines::valid_line;
@@ -16,59 +16,21 @@ use pddl_layout::plan_text;
 use pddl_serial_plans::pddl_link::Task;
 use pddl_serial_plans::pddl_linked_plan::Steps;
 use pddl_serial_plans::pddl_valid::Accepted;
-use pddl_serial_plans::{Order, serialise, split_in_groups};
+use pddl_serial_plans::{serialise, split_in_groups};
 use pddl_state::AtomStore;
+use pddl_tree::Plan;
 use std::alloc::{AllocError, Allocator};
-use std::num::NonZeroU32;
 
-/// The canonical text of the serial plan of an accepted plan.
-fn serial_text<'m, 'a, 'b, 'c, A, B, C, D, E, F, S>(
-    alloc: &'c D,
-    task: &Task<'m, 'a, A, B>,
-    steps: &Steps<'b, C>,
-    accepted: &Accepted<E, F, S>,
-    order: Order,
-) -> Result<Vec<u8, &'c D>, AllocError>
-where
-    A: Allocator,
-    B: Allocator,
-    C: Allocator,
-    D: Allocator,
-    E: Allocator,
-    F: Allocator,
-    S: AtomStore<E>,
-    requires { IsAcceptedOf (task_of_files task.now) steps.now (moments_of accepted.now.happenings.items) (groups_of accepted.now.happenings.items)
-        (by_name (number_of (task_of_files task.now)) (S.content accepted.now.store accepted.now.end)) accepted.now.cost }
-    ensures { IfOk result (λ text. IsSerialText order (task_of_files task.now) steps.now (groups_of accepted.now.happenings.items)
-        (by_name (number_of (task_of_files task.now)) (S.content accepted.now.store accepted.now.end)) accepted.now.cost text.items) }
+/// The canonical text of a plan that was made of an accepted one.
+///
+/// Fails as the plan failed, and where memory for the text is refused.
+fn text_of<'a, B: Allocator>(
+    alloc: &'a B,
+    made: Result<Plan<&'a B>, AllocError>,
+) -> Result<Vec<u8, &'a B>, AllocError>
+    ensures { IfOk result (λ text. IsOkAnd made.entry (λ plan. text.items ≡ plan_text (plan_view plan))) }
 {
-    let plan = serialise(alloc, task, steps, accepted, order)?;
-    plan_text(alloc, &plan)
-}
-
-/// The canonical text of the split of an accepted plan into groups of so many steps.
-fn split_text<'m, 'a, 'b, 'c, A, B, C, D, E, F, S>(
-    alloc: &'c D,
-    task: &Task<'m, 'a, A, B>,
-    steps: &Steps<'b, C>,
-    accepted: &Accepted<E, F, S>,
-    size: NonZeroU32,
-    order: Order,
-) -> Result<Vec<u8, &'c D>, AllocError>
-where
-    A: Allocator,
-    B: Allocator,
-    C: Allocator,
-    D: Allocator,
-    E: Allocator,
-    F: Allocator,
-    S: AtomStore<E>,
-    requires { IsAcceptedOf (task_of_files task.now) steps.now (moments_of accepted.now.happenings.items) (groups_of accepted.now.happenings.items)
-        (by_name (number_of (task_of_files task.now)) (S.content accepted.now.store accepted.now.end)) accepted.now.cost }
-    ensures { IfOk result (λ text. IsSplitText order (non_zero_u32_get size) (task_of_files task.now) steps.now (groups_of accepted.now.happenings.items)
-        (by_name (number_of (task_of_files task.now)) (S.content accepted.now.store accepted.now.end)) accepted.now.cost text.items) }
-{
-    let plan = split_in_groups(alloc, task, steps, accepted, size.get() as usize, order)?;
+    let plan = made?;
     plan_text(alloc, &plan)
 }
 
@@ -100,7 +62,13 @@ where
             let happenings = accepted.happenings.len();
             valid_line(alloc, steps.len(), happenings, accepted.cost)
         }
-        Wanted::Serial(order) => serial_text(alloc, task, steps, accepted, order),
-        Wanted::Groups(order, size) => split_text(alloc, task, steps, accepted, size, order),
+        Wanted::Serial(order) => text_of(alloc, serialise(alloc, task, steps, accepted, order)),
+        Wanted::Groups(order, size) => {
+            let size = size.get() as usize;
+            text_of(
+                alloc,
+                split_in_groups(alloc, task, steps, accepted, size, order),
+            )
+        }
     }
 }

@@ -89,17 +89,24 @@ where
     }
 }
 
-/// What is printed for linked steps, and the outcome.
-fn judged_steps<'r, 'm, 'a, 'b, A: Allocator, B: Allocator, C: Allocator, D: Allocator>(
+/// What is printed for linked steps, judged over a store, and the outcome.
+fn judged_steps<'r, 'm, 'a, 'b, A, B, C, D, S>(
     alloc: &'r D,
     task: &Task<'m, 'a, A, B>,
     steps: &Steps<'b, C>,
+    store: S,
     wanted: Wanted,
 ) -> Result<Formatted<'r, D>, AllocError>
+where
+    A: Allocator,
+    B: Allocator,
+    C: Allocator,
+    D: Allocator,
+    S: AtomStore<&'r D>,
     requires { AreLinkedSteps (task_of_files task.now) steps.now }
     ensures { IfOk result (λ answer. AreStepsJudged (printing_of wanted) (task_of_files task.now) steps.now answer.0.items answer.1) }
 {
-    let verdict = validate(alloc, task, steps, BitStore::new(alloc))?;
+    let verdict = validate(alloc, task, steps, store)?;
     let answer = shown(alloc, task, steps, &verdict, wanted);
     drop(verdict);
     answer
@@ -116,7 +123,7 @@ fn judged_in<'r, 'm, 'a, A: Allocator, B: Allocator, C: Allocator, D: Allocator>
 {
     match link_plan(alloc, task, plan) {
         Ok(steps) => {
-            let answer = judged_steps(alloc, task, &steps, wanted);
+            let answer = judged_steps(alloc, task, &steps, BitStore::new(alloc), wanted);
             drop(steps);
             answer
         }

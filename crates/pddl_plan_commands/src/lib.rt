@@ -14,7 +14,6 @@ mod running;
 mod serial_forms;
 mod step_faults;
 mod wanted;
-mod writing;
 
 pub use checking::{check, one_plan_outcome};
 pub use pddl_serial_plans;

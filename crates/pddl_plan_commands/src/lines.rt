@@ -8,7 +8,7 @@ ghost use Rattle.pddl_serial_plans.specs.Link.LinkedTasks.{task_of_files};
 ghost use Rattle.pddl_serial_plans.specs.LinkedPlan.LinkedLaws.{name_at};
 ghost use Rattle.pddl_serial_plans.specs.LinkedPlan.NumberedAtoms.{named_atom, IsInRange};
 ghost use Rattle.pddl_task.specs.Tasks.{predicate_names, object_names};
-ghost use Rattle.pddl_plan_commands.specs.PlanLines.{valid_line, unready_line, atom_text, clash_line, goal_line};
+ghost use Rattle.pddl_plan_commands.specs.PlanLines.{valid_line, unready_line, atom_text, clash_words, clash_line, goal_line};
 
 use pddl_commands::push_number;
 use pddl_serial_plans::pddl_link::Task;
@@ -94,6 +94,19 @@ fn object_name<'t, 'm, 'a, A: Allocator, B: Allocator>(
     task.object_name(number).unwrap().as_bytes()
 }
 
+/// Adds words, and a name behind them.
+fn push_name<A: Allocator>(
+    line: &mut Vec<u8, A>,
+    words: &[u8],
+    name: &[u8],
+) -> Result<(), AllocError>
+    ensures { OnOk result (line.new.items ≡ line.old.items ++ (words.now ++ name.now)) }
+{
+    line.extend_from_slice(words)?;
+    line.extend_from_slice(name)?;
+    Ok(())
+}
+
 /// Adds the names of objects, each behind a space.
 fn push_objects<'m, 'a, A: Allocator, B: Allocator, C: Allocator>(
     line: &mut Vec<u8, C>,
@@ -104,8 +117,7 @@ fn push_objects<'m, 'a, A: Allocator, B: Allocator, C: Allocator>(
     ensures { OnOk result (line.new.items ≡ line.old.items ++ spaced (map (name_at (object_names (task_of_files task.now))) objects.now)) }
 {
     for object in objects {
-        line.push(b' ')?;
-        line.extend_from_slice(object_name(task, *object))?;
+        push_name(line, b" ", object_name(task, *object))?;
     }
     Ok(())
 }
@@ -119,10 +131,24 @@ fn push_atom<'m, 'a, A: Allocator, B: Allocator, C: Allocator, D: Allocator>(
     requires { IsInRange (task_of_files task.now) atom.now }
     ensures { OnOk result (line.new.items ≡ line.old.items ++ atom_text (named_atom (task_of_files task.now) atom.now)) }
 {
-    line.push(b'(')?;
-    line.extend_from_slice(predicate_name(task, atom.predicate))?;
+    push_name(line, b"(", predicate_name(task, atom.predicate))?;
     push_objects(line, task, &atom.args)?;
     line.push(b')')?;
+    Ok(())
+}
+
+/// Adds what stands before the atom in the line of a clash.
+fn push_clash<A: Allocator>(
+    line: &mut Vec<u8, A>,
+    happening: usize,
+    steps: (usize, usize),
+) -> Result<(), AllocError>
+    ensures { OnOk result (line.new.items ≡ line.old.items ++ clash_words happening steps.0 steps.1) }
+{
+    push_place(line, b"invalid: happening ", happening)?;
+    push_place(line, b", steps ", steps.0)?;
+    push_place(line, b" and ", steps.1)?;
+    line.extend_from_slice(b" interfere on ")?;
     Ok(())
 }
 
@@ -138,10 +164,7 @@ pub fn clash_line<'m, 'a, A: Allocator, B: Allocator, C: Allocator, D: Allocator
     ensures { IfOk result (λ line. line.items ≡ clash_line happening steps.0 steps.1 (named_atom (task_of_files task.now) atom.now)) }
 {
     let mut line = Vec::new(alloc);
-    push_place(&mut line, b"invalid: happening ", happening)?;
-    push_place(&mut line, b", steps ", steps.0)?;
-    push_place(&mut line, b" and ", steps.1)?;
-    line.extend_from_slice(b" interfere on ")?;
+    push_clash(&mut line, happening, steps)?;
     push_atom(&mut line, task, atom)?;
     line.push(b'\n')?;
     Ok(line)

@@ -15,7 +15,7 @@ ghost use Rattle.pddl_plan_commands.specs.Inner.WantedPrintings.{printing_of};
 use crate::judging::judged_plan;
 use crate::wanted::Wanted;
 use pddl_commands::{
-    Content, Formatted, Kind, Outcome, PlanContent, RunFault, read_file, read_plan_file,
+    Content, Formatted, Kind, Outcome, PlanContent, RunFault, or_memory, read_file, read_plan_file,
     refused_domain, refused_problem,
 };
 use pddl_device::Source;
@@ -47,7 +47,7 @@ fn read_plan_checked<'a, B: Allocator, S: Source>(
         PlanContent::Plan(read) => {
             let answer = judged_plan(alloc, domain, problem, &read, wanted);
             drop(read);
-            Ok(answer?)
+            or_memory(answer)
         }
         PlanContent::Refused(line) => Ok((line, Outcome::Refused)),
     }
@@ -83,10 +83,7 @@ fn read_problem_and_plan<'a, B: Allocator, S: Source, T: Source>(
                 drop(read);
                 answer
             }
-            Err(fault) => {
-                let refused = refused_problem(alloc, &text, &fault)?;
-                Ok(refused)
-            }
+            Err(fault) => or_memory(refused_problem(alloc, &text, &fault)),
         },
         Content::TooLong(line) => Ok((line, Outcome::Refused)),
     }
@@ -127,10 +124,7 @@ pub(crate) fn read_each<'a, B: Allocator, S: Source, T: Source, U: Source>(
                 drop(read);
                 answer
             }
-            Err(fault) => {
-                let refused = refused_domain(alloc, &text, &fault)?;
-                Ok(refused)
-            }
+            Err(fault) => or_memory(refused_domain(alloc, &text, &fault)),
         },
         Content::TooLong(line) => Ok((line, Outcome::Refused)),
     }

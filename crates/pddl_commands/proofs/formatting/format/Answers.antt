@@ -1,12 +1,8 @@
-use Rattle.std.proofs.Common.{List, ℕ, subst, refl, rules}
-use Rattle.std.specs.Prelude.{Option, Some, None}
-use Rattle.std.specs.Io.KnownBytes.{Appends, Keeps}
+use Rattle.std.proofs.Common.{subst, refl, rules}
+use Rattle.std.specs.Io.KnownBytes.{Appends}
 use Rattle.pddl_device.specs.Device.{AppendsBeginning}
+use Rattle.pddl_commands.proofs.Left.{keeps_itself}
 use Rattle.pddl_commands.proofs.formatting.format.Goals as goal
-
-keeps_itself : (bytes : Option (List ℕ)) → Keeps bytes bytes
-keeps_itself None = tt
-keeps_itself (Some known) = refl
 
 pub returns-in_err-printed-clause-memory : goal.returns-in_err-printed-clause-memory
 returns-in_err-printed-clause-memory g c = λ is. (search rules, keeps_itself (g.W.Sink.contents c.args.out.now), refl)

@@ -1,33 +1,55 @@
 use Rattle.std.proofs.Common.{◌∙◌, refl, sym, subst, inl, inr}
+use Rattle.std.proofs.lemmas.Result.{IfOk-weaker, on_ok_weaker}
 use Rattle.pddl_problem.specs.Problems.{problem_view}
 use Rattle.pddl_problem_reader.specs.ProblemTexts.{SpellsProblem, ProblemStands}
 use Rattle.pddl_kind.specs.declared.Kind.TheVariants.{Problem}
+use Rattle.pddl_commands.specs.declared.outcome.RunFault.TheVariants.{ReadFailed, WriteFailed}
 use Rattle.pddl_commands.specs.Contents.{IsContent}
 use Rattle.pddl_commands.specs.Formats.{IsRefused}
-use Rattle.pddl_commands.proofs.Left.{some_left}
+use Rattle.pddl_commands.proofs.Left.{some_left, stands_still}
+use Rattle.pddl_commands.proofs.Made.{if_made, only_memory, on_any}
 use Rattle.pddl_plan_commands.proofs.Left.{no_problem_left}
 use Rattle.pddl_plan_commands.proofs.reading.read_problem_and_plan.Goals as goal
 
 pub refused_problem-requires : goal.refused_problem-requires
 refused_problem-requires g c = subst (λ text. ProblemStands c.in-Err.fault text) (c.deref.ensures.value ∙ sym c.deref-in-Err.ensures.value) c.in-Err.ensures.fault
 
-pub returns-in-Text-clause-answer : goal.returns-in-Text-clause-answer
-returns-in-Text-clause-answer g c =
+pub returns-in-Text : goal.returns-in-Text
+returns-in-Text g c =
     let content = subst (IsContent Problem (g.S.Source.remaining c.args.problem.now) (g.S.Source.at_end c.read_file.new.source)) c.in-Text.is c.in_ok-text.ensures.content in
     let steps = some_left (g.T.Source.remaining c.args.plan.now) in
-    let refused = c.in_ok-refused-in-Err.ensures in (
-      c.in-Text.text.items,
-      steps.0,
-      content.0,
-      steps.1,
-      inl (refused.0, subst (λ text. IsRefused Problem text c.in_ok-refused-in-Err.refused.0.items) c.deref-in-Err.ensures.value refused.1),
-    )
+    record {
+      answer = if_made c.refused_problem.result c.or_memory.result _ _ c.or_memory.ensures
+          (λ answer is. (c.in-Text.text.items, steps.0, content.0, steps.1, inl (is.0, subst (λ text. IsRefused Problem text answer.0.items) c.deref-in-Err.ensures.value is.1))) c.refused_problem.ensures;
+      read = if_made c.refused_problem.result c.or_memory.result _ _ c.or_memory.ensures (λ answer is. (inl content.1, inl refl)) c.refused_problem.ensures;
+      judged_at_end = if_made c.refused_problem.result c.or_memory.result _ _ c.or_memory.ensures (λ answer is judged. absurd (judged is.0)) c.refused_problem.ensures;
+      none_failed = on_any c.or_memory.result (c.in_ok-text.ensures.none_failed, refl);
+      memory = λ is. (c.in_ok-text.ensures.none_failed, refl);
+      read_failed = λ is. absurd (cc (only_memory c.refused_problem.result c.or_memory.result ReadFailed c.or_memory.ensures is));
+      no_write = λ is. absurd (cc (only_memory c.refused_problem.result c.or_memory.result WriteFailed c.or_memory.ensures is));
+      stands = c.read_file.ensures.stands;
+      plan_stands = stands_still (g.T.Source.remaining c.args.plan.now);
+      problem_first = λ none. refl;
+      no_read_after_failure = λ failed. refl;
+    }
 
-pub returns-clause-answer : goal.returns-clause-answer
-returns-clause-answer g c =
+pub returns : goal.returns
+returns g c =
     let content = subst (IsContent Problem (g.S.Source.remaining c.args.problem.now) (g.S.Source.at_end c.read_file.new.source)) c.in-TooLong.is c.in_ok-text.ensures.content in
     let steps = some_left (g.T.Source.remaining c.args.plan.now) in
-    (content.1.0, steps.0, content.1.1, steps.1, inl (refl, content.1.2))
+    record {
+      answer = (content.1.0, steps.0, content.1.1, steps.1, inl (refl, content.1.2));
+      read = (inr content.0, inl refl);
+      judged_at_end = λ judged. absurd (judged refl);
+      none_failed = (c.in_ok-text.ensures.none_failed, refl);
+      memory = λ is. absurd (cc (is));
+      read_failed = λ is. absurd (cc (is));
+      no_write = λ is. absurd (cc (is));
+      stands = c.read_file.ensures.stands;
+      plan_stands = stands_still (g.T.Source.remaining c.args.plan.now);
+      problem_first = λ none. refl;
+      no_read_after_failure = λ failed. refl;
+    }
 
 pub returns-in-Ok-clause-problem_first : goal.returns-in-Ok-clause-problem_first
 returns-in-Ok-clause-problem_first g c none =
@@ -37,3 +59,38 @@ returns-in-Ok-clause-problem_first g c none =
 
 pub returns-in-Ok-clause-read_failed : goal.returns-in-Ok-clause-read_failed
 returns-in-Ok-clause-read_failed g c failed = inr (c.read_plan_checked-answer.ensures.read_failed failed)
+
+pub returns-in-Ok-clause-answer : goal.returns-in-Ok-clause-answer
+returns-in-Ok-clause-answer g c =
+    let content = subst (IsContent Problem (g.S.Source.remaining c.args.problem.now) (g.S.Source.at_end c.read_file.new.source)) c.in-Text.is c.in_ok-text.ensures.content in
+    let spells = subst (λ text. SpellsProblem (problem_view c.in-Ok.read) text) c.deref.ensures.value c.in-Ok.ensures.problem in
+    IfOk-weaker c.read_plan_checked-answer.result _ _
+    (λ answer judged. (c.in-Text.text.items, judged.0, content.0, judged.1, inr (problem_view c.in-Ok.read, spells, judged.2))) c.read_plan_checked-answer.ensures.answer
+
+pub returns-in-Ok-clause-read : goal.returns-in-Ok-clause-read
+returns-in-Ok-clause-read g c =
+    let content = subst (IsContent Problem (g.S.Source.remaining c.args.problem.now) (g.S.Source.at_end c.read_file.new.source)) c.in-Text.is c.in_ok-text.ensures.content in
+    IfOk-weaker c.read_plan_checked-answer.result _ _ (λ answer read. (inl content.1, inr read)) c.read_plan_checked-answer.ensures.read
+
+pub returns-in-Ok-clause-judged_at_end : goal.returns-in-Ok-clause-judged_at_end
+returns-in-Ok-clause-judged_at_end g c =
+    let content = subst (IsContent Problem (g.S.Source.remaining c.args.problem.now) (g.S.Source.at_end c.read_file.new.source)) c.in-Text.is c.in_ok-text.ensures.content in
+    IfOk-weaker c.read_plan_checked-answer.result _ _ (λ answer ends judged. (content.1, ends judged)) c.read_plan_checked-answer.ensures.judged_at_end
+
+pub returns-in-Ok-clause-none_failed : goal.returns-in-Ok-clause-none_failed
+returns-in-Ok-clause-none_failed g c = on_ok_weaker c.read_plan_checked-answer.result (λ later. (c.in_ok-text.ensures.none_failed, later)) c.read_plan_checked-answer.ensures.none_failed
+
+pub returns-in-Ok-clause-memory : goal.returns-in-Ok-clause-memory
+returns-in-Ok-clause-memory g c = λ is. (c.in_ok-text.ensures.none_failed, c.read_plan_checked-answer.ensures.memory is)
+
+pub returns-in-Ok-clause-no_write : goal.returns-in-Ok-clause-no_write
+returns-in-Ok-clause-no_write g c = c.read_plan_checked-answer.ensures.no_write
+
+pub returns-in-Ok-clause-stands : goal.returns-in-Ok-clause-stands
+returns-in-Ok-clause-stands g c = c.read_file.ensures.stands
+
+pub returns-in-Ok-clause-plan_stands : goal.returns-in-Ok-clause-plan_stands
+returns-in-Ok-clause-plan_stands g c = c.read_plan_checked-answer.ensures.stands
+
+pub returns-in-Ok-clause-no_read_after_failure : goal.returns-in-Ok-clause-no_read_after_failure
+returns-in-Ok-clause-no_read_after_failure g c = λ failed. absurd (failed c.in_ok-text.ensures.none_failed)

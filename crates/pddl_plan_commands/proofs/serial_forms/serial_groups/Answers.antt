@@ -1,5 +1,5 @@
-use Rattle.std.proofs.Common.{◌≡◌, ℕ, rules, subst}
-use Rattle.std.specs.Prelude.{Result}
+use Rattle.std.proofs.Common.{◌≡◌, ℕ, subst}
+use Rattle.std.specs.Prelude.{Result, MatchOption}
 use Rattle.std.specs.Int.NonZero.{non_zero_u32_get}
 use Rattle.pddl_commands.specs.declared.outcome.Outcome.{Outcome}
 use Rattle.pddl_commands.specs.declared.outcome.RunFault.{RunFault}
@@ -14,5 +14,5 @@ same_size order n m r out result same run = subst (λ k. IsRun (IsSplitText orde
 
 pub returns : goal.returns
 returns g c =
-    let size : non_zero_u32_get c.unwrap-size.result ≡ c.args.size = search rules in
+    let size = subst (λ found. MatchOption found (c.args.size ≡ 0) (λ n. non_zero_u32_get n ≡ c.args.size)) c.unwrap-size.ensures c.new.ensures in
     same_size c.args.order _ _ _ _ _ size c.run.ensures

@@ -1,0 +1,22 @@
+use Rattle.std.proofs.Common.{subst, inl}
+use Rattle.pddl_kind.specs.declared.Kind.TheVariants.{Domain}
+use Rattle.pddl_commands.specs.declared.outcome.RunFault.TheVariants.{ReadFailed, WriteFailed}
+use Rattle.pddl_commands.specs.Contents.{IsContent}
+use Rattle.pddl_commands.specs.Checks.{IsDomainChecked}
+use Rattle.pddl_commands.proofs.Made.{if_made, only_memory, on_any}
+use Rattle.pddl_commands.proofs.checking.read_domain_checked.Goals as goal
+
+pub returns-in-Text : goal.returns-in-Text
+returns-in-Text g c =
+    let content = subst (IsContent Domain (g.S.Source.remaining c.args.source.now) (g.S.Source.at_end c.read_file.new.source)) c.in-Text.is c.in_ok-text.ensures.content in
+    record {
+      answer = if_made c.checked_domain.result c.or_memory.result _ _ c.or_memory.ensures
+          (λ answer is. (c.in-Text.text.items, content.0, subst (λ text. IsDomainChecked text answer.0.items answer.1) c.deref.ensures.value is)) c.checked_domain.ensures;
+      read = if_made c.checked_domain.result c.or_memory.result _ _ c.or_memory.ensures (λ answer is. inl content.1) c.checked_domain.ensures;
+      good_at_end = if_made c.checked_domain.result c.or_memory.result _ _ c.or_memory.ensures (λ answer is good. content.1) c.checked_domain.ensures;
+      none_failed = on_any c.or_memory.result c.in_ok-text.ensures.none_failed;
+      memory = λ is. c.in_ok-text.ensures.none_failed;
+      read_failed = λ is. absurd (cc (only_memory c.checked_domain.result c.or_memory.result ReadFailed c.or_memory.ensures is));
+      no_write = λ is. absurd (cc (only_memory c.checked_domain.result c.or_memory.result WriteFailed c.or_memory.ensures is));
+      stands = c.read_file.ensures.stands;
+    }
