@@ -1,14 +1,14 @@
-//! What a domain and a problem use: names, terms, numbers, what `:init` says, the metric, and the size of the goal.
+//! What a domain and a problem use: names, terms, numbers, what `:init` says, and the metric.
 
 ghost use Rattle.std.specs.Prelude.{◌≡◌, [], map, OnOk};
 ghost use Rattle.pddl_domain.specs.Domains.{domain_view};
 ghost use Rattle.pddl_problem.specs.Problems.{problem_view};
-ghost use Rattle.pddl_task.specs.Settings.{in_domain, in_problem, objects_of};
+ghost use Rattle.pddl_task.specs.Settings.{in_domain, in_problem};
 ghost use Rattle.pddl_task.specs.Faults.{large_goals};
 ghost use Rattle.pddl_faults.specs.Passes.{Passes};
 ghost use Rattle.pddl_faults.specs.Found.{IsFound};
 ghost use Rattle.pddl_search.specs.Claims.{HoldsValues};
-ghost use Rattle.pddl_types.specs.KnownNames.{setting_of, object_in};
+ghost use Rattle.pddl_types.specs.KnownNames.{setting_of};
 ghost use Rattle.pddl_names.specs.FaultParts.{joined, domain_uses, problem_uses};
 
 use crate::uses::Uses;
