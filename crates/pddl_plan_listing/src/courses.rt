@@ -176,7 +176,7 @@ fn add_compiled<'m, 'a, 'b, 'c, A, B, C, D, S>(
     steps: &Steps<'b, C>,
     store: &mut S,
     lines: &mut Lines<'_, D>,
-) -> Result<(), AllocError>
+)
 where
     A: Allocator,
     B: Allocator,
@@ -185,9 +185,13 @@ where
     S: AtomStore<&'c D>,
     requires { AreLinkedSteps (task_of_files task.now) steps.now }
 {
-    let plan = compile_plan(alloc, task, steps)?;
-    add_started(asked, steps.len(), task, &plan, store, lines);
-    Ok(())
+    match compile_plan(alloc, task, steps) {
+        Ok(plan) => {
+            add_started(asked, steps.len(), task, &plan, store, lines);
+            drop(plan);
+        }
+        Err(_) => lines.refuse(),
+    }
 }
 
 /// Adds what each linked step is in the state that they start in, over a store.
@@ -207,8 +211,6 @@ where
     S: AtomStore<&'c D>,
     requires { AreLinkedSteps (task_of_files task.now) steps.now }
 {
-    if add_compiled(alloc, asked, task, steps, &mut store, lines).is_err() {
-        lines.refuse();
-    }
+    add_compiled(alloc, asked, task, steps, &mut store, lines);
     Outcome::Good
 }

@@ -3,4 +3,4 @@ use Rattle.pddl_plan_listing.proofs.courses.add_compiled.Goals as goal
 
 -- the plan has as many steps as were compiled
 pub add_started-requires : goal.add_started-requires
-add_started-requires g c = ap length c.in_ok-plan.ensures.steps ∙ sym c.len.ensures
+add_started-requires g c = ap length c.in-Ok.ensures.steps ∙ sym c.len.ensures
