@@ -11,10 +11,13 @@ ghost use Rattle.clap.specs.declared.error.kind.ErrorKind.TheVariants.{DisplayHe
 mod input;
 
 use input::{Opened, open};
-use pddl_commands::{Outcome, RunFault, check_domain_file, check_problem_file, format, status};
-use pddl_device::{FromRead, Sink, ToWrite};
+use pddl_commands::{
+    Kind, Outcome, RunFault, check_domain_file, check_problem_file, format, status,
+};
+use pddl_device::{FromRead, Sink, Source, ToWrite};
 use pddl_plan_commands::{Order, check, serial, serial_groups};
 use pddl_words::{Job, parse_words, words_status};
+use std::alloc::Allocator;
 use std::env::Env;
 use std::io::ErrorKind;
 use std::num::NonZeroU32;
@@ -70,6 +73,31 @@ fn opened<'p, R: Files + Input>(
     }
 }
 
+/// Checks the domain at a path.
+fn run_domain<'p, R: Files + Input + AllocGlobal>(
+    rt: &R,
+    path: &'p str,
+    out: &mut impl Sink,
+) -> Result<Outcome, NotDone<'p>> {
+    let mut domain = opened(rt, path)?;
+    let ended = check_domain_file(&rt.alloc(), &mut domain, out);
+    drop(domain);
+    Ok(ended?)
+}
+
+/// Checks the problem at a path with a domain.
+fn run_with_domain<'p, R: Files + Input + AllocGlobal>(
+    rt: &R,
+    domain: &mut impl Source,
+    problem: &'p str,
+    out: &mut impl Sink,
+) -> Result<Outcome, NotDone<'p>> {
+    let mut problem = opened(rt, problem)?;
+    let ended = check_problem_file(&rt.alloc(), domain, &mut problem, out);
+    drop(problem);
+    Ok(ended?)
+}
+
 /// Checks a problem with its domain. Both files are opened before any is read.
 fn run_problem<'p, R: Files + Input + AllocGlobal>(
     rt: &R,
@@ -78,58 +106,104 @@ fn run_problem<'p, R: Files + Input + AllocGlobal>(
     out: &mut impl Sink,
 ) -> Result<Outcome, NotDone<'p>> {
     let mut domain = opened(rt, domain)?;
-    let mut problem = opened(rt, problem)?;
-    let ended = check_problem_file(&rt.alloc(), &mut domain, &mut problem, out)?;
-    Ok(ended)
+    let ended = run_with_domain(rt, &mut domain, problem, out);
+    drop(domain);
+    ended
 }
 
-/// Validates a plan with its domain and its problem. All three files are opened before any is read.
+/// What is asked of a plan: its verdict, its serial plan in an order, or its split into groups of so many steps.
+#[derive(Clone, Copy)]
+enum Asked {
+    Verdict,
+    Serial(Order),
+    Groups(Order, NonZeroU32),
+}
+
+impl Asked {
+    /// A serial plan, the steps of each happening reversed where that is said, or a split where groups have a size.
+    fn serial(reverse: bool, groups: Option<NonZeroU32>) -> Asked {
+        let order = if reverse { Order::Reverse } else { Order::File };
+        match groups {
+            Some(size) => Asked::Groups(order, size),
+            None => Asked::Serial(order),
+        }
+    }
+}
+
+/// Does what is asked of a plan over the readers of its files.
+fn carry_out<A: Allocator>(
+    alloc: &A,
+    asked: Asked,
+    domain: &mut impl Source,
+    problem: &mut impl Source,
+    plan: &mut impl Source,
+    out: &mut impl Sink,
+) -> Result<Outcome, RunFault> {
+    match asked {
+        Asked::Verdict => check(alloc, domain, problem, plan, out),
+        Asked::Serial(order) => serial(alloc, domain, problem, plan, order, out),
+        Asked::Groups(order, size) => {
+            let size = size.get();
+            serial_groups(alloc, domain, problem, plan, order, size, out)
+        }
+    }
+}
+
+/// Does what is asked of the plan at a path, with a domain and a problem.
+fn run_with_problem<'p, R: Files + Input + AllocGlobal>(
+    rt: &R,
+    asked: Asked,
+    domain: &mut impl Source,
+    problem: &mut impl Source,
+    plan: &'p str,
+    out: &mut impl Sink,
+) -> Result<Outcome, NotDone<'p>> {
+    let mut plan = opened(rt, plan)?;
+    let ended = carry_out(&rt.alloc(), asked, domain, problem, &mut plan, out);
+    drop(plan);
+    Ok(ended?)
+}
+
+/// Does what is asked of a plan with a domain and the problem at a path.
+fn run_behind_domain<'p, R: Files + Input + AllocGlobal>(
+    rt: &R,
+    asked: Asked,
+    domain: &mut impl Source,
+    problem: &'p str,
+    plan: &'p str,
+    out: &mut impl Sink,
+) -> Result<Outcome, NotDone<'p>> {
+    let mut problem = opened(rt, problem)?;
+    let ended = run_with_problem(rt, asked, domain, &mut problem, plan, out);
+    drop(problem);
+    ended
+}
+
+/// Does what is asked of a plan with its domain and its problem. All three files are opened before any is read.
 fn run_plan<'p, R: Files + Input + AllocGlobal>(
     rt: &R,
+    asked: Asked,
     domain: &'p str,
     problem: &'p str,
     plan: &'p str,
     out: &mut impl Sink,
 ) -> Result<Outcome, NotDone<'p>> {
     let mut domain = opened(rt, domain)?;
-    let mut problem = opened(rt, problem)?;
-    let mut plan = opened(rt, plan)?;
-    let ended = check(&rt.alloc(), &mut domain, &mut problem, &mut plan, out)?;
-    Ok(ended)
+    let ended = run_behind_domain(rt, asked, &mut domain, problem, plan, out);
+    drop(domain);
+    ended
 }
 
-/// The order that is asked for.
-fn order_of(reverse: bool) -> Order {
-    if reverse { Order::Reverse } else { Order::File }
-}
-
-/// Prints the serial plan of a plan, or its split into groups of so many steps. All three files are opened before any is read.
-fn run_serial<'p, R: Files + Input + AllocGlobal>(
+/// Prints the file at a path in its canonical layout.
+fn run_format<'p, R: Files + Input + AllocGlobal>(
     rt: &R,
-    files: (&'p str, &'p str, &'p str),
-    order: Order,
-    groups: Option<NonZeroU32>,
+    kind: Kind,
+    path: &'p str,
     out: &mut impl Sink,
 ) -> Result<Outcome, NotDone<'p>> {
-    let mut domain = opened(rt, files.0)?;
-    let mut problem = opened(rt, files.1)?;
-    let mut plan = opened(rt, files.2)?;
-    let alloc = rt.alloc();
-    let ended = match groups {
-        Some(size) => {
-            let size = size.get();
-            serial_groups(
-                &alloc,
-                &mut domain,
-                &mut problem,
-                &mut plan,
-                order,
-                size,
-                out,
-            )
-        }
-        None => serial(&alloc, &mut domain, &mut problem, &mut plan, order, out),
-    };
+    let mut file = opened(rt, path)?;
+    let ended = format(&rt.alloc(), kind, &mut file, out);
+    drop(file);
     Ok(ended?)
 }
 
@@ -140,21 +214,24 @@ fn run_job<'p, R: Files + Input + AllocGlobal>(
     out: &mut impl Sink,
 ) -> Result<Outcome, NotDone<'p>> {
     match job {
-        Job::Domain { path } => Ok(check_domain_file(&rt.alloc(), &mut opened(rt, path)?, out)?),
+        Job::Domain { path } => run_domain(rt, path, out),
         Job::Problem { domain, problem } => run_problem(rt, domain, problem, out),
         Job::Plan {
             domain,
             problem,
             plan,
-        } => run_plan(rt, domain, problem, plan, out),
+        } => run_plan(rt, Asked::Verdict, domain, problem, plan, out),
         Job::Serial {
             domain,
             problem,
             plan,
             reverse,
             groups,
-        } => run_serial(rt, (domain, problem, plan), order_of(reverse), groups, out),
-        Job::Format { kind, path } => Ok(format(&rt.alloc(), kind, &mut opened(rt, path)?, out)?),
+        } => {
+            let asked = Asked::serial(reverse, groups);
+            run_plan(rt, asked, domain, problem, plan, out)
+        }
+        Job::Format { kind, path } => run_format(rt, kind, path, out),
     }
 }
 
