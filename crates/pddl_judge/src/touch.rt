@@ -49,6 +49,21 @@ pub(crate) fn touch<A: Allocator, S: AtomStore<A>, P: Course<A, S>>(
     Ok(Touched { reads, adds, dels })
 }
 
+/// Whether no atom is added or deleted by the first and read by the second, or added by the first and deleted by the second.
+fn do_not_cross<A: Allocator, S: AtomStore<A>>(
+    store: &S,
+    one: &Touched<S::Set>,
+    other: &Touched<S::Set>,
+) -> bool
+    requires one_own { Owned (S.owns store.now) one.now }
+    requires other_own { Owned (S.owns store.now) other.now }
+    ensures { IsTrue result ↔ ((a : AtomValue) → crossing (touch_in (S.content store.now) one.now) (touch_in (S.content store.now) other.now) a ≡ false) }
+{
+    store.disjoint(&one.adds, &other.reads)
+        && store.disjoint(&one.dels, &other.reads)
+        && store.disjoint(&one.adds, &other.dels)
+}
+
 /// Whether no atom is added or deleted by one and read by the other, or added by one and deleted by the other.
 pub(crate) fn are_apart<A: Allocator, S: AtomStore<A>>(
     store: &S,
@@ -59,12 +74,7 @@ pub(crate) fn are_apart<A: Allocator, S: AtomStore<A>>(
     requires other_own { Owned (S.owns store.now) other.now }
     ensures { IsTrue result ↔ Apart (touch_in (S.content store.now) one.now) (touch_in (S.content store.now) other.now) }
 {
-    store.disjoint(&one.adds, &other.reads)
-        && store.disjoint(&one.dels, &other.reads)
-        && store.disjoint(&other.adds, &one.reads)
-        && store.disjoint(&other.dels, &one.reads)
-        && store.disjoint(&one.adds, &other.dels)
-        && store.disjoint(&other.adds, &one.dels)
+    do_not_cross(store, one, other) && do_not_cross(store, other, one)
 }
 
 /// Adds what a step touches to what others touch.

@@ -1,6 +1,7 @@
 -- Steps that are held by their parts of one list of objects.
-use Rattle.std.proofs.Common.{◌≡◌, ◌≤◌, ℕ, ◌-◌, List, [], ◌∷◌, ◌++◌, map, length, drop, take, refl, ap, ◌∙◌, arith}
-use Rattle.std.specs.Prelude.{Option, slice_range}
+use Rattle.std.proofs.Common.{◌≡◌, ◌≤◌, ◌<◌, ℕ, ◌-◌, List, [], ◌∷◌, ◌++◌, map, length, get_or, drop, take, refl, sym, ap, ◌∙◌, arith}
+use Rattle.std.specs.Prelude.{Option, Some, option_map, slice_get, slice_range}
+use Rattle.std.proofs.lemmas.Option.{slice_get-map, slice_get_read}
 use Rattle.std.proofs.lemmas.List.{map-append, length-append, length-drop, take-append-le, take_all, drop-append-le}
 use Rattle.std.proofs.Math.Seq.{drop-append_seam}
 use Rattle.pddl_linked_plan.specs.declared.steps.StepPart.{StepPart}
@@ -48,6 +49,10 @@ module _ (xs ys : List ℕ) (ps : List StepPart) (within : AreWithin (length xs)
   pub steps_pushed : (p : StepPart) (s : LinkedStepValue) → step_in (xs ++ ys) p ≡ s → map (step_in (xs ++ ys)) (ps ++ p ∷ []) ≡ map (step_in xs) ps ++ s ∷ []
   steps_pushed p s is =
       map-append (step_in (xs ++ ys)) ps (p ∷ []) ∙ ap (λ ss. ss ++ step_in (xs ++ ys) p ∷ []) (all_kept xs ys ps within) ∙ ap (λ t. map (step_in xs) ps ++ t ∷ []) is
+
+-- the step of a place is that of the part at this place
+pub step_at : (xs : List ℕ) (ps : List StepPart) (i : ℕ) (p : StepPart) → i < length ps → p ≡ get_or ps i p → Some (step_in xs p) ≡ slice_get (map (step_in xs) ps) i
+step_at xs ps i p within is = sym (slice_get-map (step_in xs) ps i ∙ ap (option_map (step_in xs)) (slice_get_read ps (length ps) i p refl within is))
 
 -- the step that is added
 pub step_pushed : (xs ys : List ℕ) (action : ℕ) (moment : Option ℕ) (start end : ℕ) → start ≡ length xs → end ≡ length (xs ++ ys)

@@ -1,5 +1,18 @@
 use Rattle.pddl_judge.proofs.stage.pass.Goals as goal
 
+pub first_unready-requires : goal.first_unready-requires
+first_unready-requires g c = record {
+  steps = c.requires.steps;
+  own = c.requires.own;
+}
+
+pub group_cost-requires : goal.group_cost-requires
+group_cost-requires g c = record {
+  steps = c.requires.steps;
+  own = c.requires.own;
+  few = c.requires.few;
+}
+
 pub apply_group-requires : goal.apply_group-requires
 apply_group-requires g c = record {
   steps = c.requires.steps;
