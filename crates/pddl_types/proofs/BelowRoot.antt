@@ -4,10 +4,11 @@ use Rattle.std.specs.Prelude.{◌+◌, drop, get_or, Contains}
 use Rattle.std.proofs.lemmas.List.{at_drop_more}
 use Rattle.pddl_domain.specs.Declarations.{TypeValue}
 use Rattle.pddl_task.specs.Names.{Name, item_of}
-use Rattle.pddl_task.specs.Types.{root, says_nothing, pairs, is_under, is_cyclic}
+use Rattle.pddl_task.specs.Types.{types_of, root, says_nothing, pairs, is_under, is_cyclic}
 use Rattle.pddl_task.specs.Faults.{first_alone}
 use Rattle.pddl_task.proofs.Lists.{and_left, and_right, and_both, any_found, or_right, or_cases, bytes_same, same_bytes}
 use Rattle.pddl_types.specs.TypeTables.{Row, name_at, parent_place, parent_in, climbs, IsTypeTable}
+use Rattle.pddl_types.proofs.TypeTables.{table_has}
 use Rattle.pddl_types.proofs.TypeClimbs.{pair_is, once_declared, parent_at, climb_stays, climb_here, climbs_decide, has_row, place_of, same_place, place_same}
 use Rattle.pddl_types.proofs.CyclicTypes.{pair_says}
 
@@ -74,7 +75,7 @@ cyclic_goes_round declared rows t h cyclic =
     let f = any_found (λ e. bytes_eq t e.item && is_under ps e.of t) ps cyclic in
     let named : t ≡ f.0.item = bytes_same t f.0.item (and_left (bytes_eq t f.0.item) (is_under ps f.0.of t) f.2) in
     let p = pair_is declared f.0 (once_declared declared h.declared_once) f.1 in
-    let r = has_row rows f.0.item (h.table.names f.0.item ∙ p.0) in
+    let r = has_row rows f.0.item (table_has (types_of declared) declared rows h.table f.0.item ∙ p.0) in
     let i = place_of rows r.0 r.1 in
     let item : name_at rows i.0 ≡ f.0.item = i.2 ∙ r.2 in
     let above = parent_at declared rows i.0 h i.1 in

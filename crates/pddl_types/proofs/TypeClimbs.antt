@@ -17,7 +17,7 @@ use Rattle.pddl_task.proofs.Lists.{and_left, and_right, and_both, any_found, fou
 use Rattle.pddl_task.proofs.DistinctNames.{no_repetition}
 use Rattle.pddl_task.proofs.Subtypes.{under_found, reaches_sound, under_through}
 use Rattle.pddl_task.proofs.TypeCycles.{parent_above}
-use Rattle.pddl_types.proofs.TypeTables.{apart}
+use Rattle.pddl_types.proofs.TypeTables.{apart, table_has, table_once}
 
 -- ---- names that are in a list
 
@@ -145,7 +145,7 @@ one_place (r ∷ rows) (suc i) (suc j) once low lower same =
     ap suc (one_place rows i j (IsDistinct-tail bytes_eq r.0.now (names_in rows) once) (omega (arith, low)) (omega (arith, lower)) same)
 
 type_at : (declared : List TypeValue) (rows : List Row) (i : ℕ) → IsTypeTable declared rows → i < length rows → is_in (types_of declared) (name_at rows i) ≡ true
-type_at declared rows i h low = sym (h.table.names (name_at rows i)) ∙ has_in (names_in rows) (name_at rows i) (name_has rows i low)
+type_at declared rows i h low = sym (table_has (types_of declared) declared rows h.table (name_at rows i)) ∙ has_in (names_in rows) (name_at rows i) (name_has rows i low)
 
 -- ---- what is climbed to is above
 
@@ -188,7 +188,7 @@ under_in_table : (declared : List TypeValue) (rows : List Row) (t u : Name) → 
 under_in_table declared rows t u h (itself same) = itself same
 under_in_table declared rows t u h (climb e has named rest) =
     let p = pair_is declared e (once_declared declared h.declared_once) has in
-    let r = has_row rows e.item (h.table.names e.item ∙ p.0) in
+    let r = has_row rows e.item (table_has (types_of declared) declared rows h.table e.item ∙ p.0) in
     let q = h.table.parents r.0 r.1 in
     let is : row_pair rows r.0 ≡ e = pair_of r.0.0.now (name_at rows r.0.1) e r.2 (q.1 ∙ ap (parent_in declared) r.2 ∙ p.2) in
     climb e (subst (Contains (map (row_pair rows) rows)) is (is_mapped (row_pair rows) rows r.0 r.1)) named (under_in_table declared rows e.of u h rest)
@@ -204,19 +204,19 @@ place_of (x ∷ rows) r c =
 
 climbs_found : (declared : List TypeValue) (rows : List Row) (n i g : ℕ) → IsTypeTable declared rows → i < length rows → g < length rows
     → reaches (map (row_pair rows) rows) n (name_at rows i) (name_at rows g) ≡ true → climbs rows n i g ≡ true
-climbs_found declared rows zero i g h low lower up = place_same i g (one_place rows i g h.table.once low lower (bytes_same (name_at rows i) (name_at rows g) up))
+climbs_found declared rows zero i g h low lower up = place_same i g (one_place rows i g (table_once (types_of declared) declared rows h.table) low lower (bytes_same (name_at rows i) (name_at rows g) up))
 climbs_found declared rows (suc n) i g h low lower up =
     let t = name_at rows i in
     let u = name_at rows g in
     let ps = map (row_pair rows) rows in
     elim (or_cases (bytes_eq t u) (list_any (λ e. bytes_eq t e.item && reaches ps n e.of u) ps) up) as (λ _. ((i == g) || climbs rows n (parent_place rows i) g) ≡ true) [
-      | inl same ↦ or_left (i == g) (climbs rows n (parent_place rows i) g) (place_same i g (one_place rows i g h.table.once low lower (bytes_same t u same)))
+      | inl same ↦ or_left (i == g) (climbs rows n (parent_place rows i) g) (place_same i g (one_place rows i g (table_once (types_of declared) declared rows h.table) low lower (bytes_same t u same)))
       | inr more ↦
           let f = any_found (λ e. bytes_eq t e.item && reaches ps n e.of u) ps more in
           let r = mapped_is (row_pair rows) rows f.0 f.1 in
           let j = place_of rows r.0 r.1 in
           let named : t ≡ f.0.item = bytes_same t f.0.item (and_left (bytes_eq t f.0.item) (reaches ps n f.0.of u) f.2) in
-          let is : i ≡ j.0 = one_place rows i j.0 h.table.once low j.1 (named ∙ sym (ap item_of r.2) ∙ sym j.2) in
+          let is : i ≡ j.0 = one_place rows i j.0 (table_once (types_of declared) declared rows h.table) low j.1 (named ∙ sym (ap item_of r.2) ∙ sym j.2) in
           let up_from : parent_place rows i ≡ r.0.1 = ap (λ k. option_map_or (λ (y : Row). y.1) (slice_get rows k) i) is ∙ j.3 i in
           let above : f.0.of ≡ name_at rows (parent_place rows i) = sym (ap parent_of r.2) ∙ ap (name_at rows) (sym up_from) in
           or_right (i == g) (climbs rows n (parent_place rows i) g)

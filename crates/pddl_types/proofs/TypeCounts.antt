@@ -11,13 +11,14 @@ use Rattle.pddl_forest.specs.Counts.{count, AreCounts}
 use Rattle.pddl_formula.specs.TypedLists.{TypedValue}
 use Rattle.pddl_domain.specs.Declarations.{TypeValue}
 use Rattle.pddl_task.specs.Names.{Name}
-use Rattle.pddl_task.specs.Types.{pairs, fits, is_under}
+use Rattle.pddl_task.specs.Types.{types_of, pairs, fits, is_under}
 use Rattle.pddl_task.specs.Faults.{primitives_of}
 use Rattle.pddl_task.specs.GroundSize.{fitting_count}
 use Rattle.pddl_types.specs.TypeTables.{Row, names_in, name_at, IsTypeTable}
 use Rattle.pddl_types.specs.ObjectCounts.{is_single, AreSingle, AreCountsOf, IsPlaceOf, ArePlacesOf, AreNamedCounts}
 use Rattle.pddl_task.proofs.Lists.{bytes_same}
 use Rattle.pddl_types.specs.KnownNames.{object_in}
+use Rattle.pddl_types.proofs.TypeTables.{table_has}
 use Rattle.pddl_types.proofs.CountedObjects.{Object}
 use Rattle.pddl_types.proofs.TypeLookups.{found_place}
 use Rattle.pddl_faults.proofs.PutValues.{lookup_put}
@@ -107,7 +108,7 @@ single_places declared rows (x ∷ objects) [] table names low o there = absurd 
 single_places declared rows (x ∷ objects) (p ∷ places) table names low o (zero, less, is) =
     let here : name_at rows p ∷ [] ≡ x.of = cc names in
     subst (λ (y : TypedValue). is_single declared y.of ≡ true) is
-    (subst (λ ts. is_single declared ts ≡ true) here (sym (table.table.names (name_at rows p)) ∙ has_in (names_in rows) (name_at rows p) (name_has rows p (low p (0, omega arith, refl)))))
+    (subst (λ ts. is_single declared ts ≡ true) here (sym (table_has (types_of declared) declared rows table.table (name_at rows p)) ∙ has_in (names_in rows) (name_at rows p) (name_has rows p (low p (0, omega arith, refl)))))
 single_places declared rows (x ∷ objects) (p ∷ places) table names low o (suc k, less, is) =
     let rest : map (λ p. name_at rows p ∷ []) places ≡ map primitives_of objects = cc names in
     single_places declared rows objects places table rest (λ q there. low q (suc there.0, omega (arith, there.1), there.2)) o (k, omega (arith, less), is)

@@ -8,10 +8,11 @@ use Rattle.pddl_forest.specs.Forests as forests
 use Rattle.pddl_forest.specs.Rounds.{AreOffRounds}
 use Rattle.pddl_domain.specs.Declarations.{TypeValue}
 use Rattle.pddl_task.specs.Names.{Name}
-use Rattle.pddl_task.specs.Types.{pairs, is_under, is_cyclic}
+use Rattle.pddl_task.specs.Types.{types_of, pairs, is_under, is_cyclic}
 use Rattle.pddl_task.proofs.Lists.{or_cases, or_right}
 use Rattle.pddl_task.proofs.Subtypes.{under_found}
 use Rattle.pddl_types.specs.TypeTables.{Row, name_at, parent_place, climbs, IsTypeTable, AreNumbered}
+use Rattle.pddl_types.proofs.TypeTables.{table_once}
 use Rattle.pddl_types.proofs.TypeClimbs.{climbs_sound, climbs_decide, same_place, place_same, one_place}
 use Rattle.pddl_types.proofs.BelowRoot.{AllBelowRoot, cyclic_goes_round}
 
@@ -87,7 +88,7 @@ off_rounds : (declared : List TypeValue) (rows : List Row) (numbers : List ℕ) 
     → i < length rows → name_at rows i ≡ t → forests.number_at numbers i ≢ 0 → is_cyclic (pairs declared) t ≡ true → ⊥
 off_rounds declared rows numbers t i h off low is numbered cyclic =
     let (e, has, named, j, lower, item, of, round) = cyclic_goes_round declared rows t h cyclic in
-    let same : i ≡ j = one_place rows i j h.table.once low lower (is ∙ sym item) in
+    let same : i ≡ j = one_place rows i j (table_once (types_of declared) declared rows h.table) low lower (is ∙ sym item) in
     let way = climbs_up rows (length rows) (parent_place rows j) j round in
     off.off j (subst (λ k. forests.number_at numbers k ≢ 0) same numbered) (way.0, ap (forests.up (parents_in rows) way.0) (parent_same rows j j) ∙ way.1)
 

@@ -13,7 +13,7 @@ use Rattle.pddl_task.specs.Names.{Name, is_in}
 use Rattle.pddl_task.specs.Types.{types_of, pairs, reaches, is_under, is_subtype}
 use Rattle.pddl_types.specs.TypeTables.{Row, names_in, name_at, with_name, climbs, IsTypeTable}
 use Rattle.pddl_task.proofs.Lists.{bytes_same}
-use Rattle.pddl_types.proofs.TypeTables.{or_none, put, put_at}
+use Rattle.pddl_types.proofs.TypeTables.{or_none, put, put_at, table_has}
 use Rattle.pddl_types.proofs.TypeClimbs.{has_in, name_has, climbs_decide, under_or_same}
 
 named : (rows : List Row) (t : Name) → list_any (λ k. bytes_eq t k.now) (keys_of rows) ≡ is_in (names_in rows) t
@@ -60,15 +60,15 @@ new_place rows next q i is at = ap (λ (rs : List Row). name_at rs i) is ∙ ap 
 -- ---- subtypes
 
 pub contained : (declared : List TypeValue) (rows : List Row) (t : Name) → IsTypeTable declared rows → is_some (lookup (λ k. bytes_eq t k.now) rows) ≡ is_in (types_of declared) t
-contained declared rows t h = is_named rows t ∙ h.table.names t
+contained declared rows t h = is_named rows t ∙ table_has (types_of declared) declared rows h.table t
 
 pub no_subtype : (declared : List TypeValue) (rows : List Row) (sub over : Name) → IsTypeTable declared rows → is_in (names_in rows) sub ≡ false → false ≡ is_subtype declared sub over
 no_subtype declared rows sub over h missing =
-    sym (ap (λ b. b && (is_in (types_of declared) over && is_under (pairs declared) sub over)) (sym (h.table.names sub) ∙ missing))
+    sym (ap (λ b. b && (is_in (types_of declared) over && is_under (pairs declared) sub over)) (sym (table_has (types_of declared) declared rows h.table sub) ∙ missing))
 
 pub no_supertype : (declared : List TypeValue) (rows : List Row) (sub over : Name) → IsTypeTable declared rows → is_in (names_in rows) over ≡ false → false ≡ is_subtype declared sub over
 no_supertype declared rows sub over h missing =
-    sym (ap (λ b. is_in (types_of declared) sub && (b && is_under (pairs declared) sub over)) (sym (h.table.names over) ∙ missing) ∙ and_off (is_in (types_of declared) sub))
+    sym (ap (λ b. is_in (types_of declared) sub && (b && is_under (pairs declared) sub over)) (sym (table_has (types_of declared) declared rows h.table over) ∙ missing) ∙ and_off (is_in (types_of declared) sub))
   where
     and_off : (b : Bool) → b && false ≡ false
     and_off true = refl

@@ -10,7 +10,7 @@ use Rattle.indexmap.specs.IndexMap.{insert_entry}
 use Rattle.pddl_domain.specs.Declarations.{TypeValue}
 use Rattle.pddl_task.specs.Names.{Name, is_in, item_of}
 use Rattle.pddl_task.specs.Types.{root}
-use Rattle.pddl_types.specs.TypeTables.{Row, names_in, name_at, parent_in, IsTableOf}
+use Rattle.pddl_types.specs.TypeTables.{Row, names_in, name_at, parent_in, with_new, each_behind, IsTableOf}
 use Rattle.pddl_task.proofs.Lists.{has_cases, has_later, has_none, bytes_same, same_bytes, none_left, none_right}
 
 -- a row that is put into a table: where the name stands already, it takes the place of the parent
@@ -22,14 +22,6 @@ put rows k p = insert_entry (λ x y. bytes_eq x.now y.now) rows k p
 same_either_way : (a b : Name) → bytes_eq a b ≡ bytes_eq b a
 same_either_way a b = nat_list_eq_equiv.symm a b
 
-or_again : (p q r : Bool) → p ≡ r → p || q ≡ (p || q) || r
-or_again true q r h = refl
-or_again false true r h = refl
-or_again false false r h = h
-
-or_later : (p q r : Bool) → q ≡ r → p || q ≡ p || r
-or_later p q r h = ap (λ b. p || b) h
-
 pub or_none : (b : Bool) → b || false ≡ b
 or_none true = refl
 or_none false = refl
@@ -38,16 +30,7 @@ pub or_group : (p q r : Bool) → p || (q || r) ≡ (p || q) || r
 or_group true q r = refl
 or_group false q r = refl
 
-names_put : (rows : List Row) (k : Bor (List ℕ)) (p : ℕ) (t : Name) → is_in (names_in (put rows k p)) t ≡ is_in (names_in rows) t || bytes_eq t k.now
-names_put [] k p t = or_none (bytes_eq t k.now)
-names_put (r ∷ rows) k p t =
-    elim (bytes_eq k.now r.0.now) as (λ b. bytes_eq k.now r.0.now ≡ b → is_in (names_in (cond b ((r.0, p) ∷ rows) (r ∷ put rows k p))) t ≡ (bytes_eq t r.0.now || is_in (names_in rows) t) || bytes_eq t k.now) [
-      | true ↦ λ is. or_again (bytes_eq t r.0.now) (is_in (names_in rows) t) (bytes_eq t k.now) (ap (bytes_eq t) (sym (bytes_same k.now r.0.now is)))
-      | false ↦ λ _. or_later (bytes_eq t r.0.now) (is_in (names_in (put rows k p)) t) (is_in (names_in rows) t || bytes_eq t k.now) (names_put rows k p t)
-          ∙ or_group (bytes_eq t r.0.now) (is_in (names_in rows) t) (bytes_eq t k.now)
-    ] refl
-
-names_after : (rows : List Row) (k : Bor (List ℕ)) (p : ℕ) → names_in (put rows k p) ≡ cond (is_in (names_in rows) k.now) (names_in rows) (names_in rows ++ k.now ∷ [])
+names_after : (rows : List Row) (k : Bor (List ℕ)) (p : ℕ) → names_in (put rows k p) ≡ with_new (names_in rows) k.now
 names_after [] k p = refl
 names_after (r ∷ rows) k p =
     elim (bytes_eq k.now r.0.now) as (λ b. names_in (cond b ((r.0, p) ∷ rows) (r ∷ put rows k p)) ≡ cond (b || is_in (names_in rows) k.now) (names_in (r ∷ rows)) (names_in (r ∷ rows) ++ k.now ∷ [])) [
@@ -60,13 +43,66 @@ names_after (r ∷ rows) k p =
     front true n ms ns = refl
     front false n ms ns = refl
 
-once_put : (rows : List Row) (k : Bor (List ℕ)) (p : ℕ) → IsDistinct bytes_eq (names_in rows) → IsDistinct bytes_eq (names_in (put rows k p))
-once_put rows k p once =
-    subst (IsDistinct bytes_eq) (sym (names_after rows k p))
-    (elim (is_in (names_in rows) k.now) as (λ b. is_in (names_in rows) k.now ≡ b → IsDistinct bytes_eq (cond b (names_in rows) (names_in rows ++ k.now ∷ []))) [
+-- a name that passes a test already
+known : (is : Name → Bool) (t n : Name) → is n ≡ true → is t || bytes_eq t n ≡ is t
+known is t n has =
+    elim (bytes_eq t n) as (λ b. bytes_eq t n ≡ b → is t || b ≡ is t) [
+      | true ↦ λ same. let on : is t ≡ true = ap is (bytes_same t n same) ∙ has in ap (λ b. b || true) on ∙ sym on
+      | false ↦ λ _. or_none (is t)
+    ] refl
+
+in_end : (ns : List Name) (n t : Name) → is_in (ns ++ n ∷ []) t ≡ is_in ns t || bytes_eq t n
+in_end [] n t = or_none (bytes_eq t n)
+in_end (m ∷ ns) n t = ap (λ b. bytes_eq t m || b) (in_end ns n t) ∙ or_group (bytes_eq t m) (is_in ns t) (bytes_eq t n)
+
+in_new : (ns : List Name) (n t : Name) → is_in (with_new ns n) t ≡ is_in ns t || bytes_eq t n
+in_new ns n t =
+    elim (is_in ns n) as (λ b. is_in ns n ≡ b → is_in (cond b ns (ns ++ n ∷ [])) t ≡ is_in ns t || bytes_eq t n) [
+      | true ↦ λ there. sym (known (is_in ns) t n there)
+      | false ↦ λ _. in_end ns n t
+    ] refl
+
+each_has : (seen ns : List Name) (t : Name) → is_in (each_behind seen ns) t ≡ is_in seen t || is_in ns t
+each_has seen [] t = sym (or_none (is_in seen t))
+each_has seen (n ∷ ns) t =
+    each_has (with_new seen n) ns t ∙ ap (λ b. b || is_in ns t) (in_new seen n t) ∙ sym (or_group (is_in seen t) (bytes_eq t n) (is_in ns t))
+
+new_distinct : (ns : List Name) (n : Name) → IsDistinct bytes_eq ns → IsDistinct bytes_eq (with_new ns n)
+new_distinct ns n once =
+    elim (is_in ns n) as (λ b. is_in ns n ≡ b → IsDistinct bytes_eq (cond b ns (ns ++ n ∷ []))) [
       | true ↦ λ _. once
-      | false ↦ λ new. IsDistinct-push nat_list_eq_equiv (names_in rows) k.now once new
-    ] refl)
+      | false ↦ λ new. IsDistinct-push nat_list_eq_equiv ns n once new
+    ] refl
+
+each_distinct : (seen ns : List Name) → IsDistinct bytes_eq seen → IsDistinct bytes_eq (each_behind seen ns)
+each_distinct seen [] once = once
+each_distinct seen (n ∷ ns) once = each_distinct (with_new seen n) ns (new_distinct seen n once)
+
+each_last : (seen ns : List Name) (n : Name) → each_behind seen (ns ++ n ∷ []) ≡ with_new (each_behind seen ns) n
+each_last seen [] n = refl
+each_last seen (m ∷ ns) n = each_last (with_new seen m) ns n
+
+-- one of the names adds nothing
+each_again : (types : List Name) (n : Name) → is_in types n ≡ true → with_new (each_behind [] types) n ≡ each_behind [] types
+each_again types n there = ap (λ b. cond b (each_behind [] types) (each_behind [] types ++ n ∷ [])) (each_has [] types n ∙ there)
+
+-- the names of a table are its types
+pub table_has : (types : List Name) (told : List TypeValue) (rows : List Row) → IsTableOf types told rows → (t : Name) → is_in (names_in rows) t ≡ is_in types t
+table_has types told rows h t = ap (λ ns. is_in ns t) h.names ∙ each_has [] types t
+
+-- and each stands once
+pub table_once : (types : List Name) (told : List TypeValue) (rows : List Row) → IsTableOf types told rows → IsDistinct bytes_eq (names_in rows)
+unfolding IsDistinct
+table_once types told rows h = subst (IsDistinct bytes_eq) (sym h.names) (each_distinct [] types tt)
+
+-- a name that is a type already does not make it another table's
+pub table_again : (types : List Name) (told : List TypeValue) (rows : List Row) (n : Name) → IsTableOf types told rows → is_in types n ≡ true → IsTableOf (types ++ n ∷ []) told rows
+table_again types told rows n h there = record {
+  names = h.names ∙ sym (each_again types n there) ∙ sym (each_last [] types n);
+  some = h.some;
+  first = h.first;
+  parents = h.parents;
+}
 
 -- ---- places
 
@@ -141,20 +177,10 @@ rows_put (x ∷ rows) k p r once c =
 
 -- ---- tables
 
--- a name that passes a test already
-pub known : (is : Name → Bool) (t n : Name) → is n ≡ true → is t || bytes_eq t n ≡ is t
-known is t n has =
-    elim (bytes_eq t n) as (λ b. bytes_eq t n ≡ b → is t || b ≡ is t) [
-      | true ↦ λ same. let on : is t ≡ true = ap is (bytes_same t n same) ∙ has in ap (λ b. b || true) on ∙ sym on
-      | false ↦ λ _. or_none (is t)
-    ] refl
-
 -- `object` alone
 pub root_alone : (k : Bor (List ℕ)) → k.now ≡ root → IsTableOf (root ∷ []) [] (put [] k 0)
-unfolding IsDistinct
 root_alone k is = record {
-  names = λ t. ap (λ n. bytes_eq t n || false) is;
-  once = (tt, tt);
+  names = ap (λ n. n ∷ []) is;
   some = omega arith;
   first = is;
   parents = λ r c.
@@ -165,17 +191,16 @@ root_alone k is = record {
 }
 
 -- a type whose parent is not told goes under `object`
-pub put_under_root : (types more : List Name) (told : List TypeValue) (rows : List Row) (k : Bor (List ℕ)) → IsTableOf types told rows
-    → ((t : Name) → is_in more t ≡ is_in types t || bytes_eq t k.now) → parent_in told k.now ≡ root → IsTableOf more told (put rows k 0)
-put_under_root types more told rows k h are untold =
+pub put_under_root : (types : List Name) (told : List TypeValue) (rows : List Row) (k : Bor (List ℕ)) → IsTableOf types told rows → parent_in told k.now ≡ root
+    → IsTableOf (types ++ k.now ∷ []) told (put rows k 0)
+put_under_root types told rows k h untold =
     let room = longer rows k 0 in
     let first = place_put rows k 0 0 h.some ∙ h.first in record {
-      names = λ t. names_put rows k 0 t ∙ ap (λ b. b || bytes_eq t k.now) (h.names t) ∙ sym (are t);
-      once = once_put rows k 0 h.once;
+      names = names_after rows k 0 ∙ ap (λ ns. with_new ns k.now) h.names ∙ sym (each_last [] types k.now);
       some = room.1;
       first = first;
       parents = λ r c.
-          elim (rows_put rows k 0 r h.once c) as (λ _. (r.1 < length (put rows k 0)) × (name_at (put rows k 0) r.1 ≡ parent_in told r.0.now)) [
+          elim (rows_put rows k 0 r (table_once types told rows h) c) as (λ _. (r.1 < length (put rows k 0)) × (name_at (put rows k 0) r.1 ≡ parent_in told r.0.now)) [
             | inl new ↦ (omega (arith, new.1, room.1), ap (name_at (put rows k 0)) new.1 ∙ first ∙ sym untold ∙ ap (parent_in told) (sym new.0))
             | inr old ↦ let p = h.parents r old.0 in (omega (arith, p.0, room.0), place_put rows k 0 r.1 p.0 ∙ p.1)
           ];
@@ -196,12 +221,11 @@ pub put_under : (types : List Name) (told : List TypeValue) (rows : List Row) (k
     → IsTableOf types (told ++ d ∷ []) (put rows k p)
 put_under types told rows k p d h there low new item of =
     let room = longer rows k p in record {
-      names = λ t. names_put rows k p t ∙ ap (λ b. b || bytes_eq t k.now) (h.names t) ∙ known (is_in types) t k.now there;
-      once = once_put rows k p h.once;
+      names = names_after rows k p ∙ ap (λ ns. with_new ns k.now) h.names ∙ each_again types k.now there;
       some = room.1;
       first = place_put rows k p 0 h.some ∙ h.first;
       parents = λ r c.
-          elim (rows_put rows k p r h.once c) as (λ _. (r.1 < length (put rows k p)) × (name_at (put rows k p) r.1 ≡ parent_in (told ++ d ∷ []) r.0.now)) [
+          elim (rows_put rows k p r (table_once types told rows h) c) as (λ _. (r.1 < length (put rows k p)) × (name_at (put rows k p) r.1 ≡ parent_in (told ++ d ∷ []) r.0.now)) [
             | inl here ↦ (
               omega (arith, here.1, room.0, low),
               ap (name_at (put rows k p)) here.1 ∙ place_put rows k p p low ∙ sym of

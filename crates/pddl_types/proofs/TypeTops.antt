@@ -14,6 +14,7 @@ use Rattle.pddl_task.specs.Faults.{primitives_of}
 use Rattle.pddl_task.specs.GroundSize.{fitting_count}
 use Rattle.pddl_types.specs.TypeTables.{Row, name_at, IsTypeTable}
 use Rattle.pddl_types.specs.ObjectCounts.{is_single, AreSingle, ArePlacesOf, AreNamesAt, primitive_at, AddUp, IsCountAt, IsSumOf}
+use Rattle.pddl_types.proofs.TypeTables.{table_has}
 use Rattle.pddl_types.proofs.TypeClimbs.{has_row, place_of}
 use Rattle.pddl_types.proofs.TypeCounts.{count_map, one_alone}
 use Rattle.pddl_types.proofs.TypeForests.{parents_in, under_numbered}
@@ -34,7 +35,7 @@ objects_placed declared rows [] table single = ([], record { names = refl; in_ra
 objects_placed declared rows (o ∷ objects) table single =
     let rest = objects_placed declared rows objects table (λ x there. single x (suc there.0, omega (arith, there.1), there.2)) in
     let one = single_is declared o.of (single o (0, omega arith, refl)) in
-    let row = has_row rows one.0 (table.table.names one.0 ∙ one.2) in
+    let row = has_row rows one.0 (table_has (types_of declared) declared rows table.table one.0 ∙ one.2) in
     let place = place_of rows row.0 row.1 in (
       place.0 ∷ rest.0,
       record {

@@ -3,29 +3,18 @@ use Rattle.std.proofs.Common.{◌≡◌, ℕ, zero, suc, ◌+◌, ◌<◌, true,
 use Rattle.std.specs.Borrow.{Bor}
 use Rattle.std.specs.List.{IsDistinct}
 use Rattle.std.proofs.lemmas.Cmp.{nat_list_eq_equiv}
-use Rattle.std.proofs.lemmas.List.{take_more}
+use Rattle.std.proofs.lemmas.List.{take_more, append_assoc}
 use Rattle.std.proofs.lemmas.List.Elements.{Contains-get_or}
 use Rattle.std.proofs.lemmas.Map.Keys.{IsDistinct-head, IsDistinct-tail}
 use Rattle.pddl_domain.specs.Declarations.{TypeValue}
 use Rattle.pddl_task.specs.Names.{Name, is_in, repeated, item_of}
 use Rattle.pddl_task.specs.Types.{root, parent_of}
-use Rattle.pddl_types.specs.TypeTables.{Row, names_in, name_at, with_name, IsTableOf}
+use Rattle.pddl_types.specs.TypeTables.{Row, names_in, name_at, with_name, each_behind, IsTableOf}
 use Rattle.pddl_task.proofs.Lists.{append-none, or_right, none_left, none_right, is_mapped}
-use Rattle.pddl_types.proofs.TypeTables.{or_none, or_group, put, known, apart, put_under_root, put_under}
+use Rattle.pddl_types.proofs.TypeTables.{put, apart, table_has, table_again, put_under_root, put_under}
 use Rattle.pddl_types.proofs.TypeClimbs.{has_in, parent_undeclared, once_declared}
 
 -- ---- names so far
-
--- a name that comes last
-in_last : {X : Type 0} (name : X → Name) (front : List Name) (xs : List X) (x : X) (t : Name) → is_in (front ++ map name (xs ++ x ∷ [])) t ≡ is_in (front ++ map name xs) t || bytes_eq t (name x)
-in_last name [] [] x t = or_none (bytes_eq t (name x))
-in_last name [] (y ∷ xs) x t = ap (λ b. bytes_eq t (name y) || b) (in_last name [] xs x t) ∙ or_group (bytes_eq t (name y)) (is_in (map name xs) t) (bytes_eq t (name x))
-in_last name (n ∷ front) xs x t = ap (λ b. bytes_eq t n || b) (in_last name front xs x t) ∙ or_group (bytes_eq t n) (is_in (front ++ map name xs) t) (bytes_eq t (name x))
-
-in_next : {X : Type 0} (name : X → Name) (front : List Name) (xs : List X) (i : ℕ) (x : X) (t : Name) → i < length xs → x ≡ get_or xs i x
-    → is_in (front ++ map name (take (i + 1) xs)) t ≡ is_in (front ++ map name (take i xs)) t || bytes_eq t (name x)
-in_next name front xs i x t low is =
-    ap (λ ys. is_in (front ++ map name ys) t) (take_more xs i x low ∙ ap (λ y. take i xs ++ y ∷ []) (sym is)) ∙ in_last name front (take i xs) x t
 
 in_all : {X : Type 0} (name : X → Name) (xs : List X) (i : ℕ) (n : Name) → is_in (map name xs) n ≡ false → is_in (map name (take i xs)) n ≡ false
 in_all name [] zero n h = refl
@@ -57,9 +46,19 @@ maps : {X : Type 0} (view : X → TypeValue) (f : TypeValue → Name) (xs : List
 maps view f [] = refl
 maps view f (x ∷ xs) = ap (λ ns. f (view x) ∷ ns) (maps view f xs)
 
-map_last : {X : Type 0} (view : X → TypeValue) (xs : List X) (x : X) → map view (xs ++ x ∷ []) ≡ map view xs ++ view x ∷ []
+map_last : {X Y : Type 0} (view : X → Y) (xs : List X) (x : X) → map view (xs ++ x ∷ []) ≡ map view xs ++ view x ∷ []
 map_last view [] x = refl
 map_last view (y ∷ xs) x = ap (λ vs. view y ∷ vs) (map_last view xs x)
+
+-- of one more, what comes last
+view_next : {X : Type 0} (view : X → TypeValue) (xs : List X) (i : ℕ) (x : X) → i < length xs → x ≡ get_or xs i x → map view (take (i + 1) xs) ≡ map view (take i xs) ++ view x ∷ []
+view_next view xs i x low is = ap (map view) (take_more xs i x low ∙ ap (λ y. take i xs ++ y ∷ []) (sym is)) ∙ map_last view (take i xs) x
+
+name_next : {X : Type 0} (view : X → TypeValue) (f : TypeValue → Name) (front : List Name) (xs : List X) (i : ℕ) (x : X) (n : Name) → i < length xs → x ≡ get_or xs i x → n ≡ f (view x)
+    → (front ++ map f (map view (take i xs))) ++ n ∷ [] ≡ front ++ map f (map view (take (i + 1) xs))
+name_next view f front xs i x n low is named =
+    append_assoc front (map f (map view (take i xs))) (n ∷ [])
+    ∙ ap (λ ns. front ++ ns) (ap (λ m. map f (map view (take i xs)) ++ m ∷ []) named ∙ sym (ap (map f) (view_next view xs i x low is) ∙ map_last f (map view (take i xs)) (view x)))
 
 -- ---- the declared types, under `object`
 
@@ -70,10 +69,8 @@ pub declared_next : {X : Type 0} (view : X → TypeValue) (xs : List X) (i : ℕ
     → Declares view (take i xs) rows → next ≡ put rows k 0 → Declares view (take (i + 1) xs) next
 declared_next view xs i x rows next k low is named h put_in =
     subst (Declares view (take (i + 1) xs)) (sym put_in)
-    (put_under_root (root ∷ map item_of (map view (take i xs))) (root ∷ map item_of (map view (take (i + 1) xs))) [] rows k h
-    (λ t. ap (λ ns. is_in (root ∷ ns) t) (maps view item_of (take (i + 1) xs)) ∙ in_next (λ y. (view y).item) (root ∷ []) xs i x t low is
-    ∙ ap (λ ns. is_in (root ∷ ns) t || bytes_eq t (view x).item) (sym (maps view item_of (take i xs))) ∙ ap (λ n. is_in (root ∷ map item_of (map view (take i xs))) t || bytes_eq t n) (sym named))
-    refl)
+    (subst (λ ns. IsTableOf ns [] (put rows k 0)) (name_next view item_of (root ∷ []) xs i x k.now low is named)
+    (put_under_root (root ∷ map item_of (map view (take i xs))) [] rows k h refl))
 
 -- ---- the same, with the parents of some
 
@@ -83,8 +80,7 @@ Tells view xs told rows = IsTableOf (root ∷ map item_of (map view xs) ++ map p
 pub tells_none : {X : Type 0} (view : X → TypeValue) (xs : List X) (rows : List Row) → Declares view xs rows → Tells view xs (take 0 xs) rows
 tells_none view [] rows h = h
 tells_none view (x ∷ xs) rows h = record {
-  names = λ t. h.names t ∙ ap (λ ns. is_in ns t) (sym (append-none (root ∷ map item_of (map view (x ∷ xs)))));
-  once = h.once;
+  names = h.names ∙ ap (each_behind []) (sym (append-none (root ∷ map item_of (map view (x ∷ xs)))));
   some = h.some;
   first = h.first;
   parents = h.parents;
@@ -96,25 +92,17 @@ parent_there : {X : Type 0} (view : X → TypeValue) (xs : List X) (i : ℕ) (x 
 parent_there view xs i x rows k low is named h =
     let front = root ∷ map item_of (map view xs) in
     let types = front ++ map parent_of (map view (take i xs)) in
-    let more = front ++ map parent_of (map view (take (i + 1) xs)) in
     let told = map view (take i xs) in
-    let are = λ (t : Name). ap (λ ns. is_in (front ++ ns) t) (maps view parent_of (take (i + 1) xs)) ∙ in_next (λ y. (view y).of) front xs i x t low is
-    ∙ ap (λ ns. is_in (front ++ ns) t || bytes_eq t (view x).of) (sym (maps view parent_of (take i xs))) ∙ ap (λ n. is_in types t || bytes_eq t n) (sym named) in
-    elim (is_in (names_in rows) k.now) as (λ b. is_in (names_in rows) k.now ≡ b → IsTableOf more told (cond b rows (put rows k 0))) [
-      | true ↦ λ there. record {
-        names = λ t. h.names t ∙ sym (known (is_in types) t k.now (sym (h.names k.now) ∙ there)) ∙ sym (are t);
-        once = h.once;
-        some = h.some;
-        first = h.first;
-        parents = h.parents;
-      }
+    subst (λ ns. IsTableOf ns told (with_name rows k)) (name_next view parent_of front xs i x k.now low is named)
+    (elim (is_in (names_in rows) k.now) as (λ b. is_in (names_in rows) k.now ≡ b → IsTableOf (types ++ k.now ∷ []) told (cond b rows (put rows k 0))) [
+      | true ↦ λ there. table_again types told rows k.now h (sym (table_has types told rows h k.now) ∙ there)
       | false ↦ λ new.
-          let off : is_in types k.now ≡ false = sym (h.names k.now) ∙ new in
+          let off : is_in types k.now ≡ false = sym (table_has types told rows h k.now) ∙ new in
           let undeclared : is_in (map item_of (map view xs)) k.now ≡ false = none_right (bytes_eq k.now root) (is_in (map item_of (map view xs)) k.now) (in_front front (map parent_of told) k.now off) in
           let untold : is_in (map item_of told) k.now ≡ false =
           ap (λ ns. is_in ns k.now) (maps view item_of (take i xs)) ∙ in_all (λ y. (view y).item) xs i k.now (ap (λ ns. is_in ns k.now) (sym (maps view item_of xs)) ∙ undeclared) in
-          put_under_root types more told rows k h are (parent_undeclared told k.now untold)
-    ] refl
+          put_under_root types told rows k h (parent_undeclared told k.now untold)
+    ] refl)
 
 -- a declared type is told its parent, which stands in the table by then
 pub told_next : {X : Type 0} (view : X → TypeValue) (xs : List X) (i : ℕ) (x : X) (rows wider next : List Row) (parent child : Bor (List ℕ)) (place : ℕ)
@@ -133,7 +121,6 @@ told_next view xs i x rows wider next parent child place low is above named once
     (or_right (bytes_eq child.now root) (is_in (map item_of (map view xs)) child.now)
     (ap (is_in (map item_of (map view xs))) (named ∙ ap (λ y. (view y).item) is) ∙ has_in (map item_of (map view xs)) (view (get_or xs i x)).item
     (is_mapped item_of (map view xs) (view (get_or xs i x)) (is_mapped view xs (get_or xs i x) (Contains-get_or xs i x low))))) in
-    let told : map view (take (i + 1) xs) ≡ map view (take i xs) ++ view x ∷ [] = ap (map view) (take_more xs i x low ∙ ap (λ y. take i xs ++ y ∷ []) (sym is)) ∙ map_last view (take i xs) x in
     subst (IsTableOf more (map view (take (i + 1) xs))) (sym put_in)
-    (subst (λ d. IsTableOf more d (put wider child place)) (sym told)
+    (subst (λ d. IsTableOf more d (put wider child place)) (sym (view_next view xs i x low is))
     (put_under more (map view (take i xs)) wider child place (view x) table type there new (sym named) (sym above ∙ sym at)))

@@ -1,13 +1,28 @@
 -- How the types of a domain are held for look-ups by name.
-use Rattle.std.specs.Prelude.{◌≡◌, ℕ, zero, suc, Bool, ◌||◌, ◌==◌, ◌<◌, List, [], ◌∷◌, map, length, cond, bytes_eq, Contains, slice_get, Option, IfSome}
+use Rattle.std.specs.Prelude.{◌≡◌, ℕ, zero, suc, Bool, ◌||◌, ◌==◌, ◌<◌, List, [], ◌∷◌, ◌++◌, map, length, cond, bytes_eq, Contains, slice_get, Option, IfSome}
 use Rattle.std.specs.Option.{option_map_or}
 use Rattle.indexmap.specs.IndexMap.{insert_entry}
-use Rattle.std.specs.List.{IsDistinct, slice_index_or}
+use Rattle.std.specs.List.{slice_index_or}
 use Rattle.std.specs.Borrow.{Bor}
 use Rattle.pddl_forest.specs.Forests.{IsForest}
 use Rattle.pddl_domain.specs.Declarations.{TypeValue}
 use Rattle.pddl_task.specs.Names.{Name, is_in, repeated, item_of}
 use Rattle.pddl_task.specs.Types.{root, types_of}
+
+-- ---- names
+
+-- names with one more, which comes last where it is new
+abbrev pub with_new : List Name → Name → List Name
+with_new ns n = cond (is_in ns n) ns (ns ++ n ∷ [])
+
+-- names behind others, each at its first place
+abbrev pub each_behind : List Name → List Name → List Name
+each_behind seen [] = seen
+each_behind seen (n ∷ ns) = each_behind (with_new seen n) ns
+
+-- the types of a domain in the order in which a table has them: `object`, what is declared, and parents, each at its first place
+abbrev pub type_names : List TypeValue → List Name
+type_names declared = each_behind [] (types_of declared)
 
 -- ---- tables
 
@@ -30,8 +45,7 @@ parent_in (e ∷ es) t = cond (bytes_eq t e.item) e.of (parent_in es t)
 
 -- the table of these types, `object` first: each stands once, with the place of its parent, as far as parents are told
 pub record IsTableOf (types : List Name) (told : List TypeValue) (rows : List Row) : Type 0 where
-  pub names : (t : Name) → is_in (names_in rows) t ≡ is_in types t
-  pub once : IsDistinct bytes_eq (names_in rows)
+  pub names : names_in rows ≡ each_behind [] types
   pub some : 0 < length rows
   pub first : name_at rows 0 ≡ root
   pub parents : (r : Row) → Contains rows r → (r.1 < length rows) × (name_at rows r.1 ≡ parent_in told r.0.now)
