@@ -1,6 +1,6 @@
 -- What is said by numbers of a list that is executed holds by names.
-use Rattle.std.proofs.Common.{◌≡◌, ℕ, Bool, List, ap, ◌∙◌, subst}
-use Rattle.std.specs.Prelude.{Option}
+use Rattle.std.proofs.Common.{◌≡◌, ℕ, Bool, List, sym, ap, ◌∙◌, subst}
+use Rattle.std.specs.Prelude.{Option, Result, Ok, Err, IfOk, MatchResult}
 use Rattle.pddl_domain.specs.Domains.{DomainValue}
 use Rattle.pddl_problem.specs.Problems.{ProblemValue}
 use Rattle.pddl_task.specs.Tasks.{TaskValue, task_of}
@@ -16,9 +16,12 @@ use Rattle.pddl_valid.specs.LinkedPlan.LinkedSteps.{LinkedStepValue}
 use Rattle.pddl_valid.specs.PlanSteps.NumberedSteps.{number_of}
 use Rattle.pddl_valid.specs.PlanSteps.PlanSteps.{named_steps}
 use Rattle.pddl_serial.specs.Replays.{OnNotASerialisation, OnSerialisation, OnStepFails, OnEnded}
+use Rattle.pddl_serial.specs.declared.replaying.End.{End}
 use Rattle.pddl_serial.specs.declared.replaying.Replayed.{Replayed}
 use Rattle.pddl_serial.specs.declared.replaying.Replayed.TheVariants.{NotASerialisation, StepFails, Ended}
 use Rattle.pddl_valid.proofs.NamedPlans.{IsCourseOf, same, start, holds}
+use Rattle.pddl_serial_plans.specs.declared.fault.ReplayFault.{ReplayFault}
+use Rattle.pddl_serial_plans.specs.declared.fault.ReplayFault.TheVariants as replays
 use Rattle.pddl_serial_plans.specs.SerialEnds.{IsReplayed, IsSerialEnd, end_of}
 use Rattle.pddl_serial_plans.proofs.NamedRuns.{runs_named, fails_named}
 
@@ -38,7 +41,7 @@ module _ {d : DomainValue} {p : ProblemValue} {steps : List LinkedStepValue} {co
     cost_is = cost_is ∙ (cost_alike (number_of task) course (named_steps task steps) (same run) s (singles order) ∙ ap (λ t. cost_of_all (named_steps task steps) t (singles order)) (start run));
   }
 
-  pub replayed : {A : Type 0} (r : Replayed A)
+  replayed : {A : Type 0} (r : Replayed A)
       → OnNotASerialisation r (IsSerialOrder gs order → ⊥)
       → OnSerialisation r (IsSerialOrder gs order)
       → OnStepFails r (FailsAt course s order)
@@ -53,3 +56,17 @@ module _ {d : DomainValue} {p : ProblemValue} {steps : List LinkedStepValue} {co
     subst (λ t. FailsAt (named_steps task steps) t order place) (start run) (fails_named (number_of task) course (named_steps task steps) (same run) s order place fails),
   )
   replayed (Ended e) none serial fails runs rising atoms cost = (holds run (λ t hs. IsSerialOrder hs order) serial, end_named e.atoms.items e.cost runs rising atoms cost)
+
+  -- the end of a run for which memory held, or else its fault
+  pub run_replayed : {A E : Type 0} (r : Result (Replayed A) E) (end : Result (End A) ReplayFault)
+      → MatchResult r (λ x. end ≡ end_of x) (λ e. end ≡ Err replays.Memory)
+      → IfOk r (λ x. OnNotASerialisation x (IsSerialOrder gs order → ⊥))
+      → IfOk r (λ x. OnSerialisation x (IsSerialOrder gs order))
+      → IfOk r (λ x. OnStepFails x (FailsAt course s order))
+      → IfOk r (λ x. OnEnded x (λ e. RunsSerially course s order))
+      → IfOk r (λ x. OnEnded x (λ e. IsRising e.atoms.items))
+      → IfOk r (λ x. OnEnded x (λ e. is_listed e.atoms.items ≡ after_all course s (singles order)))
+      → IfOk r (λ x. OnEnded x (λ e. e.cost ≡ cost_of_all course s (singles order)))
+      → IsReplayed task steps order end
+  run_replayed (Ok x) end is none serial fails runs rising atoms cost = subst (λ e. IsReplayed task steps order e) (sym is) (replayed x none serial fails runs rising atoms cost)
+  run_replayed (Err e) end is none serial fails runs rising atoms cost = subst (λ e. IsReplayed task steps order e) (sym is) tt

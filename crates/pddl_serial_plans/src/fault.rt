@@ -1,6 +1,6 @@
 //! Why a plan is not split, and why a list is not executed to its end.
 
-ghost use Rattle.std.specs.Prelude.{◌≡◌};
+ghost use Rattle.std.specs.Prelude.{◌≡◌, Ok, IfOk, IsErrOf};
 ghost use Rattle.pddl_serial_plans.specs.declared.fault.SplitFault.TheVariants as splits;
 ghost use Rattle.pddl_serial_plans.specs.declared.fault.ReplayFault.TheVariants as replays;
 
@@ -23,6 +23,26 @@ impl From<AllocError> for SplitFault {
 
     fn from(_error: AllocError) -> SplitFault {
         SplitFault::Memory
+    }
+}
+
+/// What was made, or `Memory` where memory for it was refused.
+pub(crate) fn or_memory<T: Drop>(made: Result<T, AllocError>) -> Result<T, SplitFault>
+    ensures made { IfOk result (λ x. made ≡ Ok x) }
+    ensures memory { ¬ IsErrOf result SplitFault.NotASplit }
+{
+    Ok(made?)
+}
+
+/// What was made of groups that are a split. Fails where memory for it was refused.
+pub(crate) fn of_a_split<T: Drop>(made: Result<T, SplitFault>) -> Result<T, AllocError>
+    requires { ¬ IsErrOf made SplitFault.NotASplit }
+    ensures { IfOk result (λ x. made ≡ Ok x) }
+{
+    match made {
+        Ok(made) => Ok(made),
+        Err(SplitFault::Memory) => Err(AllocError),
+        Err(SplitFault::NotASplit) => unreachable!(),
     }
 }
 

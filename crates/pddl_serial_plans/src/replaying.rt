@@ -1,9 +1,10 @@
 //! Runs of a plan's steps, one after another.
 
-ghost use Rattle.std.specs.Prelude.{◌≡◌};
+ghost use Rattle.std.specs.Prelude.{◌≡◌, Err, MatchResult};
 ghost use Rattle.pddl_valid.specs.Link.LinkedTasks.{task_of_files};
 ghost use Rattle.pddl_valid.specs.LinkedPlan.LinkedSteps.{AreLinkedSteps};
 ghost use Rattle.pddl_serial_plans.specs.SerialEnds.{IsReplayed, end_of};
+ghost use Rattle.pddl_serial_plans.specs.declared.fault.ReplayFault.TheVariants.{Memory};
 
 use crate::fault::ReplayFault;
 use pddl_serial::{End, Replayed};
@@ -12,13 +13,13 @@ use pddl_valid::happenings;
 use pddl_valid::pddl_link::Task;
 use pddl_valid::pddl_linked_plan::Steps;
 use pddl_valid::pddl_step::compile_plan;
-use std::alloc::Allocator;
+use std::alloc::{AllocError, Allocator};
 
 /// The end of a list that was executed, or why there is none.
-fn end_of<A: Allocator>(replayed: Replayed<A>) -> Result<End<A>, ReplayFault>
-    ensures { result ≡ end_of replayed }
+fn end_of<A: Allocator>(run: Result<Replayed<A>, AllocError>) -> Result<End<A>, ReplayFault>
+    ensures { MatchResult run (λ replayed. result ≡ end_of replayed) (λ _. result ≡ Err Memory) }
 {
-    match replayed {
+    match run? {
         Replayed::NotASerialisation => Err(ReplayFault::NotASerialisation),
         Replayed::StepFails(place) => Err(ReplayFault::StepFails { place }),
         Replayed::Ended(end) => Ok(end),
@@ -57,6 +58,6 @@ where
     let plan = compile_plan(alloc, task, steps)?;
     let run = pddl_serial::replay(alloc, &plan, &groups, order, store);
     drop(plan);
-    let replayed = run?;
-    end_of(replayed)
+    drop(groups);
+    end_of(run)
 }

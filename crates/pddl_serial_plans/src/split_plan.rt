@@ -12,9 +12,9 @@ ghost use Rattle.pddl_serial.specs.Cuts.{cut_in_order};
 ghost use Rattle.pddl_serial_plans.specs.NewPlans.{IsAcceptedOf, IsSplitPlan};
 ghost use Rattle.pddl_serial_plans.specs.NewSteps.{picked, at_moments, timed_plan};
 
-use crate::fault::SplitFault;
+use crate::fault::{SplitFault, of_a_split, or_memory};
 use crate::named::add_timed_steps;
-use pddl_serial::{Order, groups_of_at_most};
+use pddl_serial::{NewPlan, Order, groups_of_at_most};
 use pddl_state::AtomStore;
 use pddl_tree::{Plan, PlanBuilder};
 use pddl_valid::Accepted;
@@ -22,15 +22,14 @@ use pddl_valid::pddl_link::Task;
 use pddl_valid::pddl_linked_plan::Steps;
 use std::alloc::{AllocError, Allocator};
 
-/// The timed plan of the steps of some numbers, in turn, each at its moment; of no steps it is plain.
+/// The timed plan of steps by their numbers, in turn, each at its moment; of no steps it is plain.
 ///
 /// Fails where memory for it is refused.
 fn timed_plan<'m, 'a, 'b, 'c, A, B, C, D>(
     alloc: &'c D,
     task: &Task<'m, 'a, A, B>,
     steps: &Steps<'b, C>,
-    order: &[u32],
-    moments: &[u64],
+    new: &NewPlan<&'c D>,
 ) -> Result<Plan<&'c D>, AllocError>
 where
     A: Allocator,
@@ -38,13 +37,13 @@ where
     C: Allocator,
     D: Allocator,
     requires linked { AreLinkedSteps (task_of_files task.now) steps.now }
-    requires within { All (λ k. k < length steps.now) order.now }
-    requires as_many { length moments.now ≡ length order.now }
-    requires small { All (λ m. m ≤ 1000000) moments.now }
-    ensures { IfOk result (λ plan. plan_view plan ≡ timed_plan (task_of_files task.now) (at_moments (picked steps.now order.now) moments.now)) }
+    requires within { All (λ k. k < length steps.now) new.now.order.items }
+    requires as_many { length new.now.moments.items ≡ length new.now.order.items }
+    requires small { All (λ m. m ≤ 1000000) new.now.moments.items }
+    ensures { IfOk result (λ plan. plan_view plan ≡ timed_plan (task_of_files task.now) (at_moments (picked steps.now new.now.order.items) new.now.moments.items)) }
 {
     let mut plan = PlanBuilder::new(alloc);
-    let made = add_timed_steps(&mut plan, task, steps, order, moments);
+    let made = add_timed_steps(&mut plan, task, steps, &new.order, &new.moments);
     made.and(Ok(plan.finish()))
 }
 
@@ -84,7 +83,11 @@ where
 {
     let _linked = task.domain();
     match pddl_serial::split(alloc, &accepted.happenings, steps.len(), groups)? {
-        Some(new) => Ok(timed_plan(alloc, task, steps, &new.order, &new.moments)?),
+        Some(new) => {
+            let plan = timed_plan(alloc, task, steps, &new);
+            drop(new);
+            or_memory(plan)
+        }
         None => Err(SplitFault::NotASplit),
     }
 }
@@ -118,8 +121,7 @@ where
 {
     let _linked = task.domain();
     let groups = groups_of_at_most(alloc, &accepted.happenings, size, order)?;
-    match pddl_serial::split(alloc, &accepted.happenings, steps.len(), &groups)? {
-        Some(new) => timed_plan(alloc, task, steps, &new.order, &new.moments),
-        None => unreachable!(),
-    }
+    let plan = split(alloc, task, steps, accepted, &groups);
+    drop(groups);
+    of_a_split(plan)
 }

@@ -1,7 +1,6 @@
 use Rattle.std.proofs.Common.{length, map, sym, ap, ap₂, ◌∙◌, arith}
 use Rattle.std.proofs.lemmas.List.{take_all}
 use Rattle.pddl_tree.specs.Building.{Building}
-use Rattle.pddl_tree.specs.Plans as plans
 use Rattle.pddl_tree.specs.Plans.{TimedValue, step_of_names, timed_built}
 use Rattle.pddl_tree.proofs.BuiltSteps.{moment_pushed, moments_pushed}
 use Rattle.pddl_valid.specs.Link.LinkedTasks.{files_of, task_of_files}

@@ -8,8 +8,7 @@ use Rattle.pddl_valid.specs.PlanSteps.PlanSteps.{numbered_steps, numbered_start,
 use Rattle.pddl_valid.specs.Step.HeldPlans.{plan_task, plan_steps}
 use Rattle.pddl_valid.specs.AcceptedPlans.{AreHappeningsOf}
 use Rattle.pddl_valid.proofs.NamedPlans.{IsCourseOf}
-use Rattle.pddl_serial_plans.specs.SerialEnds.{IsReplayed}
-use Rattle.pddl_serial_plans.proofs.Replays.{replayed}
+use Rattle.pddl_serial_plans.proofs.Replays.{run_replayed}
 use Rattle.pddl_serial_plans.proofs.replaying.replay.Goals as goal
 
 pub happenings-requires : goal.happenings-requires
@@ -37,7 +36,7 @@ returns g c =
     let hs = c.deref.result.now in
     let same = c.deref.ensures.value in
     let same_task : held ≡ task = c.in_ok-plan.ensures.task in
-    let is = c.in_ok-replayed.ensures in
+    let is = c.replay-run.ensures in
     let run : IsCourseOf files.domain files.problem steps (numbered_steps held (plan_steps c.in_ok-plan.plan)) (numbered_goal held) (numbered_start held) (moments_of hs) (groups_of hs) = record {
       linked = c.domain-linked.ensures.linked;
       are = c.requires;
@@ -46,5 +45,4 @@ returns g c =
       start_is = ap numbered_start same_task;
       of = subst (λ v. AreHappeningsOf steps (moments_of v) (groups_of v)) (sym same) c.in_ok-groups.ensures.happenings;
     } in
-    subst (λ r. IsReplayed task steps c.args.order.now r) (sym c.end_of.ensures)
-    (replayed run c.args.order.now c.in_ok-replayed.replayed is.not_serial is.serial is.fails is.runs is.rising is.atoms is.cost)
+    run_replayed run c.args.order.now c.replay-run.result c.end_of.result c.end_of.ensures is.not_serial is.serial is.fails is.runs is.rising is.atoms is.cost
