@@ -12,12 +12,12 @@ ghost use Rattle.pddl_file.specs.Inner.FileReading.{StopsAt, RefusesSections};
 ghost use Rattle.pddl_problem_reader.specs.Inner.ProblemReading.{content_at, part_of, part_at, problem_readers};
 ghost use Rattle.pddl_problem_reader.specs.Inner.Slots.{slots_view, no_slots, Fills, FillsPart, HoldVerdict};
 
-use crate::init_reader::{inits_of, metric_of};
 use crate::section::Slots;
 use pddl_build::{set_found, set_list};
 use pddl_file::{FileFault, SectionKeyword, Seen, flags_of, head_keyword_of, keyword_of, refusal};
 use pddl_formula::Formula;
 use pddl_formula_reader::{condition_of, name_of, typed_names_of};
+use pddl_init_reader::{inits_of, metric_of};
 use pddl_sections::span_of;
 use pddl_text::Item;
 use pddl_token::Name;

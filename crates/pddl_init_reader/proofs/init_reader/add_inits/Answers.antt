@@ -3,8 +3,8 @@ use Rattle.std.proofs.lemmas.List.{map_push}
 use Rattle.pddl_formula_reader.proofs.Turns.{each_end}
 use Rattle.pddl_formula_reader.proofs.Fills.{fill_on, fill_stop}
 use Rattle.pddl_problem.specs.Inits.{init_view}
-use Rattle.pddl_problem_reader.specs.Inner.ProblemReading.{init_at}
-use Rattle.pddl_problem_reader.proofs.init_reader.add_inits.Goals as goal
+use Rattle.pddl_init_reader.specs.Inner.InitReading.{init_at}
+use Rattle.pddl_init_reader.proofs.init_reader.add_inits.Goals as goal
 
 pub returns-then-not-branch : goal.returns-then-not-branch
 returns-then-not-branch g c =

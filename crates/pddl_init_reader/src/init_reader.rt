@@ -7,7 +7,7 @@ ghost use Rattle.pddl_tree.specs.Inner.TreeReading.{name_at, all_of};
 ghost use Rattle.pddl_formula_reader.specs.Inner.Reading.{only};
 ghost use Rattle.pddl_effect_reader.specs.Inner.EffectReading.{call_of_list};
 ghost use Rattle.pddl_problem.specs.Inits.{holds, fails, fact_view, function_view, init_view, metric_view};
-ghost use Rattle.pddl_problem_reader.specs.Inner.ProblemReading.{fact_of_list, fact_at, ground_call, ground_function_at, value_of, init_of_list, init_at, direction_at, metric_of};
+ghost use Rattle.pddl_init_reader.specs.Inner.InitReading.{fact_of_list, fact_at, ground_call, ground_function_at, value_of, init_of_list, init_at, direction_at, metric_of};
 
 use pddl_build::{both, list_if_right, push_found};
 use pddl_effect_reader::number_of;
@@ -169,7 +169,7 @@ fn init_of_list<'a, B: Allocator>(
 /// literals; that numbers are those in range is own).
 ///
 /// Fails where memory for it is refused.
-pub fn init_of<'a, B: Allocator>(
+fn init_of<'a, B: Allocator>(
     alloc: &'a B,
     item: &Item<'_, &'a B>,
 ) -> Result<Option<InitItem<&'a B>>, AllocError>

@@ -2,8 +2,8 @@ use Rattle.std.proofs.Common.{Ok, ap, refl, arith}
 use Rattle.std.specs.Prelude.{option_map}
 use Rattle.pddl_build.proofs.Parts.{both_reads}
 use Rattle.pddl_problem.specs.Inits.{function_view, value}
-use Rattle.pddl_problem_reader.proofs.InitTurns.{own_view, value_is}
-use Rattle.pddl_problem_reader.proofs.init_reader.value_of.Goals as goal
+use Rattle.pddl_init_reader.proofs.InitTurns.{own_view, value_is}
+use Rattle.pddl_init_reader.proofs.init_reader.value_of.Goals as goal
 
 pub returns-in-Some : goal.returns-in-Some
 returns-in-Some g c =

@@ -3,8 +3,8 @@ use Rattle.pddl_tree.specs.ItemTrees.{item_trees}
 use Rattle.pddl_tree.specs.Inner.TreeReading.{all_of}
 use Rattle.pddl_tree.proofs.Options.{with_front}
 use Rattle.pddl_problem.specs.Inits.{init_view}
-use Rattle.pddl_problem_reader.specs.Inner.ProblemReading.{init_at}
-use Rattle.pddl_problem_reader.proofs.init_reader.add_inits.Given as goal
+use Rattle.pddl_init_reader.specs.Inner.InitReading.{init_at}
+use Rattle.pddl_init_reader.proofs.init_reader.add_inits.Given as goal
 
 -- those so far, and those of the items that are left
 abbrev pub invariant-loop-item : goal.invariant-loop-item

@@ -1,7 +1,7 @@
 use Rattle.pddl_tree.specs.ItemTrees.{item_trees}
 use Rattle.pddl_tree.proofs.TreeLists.{item_tree_list}
-use Rattle.pddl_problem_reader.proofs.ItemTurns.{init_at_list}
-use Rattle.pddl_problem_reader.proofs.init_reader.init_of.Goals as goal
+use Rattle.pddl_init_reader.proofs.InitTurns.{init_at_list}
+use Rattle.pddl_init_reader.proofs.init_reader.init_of.Goals as goal
 
 pub returns-in-List : goal.returns-in-List
 returns-in-List g c =

@@ -19,7 +19,7 @@ use Rattle.pddl_effect_reader.proofs.AmountLaws.{call_sound, call_complete, numb
 use Rattle.pddl_problem.specs.declared.problem.Direction.{Direction}
 use Rattle.pddl_problem.specs.declared.problem.Direction.TheVariants as directions
 use Rattle.pddl_problem.specs.Inits.{GroundValue, InitValue, holds, fails, value, MetricValue, IsFact, IsGroundFunction, IsInit, direction_word, AreMetric}
-use Rattle.pddl_problem_reader.specs.Inner.ProblemReading.{fact_of, fact_of_list, fact_at, ground_call, ground_function_at, value_of, init_by, init_of_list, init_at, direction_at, metric_of}
+use Rattle.pddl_init_reader.specs.Inner.InitReading.{fact_of, fact_of_list, fact_at, ground_call, ground_function_at, value_of, init_by, init_of_list, init_at, direction_at, metric_of}
 
 -- ---- facts
 
