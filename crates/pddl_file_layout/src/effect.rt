@@ -7,7 +7,7 @@ ghost use Rattle.pddl_file_layout.specs.FormulaValues.{is_function_term, is_amou
 ghost use Rattle.pddl_file_layout.specs.Inner.Printing.{Puts};
 ghost use Rattle.pddl_file_layout.specs.Inner.Texts.{spaced_by, function_term_text, amount_text, effect_text};
 
-use crate::formula::{put_atom, put_forall, put_formula, put_terms};
+use crate::formula::{put_atom, put_formula, put_quantifier, put_terms};
 use crate::printing::{put, put_number};
 use pddl_device::Sink;
 use pddl_effect::{Amount, Effect, FunctionTerm};
@@ -47,7 +47,7 @@ pub fn put_effect<A: Allocator, W: Sink>(out: &mut W, failed: &mut bool, effect:
 {
     match effect {
         Effect::Forall(variables, part) => {
-            put_forall(out, failed, variables);
+            put_quantifier(out, failed, b"(forall ", variables);
             put_effect(out, failed, part);
             put(out, failed, b")");
         }

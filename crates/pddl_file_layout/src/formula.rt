@@ -133,22 +133,17 @@ pub fn put_variables<A: Allocator, W: Sink>(out: &mut W, failed: &mut bool, vari
     }
 }
 
-/// Writes what stands before the part of an existential formula.
-fn put_exists<A: Allocator, W: Sink>(out: &mut W, failed: &mut bool, variables: &[Typed<A>])
-    ensures printed { Puts (W.contents out.old) (W.contents out.new) (W.failures out.old) (W.failures out.new) failed.old failed.new (codes "(exists " ++ (variables_text (map typed_view variables.now) ++ codes " ")) }
+/// Writes what stands before the part of a quantified formula or effect, of which this is the opening.
+pub fn put_quantifier<A: Allocator, W: Sink>(
+    out: &mut W,
+    failed: &mut bool,
+    opening: &[u8],
+    variables: &[Typed<A>],
+)
+    ensures printed { Puts (W.contents out.old) (W.contents out.new) (W.failures out.old) (W.failures out.new) failed.old failed.new (opening.now ++ (variables_text (map typed_view variables.now) ++ codes " ")) }
     ensures good { IsTrue (list_all is_typed (map typed_view variables.now)) }
 {
-    put(out, failed, b"(exists ");
-    put_variables(out, failed, variables);
-    put(out, failed, b" ");
-}
-
-/// Writes what stands before the part of a universal formula or effect.
-pub fn put_forall<A: Allocator, W: Sink>(out: &mut W, failed: &mut bool, variables: &[Typed<A>])
-    ensures printed { Puts (W.contents out.old) (W.contents out.new) (W.failures out.old) (W.failures out.new) failed.old failed.new (codes "(forall " ++ (variables_text (map typed_view variables.now) ++ codes " ")) }
-    ensures good { IsTrue (list_all is_typed (map typed_view variables.now)) }
-{
-    put(out, failed, b"(forall ");
+    put(out, failed, opening);
     put_variables(out, failed, variables);
     put(out, failed, b" ");
 }
@@ -180,27 +175,49 @@ pub fn put_formula<A: Allocator, W: Sink>(out: &mut W, failed: &mut bool, formul
             put_formula(out, failed, right);
             put(out, failed, b")");
         }
-        Formula::And(parts) => {
-            put(out, failed, b"(and");
-            put_formulas(out, failed, parts);
-            put(out, failed, b")");
-        }
-        Formula::Or(parts) => {
-            put(out, failed, b"(or");
-            put_formulas(out, failed, parts);
-            put(out, failed, b")");
-        }
+        Formula::And(parts) => put_joined(out, failed, b"(and", parts),
+        Formula::Or(parts) => put_joined(out, failed, b"(or", parts),
         Formula::Exists(variables, part) => {
-            put_exists(out, failed, variables);
-            put_formula(out, failed, part);
-            put(out, failed, b")");
+            put_quantified(out, failed, b"(exists ", variables, part);
         }
         Formula::Forall(variables, part) => {
-            put_forall(out, failed, variables);
-            put_formula(out, failed, part);
-            put(out, failed, b")");
+            put_quantified(out, failed, b"(forall ", variables, part);
         }
     }
+}
+
+/// Writes formulas behind an opening, which says how they are joined.
+#[cycle(formula)]
+fn put_joined<A: Allocator, W: Sink>(
+    out: &mut W,
+    failed: &mut bool,
+    opening: &[u8],
+    parts: &[Formula<A>],
+)
+    ensures printed { Puts (W.contents out.old) (W.contents out.new) (W.failures out.old) (W.failures out.new) failed.old failed.new (opening.now ++ (spaced_by formula_text (map formula_view parts.now) ++ codes ")")) }
+    ensures good { IsTrue (list_all is_formula (map formula_view parts.now)) }
+{
+    put(out, failed, opening);
+    put_formulas(out, failed, parts);
+    put(out, failed, b")");
+}
+
+/// Writes a quantified formula behind its opening.
+#[cycle(formula)]
+fn put_quantified<A: Allocator, W: Sink>(
+    out: &mut W,
+    failed: &mut bool,
+    opening: &[u8],
+    variables: &[Typed<A>],
+    part: &Formula<A>,
+)
+    ensures printed { Puts (W.contents out.old) (W.contents out.new) (W.failures out.old) (W.failures out.new) failed.old failed.new ((opening.now ++ (variables_text (map typed_view variables.now) ++ codes " ")) ++ (formula_text (formula_view part.now) ++ codes ")")) }
+    ensures variables_good { IsTrue (list_all is_typed (map typed_view variables.now)) }
+    ensures part_good { IsTrue (is_formula (formula_view part.now)) }
+{
+    put_quantifier(out, failed, opening, variables);
+    put_formula(out, failed, part);
+    put(out, failed, b")");
 }
 
 /// Writes formulas, each behind a space.

@@ -20,9 +20,10 @@ use Rattle.pddl_file.specs.Inner.WordReading.{flag_at, head_key}
 use Rattle.pddl_file.proofs.KeywordLaws.{flag_reads, head_key_sound, head_key_complete, key_reads, unseen, noted, stays, notes}
 use Rattle.pddl_file.proofs.MarkLaws.{mark_reads}
 use Rattle.pddl_problem.specs.Inits.{IsInit}
+use Rattle.pddl_init_reader.specs.Inner.InitReading.{init_at, metric_of}
+use Rattle.pddl_init_reader.proofs.InitLaws.{init_reads, metric_sound, metric_complete}
 use Rattle.pddl_problem_reader.specs.ProblemTexts.{Part, domain, requirements, objects, init, goal, metric, part_key, IsContent, IsPart, problem_rules}
-use Rattle.pddl_problem_reader.specs.Inner.ProblemReading.{init_at, metric_of, content_at, part_of, part_at, problem_readers}
-use Rattle.pddl_problem_reader.proofs.InitLaws.{init_reads, metric_sound, metric_complete}
+use Rattle.pddl_problem_reader.specs.Inner.ProblemReading.{content_at, part_of, part_at, problem_readers}
 
 -- ---- content
 

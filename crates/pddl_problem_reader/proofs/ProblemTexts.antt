@@ -18,12 +18,12 @@ use Rattle.pddl_file.specs.declared.fault.FileFault.TheVariants as faults
 use Rattle.pddl_file.specs.Keywords.{IsSingle}
 use Rattle.pddl_file.specs.Inner.WordReading.{nothing_seen}
 use Rattle.pddl_file.specs.Inner.FileReading.{RefusesFile}
-use Rattle.pddl_file.proofs.SectionTurns.{missing_refused, file_right}
+use Rattle.pddl_file.proofs.SectionTurns.{missing_refused, sections_refused, file_right}
 use Rattle.pddl_file.proofs.FileTexts as texts
 use Rattle.pddl_problem.specs.Problems.{ProblemValue}
 use Rattle.pddl_problem_reader.specs.ProblemTexts.{Part, problem_rules, required, AreProblem, SpellsProblem, ProblemStands}
 use Rattle.pddl_problem_reader.specs.Inner.ProblemReading.{problem_readers}
-use Rattle.pddl_problem_reader.specs.Inner.Slots.{SlotsValue, HoldVerdict, MakesUp, has_slot, SaysMissing}
+use Rattle.pddl_problem_reader.specs.Inner.Slots.{SlotsValue, HoldVerdict, MakesUp, has_slot, SaysMissing, Refuses, wrong, lacking}
 use Rattle.pddl_problem_reader.proofs.PartLaws.{problem_law}
 use Rattle.pddl_problem_reader.proofs.SlotLaws.{slot_list, slot_some, missing_same}
 
@@ -57,7 +57,7 @@ module _ (items : List Placed) (name : List ℕ) (sections : List Placed) (is : 
       }
 
   -- a required section is missing
-  pub made_missing : (fault : FileFault) → SaysMissing fault s → RefusesFile fault (Answered items)
+  made_missing : (fault : FileFault) → SaysMissing fault s → RefusesFile fault (Answered items)
   made_missing (faults.Missing key) e =
       missing_refused problem_readers (codes "problem") required items name sections is told.seen told.parts told.is key (missing_same told.seen s told.parts told.hold ∙ e)
   made_missing (faults.Text t) none = absurd none
@@ -65,6 +65,12 @@ module _ (items : List Placed) (name : List ℕ) (sections : List Placed) (is : 
   made_missing (faults.Section span near) none = absurd none
   made_missing (faults.Unsupported mark span) none = absurd none
   made_missing (faults.Twice key span) none = absurd none
+
+-- what the sections are refused for, the file is
+pub sections_fail : (items : List Placed) (name : List ℕ) (sections : List Placed) → IsOpened (codes "problem") name sections items → (fault : FileFault)
+    → Refuses fault (verdict problem_readers nothing_seen [] sections) → RefusesFile fault (Answered items)
+sections_fail items name sections is fault (wrong refused) = sections_refused problem_readers (codes "problem") required items name sections is fault refused
+sections_fail items name sections is fault (lacking s told says) = made_missing items name sections is s told fault says
 
 -- ---- one problem
 

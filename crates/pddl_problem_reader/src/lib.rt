@@ -3,7 +3,6 @@
 //! It answers a problem exactly where the text spells one, and then that one; else the first fault.
 #![tactic(auto)]
 
-mod init_reader;
 mod problem_reader;
 mod section;
 mod section_reader;

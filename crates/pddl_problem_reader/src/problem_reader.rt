@@ -11,7 +11,7 @@ ghost use Rattle.pddl_file.specs.Places.{file_place};
 ghost use Rattle.pddl_problem.specs.Problems.{ProblemValue, problem_view};
 ghost use Rattle.pddl_problem_reader.specs.ProblemTexts.{required, AreProblem, SpellsProblem, ProblemStands};
 ghost use Rattle.pddl_problem_reader.specs.Inner.ProblemReading.{problem_readers};
-ghost use Rattle.pddl_problem_reader.specs.Inner.Slots.{slots_view, or_nothing, MakesUp, has_slot, SaysMissing};
+ghost use Rattle.pddl_problem_reader.specs.Inner.Slots.{slots_view, or_nothing, MakesUp, has_slot};
 
 use crate::section::Slots;
 use crate::section_reader::sections_of;
@@ -66,21 +66,6 @@ fn problem_by<'a, B: Allocator>(
     }
 }
 
-/// The problem of this name that the sections make up, or the first that is missing of the domain, `:init` and the goal.
-fn made_up<'a, B: Allocator>(
-    alloc: &'a B,
-    name: Name<&'a B>,
-    slots: Slots<&'a B>,
-) -> Result<Problem<&'a B>, FileFault>
-    ensures problem { IfOk result (λ problem. MakesUp (slots_view slots.entry) name.entry (problem_view problem)) }
-    ensures missing { IfErr result (λ fault. SaysMissing fault (slots_view slots.entry)) }
-{
-    match slots.first_missing() {
-        Some(keyword) => Err(FileFault::Missing { keyword }),
-        None => Ok(problem_by(alloc, name, slots)),
-    }
-}
-
 /// The problem that some items are.
 fn problem_of<'a, B: Allocator>(
     alloc: &'a B,
@@ -94,7 +79,7 @@ fn problem_of<'a, B: Allocator>(
         Err(span) => return Err(FileFault::Head { span }),
     };
     let slots = sections_of(alloc, opening.sections)?;
-    made_up(alloc, opening.name, slots)
+    Ok(problem_by(alloc, opening.name, slots))
 }
 
 /// The problem that a text spells: one list `(define (problem NAME) section*)`, letter case aside (Kovacs, BNF definition of

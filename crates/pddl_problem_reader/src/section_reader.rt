@@ -1,23 +1,25 @@
 //! Sections of a problem read from items.
 
-ghost use Rattle.std.specs.Prelude.{◌≡◌, [], Some, IfOk, IfErr, OnOk, map, option_map};
+ghost use Rattle.std.specs.Prelude.{◌≡◌, [], Some, None, IfOk, IfErr, OnOk, map, option_map};
 ghost use Rattle.pddl_text.specs.Items.{item_view, items_view};
 ghost use Rattle.pddl_tree.specs.ItemTrees.{item_tree, item_trees};
 ghost use Rattle.pddl_tree.specs.Inner.TreeReading.{name_at};
 ghost use Rattle.pddl_formula.specs.Formulas.{formula_view};
 ghost use Rattle.pddl_formula_reader.specs.Inner.Reading.{condition_at, only};
 ghost use Rattle.pddl_sections.specs.Inner.Verdicts.{turn, verdict};
+ghost use Rattle.pddl_sections.specs.Inner.Answers.{first_missing};
 ghost use Rattle.pddl_file.specs.Inner.WordReading.{nothing_seen};
 ghost use Rattle.pddl_file.specs.Inner.FileReading.{StopsAt, RefusesSections};
+ghost use Rattle.pddl_problem_reader.specs.ProblemTexts.{required};
 ghost use Rattle.pddl_problem_reader.specs.Inner.ProblemReading.{content_at, part_of, part_at, problem_readers};
-ghost use Rattle.pddl_problem_reader.specs.Inner.Slots.{slots_view, no_slots, Fills, FillsPart, HoldVerdict};
+ghost use Rattle.pddl_problem_reader.specs.Inner.Slots.{slots_view, no_slots, Fills, FillsPart, HoldVerdict, has_slot, Refuses};
 
-use crate::init_reader::{inits_of, metric_of};
 use crate::section::Slots;
 use pddl_build::{set_found, set_list};
 use pddl_file::{FileFault, SectionKeyword, Seen, flags_of, head_keyword_of, keyword_of, refusal};
 use pddl_formula::Formula;
 use pddl_formula_reader::{condition_of, name_of, typed_names_of};
+use pddl_init_reader::{inits_of, metric_of};
 use pddl_sections::span_of;
 use pddl_text::Item;
 use pddl_token::Name;
@@ -144,15 +146,34 @@ fn read_sections<'a, B: Allocator>(
     Ok(())
 }
 
-/// The sections that some items spell, none of which repeats another.
+/// Keeps what the sections that some items are say, none of which repeats another, and none of which is missing.
+fn read_file<'a, B: Allocator>(
+    alloc: &'a B,
+    slots: &mut Slots<&'a B>,
+    items: &[Item<'_, &'a B>],
+) -> Result<(), FileFault>
+    ensures hold { OnOk result (slots_view slots.old ≡ no_slots → HoldVerdict (slots_view slots.new) (verdict problem_readers nothing_seen [] (items_view items.now))) }
+    ensures whole { OnOk result (first_missing (has_slot (slots_view slots.new)) required ≡ None) }
+    ensures refused { IfErr result (λ fault. slots_view slots.old ≡ no_slots → Refuses fault (verdict problem_readers nothing_seen [] (items_view items.now))) }
+{
+    read_sections(alloc, slots, items)?;
+    match slots.first_missing() {
+        Some(keyword) => Err(FileFault::Missing { keyword }),
+        None => Ok(()),
+    }
+}
+
+/// The sections that some items spell, none of which repeats another, and none of which is missing of the domain, `:init` and
+/// the goal.
 pub fn sections_of<'a, B: Allocator>(
     alloc: &'a B,
     items: &[Item<'_, &'a B>],
 ) -> Result<Slots<&'a B>, FileFault>
     ensures hold { IfOk result (λ slots. HoldVerdict (slots_view slots) (verdict problem_readers nothing_seen [] (items_view items.now))) }
-    ensures refused { IfErr result (λ fault. RefusesSections fault (verdict problem_readers nothing_seen [] (items_view items.now))) }
+    ensures whole { IfOk result (λ slots. first_missing (has_slot (slots_view slots)) required ≡ None) }
+    ensures refused { IfErr result (λ fault. Refuses fault (verdict problem_readers nothing_seen [] (items_view items.now))) }
 {
     let mut slots = Slots::nothing();
-    let read = read_sections(alloc, &mut slots, items);
+    let read = read_file(alloc, &mut slots, items);
     read.and(Ok(slots))
 }

@@ -12,6 +12,7 @@ use Rattle.pddl_file.specs.declared.keyword.Seen.{Seen}
 use Rattle.pddl_file.specs.declared.mark.Mark.{Mark}
 use Rattle.pddl_file.specs.declared.fault.FileFault.{FileFault}
 use Rattle.pddl_file.specs.declared.fault.FileFault.TheVariants as faults
+use Rattle.pddl_file.specs.Inner.FileReading.{RefusesSections}
 use Rattle.pddl_problem.specs.Inits.{InitValue, MetricValue, init_view, metric_view}
 use Rattle.pddl_problem.specs.Problems.{ProblemValue}
 use Rattle.pddl_problem_reader.specs.ProblemTexts.{Part, domain, requirements, objects, init, goal, metric, domains_in, requirements_in, objects_in, init_in, goals_in, metrics_in, required}
@@ -107,3 +108,8 @@ has_slot s _ = false
 abbrev pub SaysMissing : FileFault → SlotsValue → Type 0
 SaysMissing (faults.Missing key) s = first_missing (has_slot s) required ≡ Some key
 SaysMissing _ s = ⊥
+
+-- the fault is that of a section that is wrong, or the sections are right, and it says which is missing
+pub data Refuses (fault : FileFault) (verdict : Verdict Part SectionKeyword Mark Seen) : Type 0 where
+  wrong : RefusesSections fault verdict → Refuses fault verdict
+  lacking : (s : SlotsValue) → HoldVerdict s verdict → SaysMissing fault s → Refuses fault verdict

@@ -22,7 +22,7 @@ put_effect-returns-in-And-clause-good g t c = all_good c.args.effect.now c.in-An
 pub put_effect-returns-in-Forall-clause-printed : goal.put_effect-returns-in-Forall-clause-printed
 put_effect-returns-in-Forall-clause-printed g t c =
     puts_as (each_text c.args.effect.now c.deref-in-Forall.result.now c.deref.result.now c.in-Forall.variables c.in-Forall.part c.in-Forall.is c.deref.ensures.value c.deref-in-Forall.ensures)
-    (puts_on c.put_forall.ensures.printed (puts_on c.put_effect.ensures.printed c.put.ensures))
+    (puts_on c.put_quantifier.ensures.printed (puts_on c.put_effect.ensures.printed c.put.ensures))
 
 pub put_effect-returns-in-When-clause-printed : goal.put_effect-returns-in-When-clause-printed
 put_effect-returns-in-When-clause-printed g t c =
@@ -89,7 +89,7 @@ put_effect-returns-in-Increase-clause-good g t c = increase_good c.args.effect.n
 
 pub put_effect-returns-in-Forall-clause-good : goal.put_effect-returns-in-Forall-clause-good
 put_effect-returns-in-Forall-clause-good g t c =
-    each_good c.args.effect.now c.deref-in-Forall.result.now c.deref.result.now c.in-Forall.variables c.in-Forall.part c.in-Forall.is c.deref.ensures.value c.deref-in-Forall.ensures c.put_forall.ensures.good c.put_effect.ensures.good
+    each_good c.args.effect.now c.deref-in-Forall.result.now c.deref.result.now c.in-Forall.variables c.in-Forall.part c.in-Forall.is c.deref.ensures.value c.deref-in-Forall.ensures c.put_quantifier.ensures.good c.put_effect.ensures.good
 
 pub put_effect-returns-in-When-clause-good : goal.put_effect-returns-in-When-clause-good
 put_effect-returns-in-When-clause-good g t c = when_good c.args.effect.now c.deref-in-When.result.now c.in-When.condition c.in-When.part c.in-When.is c.deref-in-When.ensures c.put_formula.ensures.good c.put_effect-in-When.ensures.good

@@ -23,30 +23,32 @@ put_formula-returns-in-Imply-clause-printed g t c =
     (puts_on c.put-in-Imply.ensures (puts_on c.put_formula-in-Imply.ensures.printed (puts_on c.put-in-Imply-2.ensures (puts_on c.put_formula-in-Imply-2.ensures.printed c.put-in-Imply-3.ensures))))
 
 pub put_formula-returns-in-And-clause-printed : goal.put_formula-returns-in-And-clause-printed
-put_formula-returns-in-And-clause-printed g t c =
-    puts_as (and_text c.args.formula.now c.deref-in-And.result.now c.in-And.parts c.in-And.is c.deref-in-And.ensures.value)
-    (puts_on c.put-in-And.ensures (puts_on c.put_formulas.ensures.printed c.put-in-And-2.ensures))
+put_formula-returns-in-And-clause-printed g t c = puts_as (and_text c.args.formula.now c.deref-in-And.result.now c.in-And.parts c.in-And.is c.deref-in-And.ensures.value) c.put_joined.ensures.printed
 
 pub put_formula-returns-in-And-clause-good : goal.put_formula-returns-in-And-clause-good
-put_formula-returns-in-And-clause-good g t c = and_good c.args.formula.now c.deref-in-And.result.now c.in-And.parts c.in-And.is c.deref-in-And.ensures.value c.put_formulas.ensures.good
+put_formula-returns-in-And-clause-good g t c = and_good c.args.formula.now c.deref-in-And.result.now c.in-And.parts c.in-And.is c.deref-in-And.ensures.value c.put_joined.ensures.good
 
 pub put_formula-returns-in-Or-clause-printed : goal.put_formula-returns-in-Or-clause-printed
-put_formula-returns-in-Or-clause-printed g t c =
-    puts_as (or_text c.args.formula.now c.deref-in-Or.result.now c.in-Or.parts c.in-Or.is c.deref-in-Or.ensures.value)
-    (puts_on c.put-in-Or.ensures (puts_on c.put_formulas-in-Or.ensures.printed c.put-in-Or-2.ensures))
+put_formula-returns-in-Or-clause-printed g t c = puts_as (or_text c.args.formula.now c.deref-in-Or.result.now c.in-Or.parts c.in-Or.is c.deref-in-Or.ensures.value) c.put_joined-in-Or.ensures.printed
 
 pub put_formula-returns-in-Or-clause-good : goal.put_formula-returns-in-Or-clause-good
-put_formula-returns-in-Or-clause-good g t c = or_good c.args.formula.now c.deref-in-Or.result.now c.in-Or.parts c.in-Or.is c.deref-in-Or.ensures.value c.put_formulas-in-Or.ensures.good
+put_formula-returns-in-Or-clause-good g t c = or_good c.args.formula.now c.deref-in-Or.result.now c.in-Or.parts c.in-Or.is c.deref-in-Or.ensures.value c.put_joined-in-Or.ensures.good
 
 pub put_formula-returns-in-Exists-clause-printed : goal.put_formula-returns-in-Exists-clause-printed
 put_formula-returns-in-Exists-clause-printed g t c =
     puts_as (exists_text c.args.formula.now c.deref-in-Exists-2.result.now c.deref-in-Exists.result.now c.in-Exists.variables c.in-Exists.part c.in-Exists.is c.deref-in-Exists.ensures.value c.deref-in-Exists-2.ensures)
-    (puts_on c.put_exists.ensures.printed (puts_on c.put_formula-in-Exists.ensures.printed c.put-in-Exists.ensures))
+    c.put_quantified.ensures.printed
 
 pub put_formula-returns-in-Forall-clause-printed : goal.put_formula-returns-in-Forall-clause-printed
 put_formula-returns-in-Forall-clause-printed g t c =
     puts_as (forall_text c.args.formula.now c.deref-in-Forall-2.result.now c.deref-in-Forall.result.now c.in-Forall.variables c.in-Forall.part c.in-Forall.is c.deref-in-Forall.ensures.value c.deref-in-Forall-2.ensures)
-    (puts_on c.put_forall.ensures.printed (puts_on c.put_formula-in-Forall.ensures.printed c.put-in-Forall.ensures))
+    c.put_quantified-in-Forall.ensures.printed
+
+pub put_joined-returns-clause-printed : goal.put_joined-returns-clause-printed
+put_joined-returns-clause-printed g t c = puts_on c.put.ensures (puts_on c.put_formulas.ensures.printed c.put-2.ensures)
+
+pub put_quantified-returns-clause-printed : goal.put_quantified-returns-clause-printed
+put_quantified-returns-clause-printed g t c = puts_on c.put_quantifier.ensures.printed (puts_on c.put_formula.ensures.printed c.put.ensures)
 
 pub put_formulas-loop-formula-preserved : goal.put_formulas-loop-formula-preserved
 put_formulas-loop-formula-preserved g t c =
@@ -83,12 +85,12 @@ put_formula-returns-in-Imply-clause-good g t c =
 pub put_formula-returns-in-Exists-clause-good : goal.put_formula-returns-in-Exists-clause-good
 put_formula-returns-in-Exists-clause-good g t c =
     exists_good c.args.formula.now c.deref-in-Exists-2.result.now c.deref-in-Exists.result.now c.in-Exists.variables c.in-Exists.part c.in-Exists.is c.deref-in-Exists.ensures.value c.deref-in-Exists-2.ensures
-    c.put_exists.ensures.good c.put_formula-in-Exists.ensures.good
+    c.put_quantified.ensures.variables_good c.put_quantified.ensures.part_good
 
 pub put_formula-returns-in-Forall-clause-good : goal.put_formula-returns-in-Forall-clause-good
 put_formula-returns-in-Forall-clause-good g t c =
     forall_good c.args.formula.now c.deref-in-Forall-2.result.now c.deref-in-Forall.result.now c.in-Forall.variables c.in-Forall.part c.in-Forall.is c.deref-in-Forall.ensures.value c.deref-in-Forall-2.ensures
-    c.put_forall.ensures.good c.put_formula-in-Forall.ensures.good
+    c.put_quantified-in-Forall.ensures.variables_good c.put_quantified-in-Forall.ensures.part_good
 
 pub put_formula-put_formula-requires : goal.put_formula-put_formula-requires
 put_formula-put_formula-requires g t c κs within = (omega (arith, under_not g.row.A g.A.Allocator g.A.laws c.args.formula.now c.deref.result.now c.in-Not.part c.in-Not.is c.deref.ensures, c.decreases), within)
@@ -99,17 +101,21 @@ put_formula-put_formula-requires-in-Imply g t c κs within = (omega (arith, (und
 pub put_formula-put_formula-requires-in-Imply-2 : goal.put_formula-put_formula-requires-in-Imply-2
 put_formula-put_formula-requires-in-Imply-2 g t c κs within = (omega (arith, (under_imply g.row.A g.A.Allocator g.A.laws c.args.formula.now c.deref-in-Imply.result.now c.deref-in-Imply-2.result.now c.in-Imply.left c.in-Imply.right c.in-Imply.is c.deref-in-Imply.ensures c.deref-in-Imply-2.ensures).1, c.decreases), within)
 
-pub put_formula-put_formulas-requires : goal.put_formula-put_formulas-requires
-put_formula-put_formulas-requires g t c κs within = (omega (arith, under_and g.row.A g.A.Allocator g.A.laws c.args.formula.now c.deref-in-And.result.now c.in-And.parts c.in-And.is c.deref-in-And.ensures.value, c.decreases), within)
+pub put_formula-put_joined-requires : goal.put_formula-put_joined-requires
+put_formula-put_joined-requires g t c κs within =
+    (omega (arith, under_and g.row.A g.A.Allocator g.A.laws c.args.formula.now c.deref-in-And.result.now c.in-And.parts c.in-And.is c.deref-in-And.ensures.value, c.decreases), within)
 
-pub put_formula-put_formulas-requires-in-Or : goal.put_formula-put_formulas-requires-in-Or
-put_formula-put_formulas-requires-in-Or g t c κs within = (omega (arith, under_or g.row.A g.A.Allocator g.A.laws c.args.formula.now c.deref-in-Or.result.now c.in-Or.parts c.in-Or.is c.deref-in-Or.ensures.value, c.decreases), within)
+pub put_formula-put_joined-requires-in-Or : goal.put_formula-put_joined-requires-in-Or
+put_formula-put_joined-requires-in-Or g t c κs within =
+    (omega (arith, under_or g.row.A g.A.Allocator g.A.laws c.args.formula.now c.deref-in-Or.result.now c.in-Or.parts c.in-Or.is c.deref-in-Or.ensures.value, c.decreases), within)
 
-pub put_formula-put_formula-requires-in-Exists : goal.put_formula-put_formula-requires-in-Exists
-put_formula-put_formula-requires-in-Exists g t c κs within = (omega (arith, under_exists g.row.A g.A.Allocator g.A.laws c.args.formula.now c.deref-in-Exists-2.result.now c.in-Exists.variables c.in-Exists.part c.in-Exists.is c.deref-in-Exists-2.ensures, c.decreases), within)
+pub put_formula-put_quantified-requires : goal.put_formula-put_quantified-requires
+put_formula-put_quantified-requires g t c κs within =
+    (omega (arith, under_exists g.row.A g.A.Allocator g.A.laws c.args.formula.now c.deref-in-Exists-2.result.now c.in-Exists.variables c.in-Exists.part c.in-Exists.is c.deref-in-Exists-2.ensures, c.decreases), within)
 
-pub put_formula-put_formula-requires-in-Forall : goal.put_formula-put_formula-requires-in-Forall
-put_formula-put_formula-requires-in-Forall g t c κs within = (omega (arith, under_forall g.row.A g.A.Allocator g.A.laws c.args.formula.now c.deref-in-Forall-2.result.now c.in-Forall.variables c.in-Forall.part c.in-Forall.is c.deref-in-Forall-2.ensures, c.decreases), within)
+pub put_formula-put_quantified-requires-in-Forall : goal.put_formula-put_quantified-requires-in-Forall
+put_formula-put_quantified-requires-in-Forall g t c κs within =
+    (omega (arith, under_forall g.row.A g.A.Allocator g.A.laws c.args.formula.now c.deref-in-Forall-2.result.now c.in-Forall.variables c.in-Forall.part c.in-Forall.is c.deref-in-Forall-2.ensures, c.decreases), within)
 
 pub put_formulas-put_formula-requires : goal.put_formulas-put_formula-requires
 put_formulas-put_formula-requires g t c κs within = (omega (arith, among (λ f. the_size g.row.A g.A.Allocator g.A.laws f) c.args.formulas.now c.loop-formula.formula-index c.formula-item.result c.loop-formula-test.true c.formula-item.is, c.decreases), within)

@@ -1,0 +1,3 @@
+pub mod InitLaws
+pub mod InitTurns
+pub mod OneItem

@@ -1,0 +1,8 @@
+use Rattle.pddl_tree.specs.ItemTrees.{item_trees}
+use Rattle.pddl_tree.proofs.TreeLists.{item_tree_list}
+use Rattle.pddl_init_reader.proofs.InitTurns.{ground_at_list}
+use Rattle.pddl_init_reader.proofs.init_reader.ground_function_of.Goals as goal
+
+pub returns-in-List : goal.returns-in-List
+returns-in-List g c =
+    rw (c.in-List.is, item_tree_list c.in-List.items c.in-List.field-1, ground_at_list (item_trees c.in-List.items.items), ← c.deref.ensures.value) c.list_function.ensures
