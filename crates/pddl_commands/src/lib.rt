@@ -3,8 +3,8 @@
 //! A command reads its files to their ends, makes the text of its outcome, and then writes that text: so nothing is written
 //! where memory was refused or a read failed. Of a plan's file the text is not kept.
 //!
-//! What the commands are made of is public too, for commands over further crates: how a file is read, and the lines of
-//! refused files.
+//! What the commands are made of is public too, for commands over further crates: how a file is read, the lines of
+//! refused files, and how the values that files are read to are let go.
 #![tactic(auto)]
 
 mod checked;
@@ -12,6 +12,7 @@ mod checking;
 mod fault_names;
 mod formatted;
 mod formatting;
+mod letting_go;
 mod line;
 mod outcome;
 mod plan_file;
@@ -24,6 +25,7 @@ pub use checking::{
 pub use fault_names::FaultName;
 pub use formatted::{Formatted, refused_domain, refused_problem};
 pub use formatting::{format, one_outcome};
+pub use letting_go::{let_go_domain, let_go_plan, let_go_problem, let_go_task};
 pub use line::{fault_line, push_number};
 pub use outcome::{Outcome, RunFault, or_memory, status};
 pub use pddl_kind::Kind;

@@ -25,33 +25,6 @@ pub fn add_end<A: Allocator, C: Allocator, D: Allocator, B: Allocator>(
     lines.end();
 }
 
-/// Adds the line of an accepted plan of so many steps.
-fn add_valid<B: Allocator>(steps: usize, happenings: usize, cost: u128, lines: &mut Lines<'_, B>) {
-    lines.word(b"valid:");
-    lines.number(steps as u64);
-    lines.word(b"steps in");
-    lines.number(happenings as u64);
-    lines.word(b"happenings, total-cost");
-    lines.shown(&cost);
-    lines.end();
-}
-
-/// Adds the line of two steps that interfere.
-fn add_clash<A: Allocator, C: Allocator, D: Allocator, B: Allocator>(
-    task: &Task<'_, '_, A, C>,
-    first: u32,
-    second: u32,
-    atom: &Atom<D>,
-    lines: &mut Lines<'_, B>,
-) {
-    lines.word(b"steps");
-    lines.counted(first as usize, "");
-    lines.word(b"and");
-    lines.counted(second as usize, "");
-    lines.word(b"interfere on");
-    add_atom(task, atom, lines);
-}
-
 /// Adds the line of a plan that is not accepted.
 pub fn add_refusal<A: Allocator, C: Allocator, D: Allocator, B: Allocator>(
     task: &Task<'_, '_, A, C>,
@@ -74,7 +47,12 @@ pub fn add_refusal<A: Allocator, C: Allocator, D: Allocator, B: Allocator>(
         } => {
             lines.word(b"invalid: happening");
             lines.counted(*happening, ",");
-            add_clash(task, *first, *second, atom, lines);
+            lines.word(b"steps");
+            lines.counted(*first as usize, "");
+            lines.word(b"and");
+            lines.counted(*second as usize, "");
+            lines.word(b"interfere on");
+            add_atom(task, atom, lines);
         }
         Refusal::Goal => lines.word(b"invalid: goal is false"),
     }
@@ -94,13 +72,18 @@ where
     B: Allocator,
     requires { S.owns accepted.now.store accepted.now.end }
 {
-    let cost = accepted.cost;
-    add_valid(count, accepted.happenings.len(), cost, lines);
+    lines.word(b"valid:");
+    lines.shown(&count);
+    lines.word(b"steps in");
+    lines.shown(&accepted.happenings.len());
+    lines.word(b"happenings, total-cost");
+    lines.shown(&accepted.cost);
+    lines.end();
     if !has_end {
         return Outcome::Good;
     }
     match accepted.store.list(&accepted.end) {
-        Ok(atoms) => add_end(task, &atoms, cost, lines),
+        Ok(atoms) => add_end(task, &atoms, accepted.cost, lines),
         Err(_) => lines.refuse(),
     }
     Outcome::Good

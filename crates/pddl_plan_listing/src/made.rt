@@ -11,7 +11,7 @@ use crate::ends::{add_refusal, add_verdict};
 use crate::listed::Made;
 use crate::replays::add_numbers;
 use crate::steps::add_step_fault;
-use pddl_commands::Outcome;
+use pddl_commands::{Outcome, let_go_plan};
 use pddl_layout::plan_text;
 use pddl_plan_link::link_plan;
 use pddl_row_driver::{Lines, text_of};
@@ -66,25 +66,15 @@ where
         (by_name (number_of (task_of_files task.now)) (S.content accepted.now.store accepted.now.end)) accepted.now.cost }
 {
     match serialise(alloc, task, steps, accepted, order) {
-        Ok(plan) => add_plan(alloc, task, &plan, lines),
+        Ok(plan) => {
+            let outcome = add_plan(alloc, task, &plan, lines);
+            let_go_plan(plan);
+            outcome
+        }
         Err(_) => {
             lines.refuse();
             Outcome::Refused
         }
-    }
-}
-
-/// Adds a group of the steps that a part of a line has to others.
-fn add_group<'a, B: Allocator>(
-    alloc: &'a B,
-    part: &str,
-    groups: &mut Vec<Vec<u32, &'a B>, &'a B>,
-    lines: &mut Lines<'_, B>,
-) {
-    let mut group = Vec::new(alloc);
-    add_numbers(part, &mut group, lines);
-    if groups.push(group).is_err() {
-        lines.refuse();
     }
 }
 
@@ -99,7 +89,9 @@ fn add_groups<'a, B: Allocator>(
         return;
     }
     for part in line.split('/') {
-        add_group(alloc, part, groups, lines);
+        let mut group = Vec::new(alloc);
+        add_numbers(part, &mut group, lines);
+        lines.push(groups, Some(group));
     }
 }
 
@@ -128,6 +120,7 @@ where
     match split(alloc, task, steps, accepted, &groups) {
         Ok(plan) => {
             let _ = add_plan(alloc, task, &plan, lines);
+            let_go_plan(plan);
         }
         Err(SplitFault::NotASplit) => lines.lines(b"61 NotASplit\n"),
         Err(SplitFault::Memory) => lines.refuse(),

@@ -9,19 +9,12 @@ use std::alloc::Allocator;
 /// The most steps of a linked plan.
 const MOST_STEPS: usize = 1_000_000;
 
-/// Adds the numbers of steps.
-fn add_numbers<B: Allocator>(steps: &[u32], lines: &mut Lines<'_, B>) {
-    for step in steps {
-        lines.number(u64::from(*step));
-    }
-}
-
 /// Adds the moment of each happening, if it has one, and its steps.
 fn add_each<A: Allocator, B: Allocator>(found: &[Happening<A>], lines: &mut Lines<'_, B>) {
     for happening in found {
-        lines.number_or_none(happening.moment);
+        lines.shown_or_none(happening.moment);
         lines.word(b":");
-        add_numbers(&happening.steps, lines);
+        lines.numbers(&happening.steps);
         lines.end();
     }
 }

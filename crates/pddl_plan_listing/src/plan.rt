@@ -8,7 +8,7 @@ use crate::moments::add_happenings;
 use crate::replays::add_replays;
 use crate::steps::{add_step_fault, add_steps};
 use crate::stores::add_over_both;
-use pddl_commands::Outcome;
+use pddl_commands::{Outcome, let_go_plan};
 use pddl_plan_link::link_plan;
 use pddl_row_driver::{Files, Lines, add_read_fault};
 use pddl_serial_plans::pddl_link::Task;
@@ -95,7 +95,11 @@ pub fn add_plan<A: Allocator, B: Allocator, D: Allocator>(
     lines: &mut Lines<'_, D>,
 ) -> Outcome {
     match read_plan(alloc, files.third) {
-        Ok(plan) => add_linked_again(alloc, listed, task, &plan, files.fourth, lines),
+        Ok(plan) => {
+            let outcome = add_linked_again(alloc, listed, task, &plan, files.fourth, lines);
+            let_go_plan(plan);
+            outcome
+        }
         Err(fault) => add_read_fault(&fault, lines),
     }
 }

@@ -19,11 +19,7 @@ pub fn add_numbers<'a, B: Allocator>(
     lines: &mut Lines<'_, B>,
 ) {
     for word in part.split(' ') {
-        if let Ok(number) = word.parse::<u32>() {
-            if numbers.push(number).is_err() {
-                lines.refuse();
-            }
-        }
+        lines.push(numbers, word.parse::<u32>().ok());
     }
 }
 

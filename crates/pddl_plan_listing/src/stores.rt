@@ -40,9 +40,10 @@ where
     }
 }
 
-/// Adds what is listed of linked steps over a sorted store, and once more of the same steps, where memory was refused.
-fn add_over_sorted<'m, 'a, 'b, A: Allocator, B: Allocator, C: Allocator, D: Allocator>(
+/// Adds what is listed of linked steps over a sorted store, or over one of rows of bits.
+fn add_over_one<'m, 'a, 'b, A: Allocator, B: Allocator, C: Allocator, D: Allocator>(
     alloc: &D,
+    is_sorted: bool,
     stored: Stored,
     task: &Task<'m, 'a, A, B>,
     steps: &Steps<'b, C>,
@@ -51,33 +52,19 @@ fn add_over_sorted<'m, 'a, 'b, A: Allocator, B: Allocator, C: Allocator, D: Allo
 ) -> Outcome
     requires { AreLinkedSteps (task_of_files task.now) steps.now }
 {
-    let start = lines.size();
-    let outcome = add_over(
-        alloc,
-        stored,
-        task,
-        steps,
-        fourth,
-        SortedStore::new(alloc),
-        lines,
-    );
-    if lines.begin_again(start) {
-        return add_over(
-            alloc,
-            stored,
-            task,
-            steps,
-            fourth,
-            SortedStore::new(alloc),
-            lines,
-        );
+    if is_sorted {
+        let store = SortedStore::new(alloc);
+        add_over(alloc, stored, task, steps, fourth, store, lines)
+    } else {
+        let store = BitStore::new(alloc);
+        add_over(alloc, stored, task, steps, fourth, store, lines)
     }
-    outcome
 }
 
-/// Adds what is listed of linked steps over a store of rows of bits, and once more of the same steps, where memory was refused.
-fn add_over_bits<'m, 'a, 'b, A: Allocator, B: Allocator, C: Allocator, D: Allocator>(
+/// The same, and once more of the same steps, where memory was refused.
+fn add_over_one_again<'m, 'a, 'b, A: Allocator, B: Allocator, C: Allocator, D: Allocator>(
     alloc: &D,
+    is_sorted: bool,
     stored: Stored,
     task: &Task<'m, 'a, A, B>,
     steps: &Steps<'b, C>,
@@ -87,25 +74,9 @@ fn add_over_bits<'m, 'a, 'b, A: Allocator, B: Allocator, C: Allocator, D: Alloca
     requires { AreLinkedSteps (task_of_files task.now) steps.now }
 {
     let start = lines.size();
-    let outcome = add_over(
-        alloc,
-        stored,
-        task,
-        steps,
-        fourth,
-        BitStore::new(alloc),
-        lines,
-    );
+    let outcome = add_over_one(alloc, is_sorted, stored, task, steps, fourth, lines);
     if lines.begin_again(start) {
-        return add_over(
-            alloc,
-            stored,
-            task,
-            steps,
-            fourth,
-            BitStore::new(alloc),
-            lines,
-        );
+        return add_over_one(alloc, is_sorted, stored, task, steps, fourth, lines);
     }
     outcome
 }
@@ -122,9 +93,9 @@ pub fn add_over_both<'m, 'a, 'b, A: Allocator, B: Allocator, C: Allocator, D: Al
     requires { AreLinkedSteps (task_of_files task.now) steps.now }
 {
     let start = lines.size();
-    let _ = add_over_sorted(alloc, stored, task, steps, fourth, lines);
+    let _ = add_over_one_again(alloc, true, stored, task, steps, fourth, lines);
     let half = lines.size();
-    let outcome = add_over_bits(alloc, stored, task, steps, fourth, lines);
+    let outcome = add_over_one_again(alloc, false, stored, task, steps, fourth, lines);
     lines.merge(start, half);
     outcome
 }

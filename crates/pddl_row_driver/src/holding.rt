@@ -1,9 +1,8 @@
 //! Rows under each call that can fail, and texts of rows.
 
-use crate::fault::RowFault;
 use crate::reader::Reader;
-use crate::report::report_few;
-use crate::row::{Command, Ending, Row};
+use crate::report::report;
+use crate::row::{Command, Row};
 use crate::running::{Seen, run};
 use crate::samples::SAMPLES;
 use crate::trouble::{TROUBLES, Trouble};
@@ -36,7 +35,7 @@ fn holds_in<R: Print + AllocGlobal, C: Command>(rt: &R, row: Row<'_>, trouble: T
             Seen::Wrong => return false,
             Seen::Failed => {}
             Seen::Calm if failed < least(row, trouble) => {
-                report_few(rt, row, trouble, failed);
+                report(rt, row, "has too few that fail", trouble, failed);
                 return false;
             }
             Seen::Calm => return true,
@@ -91,67 +90,53 @@ fn holds_alone<R: Print + AllocGlobal, C: Command>(rt: &R, row: Row<'_>) -> bool
     true
 }
 
-/// Whether the row holds, read whole, with another ending, if there is one.
-fn holds_too<'r, R: Print + AllocGlobal, C: Command>(
-    rt: &R,
-    row: Row<'r>,
-    ending: Option<Ending<'r>>,
-) -> bool {
-    match ending {
-        Some(ending) => holds_whole::<R, C>(rt, row.ended(ending)),
+/// Whether the row holds, and so by the command that has to print the same, if there is one.
+fn holds<R: Print + AllocGlobal, C: Command>(rt: &R, row: Row<'_>) -> bool {
+    if !holds_alone::<R, C>(rt, row) {
+        return false;
+    }
+    match row.twin::<C>() {
+        Some(twin) => holds_whole::<R, C>(rt, twin),
         None => true,
     }
 }
 
-/// Whether the row holds, and so by the command that has to print the same, if there is one.
-fn holds<R: Print + AllocGlobal, C: Command>(rt: &R, row: Row<'_>) -> bool {
-    let twin = row.ending.twin::<C>();
-    holds_alone::<R, C>(rt, row) && holds_too::<R, C>(rt, row, twin)
-}
-
-/// How many rows of a text hold.
-fn count_holding<R: Print + AllocGlobal, C: Command>(
+/// How many rows of a text hold, up to a line that says nothing of a row.
+fn count_holding<'t, R: Print + AllocGlobal, C: Command>(
     rt: &R,
-    reader: &mut Reader,
-    text: &str,
-) -> Result<u64, RowFault> {
+    reader: &mut Reader<'t>,
+    text: &'t str,
+) -> u64 {
     let mut held = 0u64;
-    for (number, line) in text.lines().enumerate() {
-        match reader.take_line::<C>(line) {
-            Ok(None) => {}
-            Ok(Some(ending)) => {
-                if holds::<R, C>(rt, reader.row(ending)) {
-                    held = held.saturating_add(1);
-                }
-                reader.end();
-            }
-            Err(fault) => {
-                let _ = rt.println(format_args!("line {number} says nothing of a row: {line}"));
-                return Err(fault);
-            }
+    for line in text.lines() {
+        if let Some(ending) = reader.take_line::<C>(line) {
+            let holds = holds::<R, C>(rt, reader.row(ending));
+            held = held.saturating_add(u64::from(holds));
+            reader.end();
+        }
+        if reader.is_wrong() {
+            let _ = rt.println(format_args!("a line says nothing of a row: {line}"));
+            break;
         }
     }
-    Ok(held)
+    held
 }
 
-/// How many rows of a text hold. The samples are kept before it, and have no rows.
-fn count_rows<R: Print + AllocGlobal, C: Command>(rt: &R, text: &str) -> Result<u64, RowFault> {
-    let mut reader = Reader::new(rt.alloc());
-    let samples = count_holding::<R, C>(rt, &mut reader, SAMPLES)?;
-    let held = count_holding::<R, C>(rt, &mut reader, text)?;
-    Ok(held.saturating_add(samples))
-}
-
-/// All rows of a text hold, by the commands `C`, and there are so many; else what is wrong.
+/// All rows of a text hold, by the commands `C`, and there are so many; else what is wrong. The samples are kept before it, and have
+/// no rows.
 pub fn all_hold<R: Print + AllocGlobal, C: Command>(
     rt: &R,
     text: &str,
     rows: u64,
 ) -> Result<(), &'static str> {
-    let held = match count_rows::<R, C>(rt, text) {
-        Ok(held) => held,
-        Err(_) => return Err("the rows cannot be read"),
-    };
+    let mut reader = Reader::new(rt.alloc());
+    let samples = count_holding::<R, C>(rt, &mut reader, SAMPLES);
+    let held = count_holding::<R, C>(rt, &mut reader, text).saturating_add(samples);
+    let is_wrong = reader.is_wrong();
+    drop(reader);
+    if is_wrong {
+        return Err("the rows cannot be read");
+    }
     if held != rows {
         let _ = rt.println(format_args!("{held} rows hold, of {rows}"));
         return Err("a row does not hold, or is lost");

@@ -35,17 +35,16 @@
 //! (`running.rt`). An answer needs the row's status and text, and no failed read or write; want of memory a refused growth,
 //! and nothing written; a failed read just one, nothing written, and no file behind it read; a failed write just one, and
 //! a proper beginning written. Of each file that a command reads some read fails in turn; a row that says `only N` reads
-//! nothing behind its first N files. One that says `once` is run only whole: texts at the limits.
+//! nothing behind its first N files, of which there are two at most. One that says `once` is run only whole: texts at the limits.
 //! Where a command has a twin, that has to print and answer the same for a row whose files are not refused, read whole.
 //!
 //! A listing is what calls below the commands answer, in lines (`lines.rt`). Where memory is refused in one, the same calls are made
 //! once more, of the same values, and have to answer what they answer with ample memory.
 //!
 //! A row that does not hold is printed with its name, what was wanted and what was given, and the call that failed; a line
-//! that says nothing of a row with its number; and a row that is lost shows by the count.
+//! that says nothing of a row as it stands; and a row that is lost shows by the count.
 #![tactic(auto)]
 
-mod fault;
 mod faults;
 mod holding;
 mod lines;

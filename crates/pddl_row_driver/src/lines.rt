@@ -91,6 +91,15 @@ impl<'a, B: Allocator> Lines<'a, B> {
         }
     }
 
+    /// Adds a value, if there is one, to a list of others.
+    pub fn push<T: Drop, A: Allocator>(&mut self, list: &mut Vec<T, A>, value: Option<T>) {
+        if let Some(value) = value {
+            if list.push(value).is_err() {
+                self.is_refused = true;
+            }
+        }
+    }
+
     /// Adds bytes.
     fn add(&mut self, bytes: &[u8]) {
         if self.text.extend_from_slice(bytes).is_err() {
@@ -153,26 +162,18 @@ impl<'a, B: Allocator> Lines<'a, B> {
         self.made(format!(in self.alloc; "{number}{mark}"));
     }
 
-    /// Adds a number, or `none`.
-    pub fn number_or_none(&mut self, number: Option<u64>) {
-        match number {
-            Some(number) => self.number(number),
-            None => self.word(b"none"),
-        }
-    }
-
-    /// Adds the number of a thing, or `none`.
-    pub fn place_or_none(&mut self, number: Option<usize>) {
-        match number {
-            Some(number) => self.number(number as u64),
+    /// Adds what a value is printed as, or `none`.
+    pub fn shown_or_none<T: Debug + Copy>(&mut self, value: Option<T>) {
+        match value {
+            Some(value) => self.shown(&value),
             None => self.word(b"none"),
         }
     }
 
     /// Adds numbers.
-    pub fn numbers(&mut self, numbers: &[usize]) {
+    pub fn numbers<T: Debug>(&mut self, numbers: &[T]) {
         for number in numbers {
-            self.number(*number as u64);
+            self.shown(number);
         }
     }
 

@@ -1,46 +1,36 @@
 //! Rows that are read line by line.
 
-use crate::fault::RowFault;
 use crate::row::{Command, Ending, Files, Row};
-use crate::spelled::{add, add_series, change_first, repeat};
+use crate::spelled::{Spelled, numbered};
 use std::alloc::Global;
 use std::mem;
 
 /// A text under a name.
 #[derive(Drop)]
-struct Kept {
-    name: String,
+struct Kept<'t> {
+    name: &'t str,
     text: Vec<u8>,
 }
 
-/// A reader of rows, with the texts of the row at hand.
+/// A reader of rows, with the texts of the row at hand. A line that says nothing of a row makes the text at hand wrong.
 #[derive(Drop)]
-pub struct Reader {
-    alloc: Global,
-    name: String,
+pub struct Reader<'t> {
+    name: &'t str,
     /// The text at hand.
-    text: Vec<u8>,
+    text: Spelled,
     files: Vec<Vec<u8>>,
-    kept: Vec<Kept>,
+    kept: Vec<Kept<'t>>,
     /// What the row printed last.
     printed: Vec<u8>,
     growths: u64,
 }
 
-/// The number and the rest of `N REST`.
-fn numbered(rest: &str) -> Result<(u64, &str), RowFault> {
-    let (number, rest) = rest.split_once(' ').ok_or(RowFault::Line)?;
-    let number = number.parse::<u64>().ok().ok_or(RowFault::Line)?;
-    Ok((number, rest))
-}
-
-impl Reader {
+impl<'t> Reader<'t> {
     /// A reader at the start of a text.
     pub fn new(alloc: Global) -> Self {
         Reader {
-            alloc,
-            name: String::new(alloc),
-            text: Vec::new(alloc),
+            name: "",
+            text: Spelled::new(alloc),
             files: Vec::new(alloc),
             kept: Vec::new(alloc),
             printed: Vec::new(alloc),
@@ -48,124 +38,130 @@ impl Reader {
         }
     }
 
+    /// Whether some line said nothing of a row.
+    pub fn is_wrong(&self) -> bool {
+        self.text.is_wrong
+    }
+
     /// A row begins, without files.
-    fn begin(&mut self, name: &str) -> Result<(), RowFault> {
-        self.name = String::from_str(self.alloc, name)?;
+    fn begin(&mut self, name: &'t str) {
+        self.name = name;
         self.files.clear();
-        self.text.clear();
+        self.text.bytes.clear();
         self.growths = 0;
-        Ok(())
     }
 
     /// Adds a line to the text at hand.
-    fn add_line(&mut self, line: &str) -> Result<(), RowFault> {
-        add(&mut self.text, line)?;
-        self.text.push(b'\n')?;
-        Ok(())
+    fn add_line(&mut self, line: &str) {
+        self.text.add(line);
+        self.text.add_bytes(b"\n");
     }
 
     /// Adds the piece so many times: `N PIECE`.
-    fn add_times(&mut self, rest: &str) -> Result<(), RowFault> {
-        let (count, piece) = numbered(rest)?;
-        let mut part = Vec::new(self.alloc);
-        let spelled = add(&mut part, piece);
-        repeat(&mut self.text, &part, count, spelled)
+    fn add_times(&mut self, rest: &str) {
+        match numbered(rest.split_once(' ')) {
+            Some((count, piece)) => {
+                let mut part = Spelled::new(self.text.alloc);
+                part.add(piece);
+                self.text.add_times(count, &part);
+            }
+            None => self.text.is_wrong = true,
+        }
     }
 
     /// Adds the piece for each number below another: `N PIECE`.
-    fn add_numbered(&mut self, rest: &str) -> Result<(), RowFault> {
-        let (count, piece) = numbered(rest)?;
-        add_series(&mut self.text, count, piece)
+    fn add_series(&mut self, rest: &str) {
+        match numbered(rest.split_once(' ')) {
+            Some((count, piece)) => self.text.add_series(count, piece),
+            None => self.text.is_wrong = true,
+        }
     }
 
     /// Adds the text that is kept under the name.
-    fn add_kept(&mut self, name: &str) -> Result<(), RowFault> {
+    fn add_kept(&mut self, name: &str) {
         for kept in &self.kept {
-            if kept.name.as_str() == name {
-                self.text.extend_from_slice(&kept.text)?;
-                return Ok(());
+            if kept.name == name {
+                self.text.add_bytes(&kept.text);
+                return;
             }
         }
-        Err(RowFault::Line)
+        self.text.is_wrong = true;
     }
 
     /// Puts another part in place of the first such part of the text at hand: `PART => OTHER`.
-    fn change(&mut self, rest: &str) -> Result<(), RowFault> {
+    fn change(&mut self, rest: &str) {
         let (part, other) = rest.split_once(" => ").unwrap_or((rest, ""));
-        let before = self.taken();
-        let mut sought = Vec::new(self.alloc);
-        let spelled = add(&mut sought, part);
-        change_first(&mut self.text, &before, &sought, other, spelled)
-    }
-
-    /// The text at hand, in whose place a new one begins.
-    fn taken(&mut self) -> Vec<u8> {
-        mem::replace(&mut self.text, Vec::new(self.alloc))
+        let mut sought = Spelled::new(self.text.alloc);
+        sought.add(part);
+        self.text.change_first(&sought, other);
     }
 
     /// Keeps the text at hand under a name.
-    fn keep(&mut self, name: &str) -> Result<(), RowFault> {
-        let name = String::from_str(self.alloc, name)?;
-        let text = self.taken();
-        self.kept.push(Kept { name, text })?;
-        Ok(())
+    fn keep(&mut self, name: &'t str) {
+        let text = self.text.take();
+        if self.kept.push(Kept { name, text }).is_err() {
+            self.text.is_wrong = true;
+        }
+    }
+
+    /// This text is the row's next file.
+    fn add_file(&mut self, text: Vec<u8>) {
+        if self.files.push(text).is_err() {
+            self.text.is_wrong = true;
+        }
     }
 
     /// The text at hand, with this at its end, is the row's next file.
-    fn file(&mut self, rest: &str) -> Result<(), RowFault> {
-        add(&mut self.text, rest)?;
-        let text = self.taken();
-        self.files.push(text)?;
-        Ok(())
+    fn end_file(&mut self, rest: &str) {
+        self.text.add(rest);
+        let text = self.text.take();
+        self.add_file(text);
     }
 
     /// What the row printed last takes the place of its last file.
-    fn again(&mut self) -> Result<(), RowFault> {
+    fn again(&mut self) {
         let _ = self.files.pop();
-        let printed = mem::replace(&mut self.printed, Vec::new(self.alloc));
-        self.files.push(printed)?;
-        Ok(())
+        let printed = mem::replace(&mut self.printed, Vec::new(self.text.alloc));
+        self.add_file(printed);
     }
 
     /// So many growths at least are refused in turn.
-    fn grow(&mut self, rest: &str) -> Result<(), RowFault> {
-        self.growths = rest.parse::<u64>().ok().ok_or(RowFault::Line)?;
-        Ok(())
+    fn grow(&mut self, rest: &str) {
+        match rest.parse::<u64>() {
+            Ok(growths) => self.growths = growths,
+            Err(_) => self.text.is_wrong = true,
+        }
     }
 
     /// Takes a line that ends no row, and answers whether it is one.
-    fn takes(&mut self, word: &str, rest: &str) -> Result<bool, RowFault> {
+    fn takes(&mut self, word: &str, rest: &'t str) -> bool {
         match word {
-            "" | "#" => Ok(()),
+            "" | "#" => {}
             "row" => self.begin(rest),
             "|" => self.add_line(rest),
-            "part" => add(&mut self.text, rest),
+            "part" => self.text.add(rest),
             "times" => self.add_times(rest),
-            "series" => self.add_numbered(rest),
+            "series" => self.add_series(rest),
             "copy" => self.add_kept(rest),
             "change" => self.change(rest),
             "keep" => self.keep(rest),
-            "file" => self.file(rest),
+            "file" => self.end_file(rest),
             "again" => self.again(),
             "growths" => self.grow(rest),
-            _ => return Ok(false),
-        }?;
-        Ok(true)
+            _ => return false,
+        }
+        true
     }
 
     /// Reads a line, and answers the ending of the row at hand, if it is one.
-    pub fn take_line<'l, C: Command>(
-        &mut self,
-        line: &'l str,
-    ) -> Result<Option<Ending<'l>>, RowFault> {
+    pub fn take_line<C: Command>(&mut self, line: &'t str) -> Option<Ending<'t>> {
         let (word, rest) = line.split_once(' ').unwrap_or((line, ""));
-        if self.takes(word, rest)? {
-            return Ok(None);
+        if self.takes(word, rest) {
+            return None;
         }
-        match Ending::of::<C>(line) {
-            Some(ending) => Ok(Some(ending)),
-            None => Err(RowFault::Line),
-        }
+        let ending = Ending::of::<C>(line);
+        self.text.is_wrong |= ending.is_none();
+        ending
     }
 
     /// The text of the file of a number from 0.
@@ -179,14 +175,14 @@ impl Reader {
     /// The row at hand, which ends so.
     pub fn row<'r>(&'r self, ending: Ending<'r>) -> Row<'r> {
         Row {
-            name: &self.name,
+            name: self.name,
             files: Files {
                 first: self.file_text(0),
                 second: self.file_text(1),
                 third: self.file_text(2),
                 fourth: self.file_text(3),
             },
-            printed: &self.text,
+            printed: &self.text.bytes,
             growths: self.growths,
             ending,
         }
@@ -194,6 +190,6 @@ impl Reader {
 
     /// A new text begins, and the row's files stay.
     pub fn end(&mut self) {
-        self.printed = self.taken();
+        self.printed = self.text.take();
     }
 }

@@ -16,31 +16,23 @@ fn shown(text: &[u8]) -> &str {
     }
 }
 
-/// Prints the row's name, what failed, what was wanted and what was given.
-pub fn report<R: Print>(
+/// Prints the row's name, what is wrong with it, and at which call that fails.
+pub fn report<R: Print>(rt: &R, row: Row<'_>, wrong: &str, trouble: Trouble, number: u64) {
+    let name = row.name;
+    let _ = rt.println(format_args!("the row '{name}' {wrong} at call {number} of {trouble:?}"));
+}
+
+/// Prints what was wanted and what was given.
+pub fn report_given<R: Print>(
     rt: &R,
     row: Row<'_>,
-    trouble: Trouble,
-    number: u64,
     ended: &Result<Outcome, RunFault>,
     printed: &[u8],
 ) {
+    let status = row.ending.status;
+    let wanted = shown(row.printed);
+    let printed = shown(printed);
     let _ = rt.println(format_args!(
-        "the row '{}' differs at call {number} of {trouble:?}",
-        row.name
-    ));
-    let _ = rt.println(format_args!(
-        "wanted, with status {}:\n{}",
-        row.ending.status,
-        shown(row.printed)
-    ));
-    let _ = rt.println(format_args!("given, with {ended:?}:\n{}", shown(printed)));
-}
-
-/// Prints the row's name, and what did not fail often enough.
-pub fn report_few<R: Print>(rt: &R, row: Row<'_>, trouble: Trouble, number: u64) {
-    let _ = rt.println(format_args!(
-        "the row '{}' has only {number} calls that fail by {trouble:?}",
-        row.name
+        "wanted, with status {status}:\n{wanted}\ngiven, with {ended:?}:\n{printed}"
     ));
 }

@@ -1,6 +1,7 @@
 //! Rows, and the commands that they run.
 
 use crate::running::Sources;
+use crate::spelled::begun;
 use pddl_commands::{Outcome, RunFault};
 use pddl_fakes::{FakeSink, Refusing};
 use std::alloc::Global;
@@ -35,15 +36,12 @@ pub trait Command: Copy {
 /// The exit status where a file is refused.
 const REFUSED: u8 = 2;
 
-/// The exit status for the outcome that this word names.
-fn status_named(word: &str) -> Option<u8> {
-    match word {
-        "good" => Some(0),
-        "invalid" => Some(1),
-        "refused" => Some(REFUSED),
-        _ => None,
-    }
-}
+/// The words that a last line begins with: the row is run once, only so many files are read, and the exit status.
+static ONCE: [(&str, bool); 1] = [("once ", true)];
+
+static ONLY: [(&str, u64); 3] = [("only 0 ", 0), ("only 1 ", 1), ("only 2 ", 2)];
+
+static OUTCOMES: [(&str, u8); 3] = [("good ", 0), ("invalid ", 1), ("refused ", REFUSED)];
 
 /// What the last line of a row says.
 #[derive(Clone, Copy)]
@@ -59,53 +57,19 @@ pub struct Ending<'r> {
     pub plan_file: u64,
 }
 
-/// The number of a line `only N ..` and what stands behind it, or a number past all files and the line.
-fn limited(line: &str) -> Option<(u64, &str)> {
-    match line.strip_prefix("only ") {
-        Some(words) => {
-            let (number, words) = words.split_once(' ')?;
-            Some((number.parse::<u64>().ok()?, words))
-        }
-        None => Some((u64::MAX, line)),
-    }
-}
-
-/// Whether the line begins so, and what stands behind that.
-fn flagged<'l>(line: &'l str, flag: &str) -> (bool, &'l str) {
-    match line.strip_prefix(flag) {
-        Some(words) => (true, words),
-        None => (false, line),
-    }
-}
-
 impl<'r> Ending<'r> {
     /// What the line says: `[once] [only N] OUTCOME COMMAND`, for the commands `C`.
     pub fn of<C: Command>(line: &'r str) -> Option<Ending<'r>> {
-        let (is_once, words) = flagged(line, "once ");
-        let (first_files, words) = limited(words)?;
-        let (word, words) = words.split_once(' ')?;
+        let (is_once, line) = begun(line, &ONCE).unwrap_or((false, line));
+        let (first_files, line) = begun(line, &ONLY).unwrap_or((u64::MAX, line));
+        let (status, words) = begun(line, &OUTCOMES)?;
         let command = C::named(words)?;
         Some(Ending {
             words,
-            status: status_named(word)?,
+            status,
             is_once,
             files_read: command.readers().min(first_files),
             plan_file: command.plan_file(),
-        })
-    }
-
-    /// The ending by which another command has to print the same, if there is one.
-    pub fn twin<C: Command>(self) -> Option<Ending<'r>> {
-        if self.status == REFUSED {
-            return None;
-        }
-        let words = C::named(self.words)?.twin()?;
-        Some(Ending {
-            words,
-            status: self.status,
-            is_once: true,
-            files_read: 0,
-            plan_file: 0,
         })
     }
 }
@@ -131,14 +95,25 @@ pub struct Row<'r> {
 }
 
 impl<'r> Row<'r> {
-    /// The row that ends otherwise.
-    pub fn ended(self, ending: Ending<'r>) -> Row<'r> {
-        Row {
+    /// The row of the same files by the command that has to print the same, if there is one.
+    pub fn twin<C: Command>(self) -> Option<Row<'r>> {
+        if self.ending.status == REFUSED {
+            return None;
+        }
+        let words = C::named(self.ending.words)?.twin()?;
+        let ending = Ending {
+            words,
+            status: self.ending.status,
+            is_once: true,
+            files_read: 0,
+            plan_file: 0,
+        };
+        Some(Row {
             name: self.name,
             files: self.files,
             printed: self.printed,
             growths: self.growths,
             ending,
-        }
+        })
     }
 }

@@ -1,6 +1,6 @@
 //! One run of a row's command.
 
-use crate::report::report;
+use crate::report::{report, report_given};
 use crate::row::{Command, Files, Memory, Row};
 use crate::trouble::{Setting, Trouble};
 use pddl_commands::{Outcome, RunFault, status};
@@ -8,7 +8,7 @@ use pddl_fakes::{FakeSink, FakeSource, Refusing};
 use std::alloc::Global;
 
 /// What a run shows.
-#[derive(Clone, Copy, Debug, PartialEq, Eq)]
+#[derive(Clone, Copy, PartialEq)]
 pub enum Seen {
     /// The answer or the text is not the row's, or not that of the call that failed.
     Wrong,
@@ -142,7 +142,8 @@ pub fn run<R: Print + AllocGlobal, C: Command>(
     let failed = failures_of(row, &sources, out.failures(), memory.has_refused());
     let seen = shown_by(is_right(row, &ended, out.held(), failed), failed);
     if seen == Seen::Wrong {
-        report(rt, row, trouble, number, &ended, out.held());
+        report(rt, row, "differs", trouble, number);
+        report_given(rt, row, &ended, out.held());
     }
     seen
 }

@@ -1,102 +1,46 @@
-//! Bytes as rows spell them.
+//! Texts as rows spell them.
 
-use crate::fault::RowFault;
+use std::alloc::{AllocError, Global};
+use std::mem;
 
 /// The letters that stand for bytes behind a backslash, and these bytes.
-static ESCAPES: [(char, u8); 8] = [
-    ('n', b'\n'),
-    ('r', b'\r'),
-    ('t', b'\t'),
-    ('s', b' '),
-    ('b', b'\\'),
-    ('f', 0x0c),
-    ('v', 0x0b),
-    ('0', 0),
+static ESCAPES: [(&str, u8); 8] = [
+    ("n", b'\n'),
+    ("r", b'\r'),
+    ("t", b'\t'),
+    ("s", b' '),
+    ("b", b'\\'),
+    ("f", 0x0c),
+    ("v", 0x0b),
+    ("0", 0),
 ];
 
-/// The byte for a letter behind a backslash.
-fn escaped(letter: char) -> Option<u8> {
-    for (name, byte) in ESCAPES.iter() {
-        if *name == letter {
-            return Some(*byte);
+/// What the word that a line begins with stands for, and what stands behind it.
+pub fn begun<'l, T: Copy>(line: &'l str, words: &[(&str, T)]) -> Option<(T, &'l str)> {
+    for (word, meant) in words {
+        if let Some(rest) = line.strip_prefix(*word) {
+            return Some((*meant, rest));
         }
     }
     None
 }
 
-/// The byte of two hexadecimal digits, and what stands behind them.
-fn hexadecimal(digits: &str) -> Option<(u8, &str)> {
-    let (pair, rest) = digits.split_at_checked(2)?;
-    let byte = u8::from_str_radix(pair, 16).ok()?;
-    Some((byte, rest))
-}
-
-/// The byte that these letters behind a backslash stand for, and what stands behind them.
-fn unescaped(part: &str) -> Option<(u8, &str)> {
-    let mut letters = part.chars();
-    let letter = letters.next()?;
-    if letter == 'x' {
-        return hexadecimal(letters.as_str());
+/// The number in front, and what stands behind it.
+pub fn numbered<'l>(parts: Option<(&'l str, &'l str)>) -> Option<(u64, &'l str)> {
+    let (number, rest) = parts?;
+    match number.parse::<u64>() {
+        Ok(number) => Some((number, rest)),
+        Err(_) => None,
     }
-    Some((escaped(letter)?, letters.as_str()))
 }
 
-/// Adds what stands behind a backslash.
-fn add_escaped(text: &mut Vec<u8>, part: &str) -> Result<(), RowFault> {
-    let (byte, rest) = unescaped(part).ok_or(RowFault::Line)?;
-    text.push(byte)?;
-    text.extend_from_slice(rest.as_bytes())?;
-    Ok(())
-}
-
-/// Adds a piece to a text: a backslash and a letter, or `x` and two hexadecimal digits, stand for a byte.
-pub fn add(text: &mut Vec<u8>, piece: &str) -> Result<(), RowFault> {
-    let mut parts = piece.split('\\');
-    if let Some(plain) = parts.next() {
-        text.extend_from_slice(plain.as_bytes())?;
+/// The byte of `x` and two hexadecimal digits, and what stands behind them.
+fn hexadecimal(part: &str) -> Option<(u8, &str)> {
+    let (digits, rest) = part.strip_prefix('x')?.split_at_checked(2)?;
+    match u8::from_str_radix(digits, 16) {
+        Ok(byte) => Some((byte, rest)),
+        Err(_) => None,
     }
-    for part in parts {
-        add_escaped(text, part)?;
-    }
-    Ok(())
-}
-
-/// Adds a part so many times, if it was spelled.
-pub fn repeat(
-    text: &mut Vec<u8>,
-    part: &[u8],
-    count: u64,
-    spelled: Result<(), RowFault>,
-) -> Result<(), RowFault> {
-    spelled?;
-    for _ in 0..count {
-        text.extend_from_slice(part)?;
-    }
-    Ok(())
-}
-
-/// Adds a number and so much more, which the first digit says, and what stands behind the digit.
-fn add_number(text: &mut Vec<u8>, number: u64, part: &str) -> Result<(), RowFault> {
-    let (digit, rest) = part.split_at_checked(1).ok_or(RowFault::Line)?;
-    let more = digit.parse::<u64>().ok().ok_or(RowFault::Line)?;
-    let number = number.saturating_add(more);
-    let shown = format!(in *text.allocator(); "{number}{rest}")?;
-    text.extend_from_slice(shown.as_bytes())?;
-    Ok(())
-}
-
-/// Adds a piece once for each number below `count`: `#` and a digit stand for the number and so much more.
-pub fn add_series(text: &mut Vec<u8>, count: u64, piece: &str) -> Result<(), RowFault> {
-    for number in 0..count {
-        let mut parts = piece.split('#');
-        if let Some(plain) = parts.next() {
-            text.extend_from_slice(plain.as_bytes())?;
-        }
-        for part in parts {
-            add_number(text, number, part)?;
-        }
-    }
-    Ok(())
 }
 
 /// What stands before and behind the first such part of a text.
@@ -110,18 +54,108 @@ fn parted<'t>(text: &'t [u8], part: &[u8]) -> Option<(&'t [u8], &'t [u8])> {
     None
 }
 
-/// Adds a text with another part in place of the first such part, if this part was spelled.
-pub fn change_first(
-    text: &mut Vec<u8>,
-    before: &[u8],
-    part: &[u8],
-    other: &str,
-    spelled: Result<(), RowFault>,
-) -> Result<(), RowFault> {
-    spelled?;
-    let (front, behind) = parted(before, part).ok_or(RowFault::Line)?;
-    text.extend_from_slice(front)?;
-    add(text, other)?;
-    text.extend_from_slice(behind)?;
-    Ok(())
+/// A text in making. It is wrong once a piece spells nothing, or a growth was refused, which no row asks for.
+#[derive(Drop)]
+pub struct Spelled {
+    pub alloc: Global,
+    pub bytes: Vec<u8>,
+    pub is_wrong: bool,
+}
+
+impl Spelled {
+    /// A text without bytes.
+    pub fn new(alloc: Global) -> Self {
+        Spelled {
+            alloc,
+            bytes: Vec::new(alloc),
+            is_wrong: false,
+        }
+    }
+
+    /// The bytes so far, in whose place a new text begins.
+    pub fn take(&mut self) -> Vec<u8> {
+        mem::replace(&mut self.bytes, Vec::new(self.alloc))
+    }
+
+    /// Adds bytes.
+    pub fn add_bytes(&mut self, bytes: &[u8]) {
+        if self.bytes.extend_from_slice(bytes).is_err() {
+            self.is_wrong = true;
+        }
+    }
+
+    /// Adds the byte that these letters behind a backslash stand for, and what stands behind them.
+    fn add_escaped(&mut self, part: &str) {
+        match begun(part, &ESCAPES).or(hexadecimal(part)) {
+            Some((byte, rest)) => {
+                self.add_bytes(&[byte]);
+                self.add_bytes(rest.as_bytes());
+            }
+            None => self.is_wrong = true,
+        }
+    }
+
+    /// Adds a piece: a backslash and a letter, or `x` and two hexadecimal digits, stand for a byte.
+    pub fn add(&mut self, piece: &str) {
+        let mut parts = piece.split('\\');
+        if let Some(plain) = parts.next() {
+            self.add_bytes(plain.as_bytes());
+        }
+        for part in parts {
+            self.add_escaped(part);
+        }
+    }
+
+    /// Adds a text so many times.
+    pub fn add_times(&mut self, count: u64, part: &Spelled) {
+        self.is_wrong |= part.is_wrong;
+        for _ in 0..count {
+            self.add_bytes(&part.bytes);
+        }
+    }
+
+    /// Adds what was made of a number.
+    fn add_made(&mut self, made: Result<String, AllocError>) {
+        match made {
+            Ok(made) => self.add_bytes(made.as_bytes()),
+            Err(_) => self.is_wrong = true,
+        }
+    }
+
+    /// Adds a number and so much more, which the first digit says, and what stands behind the digit.
+    fn add_number(&mut self, number: u64, part: &str) {
+        match numbered(part.split_at_checked(1)) {
+            Some((more, rest)) => {
+                let number = number.saturating_add(more);
+                self.add_made(format!(in self.alloc; "{number}{rest}"));
+            }
+            None => self.is_wrong = true,
+        }
+    }
+
+    /// Adds a piece once for each number below `count`: `#` and a digit stand for the number and so much more.
+    pub fn add_series(&mut self, count: u64, piece: &str) {
+        for number in 0..count {
+            let mut parts = piece.split('#');
+            if let Some(plain) = parts.next() {
+                self.add_bytes(plain.as_bytes());
+            }
+            for part in parts {
+                self.add_number(number, part);
+            }
+        }
+    }
+
+    /// Puts a piece in place of the first such part.
+    pub fn change_first(&mut self, part: &Spelled, other: &str) {
+        let before = self.take();
+        match parted(&before, &part.bytes) {
+            Some((front, behind)) if !part.is_wrong => {
+                self.add_bytes(front);
+                self.add(other);
+                self.add_bytes(behind);
+            }
+            _ => self.is_wrong = true,
+        }
+    }
 }

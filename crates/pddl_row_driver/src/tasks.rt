@@ -3,8 +3,8 @@
 use crate::faults::{add_file_fault, add_link_fault};
 use crate::lines::Lines;
 use crate::row::Files;
-use pddl_commands::Outcome;
 use pddl_commands::pddl_link::{Task, link};
+use pddl_commands::{Outcome, let_go_domain, let_go_problem, let_go_task};
 use pddl_domain::Domain;
 use pddl_domain_reader::read_domain;
 use pddl_problem::Problem;
@@ -35,7 +35,7 @@ fn add_linked<A: Allocator, B: Allocator, T: OfTask>(
     match link(alloc, domain, problem) {
         Ok(task) => {
             let outcome = listed.add(alloc, &task, files, lines);
-            drop(task);
+            let_go_task(task);
             outcome
         }
         Err(fault) => add_link_fault(fault, lines),
@@ -70,7 +70,7 @@ fn add_with_problem<'a, B: Allocator, T: OfTask>(
     match read_problem(alloc, files.second) {
         Ok(problem) => {
             let outcome = add_linked_again(alloc, listed, domain, &problem, files, lines);
-            drop(problem);
+            let_go_problem(problem);
             outcome
         }
         Err(fault) => add_file_fault(&fault, lines),
@@ -87,7 +87,7 @@ pub fn add_task<B: Allocator, T: OfTask>(
     match read_domain(alloc, files.first) {
         Ok(domain) => {
             let outcome = add_with_problem(alloc, listed, &domain, files, lines);
-            drop(domain);
+            let_go_domain(domain);
             outcome
         }
         Err(fault) => add_file_fault(&fault, lines),

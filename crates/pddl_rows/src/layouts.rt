@@ -1,16 +1,14 @@
 //! Files that are read and written, and their canonical texts, by the calls below `format`.
 
-use pddl_commands::{Kind, Outcome, RunFault};
+use pddl_commands::{Kind, Outcome, RunFault, let_go_domain, let_go_plan, let_go_problem};
 use pddl_device::{Sink, Source, SourceFault, WriteFault, read_all, write_text};
-use pddl_domain::Domain;
 use pddl_domain_reader::read_domain;
 use pddl_file_layout::{domain_text, problem_text, write_domain, write_problem};
 use pddl_layout::{plan_text, write_plan};
-use pddl_problem::Problem;
 use pddl_problem_reader::read_problem;
-use pddl_tree::{Plan, read_plan};
+use pddl_row_driver::text_of;
+use pddl_tree::read_plan;
 use std::alloc::{AllocError, Allocator};
-use std::str;
 
 /// How a canonical text is written.
 #[derive(Clone, Copy)]
@@ -40,77 +38,67 @@ fn write_made<A: Allocator, W: Sink>(
     }
 }
 
-/// What has a canonical text.
-trait Laid {
-    /// Writes the text, made in memory or in pieces.
-    fn write<B: Allocator, W: Sink>(
-        &self,
-        alloc: &B,
-        layout: Layout,
-        out: &mut W,
-    ) -> Result<Outcome, RunFault>;
-}
-
-impl<A: Allocator> Laid for Domain<A> {
-    fn write<B: Allocator, W: Sink>(
-        &self,
-        alloc: &B,
-        layout: Layout,
-        out: &mut W,
-    ) -> Result<Outcome, RunFault> {
-        match layout {
-            Layout::Text => write_made(domain_text(alloc, self), out),
-            Layout::Pieces => written(write_domain(self, out)),
-        }
-    }
-}
-
-impl<A: Allocator> Laid for Problem<A> {
-    fn write<B: Allocator, W: Sink>(
-        &self,
-        alloc: &B,
-        layout: Layout,
-        out: &mut W,
-    ) -> Result<Outcome, RunFault> {
-        match layout {
-            Layout::Text => write_made(problem_text(alloc, self), out),
-            Layout::Pieces => written(write_problem(self, out)),
-        }
-    }
-}
-
-impl<A: Allocator> Laid for Plan<A> {
-    fn write<B: Allocator, W: Sink>(
-        &self,
-        alloc: &B,
-        layout: Layout,
-        out: &mut W,
-    ) -> Result<Outcome, RunFault> {
-        match layout {
-            Layout::Text => write_made(plan_text(alloc, self), out),
-            Layout::Pieces => written(write_plan(self, out)),
-        }
-    }
-}
-
-/// Writes the canonical text of what was read. A file that is not read counts as want of memory.
-fn write_laid<T: Laid + Drop, F: Drop, B: Allocator, W: Sink>(
+/// Writes the canonical text of a domain.
+fn write_domain_file<B: Allocator, W: Sink>(
     alloc: &B,
     layout: Layout,
-    read: Result<T, F>,
+    text: &[u8],
     out: &mut W,
 ) -> Result<Outcome, RunFault> {
-    match read {
-        Ok(laid) => {
-            let written = laid.write(alloc, layout, out);
-            drop(laid);
-            written
+    match read_domain(alloc, text) {
+        Ok(domain) => {
+            let ended = match layout {
+                Layout::Text => write_made(domain_text(alloc, &domain), out),
+                Layout::Pieces => written(write_domain(&domain, out)),
+            };
+            let_go_domain(domain);
+            ended
         }
         Err(_) => Err(RunFault::Memory),
     }
 }
 
-/// Reads a file and writes its canonical text.
+/// Writes the canonical text of a problem.
+fn write_problem_file<B: Allocator, W: Sink>(
+    alloc: &B,
+    layout: Layout,
+    text: &[u8],
+    out: &mut W,
+) -> Result<Outcome, RunFault> {
+    match read_problem(alloc, text) {
+        Ok(problem) => {
+            let ended = match layout {
+                Layout::Text => write_made(problem_text(alloc, &problem), out),
+                Layout::Pieces => written(write_problem(&problem, out)),
+            };
+            let_go_problem(problem);
+            ended
+        }
+        Err(_) => Err(RunFault::Memory),
+    }
+}
+
+/// Writes the canonical text of a plan.
+fn write_plan_file<B: Allocator, W: Sink>(
+    alloc: &B,
+    layout: Layout,
+    text: &[u8],
+    out: &mut W,
+) -> Result<Outcome, RunFault> {
+    match read_plan(alloc, text) {
+        Ok(plan) => {
+            let ended = match layout {
+                Layout::Text => write_made(plan_text(alloc, &plan), out),
+                Layout::Pieces => written(write_plan(&plan, out)),
+            };
+            let_go_plan(plan);
+            ended
+        }
+        Err(_) => Err(RunFault::Memory),
+    }
+}
+
+/// Reads a file and writes its canonical text. A file that is not read counts as want of memory.
 pub fn write_file<B: Allocator, W: Sink>(
     alloc: &B,
     layout: Layout,
@@ -119,25 +107,9 @@ pub fn write_file<B: Allocator, W: Sink>(
     out: &mut W,
 ) -> Result<Outcome, RunFault> {
     match kind {
-        Kind::Domain => write_laid(alloc, layout, read_domain(alloc, text), out),
-        Kind::Problem => write_laid(alloc, layout, read_problem(alloc, text), out),
-        Kind::Plan => write_laid(alloc, layout, read_plan(alloc, text), out),
-    }
-}
-
-/// The number that a text is, or 0.
-fn number_of(text: &[u8]) -> usize {
-    match str::from_utf8(text) {
-        Ok(text) => text.parse::<usize>().unwrap_or(0),
-        Err(_) => 0,
-    }
-}
-
-/// Writes that a text is too long.
-fn write_too_long<W: Sink>(out: &mut W) -> Result<Outcome, RunFault> {
-    match write_text(out, b"too long\n") {
-        Ok(()) => Ok(Outcome::Refused),
-        Err(_) => Err(RunFault::WriteFailed),
+        Kind::Domain => write_domain_file(alloc, layout, text, out),
+        Kind::Problem => write_problem_file(alloc, layout, text, out),
+        Kind::Plan => write_plan_file(alloc, layout, text, out),
     }
 }
 
@@ -148,9 +120,12 @@ pub fn write_read<B: Allocator, S: Source, W: Sink>(
     limit: &[u8],
     out: &mut W,
 ) -> Result<Outcome, RunFault> {
-    match read_all(alloc, source, number_of(limit)) {
+    let limit = text_of(limit).parse::<usize>().unwrap_or(0);
+    match read_all(alloc, source, limit) {
         Ok(text) => written(write_text(out, &text)),
-        Err(SourceFault::TooLong) => write_too_long(out),
+        Err(SourceFault::TooLong) => {
+            written(write_text(out, b"too long\n")).and(Ok(Outcome::Refused))
+        }
         Err(SourceFault::ReadFailed) => Err(RunFault::ReadFailed),
         Err(SourceFault::Memory) => Err(RunFault::Memory),
     }

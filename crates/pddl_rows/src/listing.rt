@@ -25,9 +25,9 @@ fn add_listing<B: Allocator>(
     lines: &mut Lines<'_, B>,
 ) -> Outcome {
     match listing {
-        Listing::Words => words::add_words(alloc, files.first, lines),
+        Listing::Words => words::add_words(alloc, false, files.first, lines),
         Listing::Items => words::add_items(alloc, files.first, lines),
-        Listing::Lists => words::add_lists(alloc, files.first, lines),
+        Listing::Lists => words::add_words(alloc, true, files.first, lines),
         Listing::Fault => words::add_fault(alloc, files.first, lines),
         Listing::Values(value) => values::add_values(alloc, value, files.first, lines),
         Listing::Places => values::add_places(files.first, files.second, lines),

@@ -17,8 +17,8 @@ fn add_named<A: Allocator, C: Allocator, B: Allocator>(
 ) {
     let name = name.as_bytes();
     lines.word(name);
-    lines.place_or_none(task.object_number(name));
-    lines.place_or_none(task.predicate_number(name));
+    lines.shown_or_none(task.object_number(name));
+    lines.shown_or_none(task.predicate_number(name));
 }
 
 /// Adds whether the first of two types is a subtype of the second, where both have names.
@@ -33,19 +33,6 @@ fn add_subtype<A: Allocator, C: Allocator, N: Allocator, B: Allocator>(
     }
 }
 
-/// Adds whether the first of two types that are named so is a subtype of the second.
-fn add_named_subtype<A: Allocator, C: Allocator, B: Allocator>(
-    alloc: &B,
-    task: &Task<'_, '_, A, C>,
-    sub: &str,
-    over: &str,
-    lines: &mut Lines<'_, B>,
-) {
-    let sub = lines.kept(Name::new(alloc, sub.as_bytes()));
-    let over = lines.kept(Name::new(alloc, over.as_bytes()));
-    add_subtype(task, &sub, &over, lines);
-}
-
 /// Adds whether the first of the two types of a line is a subtype of the second.
 fn add_is_a<A: Allocator, C: Allocator, B: Allocator>(
     alloc: &B,
@@ -54,20 +41,9 @@ fn add_is_a<A: Allocator, C: Allocator, B: Allocator>(
     lines: &mut Lines<'_, B>,
 ) {
     let (sub, over) = line.split_once(' ').unwrap_or((line, ""));
-    add_named_subtype(alloc, task, sub, over, lines);
-}
-
-/// Adds the primitive of a name, if it has one, to those of a type.
-fn add_primitive<'a, B: Allocator>(
-    name: Option<Name<&'a B>>,
-    types: &mut Vec<TypeName<&'a B>, &'a B>,
-    lines: &mut Lines<'_, B>,
-) {
-    if let Some(primitive) = name.and_then(TypeName::new) {
-        if types.push(primitive).is_err() {
-            lines.refuse();
-        }
-    }
+    let sub = lines.kept(Name::new(alloc, sub.as_bytes()));
+    let over = lines.kept(Name::new(alloc, over.as_bytes()));
+    add_subtype(task, &sub, &over, lines);
 }
 
 /// Adds the primitives of a line to those of a type.
@@ -79,7 +55,7 @@ fn add_primitives<'a, B: Allocator>(
 ) {
     for word in line.split(' ') {
         let name = lines.kept(Name::new(alloc, word.as_bytes()));
-        add_primitive(name, types, lines);
+        lines.push(types, name.and_then(TypeName::new));
     }
 }
 
@@ -134,24 +110,11 @@ fn add_words<'t, B: Allocator>(
     lines: &mut Lines<'_, B>,
 ) {
     for word in line.split(' ') {
-        if words.push(word.as_bytes()).is_err() {
-            lines.refuse();
-        }
+        lines.push(words, Some(word.as_bytes()));
     }
 }
 
-/// Adds the cost of a function of objects, or `none`.
-fn add_cost_of<A: Allocator, C: Allocator, B: Allocator>(
-    task: &Task<'_, '_, A, C>,
-    words: &[&[u8]],
-    lines: &mut Lines<'_, B>,
-) {
-    if let Some((function, objects)) = words.split_first() {
-        lines.number_or_none(task.cost(function, objects));
-    }
-}
-
-/// Adds the cost of the function of objects that a line names.
+/// Adds the cost of the function of objects that a line names, or `none`.
 fn add_cost<A: Allocator, C: Allocator, B: Allocator>(
     alloc: &B,
     task: &Task<'_, '_, A, C>,
@@ -160,7 +123,9 @@ fn add_cost<A: Allocator, C: Allocator, B: Allocator>(
 ) {
     let mut words = Vec::new(alloc);
     add_words(line, &mut words, lines);
-    add_cost_of(task, &words, lines);
+    if let Some((function, objects)) = words.split_first() {
+        lines.shown_or_none(task.cost(function, objects));
+    }
 }
 
 /// Adds what a task answers to a line.

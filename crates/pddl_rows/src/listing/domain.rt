@@ -1,7 +1,7 @@
 //! Domains.
 
 use super::types::{add_typed, add_types};
-use pddl_commands::Outcome;
+use pddl_commands::{Outcome, let_go_domain};
 use pddl_domain::{Action, DeclaredFunction, DeclaredPredicate, DeclaredType, Domain};
 use pddl_domain_reader::read_domain;
 use pddl_row_driver::{Lines, add_file_fault};
@@ -87,7 +87,7 @@ pub fn add_domain<B: Allocator>(alloc: &B, text: &[u8], lines: &mut Lines<'_, B>
     match read_domain(alloc, text) {
         Ok(domain) => {
             let outcome = add_parts(&domain, lines);
-            drop(domain);
+            let_go_domain(domain);
             outcome
         }
         Err(fault) => add_file_fault(&fault, lines),

@@ -23,7 +23,7 @@ fn add_numbered<B: Allocator>(
     lines.word(word);
     lines.number(number as u64);
     lines.word(name);
-    lines.place_or_none(again);
+    lines.shown_or_none(again);
     lines.end();
 }
 

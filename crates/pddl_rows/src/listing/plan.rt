@@ -1,18 +1,10 @@
 //! Plans.
 
-use pddl_commands::Outcome;
+use pddl_commands::{Outcome, let_go_plan};
 use pddl_row_driver::{Lines, add_read_fault};
 use pddl_text::TextFault;
-use pddl_token::Name;
 use pddl_tree::{Plan, PlanReader, ReadFault, Step, read_plan};
 use std::alloc::Allocator;
-
-/// Adds names.
-pub fn add_each<A: Allocator, B: Allocator>(names: &[Name<A>], lines: &mut Lines<'_, B>) {
-    for name in names {
-        lines.word(name.as_bytes());
-    }
-}
 
 /// Adds the names of a step to the line.
 fn add_step<A: Allocator, B: Allocator>(step: &Step<'_, A>, lines: &mut Lines<'_, B>) {
@@ -46,7 +38,7 @@ fn add_read<A: Allocator, B: Allocator>(
     match read {
         Ok(plan) => {
             let outcome = add_steps(&plan, lines);
-            drop(plan);
+            let_go_plan(plan);
             outcome
         }
         Err(fault) => add_read_fault(&fault, lines),
@@ -60,11 +52,11 @@ fn feed_pieces<B: Allocator>(
     rest: &[u8],
     size: usize,
 ) -> Result<(), TextFault> {
-    reader.feed(first)?;
+    let mut fed = reader.feed(first);
     for piece in rest.chunks(size.max(1)) {
-        reader.feed(piece)?;
+        fed = fed.and(reader.feed(piece));
     }
-    Ok(())
+    fed
 }
 
 /// The plan of a text that comes in pieces of so many bytes behind a first one.

@@ -1,41 +1,52 @@
 //! Problems.
 
 use super::domain::{add_name, add_requirements};
-use super::plan::add_each;
 use super::types::add_typed;
-use pddl_commands::Outcome;
-use pddl_problem::{Direction, Fact, GroundFunction, InitItem, Metric, Problem};
+use pddl_commands::{Outcome, let_go_problem};
+use pddl_problem::{Direction, InitItem, Metric, Problem};
 use pddl_problem_reader::read_problem;
 use pddl_row_driver::{Lines, add_file_fault};
+use pddl_token::Name;
 use std::alloc::Allocator;
 
-/// Adds a fact behind a word.
-fn add_fact<A: Allocator, B: Allocator>(word: &[u8], fact: &Fact<A>, lines: &mut Lines<'_, B>) {
-    lines.word(word);
-    lines.word(fact.predicate.as_bytes());
-    add_each(&fact.objects, lines)
-}
-
-/// Adds a function of objects behind a word.
-fn add_function<A: Allocator, B: Allocator>(
+/// Adds a name and names of objects behind a word.
+fn add_names<A: Allocator, B: Allocator>(
     word: &[u8],
-    function: &GroundFunction<A>,
+    name: &[u8],
+    objects: &[Name<A>],
     lines: &mut Lines<'_, B>,
 ) {
     lines.word(word);
-    lines.word(function.function.as_bytes());
-    add_each(&function.objects, lines)
+    lines.word(name);
+    for object in objects {
+        lines.word(object.as_bytes());
+    }
 }
 
 /// Adds what an item of `:init` says.
 fn add_item<A: Allocator, B: Allocator>(item: &InitItem<A>, lines: &mut Lines<'_, B>) {
     match item {
-        InitItem::Holds(fact) => add_fact(b"holds", fact, lines),
-        InitItem::Fails(fact) => add_fact(b"fails", fact, lines),
+        InitItem::Holds(fact) => add_names(
+            b"holds",
+            fact.predicate.as_bytes(),
+            &fact.objects,
+            lines,
+        ),
+        InitItem::Fails(fact) => add_names(
+            b"fails",
+            fact.predicate.as_bytes(),
+            &fact.objects,
+            lines,
+        ),
         InitItem::Value(function, value) => {
             lines.word(b"value");
             lines.number(value.billionths());
-            add_function(b"of", function, lines);
+            add_names(
+                b"of",
+                function.function.as_bytes(),
+                &function.objects,
+                lines,
+            );
         }
     }
     lines.end();
@@ -53,10 +64,17 @@ fn add_metric<A: Allocator, B: Allocator>(metric: Option<&Metric<A>>, lines: &mu
     let Some(metric) = metric else {
         return;
     };
-    match metric.direction {
-        Direction::Minimize => add_function(b"minimize", &metric.function, lines),
-        Direction::Maximize => add_function(b"maximize", &metric.function, lines),
-    }
+    let word = match metric.direction {
+        Direction::Minimize => "minimize",
+        Direction::Maximize => "maximize",
+    };
+    let function = &metric.function;
+    add_names(
+        word.as_bytes(),
+        function.function.as_bytes(),
+        &function.objects,
+        lines,
+    );
     lines.end();
 }
 
@@ -79,7 +97,7 @@ pub fn add_problem<B: Allocator>(alloc: &B, text: &[u8], lines: &mut Lines<'_, B
     match read_problem(alloc, text) {
         Ok(problem) => {
             let outcome = add_parts(&problem, lines);
-            drop(problem);
+            let_go_problem(problem);
             outcome
         }
         Err(fault) => add_file_fault(&fault, lines),

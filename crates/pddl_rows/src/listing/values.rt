@@ -25,14 +25,6 @@ fn billionths_of(number: Option<Fixed>) -> Option<u64> {
     }
 }
 
-/// The billionths of the number that has as many as a text says.
-fn given_billionths(text: &str) -> Option<u64> {
-    match text.parse::<u64>() {
-        Ok(count) => billionths_of(Fixed::new(count)),
-        Err(_) => None,
-    }
-}
-
 /// Adds the name that a text is, or `none`.
 fn add_name<B: Allocator>(alloc: &B, text: &str, lines: &mut Lines<'_, B>) {
     match lines.kept(Name::new(alloc, text.as_bytes())) {
@@ -44,8 +36,11 @@ fn add_name<B: Allocator>(alloc: &B, text: &str, lines: &mut Lines<'_, B>) {
 /// Adds what a line is.
 fn add_value<B: Allocator>(alloc: &B, value: Value, line: &str, lines: &mut Lines<'_, B>) {
     match value {
-        Value::Number => lines.number_or_none(billionths_of(value_of(line.as_bytes()))),
-        Value::Billionths => lines.number_or_none(given_billionths(line)),
+        Value::Number => lines.shown_or_none(billionths_of(value_of(line.as_bytes()))),
+        Value::Billionths => {
+            let count = line.parse::<u64>().ok();
+            lines.shown_or_none(billionths_of(count.and_then(Fixed::new)));
+        }
         Value::Name => add_name(alloc, line, lines),
     }
     lines.end();

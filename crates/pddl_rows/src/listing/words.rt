@@ -22,14 +22,6 @@ fn add_tokens<B: Allocator>(tokens: &[Token<'_>], lines: &mut Lines<'_, B>) -> O
     Outcome::Good
 }
 
-/// Adds a line for each word of a text.
-pub fn add_words<B: Allocator>(alloc: &B, text: &[u8], lines: &mut Lines<'_, B>) -> Outcome {
-    match lex(alloc, text) {
-        Ok(tokens) => add_tokens(&tokens, lines),
-        Err(fault) => add_text_fault(fault, lines),
-    }
-}
-
 /// Adds a word, or a list's span and how many items it has.
 fn add_item<A: Allocator, B: Allocator>(item: &Item<'_, A>, lines: &mut Lines<'_, B>) {
     match item {
@@ -83,15 +75,16 @@ pub fn add_items<B: Allocator>(alloc: &B, text: &[u8], lines: &mut Lines<'_, B>)
     add_read(items_of(alloc, text), lines)
 }
 
-/// Adds the lines for the items of words.
-fn add_nested<B: Allocator>(alloc: &B, tokens: &[Token<'_>], lines: &mut Lines<'_, B>) -> Outcome {
-    add_read(lists(alloc, tokens), lines)
-}
-
-/// Adds the lines for the items of a text's words.
-pub fn add_lists<B: Allocator>(alloc: &B, text: &[u8], lines: &mut Lines<'_, B>) -> Outcome {
+/// Adds a line for each word of a text, or the lines for the items that its words form.
+pub fn add_words<B: Allocator>(
+    alloc: &B,
+    as_items: bool,
+    text: &[u8],
+    lines: &mut Lines<'_, B>,
+) -> Outcome {
     match lex(alloc, text) {
-        Ok(tokens) => add_nested(alloc, &tokens, lines),
+        Ok(tokens) if as_items => add_read(lists(alloc, &tokens), lines),
+        Ok(tokens) => add_tokens(&tokens, lines),
         Err(fault) => add_text_fault(fault, lines),
     }
 }

@@ -38,12 +38,6 @@ fn are_left_past(alloc: Global) -> bool {
     true
 }
 
-#[test]
-fn reads_no_more_than_shows_that_a_text_is_too_long(rt: HostRuntime) -> Result<(), Fail> {
-    assert!(rt; are_left_past(rt.alloc()));
-    Ok(())
-}
-
 /// How many bytes are read behind a read that fails, of so many bytes at a time.
 fn read_behind(alloc: Global, size: usize, number: u64) -> Option<usize> {
     let mut source = FakeSource::new(TEXT, size.max(1), number);
@@ -83,12 +77,6 @@ fn are_read_behind(alloc: Global) -> bool {
     true
 }
 
-#[test]
-fn reads_on_behind_a_read_that_fails(rt: HostRuntime) -> Result<(), Fail> {
-    assert!(rt; are_read_behind(rt.alloc()));
-    Ok(())
-}
-
 /// Whether nothing but the empty text is read where each growth is refused.
 fn reads_nothing_without_memory(alloc: Global) -> bool {
     let none = Refusing::each(alloc);
@@ -103,13 +91,6 @@ fn finds_words_without_memory(alloc: Global) -> bool {
     let stray = lex(&none, b"&").err();
     let nothing = lex(&none, b" ; nothing").err();
     stray == Some(TextFault::Stray { at: 0 }) && nothing.is_none() && !none.has_refused()
-}
-
-#[test]
-fn goes_without_memory_where_it_can(rt: HostRuntime) -> Result<(), Fail> {
-    assert!(rt; reads_nothing_without_memory(rt.alloc()));
-    assert!(rt; finds_words_without_memory(rt.alloc()));
-    Ok(())
 }
 
 /// Whether twenty and then a hundred bytes are written into memory, or a growth was refused and a write then failed.
@@ -145,12 +126,6 @@ fn writes_with_each_refused(alloc: Global) -> bool {
     false
 }
 
-#[test]
-fn writes_into_memory_with_each_growth_refused_in_turn(rt: HostRuntime) -> Result<(), Fail> {
-    assert!(rt; writes_with_each_refused(rt.alloc()));
-    Ok(())
-}
-
 /// Whether a reader of std gives the whole text, and nothing is left.
 fn reads_by_std(alloc: Global) -> bool {
     let mut source = FromRead::new(TEXT);
@@ -167,13 +142,6 @@ fn writes_by_std() -> bool {
     let mut sink = ToWrite::new(room.as_mut_slice());
     let wrote = write_text(&mut sink, TEXT);
     wrote == Err(WriteFault::WriteFailed) && room.as_slice() == b"(ligh".as_slice()
-}
-
-#[test]
-fn reads_and_writes_over_the_devices_of_std(rt: HostRuntime) -> Result<(), Fail> {
-    assert!(rt; reads_by_std(rt.alloc()));
-    assert!(rt; writes_by_std());
-    Ok(())
 }
 
 /// Words of two texts: an opening and a name of the first, and the closing of the second, which is behind a blank.
@@ -206,12 +174,6 @@ fn list_of(alloc: Global, words: &[Token<'_>]) -> Option<Span> {
     }
 }
 
-#[test]
-fn lists_words_of_two_texts(rt: HostRuntime) -> Result<(), Fail> {
-    assert!(rt; list_of(rt.alloc(), &WORDS) == Some(Span { start: 0, end: 2 }));
-    Ok(())
-}
-
 /// Whether this is what a fault says.
 fn says(alloc: Global, fault: TextFault, words: &str) -> bool {
     match format!(in alloc; "{fault}") {
@@ -221,7 +183,20 @@ fn says(alloc: Global, fault: TextFault, words: &str) -> bool {
 }
 
 #[test]
-fn says_that_memory_was_refused(rt: HostRuntime) -> Result<(), Fail> {
+fn devices_read_and_write(rt: HostRuntime) -> Result<(), Fail> {
+    assert!(rt; are_left_past(rt.alloc()));
+    assert!(rt; are_read_behind(rt.alloc()));
+    assert!(rt; reads_nothing_without_memory(rt.alloc()));
+    assert!(rt; writes_with_each_refused(rt.alloc()));
+    assert!(rt; reads_by_std(rt.alloc()));
+    assert!(rt; writes_by_std());
+    Ok(())
+}
+
+#[test]
+fn texts_have_words_and_faults(rt: HostRuntime) -> Result<(), Fail> {
+    assert!(rt; finds_words_without_memory(rt.alloc()));
+    assert!(rt; list_of(rt.alloc(), &WORDS) == Some(Span { start: 0, end: 2 }));
     assert!(rt; says(rt.alloc(), TextFault::Memory, "memory was refused"));
     Ok(())
 }

@@ -15,17 +15,19 @@ fn feed_times<B: Allocator>(
     piece: &[u8],
     times: usize,
 ) -> Result<(), TextFault> {
+    let mut fed = Ok(());
     for _ in 0..times {
-        reader.feed(piece)?;
+        fed = fed.and(reader.feed(piece));
     }
-    Ok(())
+    fed
 }
 
 /// Gives a reader a million blanks, and as many bytes of a comment.
 fn feed_blanks<B: Allocator>(reader: &mut PlanReader<&B>) -> Result<(), TextFault> {
-    feed_times(reader, &[b' '; 1000], 1000)?;
-    reader.feed(b";")?;
-    feed_times(reader, &[b'x'; 1000], 1000)
+    let blanks = feed_times(reader, &[b' '; 1000], 1000);
+    let opened = reader.feed(b";");
+    let comment = feed_times(reader, &[b'x'; 1000], 1000);
+    blanks.and(opened).and(comment)
 }
 
 /// Whether a reader takes these where each growth is refused, and finds no step.
@@ -68,13 +70,6 @@ fn answers_past(alloc: Global, more: &[u8], fault: Option<TextFault>) -> bool {
     takes && answers && failed == fault.is_some()
 }
 
-#[test]
-fn takes_the_longest_text(rt: HostRuntime) -> Result<(), Fail> {
-    assert!(rt; answers_past(rt.alloc(), b"", None));
-    assert!(rt; answers_past(rt.alloc(), b" ", Some(TextFault::TooLong)));
-    Ok(())
-}
-
 /// Whether a reader fails for good by a plan of which a growth is refused.
 fn fails_without_memory(alloc: Global) -> bool {
     let none = Refusing::each(alloc);
@@ -97,7 +92,9 @@ fn lexer_fails_without_memory(alloc: Global) -> bool {
 }
 
 #[test]
-fn fails_for_good_where_memory_is_refused(rt: HostRuntime) -> Result<(), Fail> {
+fn fails_for_good_past_the_longest_text_and_without_memory(rt: HostRuntime) -> Result<(), Fail> {
+    assert!(rt; answers_past(rt.alloc(), b"", None));
+    assert!(rt; answers_past(rt.alloc(), b" ", Some(TextFault::TooLong)));
     assert!(rt; fails_without_memory(rt.alloc()));
     assert!(rt; lexer_fails_without_memory(rt.alloc()));
     Ok(())
@@ -131,17 +128,12 @@ fn told<A: Allocator>(read: Result<Plan<A>, ReadFault>) -> (u64, u64) {
     }
 }
 
-/// Whether a reader takes two pieces.
-fn takes_both<B: Allocator>(reader: &mut PlanReader<&B>, front: &[u8], rest: &[u8]) -> bool {
-    reader.feed(front).is_ok() && reader.feed(rest).is_ok()
-}
-
 /// What two pieces read as.
 fn told_in_two(alloc: &Global, front: &[u8], rest: &[u8]) -> (u64, u64) {
     let mut reader = PlanReader::new(alloc);
-    let takes = takes_both(&mut reader, front, rest);
+    let fed = reader.feed(front).and(reader.feed(rest));
     let told = told(reader.finish());
-    if takes { told } else { (u64::MAX, 1) }
+    if fed.is_ok() { told } else { (u64::MAX, 1) }
 }
 
 /// Whether each front reads as it should, as one piece and cut in two at each place.
