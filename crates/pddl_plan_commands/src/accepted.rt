@@ -12,6 +12,7 @@ ghost use Rattle.pddl_plan_commands.specs.Inner.WantedPrintings.{printing_of};
 
 use crate::lines::valid_line;
 use crate::wanted::Wanted;
+use pddl_commands::let_go_plan;
 use pddl_layout::plan_text;
 use pddl_serial_plans::pddl_link::Task;
 use pddl_serial_plans::pddl_linked_plan::Steps;
@@ -31,7 +32,9 @@ fn text_of<'a, B: Allocator>(
     ensures { IfOk result (λ text. IsOkAnd made.entry (λ plan. text.items ≡ plan_text (plan_view plan))) }
 {
     let plan = made?;
-    plan_text(alloc, &plan)
+    let text = plan_text(alloc, &plan);
+    let_go_plan(plan);
+    text
 }
 
 /// What is printed of an accepted plan.

@@ -18,7 +18,7 @@ use crate::accepted::accepted_text;
 use crate::lines::{clash_line, goal_line, unready_line};
 use crate::step_faults::refused_steps;
 use crate::wanted::Wanted;
-use pddl_commands::{Formatted, Outcome, refused_link};
+use pddl_commands::{Formatted, Outcome, let_go_task, refused_link};
 use pddl_domain::Domain;
 use pddl_judge::Refusal;
 use pddl_plan_link::link_plan;
@@ -146,7 +146,7 @@ pub(crate) fn judged_plan<'r, A: Allocator, B: Allocator, C: Allocator>(
     match link(alloc, domain, problem) {
         Ok(task) => {
             let answer = judged_in(alloc, &task, plan, wanted);
-            drop(task);
+            let_go_task(task);
             answer
         }
         Err(fault) => refused_link(alloc, &fault),

@@ -15,8 +15,8 @@ ghost use Rattle.pddl_plan_commands.specs.Inner.WantedPrintings.{printing_of};
 use crate::judging::judged_plan;
 use crate::wanted::Wanted;
 use pddl_commands::{
-    Content, Formatted, Kind, Outcome, PlanContent, RunFault, or_memory, read_file, read_plan_file,
-    refused_domain, refused_problem,
+    Content, Formatted, Kind, Outcome, PlanContent, RunFault, let_go_domain, let_go_plan,
+    let_go_problem, or_memory, read_file, read_plan_file, refused_domain, refused_problem,
 };
 use pddl_device::Source;
 use pddl_domain::Domain;
@@ -46,7 +46,7 @@ fn read_plan_checked<'a, B: Allocator, S: Source>(
     match read_plan_file(alloc, plan)? {
         PlanContent::Plan(read) => {
             let answer = judged_plan(alloc, domain, problem, &read, wanted);
-            drop(read);
+            let_go_plan(read);
             or_memory(answer)
         }
         PlanContent::Refused(line) => Ok((line, Outcome::Refused)),
@@ -80,7 +80,7 @@ fn read_problem_and_plan<'a, B: Allocator, S: Source, T: Source>(
         Content::Text(text) => match read_problem(alloc, &text) {
             Ok(read) => {
                 let answer = read_plan_checked(alloc, domain, &read, plan, wanted);
-                drop(read);
+                let_go_problem(read);
                 answer
             }
             Err(fault) => or_memory(refused_problem(alloc, &text, &fault)),
@@ -121,7 +121,7 @@ pub(crate) fn read_each<'a, B: Allocator, S: Source, T: Source, U: Source>(
         Content::Text(text) => match read_domain(alloc, &text) {
             Ok(read) => {
                 let answer = read_problem_and_plan(alloc, &read, problem, plan, wanted);
-                drop(read);
+                let_go_domain(read);
                 answer
             }
             Err(fault) => or_memory(refused_domain(alloc, &text, &fault)),
