@@ -131,7 +131,7 @@ impl<'m, 'a, A: Allocator, B: Allocator> Task<'m, 'a, A, B> {
         alloc: &'c C,
     ) -> Result<SlotTops<'c, C>, AllocError> {
         let domain = self.domain;
-        SlotTops::of_actions(alloc, &self.types, &domain.actions)
+        SlotTops::of_declared(alloc, &self.types, &domain.actions)
     }
 
     /// Whether the object of a number fits a type, which is found fast by the type's tops where it does; past the last there is none that does.

@@ -1,5 +1,5 @@
 -- What is found in parts of faults.
-use Rattle.std.proofs.Common.{ℕ, List, [], ◌∷◌, ◌++◌, Result, Ok, Err}
+use Rattle.std.proofs.Common.{◌≡◌, ℕ, List, [], ◌∷◌, ◌++◌, Result, Ok, Err, subst}
 use Rattle.std.specs.Prelude.{OnOk, IsOk}
 use Rattle.std.proofs.lemmas.List.Concat.{flat_map-append}
 use Rattle.pddl_task.specs.Names.{Name}
@@ -14,9 +14,9 @@ use Rattle.pddl_names.specs.FaultParts.{FaultParts, joined}
 pub one_part : {T : Type 0} (xs : List (ℕ × Name)) (r : Result T LinkFault) → IsFound xs r → IsFound (joined (xs ∷ [])) r
 one_part xs r h = found_same xs (xs ++ []) r (append-none xs) h
 
--- a pass for one fault
-pub passed_part : {T : Type 0} (n : ℕ) (words : List Name) (r : Result T LinkFault) → Passes n words r → IsFound (joined (numbered n words ∷ [])) r
-passed_part n words r h = one_part (numbered n words) r (passed_found n words r h)
+-- a pass for one fault, whose words may be told otherwise
+pub passed_part : {T : Type 0} (n : ℕ) {words told : List Name} (r : Result T LinkFault) → words ≡ told → Passes n words r → IsFound (joined (numbered n told ∷ [])) r
+passed_part n {words} {told} r same h = one_part (numbered n told) r (passed_found n told r (subst (λ ws. Passes n ws r) same h))
 
 -- some parts, and then others
 pub found_parts : {T : Type 0} (us vs : FaultParts) (first : Result (Unit {0}) LinkFault) (second both : Result T LinkFault)

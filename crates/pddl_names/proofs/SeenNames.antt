@@ -3,14 +3,7 @@ use Rattle.std.proofs.Common.{◌≡◌, ℕ, ◌+◌, ◌<◌, Bool, true, fals
 use Rattle.std.specs.Prelude.{Contains, Option, Some, None, MatchOption}
 use Rattle.std.specs.Borrow.{Bor}
 use Rattle.std.specs.List.{list_any}
-use Rattle.pddl_formula.specs.declared.type_names.Typed.{Typed}
-use Rattle.pddl_formula.specs.TypedLists.{typed_view}
-use Rattle.pddl_domain.specs.declared.domain.DeclaredType.{DeclaredType}
-use Rattle.pddl_domain.specs.declared.domain.DeclaredPredicate.{DeclaredPredicate}
-use Rattle.pddl_domain.specs.declared.domain.DeclaredFunction.{DeclaredFunction}
-use Rattle.pddl_domain.specs.Declarations.{type_view, predicate_view, function_view}
-use Rattle.pddl_task.specs.Settings.{symbol_of}
-use Rattle.pddl_task.specs.Names.{Name, is_in, word_if, repeated, item_of}
+use Rattle.pddl_task.specs.Names.{Name, is_in, word_if, repeated}
 use Rattle.pddl_faults.proofs.ListPasses.{views_drop}
 
 -- the texts that references lend
@@ -67,21 +60,3 @@ some_repeat o w words is found = subst (λ p. MatchOption p (words ≡ []) (λ v
 
 pub no_repeat : (o : Option (Bor (List ℕ))) (words : List Name) → o ≡ None → MatchOption o (words ≡ []) (λ v. Contains words v.now) → words ≡ []
 no_repeat o words is found = subst (λ p. MatchOption p (words ≡ []) (λ v. Contains words v.now)) is found
-
--- ---- the names of what is declared
-
-pub names_of_types : {A : Type 0} (xs : List (DeclaredType A)) → map (λ (t : DeclaredType A). t.name) xs ≡ map item_of (map type_view xs)
-names_of_types [] = refl
-names_of_types (x ∷ xs) = ap (λ ns. x.name ∷ ns) (names_of_types xs)
-
-pub names_of_predicates : {A : Type 0} (xs : List (DeclaredPredicate A)) → map (λ (p : DeclaredPredicate A). p.predicate) xs ≡ map symbol_of (map predicate_view xs)
-names_of_predicates [] = refl
-names_of_predicates (x ∷ xs) = ap (λ ns. x.predicate ∷ ns) (names_of_predicates xs)
-
-pub names_of_functions : {A : Type 0} (xs : List (DeclaredFunction A)) → map (λ (f : DeclaredFunction A). f.name) xs ≡ map symbol_of (map item_of (map function_view xs))
-names_of_functions [] = refl
-names_of_functions (x ∷ xs) = ap (λ ns. x.name ∷ ns) (names_of_functions xs)
-
-pub names_of_variables : {A : Type 0} (xs : List (Typed A)) → map (λ (x : Typed A). x.name) xs ≡ map item_of (map typed_view xs)
-names_of_variables [] = refl
-names_of_variables (x ∷ xs) = ap (λ ns. x.name ∷ ns) (names_of_variables xs)

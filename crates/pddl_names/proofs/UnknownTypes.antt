@@ -1,15 +1,13 @@
 -- Types that are used and not known, part by part.
-use Rattle.std.proofs.Common.{◌≡◌, ℕ, ◌+◌, ◌<◌, List, [], ◌∷◌, ◌++◌, map, filter, not, length, get_or, drop, refl, ap, ◌∙◌, append_assoc}
+use Rattle.std.proofs.Common.{◌≡◌, ℕ, ◌+◌, ◌<◌, List, [], ◌∷◌, ◌++◌, map, filter, not, length, get_or, drop, refl, sym, ap, ◌∙◌, append_assoc}
 use Rattle.std.specs.List.{flat_map}
 use Rattle.std.proofs.lemmas.List.Concat.{flat_map-append}
 use Rattle.std.proofs.lemmas.List.Elements.{filter-append}
-use Rattle.pddl_formula.specs.TypedLists.{TypedValue, typed_view}
-use Rattle.pddl_domain.specs.declared.domain.DeclaredPredicate.{DeclaredPredicate}
-use Rattle.pddl_domain.specs.declared.domain.DeclaredFunction.{DeclaredFunction}
-use Rattle.pddl_domain.specs.Declarations.{TypeValue, predicate_view, function_view}
+use Rattle.pddl_formula.specs.TypedLists.{TypedValue}
+use Rattle.pddl_domain.specs.Declarations.{TypeValue, Signature}
 use Rattle.pddl_domain.specs.Domains.{DomainValue}
 use Rattle.pddl_problem.specs.Problems.{ProblemValue}
-use Rattle.pddl_task.specs.Names.{is_in, item_of}
+use Rattle.pddl_task.specs.Names.{is_in}
 use Rattle.pddl_task.specs.Types.{types_of}
 use Rattle.pddl_task.specs.Places.{Place, domain_places, problem_places}
 use Rattle.pddl_task.specs.Settings.{parameters_of, function_signatures}
@@ -48,20 +46,10 @@ pub unknown-problem : (ts : List TypeValue) (p : ProblemValue)
     → unknown_among ts (problem_typed p) ≡ unknown_among ts p.objects ++ flat_map (λ pl. unknown_among ts (variables_at pl)) (problem_places p)
 unknown-problem ts p = unknown-append ts p.objects (flat_map variables_at (problem_places p)) ∙ ap (λ ws. unknown_among ts p.objects ++ ws) (unknown-places ts (problem_places p))
 
--- what is left of predicates: the first, and the rest
-pub predicates_left : {A : Type 0} (ts : List TypeValue) (xs : List (DeclaredPredicate A)) (i : ℕ) (d : DeclaredPredicate A) → i < length xs → d ≡ get_or xs i d
-    → unknown_among ts (flat_map parameters_of (map predicate_view (drop i xs)))
-    ≡ unknown_among ts (map typed_view d.parameters.items) ++ unknown_among ts (flat_map parameters_of (map predicate_view (drop (i + 1) xs)))
-predicates_left ts xs i d h at =
-    let rest = flat_map parameters_of (map predicate_view (drop (i + 1) xs)) in
-    ap (λ ys. unknown_among ts (flat_map parameters_of ys)) (views_drop predicate_view xs i d h at)
-    ∙ unknown-append ts (map typed_view d.parameters.items) rest
-
--- what is left of functions: the first, and the rest
-pub functions_left : {A : Type 0} (ts : List TypeValue) (xs : List (DeclaredFunction A)) (i : ℕ) (d : DeclaredFunction A) → i < length xs → d ≡ get_or xs i d
-    → unknown_among ts (flat_map parameters_of (map item_of (map function_view (drop i xs))))
-    ≡ unknown_among ts (map typed_view d.parameters.items) ++ unknown_among ts (flat_map parameters_of (map item_of (map function_view (drop (i + 1) xs))))
-functions_left ts xs i d h at =
-    let rest = flat_map parameters_of (map item_of (map function_view (drop (i + 1) xs))) in
-    ap (λ ys. unknown_among ts (flat_map parameters_of (map item_of ys))) (views_drop function_view xs i d h at)
-    ∙ unknown-append ts (map typed_view d.parameters.items) rest
+-- what is left of what is declared: the first, and the rest
+pub declared_left : {X : Type 0} (ts : List TypeValue) (signature : X → Signature) (xs : List X) (i : ℕ) (x : X) (own : List TypedValue) → i < length xs → x ≡ get_or xs i x → own ≡ (signature x).parameters
+    → unknown_among ts (flat_map parameters_of (map signature (drop i xs))) ≡ unknown_among ts own ++ unknown_among ts (flat_map parameters_of (map signature (drop (i + 1) xs)))
+declared_left ts signature xs i x own h at is =
+    let rest = flat_map parameters_of (map signature (drop (i + 1) xs)) in
+    ap (λ ys. unknown_among ts (flat_map parameters_of ys)) (views_drop signature xs i x h at)
+    ∙ ap (λ ys. unknown_among ts (ys ++ rest)) (sym is) ∙ unknown-append ts own rest

@@ -2,11 +2,9 @@
 
 ghost use Rattle.std.specs.Prelude.{[], map};
 ghost use Rattle.std.specs.List.{flat_map};
-ghost use Rattle.pddl_domain.specs.Declarations.{predicate_view, function_view};
 ghost use Rattle.pddl_domain.specs.Actions.{action_view};
 ghost use Rattle.pddl_domain.specs.Domains.{domain_view};
 ghost use Rattle.pddl_problem.specs.Problems.{problem_view};
-ghost use Rattle.pddl_task.specs.Names.{item_of};
 ghost use Rattle.pddl_task.specs.Settings.{parameters_of};
 ghost use Rattle.pddl_faults.specs.Passes.{Passes};
 ghost use Rattle.pddl_faults.specs.Found.{IsFound};
@@ -14,37 +12,24 @@ ghost use Rattle.pddl_names.specs.Uses.{unknown_among};
 ghost use Rattle.pddl_names.specs.FaultParts.{joined, used_types, action_faults, domain_parts, problem_parts};
 
 use crate::bindings::Bindings;
-use crate::repeats::{function_twice, once, predicate_twice};
+use crate::repeats::{name_twice, once};
 use indexmap::IndexSet;
-use pddl_domain::{Action, DeclaredFunction, DeclaredPredicate, Domain};
+use pddl_domain::{Action, Domain};
 use pddl_faults::{Hashed, LinkFault, lower};
 use pddl_problem::Problem;
 use pddl_search::{object_types, search_action, search_problem};
-use pddl_types::Types;
+use pddl_types::{Declares, Types};
 use std::alloc::Allocator;
 
-/// The types of the parameters of predicates are known.
-fn predicates_known<'m, 'a, 'd, A: Allocator, B: Allocator>(
+/// The types of the parameters of what is declared are known.
+fn parameters_known<'m, 'a, 'd, A: Allocator + 'd, B: Allocator, D: Declares<A>>(
     types: &Types<'m, 'a, A, B>,
-    predicates: &'d [DeclaredPredicate<A>],
+    declared: &'d [D],
 ) -> Result<(), LinkFault<'d>>
-    ensures { Passes 23 (unknown_among types.now (flat_map parameters_of (map predicate_view predicates.now))) result }
+    ensures { Passes 23 (unknown_among types.now (flat_map parameters_of (map D.signature declared.now))) result }
 {
-    for predicate in predicates {
-        types.known(&predicate.parameters)?;
-    }
-    Ok(())
-}
-
-/// The types of the parameters of functions are known.
-fn functions_known<'m, 'a, 'd, A: Allocator, B: Allocator>(
-    types: &Types<'m, 'a, A, B>,
-    functions: &'d [DeclaredFunction<A>],
-) -> Result<(), LinkFault<'d>>
-    ensures { Passes 23 (unknown_among types.now (flat_map parameters_of (map item_of (map function_view functions.now)))) result }
-{
-    for function in functions {
-        types.known(&function.parameters)?;
+    for each in declared {
+        types.known(each.parameters())?;
     }
     Ok(())
 }
@@ -57,8 +42,8 @@ fn look_at_types<'m, 'a, A: Allocator, B: Allocator>(
     ensures { IsFound (joined (used_types types.now (domain_view domain.now))) result }
 {
     let constants = types.known(&domain.constants);
-    let predicates = predicates_known(types, &domain.predicates);
-    let functions = functions_known(types, &domain.functions);
+    let predicates = parameters_known(types, &domain.predicates);
+    let functions = parameters_known(types, &domain.functions);
     lower(constants, lower(predicates, functions))
 }
 
@@ -90,8 +75,8 @@ pub fn look_at_domain<'m, 'a, A: Allocator, B: Allocator>(
     ensures { IsFound (joined (domain_parts types.now (domain_view domain.now))) result }
 {
     let used = look_at_types(types, domain);
-    let predicates = predicate_twice(alloc, &domain.predicates);
-    let functions = function_twice(alloc, &domain.functions);
+    let predicates = name_twice(alloc, &domain.predicates);
+    let functions = name_twice(alloc, &domain.functions);
     let actions = look_at_actions(alloc, types, &domain.actions);
     let single = object_types(&domain.constants);
     lower(

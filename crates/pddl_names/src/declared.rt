@@ -8,7 +8,7 @@ ghost use Rattle.pddl_task.specs.Settings.{symbol_of, function_signatures};
 ghost use Rattle.pddl_types.specs.KnownNames.{signature_in, object_in, setting_of};
 
 use pddl_domain::Domain;
-use pddl_types::{Known, Objects, Signatures, Tops, Types, functions, predicates};
+use pddl_types::{Known, Objects, Signatures, Tops, Types, signatures};
 use std::alloc::{AllocError, Allocator};
 
 /// What a domain declares beside types and constants, by name.
@@ -17,27 +17,6 @@ pub struct Declared<'m, 'a, A: Allocator, B: Allocator> {
     pub predicates: Signatures<'m, 'a, A, B>,
     pub functions: Signatures<'m, 'a, A, B>,
     pub tops: Tops<'a, B>,
-}
-
-/// Tables of predicates and of functions with the tops of their slots.
-///
-/// Fails where memory for these is refused.
-fn with_tops<'m, 'a, A: Allocator, B: Allocator>(
-    alloc: &'a B,
-    types: &Types<'m, 'a, A, B>,
-    domain: &'m Domain<A>,
-    predicates: Signatures<'m, 'a, A, B>,
-    functions: Signatures<'m, 'a, A, B>,
-) -> Result<Declared<'m, 'a, A, B>, AllocError>
-    ensures predicates { IfOk result (λ declared. declared.predicates ≡ predicates.entry) }
-    ensures functions { IfOk result (λ declared. declared.functions ≡ functions.entry) }
-{
-    let tops = Tops::of(alloc, types, domain)?;
-    Ok(Declared {
-        predicates,
-        functions,
-        tops,
-    })
 }
 
 impl<'m, 'a, A: Allocator, B: Allocator> Declared<'m, 'a, A, B> {
@@ -54,9 +33,14 @@ impl<'m, 'a, A: Allocator, B: Allocator> Declared<'m, 'a, A, B> {
         ensures predicates { IfOk result (λ declared. map signature_in declared.predicates.entries ≡ (domain_view domain.now).predicates) }
         ensures functions { IfOk result (λ declared. map signature_in declared.functions.entries ≡ function_signatures (domain_view domain.now)) }
     {
-        let predicates = predicates(alloc, &domain.predicates)?;
-        let functions = functions(alloc, &domain.functions)?;
-        with_tops(alloc, types, domain, predicates, functions)
+        let tops = Tops::of(alloc, types, domain)?;
+        let predicates = signatures(alloc, &domain.predicates)?;
+        let functions = signatures(alloc, &domain.functions)?;
+        Ok(Declared {
+            predicates,
+            functions,
+            tops,
+        })
     }
 
     /// What may be named beside these objects, whose types are looked for first at these places.

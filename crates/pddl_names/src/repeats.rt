@@ -1,17 +1,13 @@
 //! Names that stand twice in a list.
 
 ghost use Rattle.std.specs.Prelude.{◌≡◌, [], map, not, IfOk, MatchOption, Contains};
-ghost use Rattle.pddl_formula.specs.TypedLists.{typed_view};
-ghost use Rattle.pddl_domain.specs.Declarations.{predicate_view, function_view};
-ghost use Rattle.pddl_domain.specs.Actions.{action_view};
 ghost use Rattle.pddl_domain.specs.Domains.{domain_view};
-ghost use Rattle.pddl_task.specs.Names.{repeated, item_of, word_if};
-ghost use Rattle.pddl_task.specs.Settings.{symbol_of};
+ghost use Rattle.pddl_task.specs.Names.{repeated, word_if};
 ghost use Rattle.pddl_task.specs.Faults.{types_twice};
 ghost use Rattle.pddl_faults.specs.Passes.{Passes};
 
 use indexmap::IndexSet;
-use pddl_domain::{Action, DeclaredFunction, DeclaredPredicate, DeclaredType, Domain};
+use pddl_domain::{DeclaredFunction, DeclaredPredicate, DeclaredType, Domain};
 use pddl_faults::{Hashed, LinkFault};
 use pddl_formula::Typed;
 use std::alloc::{AllocError, Allocator};
@@ -45,14 +41,6 @@ impl<A: Allocator> Named for DeclaredPredicate<A> {
 
 impl<A: Allocator> Named for DeclaredFunction<A> {
     ghost name = { λ f. f.name };
-
-    fn text(&self) -> &[u8] {
-        self.name.as_bytes()
-    }
-}
-
-impl<A: Allocator> Named for Action<A> {
-    ghost name = { λ a. a.name };
 
     fn text(&self) -> &[u8] {
         self.name.as_bytes()
@@ -109,26 +97,6 @@ pub fn name_twice<'d, 'a, N: Named, B: Allocator>(
         Some(name) => Err(LinkFault::NameTwice(name)),
         None => Ok(()),
     }
-}
-
-/// No two predicates have one name.
-pub fn predicate_twice<'d, 'a, A: Allocator, B: Allocator>(
-    alloc: &'a B,
-    predicates: &'d [DeclaredPredicate<A>],
-) -> Result<(), LinkFault<'d>>
-    ensures { Passes 24 (repeated [] (map symbol_of (map predicate_view predicates.now))) result }
-{
-    name_twice(alloc, predicates)
-}
-
-/// No two functions have one name.
-pub fn function_twice<'d, 'a, A: Allocator, B: Allocator>(
-    alloc: &'a B,
-    functions: &'d [DeclaredFunction<A>],
-) -> Result<(), LinkFault<'d>>
-    ensures { Passes 24 (repeated [] (map symbol_of (map item_of (map function_view functions.now)))) result }
-{
-    name_twice(alloc, functions)
 }
 
 /// A name stands here alone.

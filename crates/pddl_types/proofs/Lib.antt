@@ -12,5 +12,6 @@ pub mod TypeTables
 pub mod TypesTold
 pub mod TaskNames
 pub mod Entries
+pub mod Views
 pub mod TypeCounts
 pub mod TypeTops

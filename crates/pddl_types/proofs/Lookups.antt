@@ -1,16 +1,14 @@
 -- Names that are looked up.
-use Rattle.std.proofs.Common.{◌≡◌, ℕ, Bool, true, false, ◌||◌, not, cond, List, [], ◌∷◌, map, length, ◌==◌, Option, Some, None, refl, ap, sym, ◌∙◌, bytes_eq}
+use Rattle.std.proofs.Common.{◌≡◌, ℕ, Bool, true, false, ◌||◌, cond, List, [], ◌∷◌, map, Option, Some, refl, ap, ◌∙◌, bytes_eq}
 use Rattle.std.specs.Prelude.{is_some, find, option_map}
 use Rattle.std.specs.Borrow.{Bor}
 use Rattle.std.specs.Map.{lookup}
-use Rattle.std.proofs.lemmas.List.{length-map}
-use Rattle.pddl_formula.specs.Terms.{TermValue}
 use Rattle.pddl_formula.specs.TypedLists.{typed_view}
 use Rattle.pddl_formula.specs.declared.type_names.Typed.{Typed}
 use Rattle.pddl_domain.specs.Declarations.{Signature}
 use Rattle.pddl_task.specs.Names.{Name, is_in, is_named, item_of}
 use Rattle.pddl_task.specs.Settings.{symbol_of}
-use Rattle.pddl_task.specs.Faults.{primitives_of, takes_others}
+use Rattle.pddl_task.specs.Faults.{primitives_of}
 use Rattle.pddl_types.specs.KnownNames.{signature_in, object_in}
 use Rattle.pddl_faults.proofs.PutValues.{found_or}
 
@@ -29,15 +27,7 @@ value_at : {X Y Z : Type 0} (f : X → Z) (g : Y → Z) (b : Bool) (x : X) (y : 
 value_at f g true x y o p here later = ap Some here
 value_at f g false x y o p here later = later
 
--- the number of parameters of a predicate or a function
-pub parameters_found : {A : Type 0} (es : List (Bor (List ℕ) × Bor (List (Typed A)))) (n : Name)
-    → option_map (λ (s : Signature). length s.parameters) (find (λ s. bytes_eq n s.name) (map signature_in es)) ≡ option_map (λ (xs : Bor (List (Typed A))). length xs.now) (lookup (λ k. bytes_eq n k.now) es)
-parameters_found [] n = refl
-parameters_found {A} (e ∷ es) n =
-    value_at (λ (s : Signature). length s.parameters) (λ (xs : Bor (List (Typed A))). length xs.now) (bytes_eq n e.0.now) (signature_in e) e.1
-    (find (λ s. bytes_eq n s.name) (map signature_in es)) (lookup (λ k. bytes_eq n k.now) es) (length-map e.1.now typed_view) (parameters_found es n)
-
--- the parameters themselves
+-- the parameters of a predicate or a function
 pub signature_found : {A : Type 0} (es : List (Bor (List ℕ) × Bor (List (Typed A)))) (n : Name)
     → option_map (λ (s : Signature). s.parameters) (find (λ s. bytes_eq n s.name) (map signature_in es)) ≡ option_map (λ (xs : Bor (List (Typed A))). map typed_view xs.now) (lookup (λ k. bytes_eq n k.now) es)
 signature_found [] n = refl
@@ -52,23 +42,3 @@ object_found [] n = refl
 object_found {A} (e ∷ es) n =
     value_at primitives_of (λ (t : Bor (Typed A)). t.now.types) (bytes_eq n e.0.now) (object_in e) e.1
     (find (is_named n) (map object_in es)) (lookup (λ k. bytes_eq n k.now) es) refl (object_found es n)
-
--- ---- numbers of parameters
-
--- a number of parameters, where there is one, is another than this
-abbrev pub differs : Option ℕ → ℕ → Bool
-differs None n = false
-differs (Some k) n = not (n == k)
-
-differs_is : (s : Option Signature) (ts : List TermValue) → takes_others s ts ≡ differs (option_map (λ (g : Signature). length g.parameters) s) (length ts)
-differs_is None ts = refl
-differs_is (Some g) ts = refl
-
--- by the parameters that are looked up
-pub takes_found : {A : Type 0} (es : List (Bor (List ℕ) × Bor (List (Typed A)))) (n : Name) (ts : List TermValue) (o : Option (Bor (List (Typed A)))) → o ≡ lookup (λ k. bytes_eq n k.now) es
-    → differs (option_map (λ (xs : Bor (List (Typed A))). length xs.now) o) (length ts) ≡ takes_others (find (λ s. bytes_eq n s.name) (map signature_in es)) ts
-takes_found {A} es n ts o is =
-    ap (λ q. differs (option_map (λ (xs : Bor (List (Typed A))). length xs.now) q) (length ts)) is
-    ∙ ap (λ k. differs k (length ts)) (sym (parameters_found es n)) ∙ sym (differs_is (find (λ s. bytes_eq n s.name) (map signature_in es)) ts)
-
--- ---- what stands in lists, in turn

@@ -13,27 +13,20 @@ use Rattle.pddl_domain.specs.Declarations.{Signature, predicate_view}
 use Rattle.pddl_task.specs.Names.{Name, item_of}
 use Rattle.pddl_task.specs.Settings.{symbol_of}
 use Rattle.pddl_types.specs.KnownNames.{AreNamed, signature_in, object_in}
+use Rattle.pddl_types.proofs.Views.{map-map}
 
 -- the name of a predicate
 pub symbol_at : {A : Type 0} (xs : List (DeclaredPredicate A)) (signatures : List Signature) (i : ℕ)
     → map predicate_view xs ≡ signatures → option_map (λ x. x.predicate) (slice_get xs i) ≡ slice_get (map symbol_of signatures) i
-symbol_at {A} xs signatures i same =
-    sym (slice_get-map (λ x. x.predicate) xs i) ∙ ap (λ ns. slice_get ns i) (symbols xs ∙ ap (map symbol_of) same)
-  where
-    symbols : (xs : List (DeclaredPredicate A)) → map (λ x. x.predicate) xs ≡ map symbol_of (map predicate_view xs)
-    symbols [] = refl
-    symbols (x ∷ xs) = ap (λ ns. x.predicate ∷ ns) (symbols xs)
+symbol_at xs signatures i same =
+    sym (slice_get-map (λ x. x.predicate) xs i) ∙ ap (λ ns. slice_get ns i) (sym (map-map symbol_of predicate_view xs) ∙ ap (map symbol_of) same)
 
 -- the name of an object, as it is listed
-items : {A : Type 0} (es : List (Bor (List ℕ) × Bor (Typed A))) → map item_of (map object_in es) ≡ map (λ e. e.0.now) es
-items [] = refl
-items (e ∷ es) = ap (λ ns. e.0.now ∷ ns) (items es)
-
 pub item_at : {A : Type 0} (es : List (Bor (List ℕ) × Bor (Typed A))) (objects : List TypedValue) (i : ℕ) (found : Option (Bor (List ℕ) × Bor (Typed A)))
     → map object_in es ≡ objects → AreNamed es → found ≡ slice_get es i → option_map (λ e. e.1.now.name) found ≡ slice_get (map item_of objects) i
 item_at es objects i found same named at =
     ap (option_map (λ e. e.1.now.name)) at ∙ sym (slice_get-map (λ e. e.1.now.name) es i)
-    ∙ ap (λ ns. slice_get ns i) (named ∙ sym (items es) ∙ ap (map item_of) same)
+    ∙ ap (λ ns. slice_get ns i) (named ∙ sym (map-map item_of object_in es) ∙ ap (map item_of) same)
 
 -- ---- the number of a name
 

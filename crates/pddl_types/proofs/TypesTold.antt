@@ -3,7 +3,7 @@ use Rattle.std.proofs.Common.{◌≡◌, ℕ, zero, suc, ◌+◌, ◌<◌, true,
 use Rattle.std.specs.Borrow.{Bor}
 use Rattle.std.specs.List.{IsDistinct}
 use Rattle.std.proofs.lemmas.Cmp.{nat_list_eq_equiv}
-use Rattle.std.proofs.lemmas.List.{take_more, append_assoc}
+use Rattle.std.proofs.lemmas.List.{take_more, append_assoc, map-append}
 use Rattle.std.proofs.lemmas.List.Elements.{Contains-get_or}
 use Rattle.std.proofs.lemmas.Map.Keys.{IsDistinct-head, IsDistinct-tail}
 use Rattle.pddl_domain.specs.Declarations.{TypeValue}
@@ -13,6 +13,7 @@ use Rattle.pddl_types.specs.TypeTables.{Row, names_in, name_at, with_name, each_
 use Rattle.pddl_task.proofs.Lists.{append-none, or_right, none_left, none_right, is_mapped}
 use Rattle.pddl_types.proofs.TypeTables.{put, apart, table_has, table_again, put_under_root, put_under}
 use Rattle.pddl_types.proofs.TypeClimbs.{has_in, parent_undeclared, once_declared}
+use Rattle.pddl_types.proofs.Views.{map-map}
 
 -- ---- names so far
 
@@ -42,23 +43,15 @@ not_before name (x ∷ xs) (suc i) d once low =
     (nat_list_eq_equiv.symm n (name x) ∙ apart (name x) (map name xs) n (IsDistinct-head bytes_eq (name x) (map name xs) once) (is_mapped name xs (get_or xs i d) (Contains-get_or xs i d (omega (arith, low)))))
     ∙ not_before name xs i d (IsDistinct-tail bytes_eq (name x) (map name xs) once) (omega (arith, low))
 
-maps : {X : Type 0} (view : X → TypeValue) (f : TypeValue → Name) (xs : List X) → map f (map view xs) ≡ map (λ x. f (view x)) xs
-maps view f [] = refl
-maps view f (x ∷ xs) = ap (λ ns. f (view x) ∷ ns) (maps view f xs)
-
-map_last : {X Y : Type 0} (view : X → Y) (xs : List X) (x : X) → map view (xs ++ x ∷ []) ≡ map view xs ++ view x ∷ []
-map_last view [] x = refl
-map_last view (y ∷ xs) x = ap (λ vs. view y ∷ vs) (map_last view xs x)
-
 -- of one more, what comes last
 view_next : {X : Type 0} (view : X → TypeValue) (xs : List X) (i : ℕ) (x : X) → i < length xs → x ≡ get_or xs i x → map view (take (i + 1) xs) ≡ map view (take i xs) ++ view x ∷ []
-view_next view xs i x low is = ap (map view) (take_more xs i x low ∙ ap (λ y. take i xs ++ y ∷ []) (sym is)) ∙ map_last view (take i xs) x
+view_next view xs i x low is = ap (map view) (take_more xs i x low ∙ ap (λ y. take i xs ++ y ∷ []) (sym is)) ∙ map-append view (take i xs) (x ∷ [])
 
 name_next : {X : Type 0} (view : X → TypeValue) (f : TypeValue → Name) (front : List Name) (xs : List X) (i : ℕ) (x : X) (n : Name) → i < length xs → x ≡ get_or xs i x → n ≡ f (view x)
     → (front ++ map f (map view (take i xs))) ++ n ∷ [] ≡ front ++ map f (map view (take (i + 1) xs))
 name_next view f front xs i x n low is named =
     append_assoc front (map f (map view (take i xs))) (n ∷ [])
-    ∙ ap (λ ns. front ++ ns) (ap (λ m. map f (map view (take i xs)) ++ m ∷ []) named ∙ sym (ap (map f) (view_next view xs i x low is) ∙ map_last f (map view (take i xs)) (view x)))
+    ∙ ap (λ ns. front ++ ns) (ap (λ m. map f (map view (take i xs)) ++ m ∷ []) named ∙ sym (ap (map f) (view_next view xs i x low is) ∙ map-append f (map view (take i xs)) (view x ∷ [])))
 
 -- ---- the declared types, under `object`
 
@@ -100,7 +93,7 @@ parent_there view xs i x rows k low is named h =
           let off : is_in types k.now ≡ false = sym (table_has types told rows h k.now) ∙ new in
           let undeclared : is_in (map item_of (map view xs)) k.now ≡ false = none_right (bytes_eq k.now root) (is_in (map item_of (map view xs)) k.now) (in_front front (map parent_of told) k.now off) in
           let untold : is_in (map item_of told) k.now ≡ false =
-          ap (λ ns. is_in ns k.now) (maps view item_of (take i xs)) ∙ in_all (λ y. (view y).item) xs i k.now (ap (λ ns. is_in ns k.now) (sym (maps view item_of xs)) ∙ undeclared) in
+          ap (λ ns. is_in ns k.now) (map-map item_of view (take i xs)) ∙ in_all (λ y. (view y).item) xs i k.now (ap (λ ns. is_in ns k.now) (sym (map-map item_of view xs)) ∙ undeclared) in
           put_under_root types told rows k h (parent_undeclared told k.now untold)
     ] refl)
 
@@ -113,9 +106,9 @@ told_next view xs i x rows wider next parent child place low is above named once
     let front = root ∷ map item_of (map view xs) in
     let more = front ++ map parent_of (map view (take (i + 1) xs)) in
     let table = subst (IsTableOf more (map view (take i xs))) (sym widened) (parent_there view xs i x rows parent low is above h) in
-    let distinct : IsDistinct bytes_eq (map (λ y. (view y).item) xs) = subst (IsDistinct bytes_eq) (maps view item_of xs) (once_declared (map view xs) once) in
+    let distinct : IsDistinct bytes_eq (map (λ y. (view y).item) xs) = subst (IsDistinct bytes_eq) (map-map item_of view xs) (once_declared (map view xs) once) in
     let new : is_in (map item_of (map view (take i xs))) child.now ≡ false =
-    ap (λ ns. is_in ns child.now) (maps view item_of (take i xs)) ∙ ap (is_in (map (λ y. (view y).item) (take i xs))) (named ∙ ap (λ y. (view y).item) is) ∙ not_before (λ y. (view y).item) xs i x distinct low in
+    ap (λ ns. is_in ns child.now) (map-map item_of view (take i xs)) ∙ ap (is_in (map (λ y. (view y).item) (take i xs))) (named ∙ ap (λ y. (view y).item) is) ∙ not_before (λ y. (view y).item) xs i x distinct low in
     let type : is_in more child.now ≡ true =
     front_in front (map parent_of (map view (take (i + 1) xs))) child.now
     (or_right (bytes_eq child.now root) (is_in (map item_of (map view xs)) child.now)

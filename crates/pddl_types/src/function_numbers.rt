@@ -5,7 +5,7 @@ ghost use Rattle.pddl_domain.specs.Declarations.{function_view};
 ghost use Rattle.pddl_task.specs.Names.{item_of, repeated};
 ghost use Rattle.pddl_task.specs.Settings.{symbol_of};
 
-use crate::known::{Signatures, functions};
+use crate::known::{Signatures, signatures};
 use pddl_domain::DeclaredFunction;
 use std::alloc::{AllocError, Allocator};
 use std::marker::Model;
@@ -37,7 +37,7 @@ impl<'m, 'c, A: Allocator, C: Allocator> FunctionNumbers<'m, 'c, A, C> {
         requires { repeated [] (map symbol_of (map item_of (map function_view declared.now))) ≡ [] }
         ensures { IfOk result (λ numbers. numbers ≡ map item_of (map function_view declared.now)) }
     {
-        let table = functions(alloc, declared)?;
+        let table = signatures(alloc, declared)?;
         Ok(FunctionNumbers { table })
     }
 

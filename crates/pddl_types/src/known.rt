@@ -1,17 +1,14 @@
 //! What may be named where something stands, looked up by name.
 
-ghost use Rattle.std.specs.Prelude.{◌≡◌, List, [], map, length, IfOk};
-ghost use Rattle.pddl_formula.specs.Terms.{TermValue};
-ghost use Rattle.pddl_domain.specs.Declarations.{predicate_view, function_view};
+ghost use Rattle.std.specs.Prelude.{◌≡◌, [], map, IfOk};
 ghost use Rattle.pddl_task.specs.Names.{is_in, item_of, repeated};
 ghost use Rattle.pddl_task.specs.Settings.{symbol_of};
-ghost use Rattle.pddl_task.specs.Faults.{takes_others, signature_of};
 ghost use Rattle.pddl_types.specs.KnownNames.{signature_in, object_in};
 
+use crate::declares::Declares;
 use crate::slot_tops::Tops;
 use crate::types::Types;
 use indexmap::IndexMap;
-use pddl_domain::{DeclaredFunction, DeclaredPredicate};
 use pddl_faults::Hashed;
 use pddl_formula::Typed;
 use std::alloc::{AllocError, Allocator};
@@ -33,30 +30,6 @@ pub struct Known<'t, 'm, 'a, A: Allocator, B: Allocator> {
     pub places: &'t [usize],
 }
 
-/// Whether a predicate or a function is declared.
-pub fn is_declared<'m, 'a, A: Allocator, B: Allocator>(
-    declared: &Signatures<'m, 'a, A, B>,
-    name: &[u8],
-) -> bool
-    ensures { result ≡ is_in (map symbol_of (map signature_in declared.now.entries)) name.now }
-{
-    declared.contains_key(name)
-}
-
-/// Whether a predicate or a function is declared with another number of parameters than this.
-pub fn takes_others<'m, 'a, A: Allocator, B: Allocator>(
-    declared: &Signatures<'m, 'a, A, B>,
-    name: &[u8],
-    count: usize,
-) -> bool
-    ensures { (ts : List TermValue) → length ts ≡ count → result ≡ takes_others (signature_of (record { name = name.now; terms = ts; declared = map signature_in declared.now.entries })) ts }
-{
-    match declared.get(name) {
-        Some(parameters) => count != parameters.len(),
-        None => false,
-    }
-}
-
 /// Whether an object has this name.
 pub fn is_object<'m, 'a, A: Allocator, B: Allocator>(
     objects: &Objects<'m, 'a, A, B>,
@@ -67,39 +40,19 @@ pub fn is_object<'m, 'a, A: Allocator, B: Allocator>(
     objects.contains_key(name)
 }
 
-/// Predicates by their names, each declared once.
+/// The parameters of what is declared, by names that are declared once each.
 ///
 /// Fails where memory for the table is refused.
-pub fn predicates<'m, 'a, A: Allocator, B: Allocator>(
+pub fn signatures<'m, 'a, A: Allocator, B: Allocator, D: Declares<A>>(
     alloc: &'a B,
-    declared: &'m [DeclaredPredicate<A>],
+    declared: &'m [D],
 ) -> Result<Signatures<'m, 'a, A, B>, AllocError>
-    requires { repeated [] (map symbol_of (map predicate_view declared.now)) ≡ [] }
-    ensures { IfOk result (λ table. map signature_in table.entries ≡ map predicate_view declared.now) }
+    requires { repeated [] (map symbol_of (map D.signature declared.now)) ≡ [] }
+    ensures { IfOk result (λ table. map signature_in table.entries ≡ map D.signature declared.now) }
 {
     let mut table = IndexMap::with_capacity(alloc, declared.len())?;
-    for predicate in declared {
-        table.insert(
-            predicate.predicate.as_bytes(),
-            predicate.parameters.as_slice(),
-        )?;
-    }
-    Ok(table)
-}
-
-/// Functions by their names, each declared once.
-///
-/// Fails where memory for the table is refused.
-pub fn functions<'m, 'a, A: Allocator, B: Allocator>(
-    alloc: &'a B,
-    declared: &'m [DeclaredFunction<A>],
-) -> Result<Signatures<'m, 'a, A, B>, AllocError>
-    requires { repeated [] (map symbol_of (map item_of (map function_view declared.now))) ≡ [] }
-    ensures { IfOk result (λ table. map signature_in table.entries ≡ map item_of (map function_view declared.now)) }
-{
-    let mut table = IndexMap::with_capacity(alloc, declared.len())?;
-    for function in declared {
-        table.insert(function.name.as_bytes(), function.parameters.as_slice())?;
+    for each in declared {
+        table.insert(each.name(), each.parameters().as_slice())?;
     }
     Ok(table)
 }

@@ -3,6 +3,7 @@
 //! Types are numbered in pre-order, so that a test for a subtype is two comparisons.
 #![tactic(auto)]
 
+mod declares;
 mod function_numbers;
 mod known;
 mod near;
@@ -12,10 +13,9 @@ mod type_counts;
 mod type_table;
 mod types;
 
+pub use declares::Declares;
 pub use function_numbers::FunctionNumbers;
-pub use known::{
-    Known, Objects, Signatures, functions, is_declared, is_object, predicates, takes_others,
-};
+pub use known::{Known, Objects, Signatures, is_object, signatures};
 pub use near::{near_of, place_at};
 pub use slot_tops::{NameTops, SlotTops, Top, Tops};
 pub use type_counts::{TypeCounts, single};

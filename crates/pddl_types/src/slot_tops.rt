@@ -2,8 +2,9 @@
 //!
 //! Nothing is promised of them: what is found is looked at, and what is not is looked for among all primitives.
 
+use crate::declares::Declares;
 use crate::types::Types;
-use pddl_domain::{Action, DeclaredFunction, DeclaredPredicate, Domain};
+use pddl_domain::Domain;
 use pddl_formula::{TypeNames, TypedList};
 use std::alloc::{AllocError, Allocator};
 
@@ -100,56 +101,21 @@ impl<'a, B: Allocator> SlotTops<'a, B> {
         Ok(())
     }
 
-    /// No tops.
-    fn none(alloc: &'a B) -> SlotTops<'a, B> {
-        SlotTops {
+    /// The tops of the slots of what is declared.
+    ///
+    /// Fails where memory for them is refused.
+    pub fn of_declared<'m, 't, A: Allocator, C: Allocator, D: Declares<A>>(
+        alloc: &'a B,
+        types: &Types<'m, 't, A, C>,
+        declared: &[D],
+    ) -> Result<SlotTops<'a, B>, AllocError> {
+        let mut all = SlotTops {
             starts: Vec::new(alloc),
             spans: Vec::new(alloc),
             tops: Vec::new(alloc),
-        }
-    }
-
-    /// The tops of the parameters of actions.
-    ///
-    /// Fails where memory for them is refused.
-    pub fn of_actions<'m, 't, A: Allocator, C: Allocator>(
-        alloc: &'a B,
-        types: &Types<'m, 't, A, C>,
-        actions: &[Action<A>],
-    ) -> Result<SlotTops<'a, B>, AllocError> {
-        let mut all = SlotTops::none(alloc);
-        for action in actions {
-            all.put_all(types, &action.parameters)?;
-        }
-        Ok(all)
-    }
-
-    /// The tops of the slots of predicates.
-    ///
-    /// Fails where memory for them is refused.
-    pub fn of_predicates<'m, 't, A: Allocator, C: Allocator>(
-        alloc: &'a B,
-        types: &Types<'m, 't, A, C>,
-        predicates: &[DeclaredPredicate<A>],
-    ) -> Result<SlotTops<'a, B>, AllocError> {
-        let mut all = SlotTops::none(alloc);
-        for predicate in predicates {
-            all.put_all(types, &predicate.parameters)?;
-        }
-        Ok(all)
-    }
-
-    /// The tops of the slots of functions.
-    ///
-    /// Fails where memory for them is refused.
-    pub fn of_functions<'m, 't, A: Allocator, C: Allocator>(
-        alloc: &'a B,
-        types: &Types<'m, 't, A, C>,
-        functions: &[DeclaredFunction<A>],
-    ) -> Result<SlotTops<'a, B>, AllocError> {
-        let mut all = SlotTops::none(alloc);
-        for function in functions {
-            all.put_all(types, &function.parameters)?;
+        };
+        for each in declared {
+            all.put_all(types, each.parameters())?;
         }
         Ok(all)
     }
@@ -184,8 +150,8 @@ impl<'a, B: Allocator> Tops<'a, B> {
         types: &Types<'m, 'a, A, B>,
         domain: &Domain<A>,
     ) -> Result<Tops<'a, B>, AllocError> {
-        let predicates = SlotTops::of_predicates(alloc, types, &domain.predicates)?;
-        let functions = SlotTops::of_functions(alloc, types, &domain.functions)?;
+        let predicates = SlotTops::of_declared(alloc, types, &domain.predicates)?;
+        let functions = SlotTops::of_declared(alloc, types, &domain.functions)?;
         Ok(Tops {
             predicates,
             functions,

@@ -2,7 +2,6 @@
 
 ghost use Rattle.std.specs.Prelude.{◌≡◌, ◌∷◌, [], List, map, length, slice_get, IfOk, IfSome};
 ghost use Rattle.pddl_domain.specs.Declarations.{TypeValue};
-ghost use Rattle.pddl_task.specs.Types.{pairs};
 ghost use Rattle.pddl_types.specs.KnownNames.{object_in};
 ghost use Rattle.pddl_types.specs.TypeTables.{IsTypeTable};
 ghost use Rattle.pddl_types.specs.ObjectCounts.{AreCountsOf, IsPlaceOf, ArePlacesOf, AreNamedCounts};

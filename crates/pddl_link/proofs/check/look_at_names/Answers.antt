@@ -1,7 +1,6 @@
 use Rattle.std.proofs.Common.{◌≡◌, List, [], ◌∷◌, map, filter, refl, ap, subst, ◌∙◌}
 use Rattle.std.proofs.lemmas.Result.{on_ok_weaker}
 use Rattle.pddl_formula.specs.TypedLists.{typed_view}
-use Rattle.pddl_formula.specs.declared.type_names.Typed.{Typed}
 use Rattle.pddl_domain.specs.Declarations.{TypeValue}
 use Rattle.pddl_domain.specs.Domains.{domain_view}
 use Rattle.pddl_task.specs.Names.{firsts, item_of}
@@ -27,12 +26,11 @@ pub returns-clause-verdict : goal.returns-clause-verdict
 returns-clause-verdict g c =
     let d = domain_view c.args.domain.now in
     let above = λ (ts : List TypeValue). numbered 22 (first_alone (filter (is_cyclic (pairs ts)) (map item_of ts))) in
-    let listed = λ (xs : List (Typed g.row.A.Denot)). numbered 24 (retyped [] (map typed_view xs)) in
-    let constants = c.args.domain.now.constants.items in
-    verdict_of (joined (above d.types ∷ (listed constants ∷ domain_parts d.types d))) (map (domain_fault d) name_rules) c.lower-2.result (domain_names_stand d)
-    (subst (λ ts. IsFound (joined (above ts ∷ (listed constants ∷ domain_parts ts d))) c.lower-2.result) c.requires.types
-    (found_parts (above c.args.types.now ∷ []) (listed constants ∷ domain_parts c.args.types.now d) c.cycle-above.result c.lower.result c.lower-2.result c.lower-2.ensures.found
-    (passed_part 22 _ c.cycle-above.result c.cycle-above.ensures)
-    (found_parts (listed constants ∷ []) (domain_parts c.args.types.now d) c.list_objects-listed.result c.look_at_domain.result c.lower.result c.lower.ensures.found
-    (subst (λ xs. IsFound (joined (listed xs ∷ [])) c.list_objects-listed.result) c.deref.ensures.value (passed_part 24 _ c.list_objects-listed.result (c.list_objects-listed.ensures.passes [] refl (ap (map object_in) c.requires.none))))
+    let listed = numbered 24 (retyped [] d.constants) in
+    verdict_of (joined (above d.types ∷ (listed ∷ domain_parts d.types d))) (map (domain_fault d) name_rules) c.lower-2.result (domain_names_stand d)
+    (subst (λ ts. IsFound (joined (above ts ∷ (listed ∷ domain_parts ts d))) c.lower-2.result) c.requires.types
+    (found_parts (above c.args.types.now ∷ []) (listed ∷ domain_parts c.args.types.now d) c.cycle-above.result c.lower.result c.lower-2.result c.lower-2.ensures.found
+    (passed_part 22 c.cycle-above.result refl c.cycle-above.ensures)
+    (found_parts (listed ∷ []) (domain_parts c.args.types.now d) c.list_objects-listed.result c.look_at_domain.result c.lower.result c.lower.ensures.found
+    (passed_part 24 c.list_objects-listed.result (ap (λ xs. retyped [] (map typed_view xs)) c.deref.ensures.value) (c.list_objects-listed.ensures.passes [] refl (ap (map object_in) c.requires.none)))
     c.look_at_domain.ensures)))

@@ -1,7 +1,6 @@
 use Rattle.std.proofs.Common.{◌≡◌, List, [], ◌∷◌, ◌++◌, map, filter, refl, ap, subst, ◌∙◌}
 use Rattle.std.proofs.lemmas.Result.{on_ok_weaker}
 use Rattle.pddl_formula.specs.TypedLists.{typed_view}
-use Rattle.pddl_formula.specs.declared.type_names.Typed.{Typed}
 use Rattle.pddl_domain.specs.Declarations.{TypeValue}
 use Rattle.pddl_domain.specs.Domains.{domain_view}
 use Rattle.pddl_problem.specs.Problems.{problem_view}
@@ -47,15 +46,14 @@ returns-clause-verdict g c =
     let p = problem_view c.args.problem.now in
     let ts = c.args.types.now in
     let above = λ (us : List TypeValue). numbered 22 (first_alone (filter (is_cyclic (pairs us)) (map item_of us))) in
-    let listed = λ (xs : List (Typed g.row.A.Denot)). numbered 24 (retyped [] (map typed_view xs)) in
-    let constants = c.args.domain.now.constants.items in
+    let listed = numbered 24 (retyped [] d.constants) in
     let all = numbered 24 (retyped [] d.constants ++ retyped d.constants p.objects) in
-    verdict_of (joined (above d.types ∷ (listed constants ∷ (domain_parts d.types d ++ (all ∷ problem_parts d.types p))))) (map (fault_in d p) name_rules) c.lower-4.result (names_stand d p)
-    (subst (λ us. IsFound (joined (above us ∷ (listed constants ∷ (domain_parts us d ++ (all ∷ problem_parts us p))))) c.lower-4.result) c.requires.types
-    (found_parts (above ts ∷ []) (listed constants ∷ (domain_parts ts d ++ (all ∷ problem_parts ts p))) c.cycle-above.result c.lower-3.result c.lower-4.result c.lower-4.ensures.found
-    (passed_part 22 _ c.cycle-above.result c.cycle-above.ensures)
-    (found_parts (listed constants ∷ []) (domain_parts ts d ++ (all ∷ problem_parts ts p)) c.list_objects-listed.result c.lower-2.result c.lower-3.result c.lower-3.ensures.found
-    (subst (λ xs. IsFound (joined (listed xs ∷ [])) c.list_objects-listed.result) c.deref.ensures.value (passed_part 24 _ c.list_objects-listed.result (c.list_objects-listed.ensures.passes [] refl (ap (map object_in) c.requires.no_constants))))
+    verdict_of (joined (above d.types ∷ (listed ∷ (domain_parts d.types d ++ (all ∷ problem_parts d.types p))))) (map (fault_in d p) name_rules) c.lower-4.result (names_stand d p)
+    (subst (λ us. IsFound (joined (above us ∷ (listed ∷ (domain_parts us d ++ (all ∷ problem_parts us p))))) c.lower-4.result) c.requires.types
+    (found_parts (above ts ∷ []) (listed ∷ (domain_parts ts d ++ (all ∷ problem_parts ts p))) c.cycle-above.result c.lower-3.result c.lower-4.result c.lower-4.ensures.found
+    (passed_part 22 c.cycle-above.result refl c.cycle-above.ensures)
+    (found_parts (listed ∷ []) (domain_parts ts d ++ (all ∷ problem_parts ts p)) c.list_objects-listed.result c.lower-2.result c.lower-3.result c.lower-3.ensures.found
+    (passed_part 24 c.list_objects-listed.result (ap (λ xs. retyped [] (map typed_view xs)) c.deref.ensures.value) (c.list_objects-listed.ensures.passes [] refl (ap (map object_in) c.requires.no_constants)))
     (found_parts (domain_parts ts d) (all ∷ problem_parts ts p) c.look_at_domain-declared.result c.lower.result c.lower-2.result c.lower-2.ensures.found c.look_at_domain-declared.ensures
     (found_parts (all ∷ []) (problem_parts ts p) c.list_all-all.result c.look_at_problem-bound.result c.lower.result c.lower.ensures.found
-    (passed_part 24 _ c.list_all-all.result c.list_all-all.ensures.passes) c.look_at_problem-bound.ensures)))))
+    (passed_part 24 c.list_all-all.result refl c.list_all-all.ensures.passes) c.look_at_problem-bound.ensures)))))

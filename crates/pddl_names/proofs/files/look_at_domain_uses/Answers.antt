@@ -1,4 +1,4 @@
-use Rattle.std.proofs.Common.{[], ◌∷◌, subst}
+use Rattle.std.proofs.Common.{[], ◌∷◌, refl, subst}
 use Rattle.std.specs.List.{flat_map}
 use Rattle.pddl_domain.specs.Domains.{domain_view}
 use Rattle.pddl_task.specs.Places.{domain_places}
@@ -17,4 +17,4 @@ returns g c =
     let fluents = numbered 32 (object_fluents d) in
     found_parts (used (in_domain d) ∷ []) (fluents ∷ []) c.search_domain-used.result c.object_fluents.result c.lower.result c.lower.ensures.found
     (subst (λ s. IsFound (joined (used s ∷ [])) c.search_domain-used.result) c.requires (one_part _ c.search_domain-used.result c.search_domain-used.ensures))
-    (passed_part 32 (object_fluents d) c.object_fluents.result c.object_fluents.ensures)
+    (passed_part 32 c.object_fluents.result refl c.object_fluents.ensures)

@@ -1,0 +1,10 @@
+-- Views of a list's views.
+use Rattle.std.proofs.Common.{◌≡◌, List, [], ◌∷◌, map, refl, ap, sym, ◌∙◌}
+
+pub map-map : {X Y Z : Type 0} (see : Y → Z) (view : X → Y) (xs : List X) → map see (map view xs) ≡ map (λ x. see (view x)) xs
+map-map see view [] = refl
+map-map see view (x ∷ xs) = ap (λ zs. see (view x) ∷ zs) (map-map see view xs)
+
+-- what is seen in each is seen in the views of the same list
+pub seen_of : {X Y Z : Type 0} (see : Y → Z) (view : X → Y) {xs ys : List X} → xs ≡ ys → map (λ x. see (view x)) xs ≡ map see (map view ys)
+seen_of see view {xs} same = sym (map-map see view xs) ∙ ap (λ zs. map see (map view zs)) same
