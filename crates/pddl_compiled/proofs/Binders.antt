@@ -1,6 +1,6 @@
 -- The variables of a quantifier, one after another, and nodes around conditions.
 use Rattle.std.proofs.Common.{◌≡◌, ℕ, ◌+◌, ◌<◌, true, false, List, [], ◌∷◌, ◌++◌, map, drop, length, get_or, reverse, refl, sym, ap, ◌∙◌, subst, arith, Vec}
-use Rattle.std.specs.Prelude.{Result, Ok, Err, IfOk, is_ok, if◌then◌else◌, Option, Some, option_map, unwrap_or, slice_get}
+use Rattle.std.specs.Prelude.{Result, Ok, Err, IfOk, IsOkAnd, is_ok, if◌then◌else◌, Option, Some, option_map, unwrap_or, slice_get}
 use Rattle.std.proofs.lemmas.List.{drop_more, append-nil, append_assoc, map-append, reverse-append}
 use Rattle.std.proofs.lemmas.Option.{slice_get-map, slice_get-get_or, slice_get_within, get_or_from_slice_get}
 use Rattle.pddl_formula.specs.declared.type_names.Typed.{Typed}
@@ -14,12 +14,19 @@ pub weaker : {X E : Type 0} (P Q : X → Type 0) → ((x : X) → P x → Q x) �
 weaker P Q f (Ok x) h = f x h
 weaker P Q f (Err e) h = h
 
+pub also : {X E : Type 0} (P Q : X → Type 0) → ((x : X) → P x → Q x) → (r : Result X E) → IsOkAnd r P → IsOkAnd r Q
+also P Q f (Ok x) h = f x h
+also P Q f (Err e) h = absurd h
+
 pub ok_known : {X E : Type 0} (P : X → Type 0) (r : Result X E) (x : X) → r ≡ Ok x → IfOk r P → P x
 ok_known P r x is h = subst (λ q. IfOk q P) is h
 
-pub both_known : {X E : Type 0} (P Q : X → Type 0) (r : Result X E) → IfOk r P → IfOk r Q → IfOk r (λ x. P x × Q x)
-both_known P Q (Ok x) h k = (h, k)
-both_known P Q (Err e) h k = h
+-- what is known of a value, by what is known of the one that it is made of
+pub made_known : {X Y E F : Type 0} (P : X → Type 0) (Q : X → Y → Type 0) (R : Y → Type 0) → ((x : X) (y : Y) → P x → Q x y → R y) → (from : Result X E) (r : Result Y F)
+    → IfOk from P → IfOk r (λ y. IsOkAnd from (λ x. Q x y)) → IfOk r R
+made_known P Q R f (Ok x) (Ok y) h k = f x y h k
+made_known P Q R f (Err e) (Ok y) h k = absurd k
+made_known P Q R f from (Err e) h k = k
 
 -- ---- what is left of the variables
 

@@ -1,4 +1,5 @@
 pub mod Binders
+mod Cases
 pub mod Rows
 pub mod Quantifiers
 pub mod Numbers

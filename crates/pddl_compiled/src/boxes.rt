@@ -63,24 +63,3 @@ pub(crate) fn if_made<T: Drop, A: Allocator>(
     made?;
     Ok(list)
 }
-
-/// Ranges of quantifiers, the outermost first, and what stands inside all of them.
-#[derive(Drop)]
-pub(crate) struct Quantified<'b, T: Drop, B: Allocator> {
-    pub ranges: Vec<Vec<usize, &'b B>, &'b B>,
-    pub inner: T,
-}
-
-/// The ranges with what stands inside them.
-///
-/// Fails as that failed.
-pub(crate) fn with_ranges<'b, T: Drop, B: Allocator>(
-    ranges: Vec<Vec<usize, &'b B>, &'b B>,
-    inner: Result<T, AllocError>,
-) -> Result<Quantified<'b, T, B>, AllocError>
-    ensures ranges { IfOk result (λ q. q.ranges.items ≡ ranges.entry.items) }
-    ensures inner { IfOk result (λ q. inner ≡ Ok q.inner) }
-{
-    let inner = inner?;
-    Ok(Quantified { ranges, inner })
-}

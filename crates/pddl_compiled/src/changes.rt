@@ -1,35 +1,37 @@
 //! Changes of effects.
 
-ghost use Rattle.std.specs.Prelude.{◌≡◌, ℕ, List, map, ◌++◌, IfOk, OnOk};
+ghost use Rattle.std.specs.Prelude.{◌≡◌, map, cond, ◌++◌, IfOk, IsOkAnd, OnOk};
+ghost use Rattle.pddl_formula.specs.Terms.{atom_view};
 ghost use Rattle.pddl_formula.specs.TypedLists.{typed_view};
 ghost use Rattle.pddl_effect.specs.Effects.{amount_view, effect_view};
 ghost use Rattle.pddl_compiled.specs.Compiled as value;
-ghost use Rattle.pddl_compiled.specs.Compiler.{wrapped, nested, increase_of, change_of};
+ghost use Rattle.pddl_task.specs.Names.{number_in};
+ghost use Rattle.pddl_compiled.specs.Compiler.{wrapped, nested, places_of, increase_of, change_of};
 ghost use Rattle.pddl_compiled.specs.Views.{change_view};
 ghost use Rattle.pddl_compiled.specs.Scopes.{scope_view, range_items};
 
 use crate::binder::bind;
-use crate::boxes::{Quantified, both_boxed, if_made, with_ranges};
+use crate::boxes::{both_boxed, if_made};
 use crate::compiled::Change;
 use crate::conditions::compile_condition;
 use crate::lookups::Lookups;
 use crate::scope::Scope;
 use crate::terms::places_of;
 use pddl_effect::{Amount, Effect};
-use pddl_formula::TypedList;
+use pddl_formula::{Atom, TypedList};
 use std::alloc::{AllocError, Allocator};
 
 /// A change for each of the objects of ranges, the outermost first.
 ///
-/// Fails where memory for it is refused.
+/// Fails as the change failed, and where memory for it is refused.
 fn for_each<'b, B: Allocator>(
     alloc: &'b B,
     mut ranges: Vec<Vec<usize, &'b B>, &'b B>,
-    inner: Change<&'b B>,
+    inner: Result<Change<&'b B>, AllocError>,
 ) -> Result<Change<&'b B>, AllocError>
-    ensures { IfOk result (λ c. change_view c ≡ wrapped value.each (map range_items ranges.entry.items) (change_view inner.entry)) }
+    ensures { IfOk result (λ c. IsOkAnd inner.entry (λ i. change_view c ≡ wrapped value.each (map range_items ranges.entry.items) (change_view i))) }
 {
-    let mut change = inner;
+    let mut change = inner?;
     while let Some(range) = ranges.pop() {
         change = Change::Forall(range, Box::new(alloc, change)?);
     }
@@ -57,6 +59,27 @@ fn increase_of<'f, 'b, A: Allocator, B: Allocator, L: Lookups<A, B>>(
     }
 }
 
+/// The change that adds an atom, or else deletes it.
+///
+/// Fails where memory for it is refused.
+fn atom_change<'f, 'b, A: Allocator, B: Allocator, L: Lookups<A, B>>(
+    alloc: &'b B,
+    lookups: &L,
+    add: bool,
+    atom: &'f Atom<A>,
+    scope: &'f Scope<'f>,
+) -> Result<Change<&'b B>, AllocError>
+    ensures { IfOk result (λ c. change_view c ≡ cond add value.addition value.deletion (number_in (L.tables lookups.now).predicates (atom_view atom.now).predicate) (places_of (L.tables lookups.now) (scope_view scope.now) (atom_view atom.now).terms)) }
+{
+    let predicate = lookups.predicate_number(atom.predicate.as_bytes());
+    let places = places_of(alloc, lookups, &*scope, &atom.terms)?;
+    Ok(if add {
+        Change::Add(predicate, places)
+    } else {
+        Change::Del(predicate, places)
+    })
+}
+
 /// The change of an effect, in scope of variables.
 ///
 /// Fails where memory for it is refused.
@@ -75,8 +98,7 @@ pub fn compile_change<'f, 'b, A: Allocator, B: Allocator, L: Lookups<A, B>>(
             Ok(Change::And(parts))
         }
         Effect::Forall(variables, inner) => {
-            let quantified = compile_quantified(alloc, lookups, variables, inner, &*scope)?;
-            for_each(alloc, quantified.ranges, quantified.inner)
+            compile_quantified(alloc, lookups, variables, inner, &*scope)
         }
         Effect::When(condition, inner) => {
             let condition = compile_condition(alloc, lookups, condition, &*scope);
@@ -84,23 +106,15 @@ pub fn compile_change<'f, 'b, A: Allocator, B: Allocator, L: Lookups<A, B>>(
             let (condition, inner) = both_boxed(alloc, condition, inner)?;
             Ok(Change::When(condition, inner))
         }
-        Effect::Add(atom) => {
-            let predicate = lookups.predicate_number(atom.predicate.as_bytes());
-            let places = places_of(alloc, lookups, &*scope, &atom.terms)?;
-            Ok(Change::Add(predicate, places))
-        }
-        Effect::Del(atom) => {
-            let predicate = lookups.predicate_number(atom.predicate.as_bytes());
-            let places = places_of(alloc, lookups, &*scope, &atom.terms)?;
-            Ok(Change::Del(predicate, places))
-        }
-        Effect::Increase(amount) => Ok(increase_of(alloc, lookups, amount, &*scope)?),
+        Effect::Add(atom) => atom_change(alloc, lookups, true, atom, &*scope),
+        Effect::Del(atom) => atom_change(alloc, lookups, false, atom, &*scope),
+        Effect::Increase(amount) => increase_of(alloc, lookups, amount, &*scope),
     }
 }
 
-/// The ranges of a quantifier, and the change inside them. Behind a variable that ranges over no object nothing is compiled.
+/// The change of a quantifier. Behind a variable that ranges over no object nothing is compiled.
 ///
-/// Fails where memory for them is refused.
+/// Fails where memory for it is refused.
 #[cycle(changes)]
 fn compile_quantified<'f, 'b, A: Allocator, B: Allocator, L: Lookups<A, B>>(
     alloc: &'b B,
@@ -108,17 +122,17 @@ fn compile_quantified<'f, 'b, A: Allocator, B: Allocator, L: Lookups<A, B>>(
     variables: &'f TypedList<A>,
     inner: &'f Effect<A>,
     scope: &'f Scope<'f>,
-) -> Result<Quantified<'b, Change<&'b B>, B>, AllocError>
-    ensures { IfOk result (λ q. (node : List ℕ → value.ChangeValue → value.ChangeValue) → wrapped node (map range_items q.ranges.items) (change_view q.inner)
-        ≡ nested node (value.both value.no_changes) (L.tables lookups.now) (map typed_view variables.now.items) (change_of (L.tables lookups.now) (effect_view inner.now)) (scope_view scope.now)) }
+) -> Result<Change<&'b B>, AllocError>
+    ensures { IfOk result (λ c. change_view c ≡ nested value.each (value.both value.no_changes) (L.tables lookups.now) (map typed_view variables.now.items)
+        (change_of (L.tables lookups.now) (effect_view inner.now)) (scope_view scope.now)) }
 {
     let binder = bind(alloc, lookups, variables)?;
     if binder.closed {
-        return with_ranges(binder.ranges, Ok(Change::And(Vec::new(alloc))));
+        return for_each(alloc, binder.ranges, Ok(Change::And(Vec::new(alloc))));
     }
     let inside = Scope::Inside(&binder.slots, &*scope);
     let inner = compile_change(alloc, lookups, inner, &inside);
-    with_ranges(binder.ranges, inner)
+    for_each(alloc, binder.ranges, inner)
 }
 
 /// The changes of effects.

@@ -1,6 +1,6 @@
 //! Conditions of formulas.
 
-ghost use Rattle.std.specs.Prelude.{◌≡◌, ℕ, List, map, true, ◌++◌, IfOk, OnOk};
+ghost use Rattle.std.specs.Prelude.{◌≡◌, map, true, cond, ◌++◌, IfOk, IsOkAnd, OnOk};
 ghost use Rattle.pddl_formula.specs.TypedLists.{typed_view};
 ghost use Rattle.pddl_formula.specs.Formulas.{formula_view};
 ghost use Rattle.pddl_compiled.specs.Compiled as value;
@@ -9,7 +9,7 @@ ghost use Rattle.pddl_compiled.specs.Views.{condition_view};
 ghost use Rattle.pddl_compiled.specs.Scopes.{scope_view, range_items};
 
 use crate::binder::bind;
-use crate::boxes::{Quantified, both_in_boxes, boxed, if_made, with_ranges};
+use crate::boxes::{both_in_boxes, boxed, if_made};
 use crate::compiled::Condition;
 use crate::lookups::Lookups;
 use crate::scope::Scope;
@@ -17,36 +17,25 @@ use crate::terms::{equality, places_of};
 use pddl_formula::{Formula, TypedList};
 use std::alloc::{AllocError, Allocator};
 
-/// A condition that holds for some objects of ranges, the outermost first.
+/// A condition that holds for some objects of ranges, the outermost first, or else for all of them.
 ///
-/// Fails where memory for it is refused.
-fn for_some<'b, B: Allocator>(
+/// Fails as the condition failed, and where memory for it is refused.
+fn quantified<'b, B: Allocator>(
     alloc: &'b B,
+    some: bool,
     mut ranges: Vec<Vec<usize, &'b B>, &'b B>,
-    inner: Condition<&'b B>,
+    inner: Result<Condition<&'b B>, AllocError>,
 ) -> Result<Condition<&'b B>, AllocError>
-    ensures { IfOk result (λ c. condition_view c ≡ wrapped value.existential (map range_items ranges.entry.items) (condition_view inner.entry)) }
+    ensures { IfOk result (λ c. IsOkAnd inner.entry (λ i. condition_view c ≡ wrapped (cond some value.existential value.universal) (map range_items ranges.entry.items) (condition_view i))) }
 {
-    let mut condition = inner;
+    let mut condition = inner?;
     while let Some(range) = ranges.pop() {
-        condition = Condition::Exists(range, Box::new(alloc, condition)?);
-    }
-    Ok(condition)
-}
-
-/// A condition that holds for all objects of ranges, the outermost first.
-///
-/// Fails where memory for it is refused.
-fn for_all<'b, B: Allocator>(
-    alloc: &'b B,
-    mut ranges: Vec<Vec<usize, &'b B>, &'b B>,
-    inner: Condition<&'b B>,
-) -> Result<Condition<&'b B>, AllocError>
-    ensures { IfOk result (λ c. condition_view c ≡ wrapped value.universal (map range_items ranges.entry.items) (condition_view inner.entry)) }
-{
-    let mut condition = inner;
-    while let Some(range) = ranges.pop() {
-        condition = Condition::Forall(range, Box::new(alloc, condition)?);
+        let inside = Box::new(alloc, condition)?;
+        condition = if some {
+            Condition::Exists(range, inside)
+        } else {
+            Condition::Forall(range, inside)
+        };
     }
     Ok(condition)
 }
@@ -69,7 +58,7 @@ pub fn compile_condition<'f, 'b, A: Allocator, B: Allocator, L: Lookups<A, B>>(
             let places = places_of(alloc, lookups, &*scope, &atom.terms)?;
             Ok(Condition::Atom(predicate, places))
         }
-        Formula::Equal(first, second) => Ok(equality(lookups, &*scope, first, second)?),
+        Formula::Equal(first, second) => equality(lookups, &*scope, first, second),
         Formula::Not(inner) => {
             let inner = compile_condition(alloc, lookups, inner, &*scope);
             Ok(Condition::Not(boxed(alloc, inner)?))
@@ -80,63 +69,62 @@ pub fn compile_condition<'f, 'b, A: Allocator, B: Allocator, L: Lookups<A, B>>(
             let (first, second) = both_in_boxes(alloc, first, second)?;
             Ok(Condition::Imply(first, second))
         }
-        Formula::And(parts) => {
-            let parts = compile_conditions(alloc, lookups, parts, &*scope)?;
-            Ok(Condition::And(parts))
-        }
-        Formula::Or(parts) => {
-            let parts = compile_conditions(alloc, lookups, parts, &*scope)?;
-            Ok(Condition::Or(parts))
-        }
+        Formula::And(parts) => compile_parts(alloc, lookups, true, parts, &*scope),
+        Formula::Or(parts) => compile_parts(alloc, lookups, false, parts, &*scope),
         Formula::Exists(variables, inner) => {
-            let quantified = compile_quantified(alloc, lookups, variables, inner, &*scope)?;
-            for_some(alloc, quantified.ranges, quantified.inner)
+            compile_quantified(alloc, lookups, true, variables, inner, &*scope)
         }
         Formula::Forall(variables, inner) => {
-            let quantified = compile_quantified(alloc, lookups, variables, inner, &*scope)?;
-            for_all(alloc, quantified.ranges, quantified.inner)
+            compile_quantified(alloc, lookups, false, variables, inner, &*scope)
         }
     }
 }
 
-/// The ranges of a quantifier, and the condition inside them. Behind a variable that ranges over no object nothing is compiled.
+/// The condition of a quantifier, for some objects or else for all. Behind a variable that ranges over no object nothing is compiled.
 ///
-/// Fails where memory for them is refused.
+/// Fails where memory for it is refused.
 #[cycle(conditions)]
 fn compile_quantified<'f, 'b, A: Allocator, B: Allocator, L: Lookups<A, B>>(
     alloc: &'b B,
     lookups: &L,
+    some: bool,
     variables: &'f TypedList<A>,
     inner: &'f Formula<A>,
     scope: &'f Scope<'f>,
-) -> Result<Quantified<'b, Condition<&'b B>, B>, AllocError>
-    ensures { IfOk result (λ q. (node : List ℕ → value.ConditionValue → value.ConditionValue) → wrapped node (map range_items q.ranges.items) (condition_view q.inner)
-        ≡ nested node (value.known true) (L.tables lookups.now) (map typed_view variables.now.items) (condition_of (L.tables lookups.now) (formula_view inner.now)) (scope_view scope.now)) }
+) -> Result<Condition<&'b B>, AllocError>
+    ensures { IfOk result (λ c. condition_view c ≡ nested (cond some value.existential value.universal) (value.known true) (L.tables lookups.now) (map typed_view variables.now.items)
+        (condition_of (L.tables lookups.now) (formula_view inner.now)) (scope_view scope.now)) }
 {
     let binder = bind(alloc, lookups, variables)?;
     if binder.closed {
-        return with_ranges(binder.ranges, Ok(Condition::Known(true)));
+        return quantified(alloc, some, binder.ranges, Ok(Condition::Known(true)));
     }
     let inside = Scope::Inside(&binder.slots, &*scope);
     let inner = compile_condition(alloc, lookups, inner, &inside);
-    with_ranges(binder.ranges, inner)
+    quantified(alloc, some, binder.ranges, inner)
 }
 
-/// The conditions of formulas.
+/// The condition that all of some formulas hold, or else that one of them does.
 ///
-/// Fails where memory for them is refused.
+/// Fails where memory for it is refused.
 #[cycle(conditions)]
-fn compile_conditions<'f, 'b, A: Allocator, B: Allocator, L: Lookups<A, B>>(
+fn compile_parts<'f, 'b, A: Allocator, B: Allocator, L: Lookups<A, B>>(
     alloc: &'b B,
     lookups: &L,
+    all: bool,
     formulas: &'f Vec<Formula<A>, A>,
     scope: &'f Scope<'f>,
-) -> Result<Vec<Condition<&'b B>, &'b B>, AllocError>
-    ensures { IfOk result (λ cs. map condition_view cs.items ≡ map (λ f. condition_of (L.tables lookups.now) (formula_view f) (scope_view scope.now)) formulas.now.items) }
+) -> Result<Condition<&'b B>, AllocError>
+    ensures { IfOk result (λ c. condition_view c ≡ cond all value.conjunction value.disjunction (value.conditions_of (map (λ f. condition_of (L.tables lookups.now) (formula_view f) (scope_view scope.now)) formulas.now.items))) }
 {
     let mut conditions = Vec::new(alloc);
     let made = add_conditions(alloc, lookups, formulas, &*scope, &mut conditions);
-    if_made(conditions, made)
+    let conditions = if_made(conditions, made)?;
+    Ok(if all {
+        Condition::And(conditions)
+    } else {
+        Condition::Or(conditions)
+    })
 }
 
 /// Puts the conditions of formulas behind others.

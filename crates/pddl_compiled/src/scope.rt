@@ -12,7 +12,7 @@ use pddl_formula::Typed;
 use std::alloc::{AllocError, Allocator};
 
 /// A variable in scope: with an object, where it ranges over that one alone, or with a place in the frame.
-#[derive(Clone, Copy, Debug)]
+#[derive(Clone, Copy)]
 pub struct Slot<'s> {
     pub name: &'s [u8],
     pub single: Option<usize>,
@@ -44,7 +44,7 @@ pub fn parameter_slots<'f, 'b, A: Allocator, B: Allocator>(
 }
 
 /// What a term is: an object by its name, or a place.
-#[derive(Clone, Copy, Debug)]
+#[derive(Clone, Copy)]
 pub(crate) enum Resolved<'f> {
     Object(&'f [u8]),
     Placed(Place),

@@ -1,14 +1,17 @@
-use Rattle.std.proofs.Common.{ap, ◌∙◌}
+use Rattle.std.proofs.Common.{map, ap, ◌∙◌}
 use Rattle.std.specs.Prelude.{Ok}
+use Rattle.pddl_formula.specs.TypedLists.{typed_view}
+use Rattle.pddl_formula.specs.Formulas.{formula_view}
 use Rattle.pddl_effect.specs.Effects.{effect_view}
 use Rattle.pddl_compiled.specs.Compiled as value
-use Rattle.pddl_compiled.specs.Compiler.{change_of}
+use Rattle.pddl_compiled.specs.Compiler.{nested, condition_of, change_of}
 use Rattle.pddl_compiled.specs.Views.{change_view, changes_view}
 use Rattle.pddl_compiled.specs.Scopes.{scope_view}
 use Rattle.pddl_compiled.specs.declared.compiled.Change.TheVariants as changes
-use Rattle.pddl_compiled.proofs.Binders.{weaker, both_known, grown}
-use Rattle.pddl_compiled.proofs.Rows.{view_both}
-use Rattle.pddl_compiled.proofs.Quantifiers.{both_right, closed_right, open_right, one_item, no_item}
+use Rattle.pddl_compiled.proofs.Binders.{weaker, ok_known, grown}
+use Rattle.pddl_compiled.proofs.Rows.{view_both, view_when}
+use Rattle.pddl_compiled.proofs.Cases.{both_right, each_right, when_right, add_right, del_right, increase_right}
+use Rattle.pddl_compiled.proofs.Quantifiers.{closed_right, open_right, one_item, no_item}
 use Rattle.pddl_compiled.proofs.changes.+changes.Goals as goal
 
 pub compile_change-returns-in_ok-parts-in-And : goal.compile_change-returns-in_ok-parts-in-And
@@ -19,17 +22,15 @@ pub compile_quantified-returns-then-binder : goal.compile_quantified-returns-the
 compile_quantified-returns-then-binder g t c =
     let b = c.in_ok-binder in
     let tables = g.L.Lookups.tables c.args.lookups.now in
-    weaker _ _ (λ q h. closed_right change_view (value.both value.no_changes) tables c.args.variables.now.items (change_of tables (effect_view c.args.inner.now)) (scope_view c.args.scope.now) b.binder.ranges.items q.ranges.items b.binder.slots.items b.binder.closed (Ok (changes.And c.new.result)) q.inner
-    b.ensures.slots b.ensures.ranges b.ensures.closed h.0 h.1 c.if-binder.true (view_both c.new.result ∙ ap (λ cs. value.both (changes_view cs)) c.new.ensures.items))
-    c.with_ranges.result (both_known _ _ c.with_ranges.result c.with_ranges.ensures.ranges c.with_ranges.ensures.inner)
+    closed_right change_view value.each (value.both value.no_changes) tables c.args.variables.now.items (change_of tables (effect_view c.args.inner.now)) (scope_view c.args.scope.now) b.binder.ranges.items b.binder.slots.items b.binder.closed
+    b.ensures.slots b.ensures.ranges b.ensures.closed (Ok (changes.And c.new.result)) c.for_each.result c.for_each.ensures c.if-binder.true (view_both c.new.result ∙ ap (λ cs. value.both (changes_view cs)) c.new.ensures.items)
 
 pub compile_quantified-returns : goal.compile_quantified-returns
 compile_quantified-returns g t c =
     let b = c.in_ok-binder in
     let tables = g.L.Lookups.tables c.args.lookups.now in
-    weaker _ _ (λ q h. open_right change_view (value.both value.no_changes) tables c.args.variables.now.items (change_of tables (effect_view c.args.inner.now)) (scope_view c.args.scope.now) b.binder.ranges.items q.ranges.items b.binder.slots.items b.binder.closed c.compile_change-inner.result q.inner
-    b.ensures.slots b.ensures.ranges b.ensures.closed h.0 h.1 c.deref.result.now c.deref.ensures.value c.if-binder.false c.compile_change-inner.ensures)
-    c.with_ranges-2.result (both_known _ _ c.with_ranges-2.result c.with_ranges-2.ensures.ranges c.with_ranges-2.ensures.inner)
+    open_right change_view value.each (value.both value.no_changes) tables c.args.variables.now.items (change_of tables (effect_view c.args.inner.now)) (scope_view c.args.scope.now) b.binder.ranges.items b.binder.slots.items b.binder.closed
+    b.ensures.slots b.ensures.ranges b.ensures.closed c.compile_change-inner.result c.for_each-2.result c.for_each-2.ensures c.deref.result.now c.deref.ensures.value c.if-binder.false c.compile_change-inner.ensures
 
 pub add_changes-loop-effect-preserved : goal.add_changes-loop-effect-preserved
 add_changes-loop-effect-preserved g t c =
@@ -39,3 +40,34 @@ add_changes-loop-effect-preserved g t c =
 pub add_changes-returns : goal.add_changes-returns
 add_changes-returns g t c =
     no_item change_view (λ f. change_of (g.L.Lookups.tables c.args.lookups.now) (effect_view f) (scope_view c.args.scope.now)) c.args.changes.now.items c.loop-effect.changes.items c.args.effects.now.items c.deref-effect-items.result.now c.loop-effect.effect-index c.deref-effect-items.ensures.value c.loop-effect-test.false c.loop-effect.invariant
+
+pub compile_change-returns-in-Forall : goal.compile_change-returns-in-Forall
+compile_change-returns-in-Forall g t c =
+    let tables = g.L.Lookups.tables c.args.lookups.now in
+    let scope = scope_view c.args.scope.now in
+    weaker _ _ (λ k is. is ∙ (ap (λ e. nested value.each (value.both value.no_changes) tables (map typed_view c.in-Forall.variables.items) (change_of tables (effect_view e)) scope) c.deref.ensures
+    ∙ each_right tables scope c.args.effect.now c.in-Forall.variables c.in-Forall.inner c.in-Forall.is)) c.compile_quantified.result c.compile_quantified.ensures
+
+pub compile_change-returns-in_ok-condition-in-When : goal.compile_change-returns-in_ok-condition-in-When
+compile_change-returns-in_ok-condition-in-When g t c =
+    let tables = g.L.Lookups.tables c.args.lookups.now in
+    let scope = scope_view c.args.scope.now in
+    let condition = c.in_ok-condition-in-When.condition in
+    let inner = c.in_ok-condition-in-When.inner in
+    view_when condition inner
+    ∙ (ap (λ k. value.conditional k (change_view inner.value)) (ok_known _ c.compile_condition-condition.result condition c.in_ok-condition-in-When.ensures.first c.compile_condition-condition.ensures)
+    ∙ (ap (value.conditional (condition_of tables (formula_view c.in-When.condition) scope)) (ok_known _ c.compile_change-inner.result inner.value c.in_ok-condition-in-When.ensures.second c.compile_change-inner.ensures
+    ∙ ap (λ e. change_of tables (effect_view e) scope) c.deref-in-When.ensures)
+    ∙ when_right tables scope c.args.effect.now c.in-When.condition c.in-When.inner c.in-When.is))
+
+pub compile_change-returns-in-Add : goal.compile_change-returns-in-Add
+compile_change-returns-in-Add g t c =
+    weaker _ _ (λ k is. is ∙ add_right (g.L.Lookups.tables c.args.lookups.now) (scope_view c.args.scope.now) c.args.effect.now c.in-Add.atom c.in-Add.is) c.atom_change.result c.atom_change.ensures
+
+pub compile_change-returns-in-Del : goal.compile_change-returns-in-Del
+compile_change-returns-in-Del g t c =
+    weaker _ _ (λ k is. is ∙ del_right (g.L.Lookups.tables c.args.lookups.now) (scope_view c.args.scope.now) c.args.effect.now c.in-Del.atom c.in-Del.is) c.atom_change-in-Del.result c.atom_change-in-Del.ensures
+
+pub compile_change-returns-in-Increase : goal.compile_change-returns-in-Increase
+compile_change-returns-in-Increase g t c =
+    weaker _ _ (λ k is. is ∙ increase_right (g.L.Lookups.tables c.args.lookups.now) (scope_view c.args.scope.now) c.args.effect.now c.in-Increase.amount c.in-Increase.is) c.increase_of.result c.increase_of.ensures

@@ -1,39 +1,45 @@
-use Rattle.std.proofs.Common.{true, refl}
+use Rattle.std.proofs.Common.{true, cond, map, refl, ap, ◌∙◌}
 use Rattle.pddl_formula.specs.Formulas.{formula_view}
-use Rattle.pddl_compiled.specs.Compiler.{condition_of}
+use Rattle.pddl_formula.specs.Terms.{term_view}
+use Rattle.pddl_formula.specs.TypedLists.{typed_view}
+use Rattle.pddl_task.specs.Names.{number_in}
+use Rattle.pddl_compiled.specs.Compiler.{places_of, nested, condition_of}
 use Rattle.pddl_compiled.specs.Compiled as value
 use Rattle.pddl_compiled.specs.declared.compiled.Condition.TheVariants.{Known}
-use Rattle.pddl_compiled.proofs.Rows.{view_known}
+use Rattle.pddl_compiled.proofs.Rows.{view_known, view_atom, view_not, view_imply}
+use Rattle.pddl_compiled.proofs.Cases.{atom_right, equal_right, not_right, imply_right, and_right, or_right, exists_right, forall_right}
 use Rattle.std.specs.Prelude.{Ok}
-use Rattle.pddl_compiled.specs.Views.{condition_view}
+use Rattle.pddl_compiled.specs.Views.{place_view, condition_view}
 use Rattle.pddl_compiled.specs.Scopes.{scope_view}
-use Rattle.pddl_compiled.proofs.Binders.{weaker, both_known, grown}
-use Rattle.pddl_compiled.proofs.Quantifiers.{and_right, or_right, closed_right, open_right, one_item, no_item}
+use Rattle.pddl_compiled.proofs.Binders.{weaker, ok_known, grown}
+use Rattle.pddl_compiled.proofs.Quantifiers.{closed_right, open_right, one_item, no_item}
 use Rattle.pddl_compiled.proofs.conditions.+conditions.Goals as goal
 
-pub compile_condition-returns-in_ok-parts-in-And : goal.compile_condition-returns-in_ok-parts-in-And
-compile_condition-returns-in_ok-parts-in-And g t c =
-    and_right (g.L.Lookups.tables c.args.lookups.now) (scope_view c.args.scope.now) c.args.formula.now c.in-And.parts c.in_ok-parts-in-And.parts c.in-And.is c.in_ok-parts-in-And.ensures
+pub compile_condition-returns-in-Equal : goal.compile_condition-returns-in-Equal
+compile_condition-returns-in-Equal g t c =
+    weaker _ _ (λ k is. is ∙ equal_right (g.L.Lookups.tables c.args.lookups.now) (scope_view c.args.scope.now) c.args.formula.now c.in-Equal.first c.in-Equal.second c.in-Equal.is) c.equality.result c.equality.ensures
 
-pub compile_condition-returns-in_ok-parts-in-Or : goal.compile_condition-returns-in_ok-parts-in-Or
-compile_condition-returns-in_ok-parts-in-Or g t c =
-    or_right (g.L.Lookups.tables c.args.lookups.now) (scope_view c.args.scope.now) c.args.formula.now c.in-Or.parts c.in_ok-parts-in-Or.parts c.in-Or.is c.in_ok-parts-in-Or.ensures
+pub compile_condition-returns-in-And : goal.compile_condition-returns-in-And
+compile_condition-returns-in-And g t c =
+    weaker _ _ (λ k is. is ∙ and_right (g.L.Lookups.tables c.args.lookups.now) (scope_view c.args.scope.now) c.args.formula.now c.in-And.parts c.in-And.is) c.compile_parts.result c.compile_parts.ensures
+
+pub compile_condition-returns-in-Or : goal.compile_condition-returns-in-Or
+compile_condition-returns-in-Or g t c =
+    weaker _ _ (λ k is. is ∙ or_right (g.L.Lookups.tables c.args.lookups.now) (scope_view c.args.scope.now) c.args.formula.now c.in-Or.parts c.in-Or.is) c.compile_parts-in-Or.result c.compile_parts-in-Or.ensures
 
 pub compile_quantified-returns-then-binder : goal.compile_quantified-returns-then-binder
 compile_quantified-returns-then-binder g t c =
     let b = c.in_ok-binder in
     let tables = g.L.Lookups.tables c.args.lookups.now in
-    weaker _ _ (λ q h. closed_right condition_view (value.known true) tables c.args.variables.now.items (condition_of tables (formula_view c.args.inner.now)) (scope_view c.args.scope.now) b.binder.ranges.items q.ranges.items b.binder.slots.items b.binder.closed (Ok (Known true)) q.inner
-    b.ensures.slots b.ensures.ranges b.ensures.closed h.0 h.1 c.if-binder.true (view_known (Known true) true refl))
-    c.with_ranges.result (both_known _ _ c.with_ranges.result c.with_ranges.ensures.ranges c.with_ranges.ensures.inner)
+    closed_right condition_view (cond c.args.some value.existential value.universal) (value.known true) tables c.args.variables.now.items (condition_of tables (formula_view c.args.inner.now)) (scope_view c.args.scope.now) b.binder.ranges.items b.binder.slots.items b.binder.closed
+    b.ensures.slots b.ensures.ranges b.ensures.closed (Ok (Known true)) c.quantified.result c.quantified.ensures c.if-binder.true (view_known (Known true) true refl)
 
 pub compile_quantified-returns : goal.compile_quantified-returns
 compile_quantified-returns g t c =
     let b = c.in_ok-binder in
     let tables = g.L.Lookups.tables c.args.lookups.now in
-    weaker _ _ (λ q h. open_right condition_view (value.known true) tables c.args.variables.now.items (condition_of tables (formula_view c.args.inner.now)) (scope_view c.args.scope.now) b.binder.ranges.items q.ranges.items b.binder.slots.items b.binder.closed c.compile_condition-inner.result q.inner
-    b.ensures.slots b.ensures.ranges b.ensures.closed h.0 h.1 c.deref.result.now c.deref.ensures.value c.if-binder.false c.compile_condition-inner.ensures)
-    c.with_ranges-2.result (both_known _ _ c.with_ranges-2.result c.with_ranges-2.ensures.ranges c.with_ranges-2.ensures.inner)
+    open_right condition_view (cond c.args.some value.existential value.universal) (value.known true) tables c.args.variables.now.items (condition_of tables (formula_view c.args.inner.now)) (scope_view c.args.scope.now) b.binder.ranges.items b.binder.slots.items b.binder.closed
+    b.ensures.slots b.ensures.ranges b.ensures.closed c.compile_condition-inner.result c.quantified-2.result c.quantified-2.ensures c.deref.result.now c.deref.ensures.value c.if-binder.false c.compile_condition-inner.ensures
 
 pub add_conditions-loop-formula-preserved : goal.add_conditions-loop-formula-preserved
 add_conditions-loop-formula-preserved g t c =
@@ -43,3 +49,47 @@ add_conditions-loop-formula-preserved g t c =
 pub add_conditions-returns : goal.add_conditions-returns
 add_conditions-returns g t c =
     no_item condition_view (λ f. condition_of (g.L.Lookups.tables c.args.lookups.now) (formula_view f) (scope_view c.args.scope.now)) c.args.conditions.now.items c.loop-formula.conditions.items c.args.formulas.now.items c.deref-formula-items.result.now c.loop-formula.formula-index c.deref-formula-items.ensures.value c.loop-formula-test.false c.loop-formula.invariant
+
+pub compile_condition-returns-in_ok-places-in-Atom : goal.compile_condition-returns-in_ok-places-in-Atom
+compile_condition-returns-in_ok-places-in-Atom g t c =
+    let tables = g.L.Lookups.tables c.args.lookups.now in
+    let scope = scope_view c.args.scope.now in
+    let atom = c.in-Atom.atom in
+    view_atom c.predicate_number-predicate.result c.in_ok-places-in-Atom.places
+    ∙ (ap (λ n. value.atom n (map place_view c.in_ok-places-in-Atom.places.items)) (c.predicate_number-predicate.ensures ∙ ap (number_in tables.predicates) c.as_bytes.ensures.value)
+    ∙ (ap (value.atom (number_in tables.predicates atom.predicate)) (c.in_ok-places-in-Atom.ensures ∙ ap (λ ts. places_of tables scope (map term_view ts)) c.deref.ensures.value)
+    ∙ atom_right tables scope c.args.formula.now atom c.in-Atom.is))
+
+pub compile_condition-returns-in_ok-boxed-in-Not : goal.compile_condition-returns-in_ok-boxed-in-Not
+compile_condition-returns-in_ok-boxed-in-Not g t c =
+    let tables = g.L.Lookups.tables c.args.lookups.now in
+    let scope = scope_view c.args.scope.now in
+    let inner = c.in_ok-boxed-in-Not.field-0 in
+    view_not inner
+    ∙ (ap value.negation (ok_known _ c.compile_condition-inner.result inner.value c.in_ok-boxed-in-Not.ensures c.compile_condition-inner.ensures ∙ ap (λ f. condition_of tables (formula_view f) scope) c.deref-in-Not.ensures)
+    ∙ not_right tables scope c.args.formula.now c.in-Not.inner c.in-Not.is)
+
+pub compile_condition-returns-in_ok-first-in-Imply : goal.compile_condition-returns-in_ok-first-in-Imply
+compile_condition-returns-in_ok-first-in-Imply g t c =
+    let tables = g.L.Lookups.tables c.args.lookups.now in
+    let scope = scope_view c.args.scope.now in
+    let first = c.in_ok-first-in-Imply.first in
+    let second = c.in_ok-first-in-Imply.second in
+    view_imply first second
+    ∙ (ap (λ k. value.implication k (condition_view second.value)) (ok_known _ c.compile_condition-first.result first.value c.in_ok-first-in-Imply.ensures.first c.compile_condition-first.ensures ∙ ap (λ f. condition_of tables (formula_view f) scope) c.deref-in-Imply.ensures)
+    ∙ (ap (value.implication (condition_of tables (formula_view c.in-Imply.first.value) scope)) (ok_known _ c.compile_condition-second.result second.value c.in_ok-first-in-Imply.ensures.second c.compile_condition-second.ensures ∙ ap (λ f. condition_of tables (formula_view f) scope) c.deref-in-Imply-2.ensures)
+    ∙ imply_right tables scope c.args.formula.now c.in-Imply.first c.in-Imply.second c.in-Imply.is))
+
+pub compile_condition-returns-in-Exists : goal.compile_condition-returns-in-Exists
+compile_condition-returns-in-Exists g t c =
+    let tables = g.L.Lookups.tables c.args.lookups.now in
+    let scope = scope_view c.args.scope.now in
+    weaker _ _ (λ k is. is ∙ (ap (λ f. nested value.existential (value.known true) tables (map typed_view c.in-Exists.variables.items) (condition_of tables (formula_view f)) scope) c.deref-in-Exists.ensures
+    ∙ exists_right tables scope c.args.formula.now c.in-Exists.variables c.in-Exists.inner c.in-Exists.is)) c.compile_quantified.result c.compile_quantified.ensures
+
+pub compile_condition-returns-in-Forall : goal.compile_condition-returns-in-Forall
+compile_condition-returns-in-Forall g t c =
+    let tables = g.L.Lookups.tables c.args.lookups.now in
+    let scope = scope_view c.args.scope.now in
+    weaker _ _ (λ k is. is ∙ (ap (λ f. nested value.universal (value.known true) tables (map typed_view c.in-Forall.variables.items) (condition_of tables (formula_view f)) scope) c.deref-in-Forall.ensures
+    ∙ forall_right tables scope c.args.formula.now c.in-Forall.variables c.in-Forall.inner c.in-Forall.is)) c.compile_quantified-in-Forall.result c.compile_quantified-in-Forall.ensures
