@@ -1,16 +1,17 @@
--- Variables that are bound, the innermost first.
+-- Variables that are bound, the innermost first, and their numbers by name.
 use Rattle.std.proofs.Common.{◌≡◌, ℕ, ◌+◌, ◌-◌, ◌<◌, ◌≤◌, Bool, true, false, ◌||◌, cond, List, [], ◌∷◌, ◌++◌, map, length, get_or, take, Option, Some, None, refl, ap, sym, ◌∙◌, bytes_eq, arith}
-use Rattle.std.specs.Prelude.{is_some, find, option_map}
+use Rattle.std.specs.Prelude.{is_some, find, option_map, slice_get}
 use Rattle.std.specs.Borrow.{Bor}
 use Rattle.std.specs.Map.{lookup}
-use Rattle.std.specs.Option.{option_or, option_copied}
+use Rattle.std.specs.Option.{option_or, option_copied, option_and_then}
 use Rattle.std.proofs.lemmas.List.{take_more, map-append}
+use Rattle.std.proofs.lemmas.Option.{slice_get-map, slice_get_read}
 use Rattle.pddl_formula.specs.TypedLists.{TypedValue}
 use Rattle.pddl_task.specs.Names.{Name, is_in, is_named, item_of}
 use Rattle.pddl_task.specs.Places.{binding}
 use Rattle.pddl_task.specs.Faults.{primitives_of}
 use Rattle.indexmap.specs.IndexMap.{insert_entry}
-use Rattle.pddl_faults.specs.LastTypes.{AreLastTypes}
+use Rattle.pddl_faults.specs.Bound.{AreLastNumbers}
 use Rattle.pddl_faults.proofs.PutValues.{lookup_put}
 
 either : (b : Bool) (x : TypedValue) (o p : Option TypedValue) → option_or o (cond b (Some x) p) ≡ option_or (option_or o (cond b (Some x) None)) p
@@ -41,57 +42,57 @@ binding-push [] x bound = refl
 binding-push (y ∷ xs) x bound = binding-push xs x (y ∷ bound)
 
 module _ {X : Type 0} (view : X → TypedValue) (n : Name) where
-  -- the type of the last variable of the name
-  abbrev pub last_type : List X → Option (List Name)
-  last_type xs = option_map primitives_of (find (is_named n) (binding (map view xs) []))
-
-type_if : (b : Bool) (x : TypedValue) (o : Option TypedValue) → option_map primitives_of (cond b (Some x) o) ≡ cond b (Some x.of) (option_map primitives_of o)
-type_if true x o = refl
-type_if false x o = refl
+  -- the last variable of the name
+  abbrev pub last_bound : List X → Option TypedValue
+  last_bound xs = find (is_named n) (binding (map view xs) [])
 
 last_more : {X : Type 0} (view : X → TypedValue) (n : Name) (xs : List X) (i : ℕ) (d : X) → i < length xs
-    → last_type view n (take (i + 1) xs) ≡ cond (bytes_eq n (view (get_or xs i d)).item) (Some (view (get_or xs i d)).of) (last_type view n (take i xs))
+    → last_bound view n (take (i + 1) xs) ≡ cond (bytes_eq n (view (get_or xs i d)).item) (Some (view (get_or xs i d))) (last_bound view n (take i xs))
 last_more view n xs i d h =
-    let x = get_or xs i d in
-    ap (last_type view n) (take_more xs i d h)
-    ∙ ap (λ ys. option_map primitives_of (find (is_named n) (binding ys []))) (map-append view (take i xs) (x ∷ []))
-    ∙ ap (λ ys. option_map primitives_of (find (is_named n) ys)) (binding-push (map view (take i xs)) (view x) [])
-    ∙ type_if (is_named n (view x)) (view x) (find (is_named n) (binding (map view (take i xs)) []))
+    ap (last_bound view n) (take_more xs i d h)
+    ∙ ap (λ ys. find (is_named n) (binding ys [])) (map-append view (take i xs) (get_or xs i d ∷ []))
+    ∙ ap (find (is_named n)) (binding-push (map view (take i xs)) (view (get_or xs i d)) [])
 
 last_at : {X : Type 0} (view : X → TypedValue) (n : Name) (xs : List X) (i : ℕ) (x : X) (b : Bool) → 0 < i → i ≤ length xs → x ≡ get_or xs (i - 1) x → bytes_eq n (view x).item ≡ b
-    → last_type view n (take i xs) ≡ cond b (Some (view x).of) (last_type view n (take (i - 1) xs))
+    → last_bound view n (take i xs) ≡ cond b (Some (view x)) (last_bound view n (take (i - 1) xs))
 last_at view n xs i x b some h is told =
     let back : i - 1 + 1 ≡ i = omega (arith, some) in
-    ap (λ j. last_type view n (take j xs)) (sym back) ∙ last_more view n xs (i - 1) x (omega (arith, some, h))
-    ∙ ap (λ y. cond (bytes_eq n (view y).item) (Some (view y).of) (last_type view n (take (i - 1) xs))) (sym is)
-    ∙ ap (λ c. cond c (Some (view x).of) (last_type view n (take (i - 1) xs))) told
+    ap (λ j. last_bound view n (take j xs)) (sym back) ∙ last_more view n xs (i - 1) x (omega (arith, some, h))
+    ∙ ap (λ y. cond (bytes_eq n (view y).item) (Some (view y)) (last_bound view n (take (i - 1) xs))) (sym is)
+    ∙ ap (λ c. cond c (Some (view x)) (last_bound view n (take (i - 1) xs))) told
 
--- ---- a table of types
+-- what is seen of an item that is read
+pub viewed_at : {X Y : Type 0} (view : X → Y) (xs : List X) (i : ℕ) (x : X) → i < length xs → x ≡ get_or xs i x → slice_get (map view xs) i ≡ Some (view x)
+viewed_at view xs i x low is = slice_get-map view xs i ∙ ap (option_map view) (slice_get_read xs (length xs) i x refl low is)
 
-copied_cond : (b : Bool) (v : Bor (List Name)) (o : Option (Bor (List Name))) → option_copied (cond b (Some v) o) ≡ cond b (Some v.now) (option_copied o)
-copied_cond true v o = refl
-copied_cond false v o = refl
+-- ---- a table of numbers
 
-pub types_none : {X : Type 0} (view : X → TypedValue) (xs : List X) → AreLastTypes (map view (take 0 xs)) []
-types_none view [] n = refl
-types_none view (x ∷ xs) n = refl
+numbered_cond : {X : Type 0} (f : ℕ → Option X) (b : Bool) (i : ℕ) (o : Option ℕ) → option_and_then f (cond b (Some i) o) ≡ cond b (f i) (option_and_then f o)
+numbered_cond f true i o = refl
+numbered_cond f false i o = refl
 
-pub types_more : {X : Type 0} (view : X → TypedValue) (xs : List X) (i : ℕ) (x : X) (k : Bor Name) (v : Bor (List Name)) (table : List (Bor Name × Bor (List Name))) → i < length xs → x ≡ get_or xs i x
-    → k.now ≡ (view x).item → v.now ≡ (view x).of → AreLastTypes (map view (take i xs)) table → AreLastTypes (map view (take (i + 1) xs)) (insert_entry (λ a b. bytes_eq a.now b.now) table k v)
-types_more view xs i x k v table low is named typed so_far n =
-    ap option_copied (lookup_put table k v n) ∙ copied_cond (bytes_eq n k.now) v (lookup (λ j. bytes_eq n j.now) table)
-    ∙ ap (λ o. cond (bytes_eq n k.now) (Some v.now) o) (so_far n) ∙ ap (λ m. cond (bytes_eq n m) (Some v.now) (last_type view n (take i xs))) named
-    ∙ ap (λ t. cond (bytes_eq n (view x).item) (Some t) (last_type view n (take i xs))) typed
-    ∙ ap (λ y. cond (bytes_eq n (view y).item) (Some (view y).of) (last_type view n (take i xs))) is ∙ sym (last_more view n xs i x low)
+pub numbers_none : {X : Type 0} (view : X → TypedValue) (xs : List X) → AreLastNumbers (map view xs) (map view (take 0 xs)) []
+numbers_none view [] n = refl
+numbers_none view (x ∷ xs) n = refl
+
+pub numbers_more : {X : Type 0} (view : X → TypedValue) (xs : List X) (i : ℕ) (x : X) (k : Bor Name) (table : List (Bor Name × ℕ)) → i < length xs → x ≡ get_or xs i x
+    → k.now ≡ (view x).item → AreLastNumbers (map view xs) (map view (take i xs)) table → AreLastNumbers (map view xs) (map view (take (i + 1) xs)) (insert_entry (λ a b. bytes_eq a.now b.now) table k i)
+numbers_more view xs i x k table low is named so_far n =
+    let of = slice_get (map view xs) in
+    let before = last_bound view n (take i xs) in
+    ap (option_and_then of) (lookup_put table k i n) ∙ numbered_cond of (bytes_eq n k.now) i (lookup (λ j. bytes_eq n j.now) table)
+    ∙ ap (λ o. cond (bytes_eq n k.now) (of i) o) (so_far n) ∙ ap (λ m. cond (bytes_eq n m) (of i) before) named
+    ∙ ap (λ o. cond (bytes_eq n (view x).item) o before) (viewed_at view xs i x low is)
+    ∙ ap (λ y. cond (bytes_eq n (view y).item) (Some (view y)) before) is ∙ sym (last_more view n xs i x low)
 
 -- it is the one where the walk has come to
 pub last_here : {X : Type 0} (view : X → TypedValue) (n : Name) (xs : List X) (i : ℕ) (x : X) → 0 < i → i ≤ length xs → x ≡ get_or xs (i - 1) x
-    → bytes_eq n (view x).item ≡ true → last_type view n (take i xs) ≡ last_type view n xs → Some (view x).of ≡ last_type view n xs
-last_here view n xs i x some h is same inv = sym (last_at view n xs i x true some h is same) ∙ inv
+    → bytes_eq n (view x).item ≡ true → last_bound view n (take i xs) ≡ last_bound view n xs → slice_get (map view xs) (i - 1) ≡ last_bound view n xs
+last_here view n xs i x some h is same inv = viewed_at view xs (i - 1) x (omega (arith, some, h)) is ∙ sym (last_at view n xs i x true some h is same) ∙ inv
 
 -- or it is before it
 pub last_before : {X : Type 0} (view : X → TypedValue) (n : Name) (xs : List X) (i : ℕ) (x : X) → 0 < i → i ≤ length xs → x ≡ get_or xs (i - 1) x
-    → bytes_eq n (view x).item ≡ false → last_type view n (take i xs) ≡ last_type view n xs → last_type view n (take (i - 1) xs) ≡ last_type view n xs
+    → bytes_eq n (view x).item ≡ false → last_bound view n (take i xs) ≡ last_bound view n xs → last_bound view n (take (i - 1) xs) ≡ last_bound view n xs
 last_before view n xs i x some h is other inv = sym (last_at view n xs i x false some h is other) ∙ inv
 
 -- ---- a scope

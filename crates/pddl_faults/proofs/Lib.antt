@@ -5,4 +5,6 @@ pub mod PassedParts
 pub mod ViewTurns
 pub mod PutValues
 pub mod BoundTypes
+pub mod ToldTypes
 pub mod FoundFaults
+pub mod HeldRuns

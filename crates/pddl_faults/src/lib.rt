@@ -8,12 +8,16 @@ mod fault;
 mod hashed;
 mod lowest;
 mod part;
+mod runs;
 mod scope;
+mod tells;
 mod variables;
 
 pub use fault::LinkFault;
 pub use hashed::Hashed;
 pub use lowest::lower;
 pub use part::{LentTerm, Part, Terms};
-pub use scope::{Scope, Search, bound_type};
+pub use runs::Runs;
+pub use scope::{Scope, Search, Within, bound_type};
+pub use tells::{Tells, tell_all};
 pub use variables::Variables;

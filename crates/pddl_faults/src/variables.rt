@@ -1,113 +1,60 @@
 //! The variables of one list, looked up by name.
 
-ghost use Rattle.std.specs.Prelude.{◌≡◌, [], map, find, option_map, IfOk, IfSome};
-ghost use Rattle.std.specs.Option.{option_copied};
+ghost use Rattle.std.specs.Prelude.{◌≡◌, ◌<◌, [], map, find, slice_get, option_map, IfOk, IfSome};
+ghost use Rattle.std.specs.Option.{option_copied, option_and_then};
 ghost use Rattle.pddl_formula.specs.TypedLists.{typed_view};
 ghost use Rattle.pddl_task.specs.Names.{is_named};
 ghost use Rattle.pddl_task.specs.Places.{binding};
 ghost use Rattle.pddl_task.specs.Faults.{primitives_of};
-ghost use Rattle.pddl_faults.specs.LastTypes.{AreLastTypes};
+ghost use Rattle.pddl_faults.specs.Told.{AreTold};
+ghost use Rattle.pddl_faults.specs.Bound.{IsBound, AreLastNumbers};
 
 use crate::hashed::Hashed;
-use crate::scope::Search;
+use crate::runs::Runs;
+use crate::tells::{Tells, tell_all};
 use indexmap::IndexMap;
 use pddl_formula::{TypeNames, Typed, TypedList};
 use std::alloc::{AllocError, Allocator};
 use std::marker::Model;
 
-/// The types of variables by their names; of two variables of one name it is that of the later one.
-type LastTypes<'s, 'a, A, B> = IndexMap<&'s [u8], &'s TypeNames<A>, Hashed, &'a B>;
+/// The numbers of variables by their names; of two variables of one name it is that of the later one.
+type LastNumbers<'s, 'a, B> = IndexMap<&'s [u8], usize, Hashed, &'a B>;
 
-/// Where the primitives of variables are looked for first, as a search tells it once for each group of variables. Nothing is promised of it.
-#[derive(Drop)]
-struct NearPlaces<'a, B: Allocator> {
-    /// Where the places of the primitives of each variable begin.
-    starts: Vec<usize, &'a B>,
-    places: Vec<usize, &'a B>,
-}
-
-/// The variables of a quantifier, or of an action. A long list has a table.
+/// The variables of a quantifier, or of an action, with what was told of the type of each. A long list has a table.
 ///
-/// Contracts see it as the list.
+/// Contracts see the list, and what was told.
 #[derive(Drop)]
 pub struct Variables<'s, 'a, A: Allocator, B: Allocator> {
     list: &'s [Typed<A>],
-    table: Option<LastTypes<'s, 'a, A, B>>,
-    near: NearPlaces<'a, B>,
+    told: Runs<'a, usize, B>,
+    table: Option<LastNumbers<'s, 'a, B>>,
 }
 
 impl<'s, 'a, A: Allocator, B: Allocator> Model for Variables<'s, 'a, A, B> {
-    ghost use Rattle.std.specs.Prelude.{List, map, IfSome};
-    ghost use Rattle.pddl_formula.specs.TypedLists.{TypedValue, typed_view};
-    ghost use Rattle.pddl_faults.specs.LastTypes.{AreLastTypes};
+    ghost use Rattle.std.specs.Prelude.{map, IfSome};
+    ghost use Rattle.pddl_formula.specs.TypedLists.{typed_view};
+    ghost use Rattle.pddl_faults.specs.Bound.{BoundValue, AreLastNumbers};
 
-    ghost Value = { List TypedValue };
+    ghost Value = { BoundValue };
 
-    ghost view = { λ v. map typed_view v.list.now };
+    ghost view = { λ v. record { list = map typed_view v.list.now; told = v.told.0 } };
 
-    ghost invariant = { λ v. IfSome v.table (λ table. AreLastTypes (map typed_view v.list.now) table.entries) };
-}
-
-impl<'a, B: Allocator> NearPlaces<'a, B> {
-    /// Adds the places of variables.
-    ///
-    /// Fails where memory for them is refused.
-    fn add_all<A: Allocator, S: Search<A, B>>(
-        &mut self,
-        search: &S,
-        list: &TypedList<A>,
-    ) -> Result<(), AllocError> {
-        let mut start = 0;
-        for number in 0..list.len() {
-            if !list.shares(number) {
-                start = self.places.len();
-                search.add_near(&list[number].types, &mut self.places)?;
-            }
-            self.starts.push(start)?;
-        }
-        Ok(())
-    }
-
-    /// The places of variables.
-    ///
-    /// Fails where memory for them is refused.
-    fn of<A: Allocator, S: Search<A, B>>(
-        alloc: &'a B,
-        search: &S,
-        list: &TypedList<A>,
-    ) -> Result<NearPlaces<'a, B>, AllocError> {
-        let mut near = NearPlaces {
-            starts: Vec::new(alloc),
-            places: Vec::new(alloc),
-        };
-        match near.add_all(search, list) {
-            Ok(()) => Ok(near),
-            Err(error) => Err(error),
-        }
-    }
-
-    /// The places of the primitives of the variable of a number, and those behind them.
-    fn at(&self, number: usize) -> &[usize] {
-        let places = self.places.as_slice();
-        match self.starts.get(number) {
-            Some(start) => &places[(*start).min(places.len())..],
-            None => &[],
-        }
-    }
+    ghost invariant = { λ v. IfSome v.table (λ table. AreLastNumbers (map typed_view v.list.now) (map typed_view v.list.now) table.entries) };
 }
 
 /// The table of a list.
 ///
 /// Fails where memory for it is refused.
-fn last_types<'s, 'a, A: Allocator, B: Allocator>(
+fn last_numbers<'s, 'a, A: Allocator, B: Allocator>(
     alloc: &'a B,
     list: &'s [Typed<A>],
-) -> Result<LastTypes<'s, 'a, A, B>, AllocError>
-    ensures { IfOk result (λ table. AreLastTypes (map typed_view list.now) table.entries) }
+) -> Result<LastNumbers<'s, 'a, B>, AllocError>
+    ensures { IfOk result (λ table. AreLastNumbers (map typed_view list.now) (map typed_view list.now) table.entries) }
 {
     let mut table = IndexMap::with_capacity(alloc, list.len())?;
-    for variable in list {
-        table.insert(variable.name.as_bytes(), &variable.types)?;
+    for number in 0..list.len() {
+        let variable = &list[number];
+        table.insert(variable.name.as_bytes(), number)?;
     }
     Ok(table)
 }
@@ -118,66 +65,73 @@ fn last_types<'s, 'a, A: Allocator, B: Allocator>(
 fn table_of<'s, 'a, A: Allocator, B: Allocator>(
     alloc: &'a B,
     list: &'s [Typed<A>],
-) -> Result<Option<LastTypes<'s, 'a, A, B>>, AllocError>
-    ensures { IfOk result (λ found. IfSome found (λ table. AreLastTypes (map typed_view list.now) table.entries)) }
+) -> Result<Option<LastNumbers<'s, 'a, B>>, AllocError>
+    ensures { IfOk result (λ found. IfSome found (λ table. AreLastNumbers (map typed_view list.now) (map typed_view list.now) table.entries)) }
 {
     if list.len() < 16 {
         return Ok(None);
     }
-    match last_types(alloc, list) {
+    match last_numbers(alloc, list) {
         Ok(table) => Ok(Some(table)),
         Err(error) => Err(error),
     }
 }
 
-/// The type of the last variable of this name in a list, which is the one that is bound, and its number there.
-fn last_type<'s, A: Allocator>(
-    variables: &'s [Typed<A>],
-    name: &[u8],
-) -> (Option<&'s TypeNames<A>>, usize)
-    ensures { option_copied result.0 ≡ option_map primitives_of (find (is_named name.now) (binding (map typed_view variables.now) [])) }
+/// The number of the last variable of this name in a list, which is the one that is bound.
+fn last_number<A: Allocator>(variables: &[Typed<A>], name: &[u8]) -> Option<usize>
+    ensures { option_and_then (slice_get (map typed_view variables.now)) result ≡ find (is_named name.now) (binding (map typed_view variables.now) []) }
 {
     for i in (0..variables.len()).rev() {
         let variable = &variables[i];
         if name == variable.name.as_bytes() {
-            return (Some(&variable.types), i);
+            return Some(i);
         }
     }
-    (None, 0)
+    None
 }
 
 impl<'s, 'a, A: Allocator, B: Allocator> Variables<'s, 'a, A, B> {
-    /// The variables of a list, in a search.
+    /// The variables of a list.
     ///
-    /// Fails where memory for a table, or for the places at which their types are looked for first, is refused.
-    pub fn of<S: Search<A, B>>(
+    /// Fails where memory for a table, or for what is told of their types, is refused.
+    pub fn of<S: Tells<A, B, usize>>(
         alloc: &'a B,
-        search: &S,
+        teller: &S,
         list: &'s TypedList<A>,
     ) -> Result<Variables<'s, 'a, A, B>, AllocError>
-        ensures { IfOk result (λ variables. variables ≡ map typed_view list.now.items) }
+        ensures list { IfOk result (λ variables. variables.list ≡ map typed_view list.now.items) }
+        ensures told { IfOk result (λ variables. AreTold (S.is_told teller.now) variables.list variables.told) }
     {
-        let near = NearPlaces::of(alloc, search, list)?;
+        let mut told = Runs::new(alloc);
+        tell_all(teller, list, &mut told)?;
         let list = list.as_slice();
         match table_of(alloc, list) {
-            Ok(table) => Ok(Variables { list, table, near }),
+            Ok(table) => Ok(Variables { list, told, table }),
             Err(error) => Err(error),
         }
     }
 
-    /// The type of the variable of this name, the last where there are two, and the places at which its primitives are looked for first.
-    pub fn type_of(&self, name: &[u8]) -> (Option<&'s TypeNames<A>>, &[usize])
-        ensures { option_copied result.0 ≡ option_map primitives_of (find (is_named name.now) (binding self.now [])) }
+    /// The number of the variable of this name, the last where there are two.
+    fn number_of(&self, name: &[u8]) -> Option<usize>
+        ensures { option_and_then (slice_get self.now.list) result ≡ find (is_named name.now) (binding self.now.list []) }
     {
         match &self.table {
-            Some(table) => match table.get_full(name) {
-                Some((number, _, types)) => (Some(*types), self.near.at(number)),
-                None => (None, &[]),
-            },
-            None => {
-                let (types, number) = last_type(self.list, name);
-                (types, self.near.at(number))
-            }
+            Some(table) => table.get(name).copied(),
+            None => last_number(self.list, name),
+        }
+    }
+
+    /// The type of the variable of this name, the last where there are two, and what was told of it.
+    pub fn type_of(&self, name: &[u8]) -> (Option<&'s TypeNames<A>>, &[usize])
+        ensures types { option_copied result.0 ≡ option_map primitives_of (find (is_named name.now) (binding self.now.list [])) }
+        ensures told { IfSome result.0 (λ types. IsBound self.now types.now result.1.now) }
+    {
+        let Some(number) = self.number_of(name) else {
+            return (None, &[]);
+        };
+        match self.list.get(number) {
+            Some(variable) => (Some(&variable.types), self.told.at(number)),
+            None => (None, &[]),
         }
     }
 }

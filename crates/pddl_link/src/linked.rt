@@ -10,6 +10,7 @@ ghost use Rattle.pddl_faults.specs.Passes.{Verdict};
 ghost use Rattle.pddl_search.specs.Claims.{HoldsValues};
 ghost use Rattle.pddl_types.specs.ObjectCounts.{AreCountsOf};
 ghost use Rattle.pddl_types.specs.KnownNames.{AreNamed, signature_in, object_in};
+ghost use Rattle.pddl_types.specs.Places.{AreSlotTops, AreObjectsAt};
 ghost use Rattle.pddl_names.specs.FaultParts.{first_rules, name_rules, use_rules};
 ghost use Rattle.pddl_link.specs.TaskTables.{files, HoldBehindTypes};
 ghost use Rattle.pddl_link.specs.LinkedTasks.{files_of};
@@ -70,6 +71,9 @@ fn look_at_uses<'t, 'm, 'a, A: Allocator, B: Allocator>(
     requires predicates { map signature_in tables.now.declared.predicates.entries ≡ (domain_view domain.now).predicates }
     requires functions { map signature_in tables.now.declared.functions.entries ≡ function_signatures (domain_view domain.now) }
     requires counts { AreCountsOf types.now (map object_in objects.now.entries) tables.now.counts.entries }
+    requires places { AreObjectsAt types.now (map object_in objects.now.entries) tables.now.places.places.items }
+    requires predicate_tops { AreSlotTops types.now (domain_view domain.now).predicates tables.now.declared.tops.predicates }
+    requires function_tops { AreSlotTops types.now (function_signatures (domain_view domain.now)) tables.now.declared.tops.functions }
     requires none { values.old.entries ≡ [] }
     ensures values { OnOk result (HoldsValues (problem_view problem.now).init values.new.entries) }
     ensures verdict { Verdict (map (fault_in (domain_view domain.now) (problem_view problem.now)) use_rules) result }
@@ -98,7 +102,8 @@ fn fits_of<'m, 'a, A: Allocator, B: Allocator>(
     types: &Types<'m, 'a, A, B>,
     objects: &Objects<'m, 'a, A, B>,
 ) -> Result<(TypeCounts<'m, 'a, B>, ObjectPlaces<'a, B>), AllocError>
-    ensures { IfOk result (λ fits. AreCountsOf types.now (map object_in objects.now.entries) fits.0.entries) }
+    ensures counts { IfOk result (λ fits. AreCountsOf types.now (map object_in objects.now.entries) fits.0.entries) }
+    ensures places { IfOk result (λ fits. AreObjectsAt types.now (map object_in objects.now.entries) fits.1.places.items) }
 {
     let places = ObjectPlaces::of(alloc, types, objects)?;
     match types.counts(alloc, objects) {
@@ -121,6 +126,9 @@ fn tables_of<'m, 'a, A: Allocator, B: Allocator>(
     ensures predicates { IfOk result (λ tables. map signature_in tables.declared.predicates.entries ≡ (domain_view domain.now).predicates) }
     ensures functions { IfOk result (λ tables. map signature_in tables.declared.functions.entries ≡ function_signatures (domain_view domain.now)) }
     ensures counts { IfOk result (λ tables. AreCountsOf types.now (map object_in objects.now.entries) tables.counts.entries) }
+    ensures places { IfOk result (λ tables. AreObjectsAt types.now (map object_in objects.now.entries) tables.places.places.items) }
+    ensures predicate_tops { IfOk result (λ tables. AreSlotTops types.now (domain_view domain.now).predicates tables.declared.tops.predicates) }
+    ensures function_tops { IfOk result (λ tables. AreSlotTops types.now (function_signatures (domain_view domain.now)) tables.declared.tops.functions) }
 {
     let (counts, places) = fits_of(alloc, types, objects)?;
     match Declared::of(alloc, types, domain) {
@@ -154,7 +162,7 @@ fn tables_behind<'m, 'a, A: Allocator, B: Allocator>(
     requires predicates { repeated [] (map symbol_of (domain_view domain.now).predicates) ≡ [] }
     requires functions { repeated [] (map symbol_of (function_signatures (domain_view domain.now))) ≡ [] }
     requires none { values.old.entries ≡ [] }
-    ensures tables { IfOk result (λ tables. HoldBehindTypes (domain_view domain.now) (problem_view problem.now) types.now tables.declared.predicates.entries objects.now.entries tables.counts.entries values.new.entries) }
+    ensures tables { IfOk result (λ tables. HoldBehindTypes (domain_view domain.now) (problem_view problem.now) types.now tables.declared.predicates.entries objects.now.entries tables.counts.entries tables.places.places.items values.new.entries) }
     ensures verdict { Verdict (map (fault_in (domain_view domain.now) (problem_view problem.now)) use_rules) result }
 {
     let tables = tables_of(alloc, types, objects, domain)?;
@@ -184,7 +192,7 @@ fn tables_behind_types<'m, 'a, A: Allocator, B: Allocator>(
     requires types { types.now ≡ (domain_view domain.now).types }
     requires no_objects { objects.old.entries ≡ [] }
     requires no_values { values.old.entries ≡ [] }
-    ensures tables { IfOk result (λ tables. HoldBehindTypes (domain_view domain.now) (problem_view problem.now) types.now tables.declared.predicates.entries objects.new.entries tables.counts.entries values.new.entries) }
+    ensures tables { IfOk result (λ tables. HoldBehindTypes (domain_view domain.now) (problem_view problem.now) types.now tables.declared.predicates.entries objects.new.entries tables.counts.entries tables.places.places.items values.new.entries) }
     ensures verdict { Verdict (map (fault_in (domain_view domain.now) (problem_view problem.now)) (drop 2 rules)) result }
 {
     let mut constants: Objects<'m, 'a, A, B> = IndexMap::new(alloc);

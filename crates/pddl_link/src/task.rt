@@ -10,6 +10,8 @@ ghost use Rattle.pddl_task.specs.Types.{pairs, fits, is_subtype};
 ghost use Rattle.pddl_task.specs.GroundSize.{capped, formula_size, action_size};
 ghost use Rattle.pddl_task.specs.Linked.{IsLinked};
 ghost use Rattle.pddl_task.specs.Tasks.{task_count, predicate_names, object_names, fitting_numbers, cost_of};
+ghost use Rattle.pddl_types.specs.KnownNames.{action_signature};
+ghost use Rattle.pddl_types.specs.Places.{AreTops, AreSlotTops};
 ghost use Rattle.pddl_link.specs.TaskTables.{AreTablesOf};
 
 use pddl_domain::{Action, Domain};
@@ -19,7 +21,7 @@ use pddl_problem::Problem;
 use pddl_search::{Ground, Values};
 use pddl_sizes::{ObjectCounts, ObjectPlaces, action_ground_size, fitting_objects, ground_size};
 use pddl_token::Name;
-use pddl_types::{FunctionNumbers, Objects, SlotTops, Top, TypeCounts, Types, near_of};
+use pddl_types::{FunctionNumbers, Objects, SlotTops, Top, TypeCounts, Types, object_fits};
 use std::alloc::{AllocError, Allocator};
 
 /// What a domain declares by name, how many objects fit each type, and where the types of objects stand, in tables that borrow from the files.
@@ -50,7 +52,7 @@ pub struct Task<'m, 'a, A: Allocator, B: Allocator> {
     pub(crate) tables: Tables<'m, 'a, A, B>,
     /// The values that `:init` gives to functions of objects.
     pub(crate) values: Values<'m, 'a, A, B>,
-    ghost held: { AreTablesOf (domain_view domain.now) (problem_view problem.now) types tables.declared.predicates.entries objects.entries tables.counts.entries values.entries },
+    ghost held: { AreTablesOf (domain_view domain.now) (problem_view problem.now) types tables.declared.predicates.entries objects.entries tables.counts.entries tables.places.places.items values.entries },
 }
 
 impl<'m, 'a, A: Allocator, B: Allocator> Task<'m, 'a, A, B> {
@@ -123,34 +125,29 @@ impl<'m, 'a, A: Allocator, B: Allocator> Task<'m, 'a, A, B> {
         self.types.is_a(sub.as_bytes(), over.as_bytes())
     }
 
-    /// The tops of the parameters of its actions, by which `object_fits_by` is fast. Nothing is promised of them.
+    /// The tops of the parameters of its actions, by which `object_fits_by` is fast.
     ///
     /// Fails where memory for them is refused.
-    pub fn action_tops<'c, C: Allocator>(
-        &self,
-        alloc: &'c C,
-    ) -> Result<SlotTops<'c, C>, AllocError> {
+    pub fn action_tops<'c, C: Allocator>(&self, alloc: &'c C) -> Result<SlotTops<'c, C>, AllocError>
+        ensures { IfOk result (λ tops. AreSlotTops (task_of_files self.now).types (map action_signature (task_of_files self.now).actions) tops) }
+    {
         let domain = self.domain;
         SlotTops::of_declared(alloc, &self.types, &domain.actions)
     }
 
-    /// Whether the object of a number fits a type, which is found fast by the type's tops where it does; past the last there is none that does.
+    /// Whether the object of a number fits a type, which is found fast by tops of the type; past the last there is none that does.
     pub fn object_fits_by<N: Allocator>(
         &self,
         object: usize,
         types: &TypeNames<N>,
         tops: &[Top],
     ) -> bool
+        requires { AreTops (task_of_files self.now).types types.now tops.now }
         ensures { result ≡ option_map_or (λ o. fits (pairs (task_of_files self.now).types) o.of types.now)
             (slice_get (task_of_files self.now).objects object) false }
     {
-        match self.objects.get_index(object) {
-            Some((_, listed)) => {
-                let near = near_of(self.tables.places.places(), object);
-                self.types.fits_by(&listed.types, near, types, tops)
-            }
-            None => false,
-        }
+        let places = self.tables.places.places();
+        object_fits(&self.types, &self.objects, places, object, types, tops)
     }
 
     /// Whether the object of a number fits a type; past the last there is none that does.

@@ -4,5 +4,6 @@ pub mod ObjectTables
 pub mod RuleParts
 pub mod SeenNames
 pub mod Slots
+pub mod ToldUses
 pub mod UnknownTypes
 pub mod UseFaults

@@ -1,7 +1,7 @@
 //! The search for types that are not known, and for variables that stand twice in one list.
 
 use crate::repeats::name_twice;
-use pddl_faults::{LinkFault, Part, Scope, Search, lower};
+use pddl_faults::{LinkFault, Part, Runs, Scope, Search, Tells, lower};
 use pddl_formula::TypeNames;
 use pddl_types::Types;
 use std::alloc::{AllocError, Allocator};
@@ -35,12 +35,16 @@ impl<'t, 'm, 'a, A: Allocator, B: Allocator> Search<A, B> for Bindings<'t, 'm, '
             Part::Counts(_, _) => so_far,
         }
     }
+}
 
-    /// Types of variables are not asked for.
-    fn add_near<'c>(
+/// Nothing is told of types, since nothing of them is asked for.
+impl<'t, 'm, 'a, A: Allocator, B: Allocator> Tells<A, B, usize> for Bindings<'t, 'm, 'a, A, B> {
+    ghost is_told = { λ search types places. Unit };
+
+    fn tell<'c>(
         &self,
         _types: &TypeNames<A>,
-        _places: &mut Vec<usize, &'c B>,
+        _told: &mut Runs<'c, usize, B>,
     ) -> Result<(), AllocError> {
         Ok(())
     }

@@ -5,7 +5,9 @@ ghost use Rattle.pddl_domain.specs.Domains.{domain_view};
 ghost use Rattle.pddl_task.specs.Names.{repeated};
 ghost use Rattle.pddl_task.specs.Types.{pairs};
 ghost use Rattle.pddl_task.specs.Settings.{symbol_of, function_signatures};
-ghost use Rattle.pddl_types.specs.KnownNames.{signature_in, object_in, setting_of};
+ghost use Rattle.pddl_types.specs.KnownNames.{signature_in, object_in};
+ghost use Rattle.pddl_types.specs.Settings.{setting_of};
+ghost use Rattle.pddl_types.specs.Places.{AreSlotTops, AreObjectsAt};
 
 use pddl_domain::Domain;
 use pddl_types::{Known, Objects, Signatures, Tops, Types, signatures};
@@ -32,6 +34,8 @@ impl<'m, 'a, A: Allocator, B: Allocator> Declared<'m, 'a, A, B> {
         requires functions { repeated [] (map symbol_of (function_signatures (domain_view domain.now))) ≡ [] }
         ensures predicates { IfOk result (λ declared. map signature_in declared.predicates.entries ≡ (domain_view domain.now).predicates) }
         ensures functions { IfOk result (λ declared. map signature_in declared.functions.entries ≡ function_signatures (domain_view domain.now)) }
+        ensures predicate_tops { IfOk result (λ declared. AreSlotTops types.now (domain_view domain.now).predicates declared.tops.predicates) }
+        ensures function_tops { IfOk result (λ declared. AreSlotTops types.now (function_signatures (domain_view domain.now)) declared.tops.functions) }
     {
         let tops = Tops::of(alloc, types, domain)?;
         let predicates = signatures(alloc, &domain.predicates)?;
@@ -43,13 +47,16 @@ impl<'m, 'a, A: Allocator, B: Allocator> Declared<'m, 'a, A, B> {
         })
     }
 
-    /// What may be named beside these objects, whose types are looked for first at these places.
+    /// What may be named beside these objects, whose types stand at these places.
     pub fn known<'t>(
         &'t self,
         types: &'t Types<'m, 'a, A, B>,
         objects: &'t Objects<'m, 'a, A, B>,
         places: &'t [usize],
     ) -> Known<'t, 'm, 'a, A, B>
+        requires predicate_tops { AreSlotTops types.now (map signature_in self.now.predicates.entries) self.now.tops.predicates }
+        requires function_tops { AreSlotTops types.now (map signature_in self.now.functions.entries) self.now.tops.functions }
+        requires places { AreObjectsAt types.now (map object_in objects.now.entries) places.now }
         ensures { setting_of result ≡ record { pairs = pairs types.now; predicates = map signature_in self.now.predicates.entries; functions = map signature_in self.now.functions.entries; objects = map object_in objects.now.entries } }
     {
         Known {

@@ -8,7 +8,7 @@ ghost use Rattle.pddl_task.specs.Faults.{large_goals};
 ghost use Rattle.pddl_faults.specs.Passes.{Passes};
 ghost use Rattle.pddl_faults.specs.Found.{IsFound};
 ghost use Rattle.pddl_search.specs.Claims.{HoldsValues};
-ghost use Rattle.pddl_types.specs.KnownNames.{setting_of};
+ghost use Rattle.pddl_types.specs.Settings.{setting_of};
 ghost use Rattle.pddl_names.specs.FaultParts.{joined, domain_uses, problem_uses};
 
 use crate::uses::Uses;

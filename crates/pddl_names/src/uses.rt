@@ -1,9 +1,9 @@
 //! The search for names that are not known, other numbers of terms than declared, terms that do not fit their slots, and numbers that are not
 //! whole, with one look-up of each name.
 
-ghost use Rattle.std.specs.Prelude.{true, length, ◌≡◌, not, map, find, Option, option_map, IfOk};
+ghost use Rattle.std.specs.Prelude.{true, length, ◌≡◌, [], not, map, find, Option, option_map, IfOk, IfSome};
 ghost use Rattle.std.specs.Option.{option_copied};
-ghost use Rattle.std.specs.List.{flat_map};
+ghost use Rattle.std.specs.List.{flat_map, slice_index_or};
 ghost use Rattle.pddl_formula.specs.Terms.{term_view};
 ghost use Rattle.pddl_formula.specs.TypedLists.{TypedValue, typed_view};
 ghost use Rattle.pddl_task.specs.Names.{is_named, word_if};
@@ -13,14 +13,19 @@ ghost use Rattle.pddl_task.specs.Faults.{primitives_of, typed_term, unknown_term
 ghost use Rattle.pddl_faults.specs.Passes.{Passes};
 ghost use Rattle.pddl_faults.specs.Found.{IsFound, FindsMore};
 ghost use Rattle.pddl_faults.specs.Parts.{term_in, term_name, terms_in};
-ghost use Rattle.pddl_faults.specs.Scopes.{bound_of};
-ghost use Rattle.pddl_types.specs.KnownNames.{signature_in, setting_of};
+ghost use Rattle.pddl_faults.specs.Scopes.{bound_of, AllTold};
+ghost use Rattle.pddl_faults.specs.Told.{AreTold};
+ghost use Rattle.pddl_types.specs.KnownNames.{signature_in};
+ghost use Rattle.pddl_types.specs.Settings.{setting_of};
+ghost use Rattle.pddl_types.specs.Places.{AreToldAt, AreTops, AreSlotTops};
 ghost use Rattle.pddl_names.specs.Uses.{IsFoundUpTo, fit_of, faults_of_use, faults_of_terms};
 
-use pddl_faults::{LentTerm, LinkFault, Part, Scope, Search, Terms, bound_type, lower};
+use pddl_faults::{
+    LentTerm, LinkFault, Part, Runs, Scope, Search, Tells, Terms, bound_type, lower,
+};
 use pddl_formula::{Term, TypeNames, Typed};
 use pddl_token::Fixed;
-use pddl_types::{Known, NameTops, Signatures, SlotTops, Top, is_object, near_of};
+use pddl_types::{Known, Signatures, SlotTops, Top, is_object, one_place};
 use std::alloc::{AllocError, Allocator};
 
 /// Looks for what is wrong with names that are used, and with numbers.
@@ -29,39 +34,42 @@ pub struct Uses<'k, 't, 'm, 'a, A: Allocator, B: Allocator> {
     pub known: &'k Known<'t, 'm, 'a, A, B>,
 }
 
-/// The type of the object of this name, and the places at which its primitives are looked for first.
+/// The type of the object of this name, and the places at which its primitives stand, as far as they are known.
 fn object_type<'t, 'm, 'a, A: Allocator, B: Allocator>(
     known: &Known<'t, 'm, 'a, A, B>,
     object: &[u8],
 ) -> (Option<&'m TypeNames<A>>, &'t [usize])
-    ensures { option_copied result.0 ≡ option_map primitives_of (find (is_named object.now) (setting_of known.now).objects) }
+    ensures types { option_copied result.0 ≡ option_map primitives_of (find (is_named object.now) (setting_of known.now).objects) }
+    ensures told { IfSome result.0 (λ types. AreToldAt known.now.types.now types.now result.1.now) }
 {
     match known.objects.get_full(object) {
-        Some((number, _, listed)) => (Some(&listed.types), near_of(known.places, number)),
+        Some((number, _, listed)) => (Some(&listed.types), one_place(known.places, number)),
         None => (None, &[]),
     }
 }
 
-/// Whether what has a type, whose primitives are looked for first at places that are near, fits a slot, where there is one.
+/// Whether what has a type, whose primitives stand at these places, fits a slot with these tops, where there is one.
 fn fits_slot<'t, 'm, 'a, A: Allocator, B: Allocator>(
     known: &Known<'t, 'm, 'a, A, B>,
     types: Option<&TypeNames<A>>,
-    near: &[usize],
+    places: &[usize],
     slot: Option<&Typed<A>>,
     tops: &[Top],
 ) -> Option<bool>
+    requires told { IfSome types (λ t. AreToldAt known.now.types.now t.now places.now) }
+    requires tops { IfSome slot (λ s. AreTops known.now.types.now s.now.types tops.now) }
     ensures { (x : Option TypedValue) → option_copied types.entry ≡ option_map primitives_of x → result ≡ fit_of (pairs known.now.types.now) x (option_map (λ s. typed_view s.now) slot.entry) }
 {
     match types {
         None => None,
         Some(types) => match slot {
             None => Some(true),
-            Some(slot) => Some(known.types.fits_by(types, near, &slot.types, tops)),
+            Some(slot) => Some(known.types.fits_by(types, places, &slot.types, tops)),
         },
     }
 }
 
-/// Whether a term fits a slot, where there is one; `None` where the term is not known.
+/// Whether a term fits a slot with these tops, where there is one; `None` where the term is not known.
 fn term_fits<'t, 'm, 'a, A: Allocator, B: Allocator>(
     known: &Known<'t, 'm, 'a, A, B>,
     term: &LentTerm,
@@ -69,16 +77,18 @@ fn term_fits<'t, 'm, 'a, A: Allocator, B: Allocator>(
     slot: Option<&Typed<A>>,
     tops: &[Top],
 ) -> Option<bool>
+    requires told { ∥ AllTold (AreToldAt known.now.types.now) scope.now ∥₁ }
+    requires tops { IfSome slot (λ s. AreTops known.now.types.now s.now.types tops.now) }
     ensures { result ≡ fit_of (pairs known.now.types.now) (typed_term (setting_of known.now) (bound_of scope.now) (term_in term.now)) (option_map (λ s. typed_view s.now) slot.entry) }
 {
     match term {
         LentTerm::Object(object) => {
-            let (types, near) = object_type(known, *object);
-            fits_slot(known, types, near, slot, tops)
+            let (types, places) = object_type(known, *object);
+            fits_slot(known, types, places, slot, tops)
         }
         LentTerm::Variable(variable) => {
-            let (types, near) = bound_type(scope, *variable);
-            fits_slot(known, types, near, slot, tops)
+            let (types, places) = bound_type(scope, *variable);
+            fits_slot(known, types, places, slot, tops)
         }
     }
 }
@@ -90,16 +100,19 @@ fn terms_fit<'t, 'm, 'a, 'd, A: Allocator, B: Allocator>(
     known: &Known<'t, 'm, 'a, A, B>,
     terms: &Terms<'d, A>,
     slots: &[Typed<A>],
-    tops: NameTops,
+    tops: &SlotTops<'a, B>,
+    name: usize,
     scope: &Scope<A, B>,
 ) -> Result<bool, LinkFault<'d>>
+    requires told { ∥ AllTold (AreToldAt known.now.types.now) scope.now ∥₁ }
+    requires tops { AreTold (AreTops known.now.types.now) (map typed_view slots.now) (slice_index_or tops.now name []) }
     ensures passes { Passes 26 (flat_map (unknown_term (setting_of known.now) (bound_of scope.now)) (terms_in terms.now)) result }
     ensures fits { IfOk result (λ fits. some_misfit (setting_of known.now) (bound_of scope.now) (terms_in terms.now) (map typed_view slots.now) ≡ not fits) }
 {
     let mut all_fit = true;
     for i in 0..terms.len() {
         let term = terms.at(i);
-        match term_fits(known, &term, scope, slots.get(i), tops.at(i)) {
+        match term_fits(known, &term, scope, slots.get(i), tops.at(name, i)) {
             None => return Err(LinkFault::UnknownName(term.name())),
             Some(fits) => all_fit = all_fit && fits,
         }
@@ -114,12 +127,15 @@ fn look_at_terms<'t, 'm, 'a, 'd, A: Allocator, B: Allocator>(
     terms: &Terms<'d, A>,
     count: usize,
     slots: &[Typed<A>],
-    tops: NameTops,
+    tops: &SlotTops<'a, B>,
+    name: usize,
     scope: &Scope<A, B>,
 ) -> Result<(), LinkFault<'d>>
+    requires told { ∥ AllTold (AreToldAt known.now.types.now) scope.now ∥₁ }
+    requires tops { AreTold (AreTops known.now.types.now) (map typed_view slots.now) (slice_index_or tops.now name []) }
     ensures { IsFound (faults_of_terms (setting_of known.now) (bound_of scope.now) symbol.now (terms_in terms.now) count (map typed_view slots.now)) result }
 {
-    let all_fit = terms_fit(known, terms, slots, tops, scope)?;
+    let all_fit = terms_fit(known, terms, slots, tops, name, scope)?;
     if terms.len() != count {
         Err(LinkFault::Arity(symbol))
     } else if all_fit {
@@ -156,9 +172,12 @@ fn look_at_slots<'t, 'm, 'a, 'd, A: Allocator, B: Allocator>(
     symbol: &'d [u8],
     terms: &Terms<'d, A>,
     slots: &[Typed<A>],
-    tops: NameTops,
+    tops: &SlotTops<'a, B>,
+    name: usize,
     scope: &Scope<A, B>,
 ) -> Result<(), LinkFault<'d>>
+    requires told { ∥ AllTold (AreToldAt known.now.types.now) scope.now ∥₁ }
+    requires tops { AreTold (AreTops known.now.types.now) (map typed_view slots.now) (slice_index_or tops.now name []) }
     ensures { FindsMore (faults_of_terms (setting_of known.now) (bound_of scope.now) symbol.now (terms_in terms.now) (length slots.now) (map typed_view slots.now)) so_far.entry result }
 {
     let count = slots.len();
@@ -166,12 +185,12 @@ fn look_at_slots<'t, 'm, 'a, 'd, A: Allocator, B: Allocator>(
         let none = &slots[..0];
         lower(
             so_far,
-            look_at_terms(known, symbol, terms, count, none, tops, scope),
+            look_at_terms(known, symbol, terms, count, none, tops, name, scope),
         )
     } else {
         lower(
             so_far,
-            look_at_terms(known, symbol, terms, count, slots, tops, scope),
+            look_at_terms(known, symbol, terms, count, slots, tops, name, scope),
         )
     }
 }
@@ -186,13 +205,14 @@ fn look_at_use<'t, 'm, 'a, 'd, A: Allocator, B: Allocator>(
     terms: &Terms<'d, A>,
     scope: &Scope<A, B>,
 ) -> Result<(), LinkFault<'d>>
+    requires told { ∥ AllTold (AreToldAt known.now.types.now) scope.now ∥₁ }
+    requires tops { AreSlotTops known.now.types.now (map signature_in declared.now.entries) tops.now }
     ensures { FindsMore (faults_of_use (setting_of known.now) (bound_of scope.now) (record { name = symbol.now; terms = terms_in terms.now; declared = map signature_in declared.now.entries })) so_far.entry result }
 {
     match declared.get_full(symbol) {
         None => lower(so_far, Err(LinkFault::UnknownName(symbol))),
-        Some((number, _, slots)) => {
-            let tops = tops.of(number);
-            look_at_slots(known, so_far, symbol, terms, *slots, tops, scope)
+        Some((name, _, slots)) => {
+            look_at_slots(known, so_far, symbol, terms, *slots, tops, name, scope)
         }
     }
 }
@@ -242,7 +262,7 @@ fn look_at_amount<'d>(function: &'d [u8], amount: Fixed) -> Result<(), LinkFault
 }
 
 impl<'k, 't, 'm, 'a, A: Allocator, B: Allocator> Search<A, B> for Uses<'k, 't, 'm, 'a, A, B> {
-    ghost use Rattle.pddl_types.specs.KnownNames.{setting_of};
+    ghost use Rattle.pddl_types.specs.Settings.{setting_of};
     ghost use Rattle.pddl_names.specs.Uses.{use_faults};
 
     ghost found = { λ search place. use_faults (setting_of search.known.now) place };
@@ -287,12 +307,19 @@ impl<'k, 't, 'm, 'a, A: Allocator, B: Allocator> Search<A, B> for Uses<'k, 't, '
             Part::Counts(function, amount) => lower(so_far, look_at_amount(*function, *amount)),
         }
     }
+}
 
-    fn add_near<'c>(
+/// The places at which the primitives of a type stand are told of it.
+impl<'k, 't, 'm, 'a, A: Allocator, B: Allocator> Tells<A, B, usize> for Uses<'k, 't, 'm, 'a, A, B> {
+    ghost use Rattle.pddl_types.specs.Places.{AreToldAt};
+
+    ghost is_told = { λ search. AreToldAt search.known.now.types.now };
+
+    fn tell<'c>(
         &self,
         types: &TypeNames<A>,
-        places: &mut Vec<usize, &'c B>,
+        told: &mut Runs<'c, usize, B>,
     ) -> Result<(), AllocError> {
-        self.known.types.add_places(types, places)
+        self.known.types.add_places(types, told)
     }
 }

@@ -76,9 +76,6 @@ module _ (task : TaskValue) (found own : StepValue) (same : found ≡ own) where
       ∙ ap (λ os. record { action = number_in (action_names task) found.action; objects = os; moment = moment }) second
       ∙ ap (λ m. linked_step task m found) third ∙ ap (linked_step task of_own) same
 
-  pub faults_are : step_faults task own ≡ step_faults task found
-  faults_are = ap (step_faults task) (sym same)
-
 -- steps that were linked into a list, if they were
 pub verdict_made : {T U : Type 0} (task : TaskValue) (plan : PlanValue) (made : Result U StepFault) (steps : T) → PlanVerdict task plan made → PlanVerdict task plan (result_and made (Ok steps))
 verdict_made task plan (Ok u) steps h = h

@@ -1,11 +1,13 @@
 //! The faults of a step.
 
-ghost use Rattle.std.specs.Prelude.{◌≡◌, true, Some, map, reverse, slice_get, not, IfOk, OnOk};
-ghost use Rattle.std.specs.List.{list_any};
+ghost use Rattle.std.specs.Prelude.{◌≡◌, [], true, Some, map, reverse, slice_get, not, IfOk, OnOk};
+ghost use Rattle.std.specs.List.{list_any, slice_index_or};
 ghost use Rattle.pddl_formula.specs.TypedLists.{typed_view};
 ghost use Rattle.pddl_domain.specs.Actions.{action_view};
 ghost use Rattle.pddl_task.specs.Names.{is_in, number_in};
 ghost use Rattle.pddl_task.specs.Tasks.{object_names};
+ghost use Rattle.pddl_faults.specs.Told.{AreTold};
+ghost use Rattle.pddl_types.specs.Places.{AreTops};
 ghost use Rattle.pddl_tables.specs.Link.LinkedTasks.{task_of_files};
 ghost use Rattle.pddl_tables.specs.Lookups.{task_in, price_in};
 ghost use Rattle.pddl_plan_tables.specs.ChangeCosts.{is_unpriced, some_cost};
@@ -53,14 +55,14 @@ fn some_unfit<'t, 'm, 'a, 'c, A: Allocator, B: Allocator, C: Allocator>(
     numbers: &[usize],
     parameters: &[Typed<A>],
 ) -> bool
+    requires { AreTold (AreTops (task_of_files tables.now.task.now).types) (map typed_view parameters.now) (slice_index_or tables.now.tops action []) }
     ensures { result ≡ some_unfit (task_of_files tables.now.task.now) numbers.now (map typed_view parameters.now) }
 {
     let task = tables.task;
-    let tops = tables.tops.of(action);
     for i in 0..numbers.len().min(parameters.len()) {
         let number = numbers[i];
         let parameter = &parameters[i];
-        if !task.object_fits_by(number, &parameter.types, tops.at(i)) {
+        if !task.object_fits_by(number, &parameter.types, tables.tops.at(action, i)) {
             return true;
         }
     }

@@ -1,6 +1,6 @@
 //! Passes over declarations, each of which looks for one fault of a domain or a problem.
 
-ghost use Rattle.std.specs.Prelude.{◌≡◌, ◌++◌, map, option_map};
+ghost use Rattle.std.specs.Prelude.{◌≡◌, map, option_map};
 ghost use Rattle.pddl_formula.specs.TypedLists.{typed_view};
 ghost use Rattle.pddl_domain.specs.Declarations.{number};
 ghost use Rattle.pddl_domain.specs.Domains.{domain_view};
@@ -41,17 +41,6 @@ pub fn object_types<'d, A: Allocator>(objects: &'d [Typed<A>]) -> Result<(), Lin
         }
     }
     Ok(())
-}
-
-/// The type of each constant and of each object has one primitive.
-pub fn objects_have_one_type<'d, A: Allocator>(
-    domain: &'d Domain<A>,
-    problem: &'d Problem<A>,
-) -> Result<(), LinkFault<'d>>
-    ensures { Passes 25 (object_types (domain_view domain.now).constants ++ object_types (problem_view problem.now).objects) result }
-{
-    object_types(&domain.constants)?;
-    object_types(&problem.objects)
 }
 
 /// Whether a result's type is `number`.

@@ -12,7 +12,7 @@ ghost use Rattle.pddl_faults.specs.Scopes.{bound_of};
 use crate::passes::is_taken;
 use crate::search::{search_action, search_call, search_formula};
 use pddl_domain::Domain;
-use pddl_faults::{LinkFault, Part, Scope, Search, Terms};
+use pddl_faults::{LinkFault, Part, Scope, Search, Terms, Within};
 use pddl_problem::{InitItem, Metric, Problem};
 use std::alloc::Allocator;
 
@@ -32,62 +32,59 @@ pub fn search_domain<'d, 'a, A: Allocator, B: Allocator, S: Search<A, B>>(
 }
 
 /// Searches an item of `:init`; a literal that fails is looked at like one that holds.
-fn search_item<'p, 's, 'a, A: Allocator, B: Allocator, S: Search<A, B>>(
-    search: &S,
+fn search_item<'p, 'a, A: Allocator, B: Allocator, S: Search<A, B>>(
+    outside: &Within<'_, 'p, 'a, A, B, S>,
     so_far: Result<(), LinkFault<'p>>,
     item: &'p InitItem<A>,
-    outside: &'s Scope<'s, 'p, 'a, A, B>,
 ) -> Result<(), LinkFault<'p>>
-    requires { bound_of outside.now ≡ [] }
-    ensures { FindsMore (flat_map (S.found search.now) (init_places (init_view item.now))) so_far.entry result }
+    requires { bound_of outside.now.scope.now ≡ [] }
+    ensures { FindsMore (flat_map (S.found outside.now.search.now) (init_places (init_view item.now))) so_far.entry result }
 {
     match item {
         InitItem::Holds(fact) | InitItem::Fails(fact) => {
             let says = Part::Says(fact.predicate.as_bytes(), Terms::Objects(&fact.objects));
-            search.look(so_far, &says, &*outside)
+            outside.search.look(so_far, &says, outside.scope)
         }
         InitItem::Value(call, amount) => {
             let function = call.function.as_bytes();
             let calls = Part::Calls(function, Terms::Objects(&call.objects));
-            let so_far = search.look(so_far, &calls, &*outside);
+            let so_far = outside.search.look(so_far, &calls, outside.scope);
             let counts = Part::Counts(function, *amount);
-            search.look(so_far, &counts, &*outside)
+            outside.search.look(so_far, &counts, outside.scope)
         }
     }
 }
 
 /// Searches items of `:init` in turn.
-fn search_init<'p, 's, 'a, A: Allocator, B: Allocator, S: Search<A, B>>(
-    search: &S,
+fn search_init<'p, 'a, A: Allocator, B: Allocator, S: Search<A, B>>(
+    outside: &Within<'_, 'p, 'a, A, B, S>,
     so_far: Result<(), LinkFault<'p>>,
     init: &'p [InitItem<A>],
-    outside: &'s Scope<'s, 'p, 'a, A, B>,
 ) -> Result<(), LinkFault<'p>>
-    requires { bound_of outside.now ≡ [] }
-    ensures { FindsMore (flat_map (S.found search.now) (flat_map init_places (map init_view init.now))) so_far.entry result }
+    requires { bound_of outside.now.scope.now ≡ [] }
+    ensures { FindsMore (flat_map (S.found outside.now.search.now) (flat_map init_places (map init_view init.now))) so_far.entry result }
 {
     let mut found = so_far;
     for item in init {
-        found = search_item(search, found, item, &*outside);
+        found = search_item(outside, found, item);
     }
     found
 }
 
 /// Searches a metric; nothing is looked for in one that is not taken.
-fn search_metric<'p, 's, 'a, A: Allocator, B: Allocator, S: Search<A, B>>(
-    search: &S,
+fn search_metric<'p, 'a, A: Allocator, B: Allocator, S: Search<A, B>>(
+    outside: &Within<'_, 'p, 'a, A, B, S>,
     so_far: Result<(), LinkFault<'p>>,
     metric: &'p Option<Metric<A>>,
-    outside: &'s Scope<'s, 'p, 'a, A, B>,
 ) -> Result<(), LinkFault<'p>>
-    requires { bound_of outside.now ≡ [] }
-    ensures { FindsMore (flat_map (S.found search.now) (metric_places (option_map metric_view metric.now))) so_far.entry result }
+    requires { bound_of outside.now.scope.now ≡ [] }
+    ensures { FindsMore (flat_map (S.found outside.now.search.now) (metric_places (option_map metric_view metric.now))) so_far.entry result }
 {
     match metric {
         None => so_far,
         Some(metric) => {
             if is_taken(metric) {
-                search_call(search, so_far, b"total-cost".as_slice(), &[], &*outside)
+                search_call(outside, so_far, b"total-cost".as_slice(), &[])
             } else {
                 so_far
             }
@@ -103,8 +100,12 @@ pub fn search_problem<'p, 'a, A: Allocator, B: Allocator, S: Search<A, B>>(
 ) -> Result<(), LinkFault<'p>>
     ensures { IsFound (flat_map (S.found search.now) (problem_places (problem_view problem.now))) result }
 {
-    let outside = Scope::Empty;
-    let found = search_init(search, Ok(()), &problem.init, &outside);
-    let found = search_formula(alloc, search, found, &problem.goal, &outside);
-    search_metric(search, found, &problem.metric, &outside)
+    let outside = Within {
+        alloc,
+        search,
+        scope: &Scope::Empty,
+    };
+    let found = search_init(&outside, Ok(()), &problem.init);
+    let found = search_formula(&outside, found, &problem.goal);
+    search_metric(&outside, found, &problem.metric)
 }

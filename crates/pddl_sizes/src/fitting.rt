@@ -3,18 +3,19 @@
 ghost use Rattle.std.specs.Prelude.{◌≡◌, true, map, IfOk};
 ghost use Rattle.pddl_task.specs.Types.{pairs, fits};
 ghost use Rattle.pddl_types.specs.KnownNames.{object_in};
-ghost use Rattle.pddl_sizes.specs.Fitting.{passes_at, AreSome};
+ghost use Rattle.pddl_types.specs.Places.{AreTops, AreObjectsAt};
+ghost use Rattle.pddl_sizes.specs.Fitting.{AreSome};
 ghost use Rattle.pddl_task.specs.Tasks.{places_from};
 
 use crate::object_counts::ObjectCounts;
 use crate::object_places::ObjectPlaces;
 use crate::size::FittingCount;
+use pddl_faults::{Runs, Tells};
 use pddl_formula::TypeNames;
-use pddl_types::{Objects, Top, Types, near_of};
+use pddl_types::{Objects, Top, Types, object_fits};
 use std::alloc::{AllocError, Allocator};
 
-/// The numbers of the objects that fit a type, rising, by its tops, where each object is looked at. The types of the objects are looked for first at these
-/// places.
+/// The numbers of the objects that fit a type with these tops, rising, where each object is looked at. The types of the objects stand at these places.
 ///
 /// Fails where memory for them is refused.
 fn fitting_by<'m, 'a, 'b, A: Allocator, B: Allocator, C: Allocator, N: Allocator>(
@@ -25,40 +26,20 @@ fn fitting_by<'m, 'a, 'b, A: Allocator, B: Allocator, C: Allocator, N: Allocator
     slot: &TypeNames<N>,
     tops: &[Top],
 ) -> Result<Vec<usize, &'b C>, AllocError>
+    requires places { AreObjectsAt types.now (map object_in objects.now.entries) places.now }
+    requires tops { AreTops types.now slot.now tops.now }
     ensures { IfOk result (λ numbers. numbers.items ≡ places_from 0 (λ o. fits (pairs types.now) o.of slot.now) (map object_in objects.now.entries)) }
 {
     let mut numbers = Vec::new(alloc);
     for number in 0..objects.len() {
-        match objects.get_index(number) {
-            Some((_, object)) => {
-                if types.fits_by(&object.types, near_of(places, number), slot, tops) {
-                    numbers.push(number)?;
-                }
-            }
-            None => {}
+        if object_fits(types, objects, places, number, slot, tops) {
+            numbers.push(number)?;
         }
     }
     Ok(numbers)
 }
 
-/// Whether the object of a number fits a type, by its tops, as above.
-fn fits_at<'m, 'a, A: Allocator, B: Allocator, N: Allocator>(
-    types: &Types<'m, 'a, A, B>,
-    objects: &Objects<'m, 'a, A, B>,
-    places: &[usize],
-    number: usize,
-    slot: &TypeNames<N>,
-    tops: &[Top],
-) -> bool
-    ensures { result ≡ passes_at (λ o. fits (pairs types.now) o.of slot.now) (map object_in objects.now.entries) number }
-{
-    match objects.get_index(number) {
-        Some((_, object)) => types.fits_by(&object.types, near_of(places, number), slot, tops),
-        None => false,
-    }
-}
-
-/// Whether numbers rise, and the objects of all of them fit a type, by its tops, as above.
+/// Whether numbers rise, and the objects of all of them fit a type, as above.
 fn all_fit<'m, 'a, A: Allocator, B: Allocator, N: Allocator>(
     types: &Types<'m, 'a, A, B>,
     objects: &Objects<'m, 'a, A, B>,
@@ -67,12 +48,14 @@ fn all_fit<'m, 'a, A: Allocator, B: Allocator, N: Allocator>(
     slot: &TypeNames<N>,
     tops: &[Top],
 ) -> bool
+    requires places { AreObjectsAt types.now (map object_in objects.now.entries) places.now }
+    requires tops { AreTops types.now slot.now tops.now }
     ensures { result ≡ true → AreSome (λ o. fits (pairs types.now) o.of slot.now) (map object_in objects.now.entries) 0 numbers.now }
 {
     let mut above = usize::MAX;
     for i in (0..numbers.len()).rev() {
         let number = numbers[i];
-        if above <= number || !fits_at(types, objects, places, number, slot, tops) {
+        if above <= number || !object_fits(types, objects, places, number, slot, tops) {
             return false;
         }
         above = number;
@@ -90,6 +73,8 @@ fn fitting_under<'t, 'm, 'a, 'b, A: Allocator, B: Allocator, C: Allocator, N: Al
     slot: &TypeNames<N>,
     tops: &[Top],
 ) -> Result<Vec<usize, &'b C>, AllocError>
+    requires places { AreObjectsAt counts.now.types.now (map object_in counts.now.objects.now.entries) places.now.places.items }
+    requires tops { AreTops counts.now.types.now slot.now tops.now }
     ensures { IfOk result (λ numbers. numbers.items ≡ places_from 0 (λ o. fits (pairs counts.now.types.now) o.of slot.now) (map object_in counts.now.objects.now.entries)) }
 {
     let (types, objects) = (counts.types, counts.objects);
@@ -103,7 +88,7 @@ fn fitting_under<'t, 'm, 'a, 'b, A: Allocator, B: Allocator, C: Allocator, N: Al
     fitting_by(alloc, types, objects, places.places(), slot, tops)
 }
 
-/// The numbers of the objects that fit a type, rising.
+/// The numbers of the objects that fit a type, rising, where the types of objects stand at these places.
 ///
 /// Fails where memory for them is refused.
 pub fn fitting_objects<'t, 'm, 'a, 'b, A: Allocator, B: Allocator, C: Allocator, N: Allocator>(
@@ -112,9 +97,10 @@ pub fn fitting_objects<'t, 'm, 'a, 'b, A: Allocator, B: Allocator, C: Allocator,
     places: &ObjectPlaces<'a, B>,
     slot: &TypeNames<N>,
 ) -> Result<Vec<usize, &'b C>, AllocError>
+    requires { AreObjectsAt counts.now.types.now (map object_in counts.now.objects.now.entries) places.now.places.items }
     ensures { IfOk result (λ numbers. numbers.items ≡ places_from 0 (λ o. fits (pairs counts.now.types.now) o.of slot.now) (map object_in counts.now.objects.now.entries)) }
 {
-    let mut tops = Vec::new(alloc);
-    counts.types.add_tops(slot, &mut tops)?;
-    fitting_under(alloc, counts, places, slot, &tops)
+    let mut tops = Runs::new(alloc);
+    counts.types.tell(slot, &mut tops)?;
+    fitting_under(alloc, counts, places, slot, tops.added())
 }

@@ -1,6 +1,10 @@
 //! Objects by the places of their types.
 //!
-//! Nothing is promised of them: what is found by them is looked at, and where it is not all, it is looked for without them.
+//! Of their order nothing is promised: what is found by it is looked at, and where it is not all, it is looked for without it.
+
+ghost use Rattle.std.specs.Prelude.{◌≡◌, map, IfOk};
+ghost use Rattle.pddl_types.specs.KnownNames.{object_in};
+ghost use Rattle.pddl_types.specs.Places.{AreObjectsAt};
 
 use pddl_types::{Objects, Top, Types, place_at};
 use std::alloc::{AllocError, Allocator};
@@ -9,7 +13,7 @@ use std::alloc::{AllocError, Allocator};
 #[derive(Drop)]
 pub struct ObjectPlaces<'a, B: Allocator> {
     /// The place of the type of each object, up to the first that has not one type.
-    places: Vec<usize, &'a B>,
+    pub places: Vec<usize, &'a B>,
     /// The numbers of these objects, in the order of the numbers that their types have in pre-order.
     order: Vec<usize, &'a B>,
 }
@@ -38,14 +42,18 @@ impl<'a, B: Allocator> ObjectPlaces<'a, B> {
         alloc: &'a B,
         types: &Types<'m, 't, A, C>,
         objects: &Objects<'m, 't, A, C>,
-    ) -> Result<ObjectPlaces<'a, B>, AllocError> {
+    ) -> Result<ObjectPlaces<'a, B>, AllocError>
+        ensures { IfOk result (λ found. AreObjectsAt types.now (map object_in objects.now.entries) found.places.items) }
+    {
         let places = types.places_of(alloc, objects)?;
         let order = in_order(alloc, types, &places)?;
         Ok(ObjectPlaces { places, order })
     }
 
     /// The place of the type of each object.
-    pub fn places(&self) -> &[usize] {
+    pub fn places(&self) -> &[usize]
+        ensures { result.now ≡ self.now.places.items }
+    {
         &self.places
     }
 

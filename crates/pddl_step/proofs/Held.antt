@@ -18,14 +18,6 @@ marked_at marks j low is = slice_get-get_or marks j false low ∙ ap Some is
 pub mark_here : (marks : List Bool) (i : ℕ) → i < length marks → slice_get (set marks i true) i ≡ Some true
 mark_here marks i low = marked_at (set marks i true) i (subst (λ n. i < n) (sym (length-set marks i true)) low) (get_or-set_same marks i true false low)
 
-pub mark_stays : (marks : List Bool) (i j : ℕ) → i < length marks → slice_get marks j ≡ Some true → slice_get (set marks i true) j ≡ Some true
-mark_stays marks i j low is =
-    let low_j : j < length marks = slice_get_within marks j true is in
-    elim (eqb i j) as (λ b. eqb i j ≡ b → slice_get (set marks i true) j ≡ Some true) [
-      | true ↦ λ e. subst (λ k. slice_get (set marks i true) k ≡ Some true) (eqb-true i j e) (mark_here marks i low)
-      | false ↦ λ e. marked_at (set marks i true) j (subst (λ n. j < n) (sym (length-set marks i true)) low_j) (get_or-set_other marks i j true false (λ same. true≢false (sym (eq-eqb i j (sym same)) ∙ e)) ∙ get_or_from_slice_get marks j true false is)
-    ] refl
-
 -- ---- one more at the end
 
 pub stays : {X : Type 0} (xs ys : List X) (n : ℕ) (x : X) → slice_get xs n ≡ Some x → slice_get (xs ++ ys) n ≡ Some x

@@ -8,6 +8,8 @@ pub mod SignatureTables
 pub mod TypeClimbs
 pub mod TypeForests
 pub mod TypeLookups
+pub mod TypePlaces
+pub mod SlotPlaces
 pub mod TypeTables
 pub mod TypesTold
 pub mod TaskNames

@@ -1,10 +1,9 @@
 -- Names of predicates and objects by number, as tables have them.
-use Rattle.std.proofs.Common.{◌≡◌, ℕ, zero, suc, ◌+◌, Bool, false, not, cond, List, [], ◌∷◌, map, length, nat_lt, bytes_eq, Option, refl, sym, ap, ◌∙◌}
+use Rattle.std.proofs.Common.{◌≡◌, ℕ, suc, ◌+◌, not, cond, List, [], ◌∷◌, map, length, nat_lt, bytes_eq, Option, refl, sym, ap, ◌∙◌}
 use Rattle.std.specs.Prelude.{Some, None, option_map, position}
 use Rattle.std.specs.Borrow.{Bor}
 use Rattle.std.specs.List.{slice_get, position_or_len}
 use Rattle.std.specs.Map.{keys_of}
-use Rattle.std.specs.Option.{option_map_or}
 use Rattle.std.proofs.lemmas.Option.{slice_get-map}
 use Rattle.pddl_formula.specs.declared.type_names.Typed.{Typed}
 use Rattle.pddl_formula.specs.TypedLists.{TypedValue}
@@ -56,14 +55,3 @@ object_number = place_at object_in item_of (λ e. refl)
 pub predicate_number : {A : Type 0} (es : List (Bor (List ℕ) × Bor (List (Typed A)))) (signatures : List Signature) (n : Name) (found : Option ℕ)
     → map signature_in es ≡ signatures → found ≡ position (λ k. bytes_eq n k.now) (keys_of es) → found ≡ position (bytes_eq n) (map symbol_of signatures)
 predicate_number = place_at signature_in symbol_of (λ e. refl)
-
--- ---- what is asked of the object of a number
-
-asked_at : {X Y : Type 0} (see : X → Y) (test : Y → Bool) (b : Bool) (es : List X) (i : ℕ) (found : Option X) → found ≡ slice_get es i → option_map_or (λ e. test (see e)) found b ≡ option_map_or test (slice_get (map see es) i) b
-asked_at see test b [] i found at = ap (λ f. option_map_or (λ e. test (see e)) f b) at
-asked_at see test b (e ∷ es) zero found at = ap (λ f. option_map_or (λ e. test (see e)) f b) at
-asked_at see test b (e ∷ es) (suc i) found at = asked_at see test b es i found at
-
-pub fits_at : {A : Type 0} (test : TypedValue → Bool) (es : List (Bor (List ℕ) × Bor (Typed A))) (objects : List TypedValue) (i : ℕ) (found : Option (Bor (List ℕ) × Bor (Typed A)))
-    → map object_in es ≡ objects → found ≡ slice_get es i → option_map_or (λ e. test (object_in e)) found false ≡ option_map_or test (slice_get objects i) false
-fits_at test es objects i found same at = asked_at object_in test false es i found at ∙ ap (λ os. option_map_or test (slice_get os i) false) same

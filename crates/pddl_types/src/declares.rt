@@ -3,7 +3,9 @@
 ghost use Rattle.std.specs.Prelude.{map};
 ghost use Rattle.pddl_formula.specs.TypedLists.{typed_view};
 ghost use Rattle.pddl_domain.specs.Declarations.{predicate_view, function_view};
+ghost use Rattle.pddl_domain.specs.Actions.{action_view};
 ghost use Rattle.pddl_task.specs.Names.{item_of};
+ghost use Rattle.pddl_types.specs.KnownNames.{action_signature};
 
 use pddl_domain::{Action, DeclaredFunction, DeclaredPredicate};
 use pddl_formula::TypedList;
@@ -50,7 +52,7 @@ impl<A: Allocator> Declares<A> for DeclaredFunction<A> {
 }
 
 impl<A: Allocator> Declares<A> for Action<A> {
-    ghost signature = { λ a. record { name = a.name; parameters = map typed_view a.parameters.items } };
+    ghost signature = { λ a. action_signature (action_view a) };
 
     fn name(&self) -> &[u8] {
         self.name.as_bytes()

@@ -1,7 +1,7 @@
 //! Types that are looked for first where one was found before, since neighbours in a file often have one type: to compare a name takes less than to look it
 //! up, the more so where it is long.
 
-ghost use Rattle.std.specs.Prelude.{◌≡◌, ◌<◌, true, false, None, length, IfSome};
+ghost use Rattle.std.specs.Prelude.{◌≡◌, ◌<◌, true, false, None, take, drop, length, IfSome};
 ghost use Rattle.pddl_task.specs.Names.{is_in};
 ghost use Rattle.pddl_types.specs.TypeTables.{names_in, name_at};
 
@@ -20,9 +20,15 @@ pub fn place_at(places: &[usize], number: usize) -> usize {
     }
 }
 
-/// Of the places of the types of objects, in turn, that of the object of a number, and those behind it.
-pub fn near_of(places: &[usize], number: usize) -> &[usize] {
-    &places[number.min(places.len())..]
+/// Of the places of the types of objects, in turn, that of the object of a number, or none past their end.
+pub fn one_place(places: &[usize], number: usize) -> &[usize]
+    ensures { result.now ≡ take 1 (drop number places.now) }
+{
+    if number < places.len() {
+        &places[number..number + 1]
+    } else {
+        &[]
+    }
 }
 
 /// Whether the type at a place has this name.

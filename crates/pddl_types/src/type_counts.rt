@@ -1,6 +1,6 @@
 //! How many objects fit each type, counted once for all types by their numbers in pre-order.
 
-ghost use Rattle.std.specs.Prelude.{◌≡◌, ◌∷◌, [], List, map, length, slice_get, IfOk, IfSome};
+ghost use Rattle.std.specs.Prelude.{◌≡◌, ◌∷◌, [], List, map, take, length, slice_get, IfOk, IfSome};
 ghost use Rattle.pddl_domain.specs.Declarations.{TypeValue};
 ghost use Rattle.pddl_types.specs.KnownNames.{object_in};
 ghost use Rattle.pddl_types.specs.TypeTables.{IsTypeTable};
@@ -55,7 +55,8 @@ pub fn places_of<'m, 'a, 'c, A: Allocator, B: Allocator, C: Allocator>(
     parents: &IndexMap<&'m [u8], usize, Hashed, &'a B>,
     objects: &Objects<'m, 'a, A, B>,
 ) -> Result<Vec<usize, &'c C>, AllocError>
-    ensures { IfOk result (λ places. length places.items ≡ length objects.now.entries → ArePlacesOf parents.now.entries (map object_in objects.now.entries) places.items) }
+    ensures all { IfOk result (λ places. length places.items ≡ length objects.now.entries → ArePlacesOf parents.now.entries (map object_in objects.now.entries) places.items) }
+    ensures first { IfOk result (λ places. ArePlacesOf parents.now.entries (take (length places.items) (map object_in objects.now.entries)) places.items) }
 {
     let mut places = Vec::with_capacity(alloc, objects.len())?;
     let mut near = 0;

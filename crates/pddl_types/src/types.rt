@@ -1,6 +1,6 @@
 //! The types of a domain with their parents, looked up by name.
 
-ghost use Rattle.std.specs.Prelude.{◌≡◌, ◌<◌, ℕ, suc, [], true, false, map, not, filter, length, slice_get, Some, IfOk, IfSome, Contains};
+ghost use Rattle.std.specs.Prelude.{◌≡◌, ◌<◌, ℕ, List, suc, [], true, false, map, not, filter, length, bytes_eq, slice_get, Some, None, IfOk, IfSome, OnOk, Contains};
 ghost use Rattle.std.specs.List.{flat_map, list_any};
 ghost use Rattle.pddl_formula.specs.TypedLists.{TypedValue, typed_view};
 ghost use Rattle.pddl_domain.specs.Declarations.{type_view};
@@ -10,16 +10,17 @@ ghost use Rattle.pddl_task.specs.Faults.{primitives_of, first_alone};
 ghost use Rattle.pddl_faults.specs.Passes.{Passes};
 ghost use Rattle.pddl_types.specs.KnownNames.{object_in};
 ghost use Rattle.pddl_types.specs.ObjectCounts.{AreCountsOf, AddUp};
+ghost use Rattle.pddl_types.specs.TypeTables.{type_names};
+ghost use Rattle.pddl_types.specs.Places.{type_at, IsToldAt, AreToldAt, AreTops, AreObjectsAt};
 
 use crate::known::Objects;
-use crate::near::{NOWHERE, place_at, place_in};
-use crate::slot_tops::Top;
+use crate::top::Top;
 use crate::tops::tops;
 use crate::type_counts::{TypeCounts, places_of, type_counts};
 use crate::type_table::{Places, climbs, parent_table, places_of_parents};
 use indexmap::IndexMap;
 use pddl_domain::DeclaredType;
-use pddl_faults::{Hashed, LinkFault};
+use pddl_faults::{Hashed, LinkFault, Runs, Tells};
 use pddl_formula::{TypeName, TypeNames, TypedList};
 use std::alloc::{AllocError, Allocator};
 use std::marker::Model;
@@ -85,30 +86,41 @@ impl<'m, 'a, A: Allocator, B: Allocator> Types<'m, 'a, A, B> {
         self.parents.contains_key(name)
     }
 
-    /// Whether a name is under another, which holds of each name and itself. They are looked for first at places that are near.
-    fn is_under_near(&self, sub: &[u8], near_sub: usize, over: &[u8], near_over: usize) -> bool
-        ensures { result ≡ is_under (pairs self.now) sub.now over.now }
+    /// Whether the type at a place is under that at another.
+    fn is_under_at(&self, place: usize, over: usize) -> bool
+        requires place { place < length (type_names self.now) }
+        requires over { over < length (type_names self.now) }
+        ensures { result ≡ is_under (pairs self.now) (type_at self.now place) (type_at self.now over) }
     {
-        if sub == over {
-            return true;
+        match &self.places.order {
+            Some(order) => order.is_under(place, over),
+            None => climbs(&self.parents, place, over),
         }
-        match place_in(&self.parents, near_sub, sub) {
-            None => false,
-            Some(from) => match place_in(&self.parents, near_over, over) {
-                None => false,
-                Some(to) => match &self.places.order {
-                    Some(order) => order.is_under(from, to),
-                    None => climbs(&self.parents, from, to),
-                },
-            },
-        }
+    }
+
+    /// The place of a type, where there is one.
+    fn place(&self, name: &[u8]) -> Option<usize>
+        ensures within { IfSome result (λ place. place < length (type_names self.now)) }
+        ensures named { IfSome result (λ place. type_at self.now place ≡ name.now) }
+        ensures alone { result ≡ None → (n : List ℕ) → (is_under (pairs self.now) name.now n ≡ bytes_eq name.now n) × (is_under (pairs self.now) n name.now ≡ bytes_eq n name.now) }
+    {
+        self.parents.get_index_of(name)
     }
 
     /// Whether a name is under another, which holds of each name and itself.
     fn is_under(&self, sub: &[u8], over: &[u8]) -> bool
         ensures { result ≡ is_under (pairs self.now) sub.now over.now }
     {
-        self.is_under_near(sub, NOWHERE, over, NOWHERE)
+        if sub == over {
+            return true;
+        }
+        match self.place(sub) {
+            None => false,
+            Some(from) => match self.place(over) {
+                None => false,
+                Some(to) => self.is_under_at(from, to),
+            },
+        }
     }
 
     /// Whether a type is a subtype of another, or that type itself; no name that is no type is either.
@@ -118,13 +130,13 @@ impl<'m, 'a, A: Allocator, B: Allocator> Types<'m, 'a, A, B> {
         self.contains(sub) && self.contains(over) && self.is_under(sub, over)
     }
 
-    /// Whether a name, which is looked for first at a place that is near, is under some primitive of a slot's type.
-    fn fits_some<S: Allocator>(&self, name: &[u8], near: usize, slot: &TypeNames<S>) -> bool
+    /// Whether a name is under some primitive of a slot's type.
+    fn fits_some<S: Allocator>(&self, name: &[u8], slot: &TypeNames<S>) -> bool
         ensures { result ≡ list_any (is_under (pairs self.now) name.now) slot.now }
     {
         let primitives = slot.as_slice();
         for primitive in primitives {
-            if self.is_under_near(name, near, primitive.as_bytes(), NOWHERE) {
+            if self.is_under(name, primitive.as_bytes()) {
                 return true;
             }
         }
@@ -147,20 +159,20 @@ impl<'m, 'a, A: Allocator, B: Allocator> Types<'m, 'a, A, B> {
         }
     }
 
-    /// The number of a type, which is looked for first at a place that is near, or 0 where it has none. Nothing is promised of it.
-    fn number(&self, name: &[u8], near: usize) -> usize {
-        match place_in(&self.parents, near, name) {
-            Some(place) => self.number_at(place),
-            None => 0,
+    /// The top that the type at a place is under, if it is under one: the last that does not come behind it. What is promised is that it is one of them.
+    ///
+    /// It is looked for first where it stands if the primitives are those of the slot, in the order in which they are declared: types that are declared later
+    /// have smaller numbers, so that is as far from the end as the step is from the start.
+    fn top_of(&self, place: usize, step: usize, tops: &[Top]) -> Option<Top>
+        ensures { IfSome result (Contains tops.now) }
+    {
+        let number = self.number_at(place);
+        if step < tops.len() {
+            let top = tops[tops.len() - 1 - step];
+            if top.number <= number && number <= top.last {
+                return Some(top);
+            }
         }
-    }
-
-    /// The top that a name is under, if it is under one: one that is alone, or else the last that does not come behind it. Nothing is promised of it.
-    fn top_of(&self, name: &[u8], near: usize, tops: &[Top]) -> Option<Top> {
-        if tops.len() == 1 {
-            return Some(tops[0]);
-        }
-        let number = self.number(name, near);
         let behind = tops.partition_point(|top| top.number <= number);
         if behind == 0 || tops.len() < behind {
             return None;
@@ -168,71 +180,56 @@ impl<'m, 'a, A: Allocator, B: Allocator> Types<'m, 'a, A, B> {
         Some(tops[behind - 1])
     }
 
-    /// Whether a name was found to be under a primitive of a slot, by its tops.
-    fn is_under_top<S: Allocator>(
+    /// Whether the type at a place, if there is one, which is that of the primitive of a step, was found to be under a primitive of a slot, by the slot's tops.
+    fn is_under_top(&self, place: usize, step: usize, tops: &[Top]) -> bool
+        ensures { result ≡ true → (n : List ℕ) (slot : List (List ℕ)) → IsToldAt self.now n place → AreTops self.now slot tops.now → list_any (is_under (pairs self.now) n) slot ≡ true }
+    {
+        let Some(top) = self.top_of(place, step, tops) else {
+            return false;
+        };
+        let size = self.parents.len();
+        if size <= place || size <= top.place {
+            return false;
+        }
+        self.is_under_at(place, top.place)
+    }
+
+    /// Whether a name, for which the place of a step stands, if there is one, is under some primitive of a slot's type, which is found fast by its tops.
+    fn fits_step<S: Allocator>(
         &self,
         name: &[u8],
-        near: usize,
+        places: &[usize],
+        step: usize,
         slot: &TypeNames<S>,
         tops: &[Top],
     ) -> bool
-        ensures { result ≡ true → list_any (is_under (pairs self.now) name.now) slot.now ≡ true }
+        requires place { (p : ℕ) → slice_get places.now step ≡ Some p → IsToldAt self.now name.now p }
+        requires tops { AreTops self.now slot.now tops.now }
+        ensures { result ≡ list_any (is_under (pairs self.now) name.now) slot.now }
     {
-        let primitives = slot.as_slice();
-        match self.top_of(name, near, tops) {
-            None => false,
-            Some(top) => top.step < primitives.len()
-                && self.is_under_near(name, near, primitives[top.step].as_bytes(), top.place),
+        match places.get(step) {
+            Some(place) => self.is_under_top(*place, step, tops) || self.fits_some(name, slot),
+            None => self.fits_some(name, slot),
         }
     }
 
-    /// Whether two names are the same, so that one is under the other.
-    fn is_same(&self, sub: &[u8], over: &[u8]) -> bool
-        ensures { result ≡ true → is_under (pairs self.now) sub.now over.now ≡ true }
-    {
-        sub == over
-    }
-
-    /// Whether a name is the primitive of a step of a slot's type.
-    fn is_step<S: Allocator>(&self, name: &[u8], slot: &TypeNames<S>, step: usize) -> bool
-        ensures { result ≡ true → list_any (is_under (pairs self.now) name.now) slot.now ≡ true }
-    {
-        let primitives = slot.as_slice();
-        step < primitives.len() && self.is_same(name, primitives[step].as_bytes())
-    }
-
-    /// Whether a name is under some primitive of a slot's type, which is found fast where it is: by a look at the primitive of a step, or else by the slot's
-    /// tops.
-    fn fits_some_by<S: Allocator>(
-        &self,
-        name: &[u8],
-        near: usize,
-        slot: &TypeNames<S>,
-        step: usize,
-        tops: &[Top],
-    ) -> bool
-        ensures { result ≡ list_any (is_under (pairs self.now) name.now) slot.now }
-    {
-        self.is_step(name, slot, step)
-            || self.is_under_top(name, near, slot, tops)
-            || self.fits_some(name, near, slot)
-    }
-
-    /// Whether a term of the first type fits a slot of the second: each primitive of the one is under some primitive of the other, which is found fast where
-    /// it is the one of the same step, or by the slot's tops. The primitives of the first are looked for first at places that are near, in turn.
+    /// Whether a term of the first type, whose primitives stand at these places, in turn, fits a slot of the second: each primitive of the one is under some
+    /// primitive of the other, which is found fast by the slot's tops.
     pub fn fits_by<T: Allocator, S: Allocator>(
         &self,
         types: &TypeNames<T>,
-        near: &[usize],
+        places: &[usize],
         slot: &TypeNames<S>,
         tops: &[Top],
     ) -> bool
+        requires places { AreToldAt self.now types.now places.now }
+        requires tops { AreTops self.now slot.now tops.now }
         ensures { result ≡ fits (pairs self.now) types.now slot.now }
     {
         let primitives = types.as_slice();
         for step in 0..primitives.len() {
             let name = primitives[step].as_bytes();
-            if !self.fits_some_by(name, place_at(near, step), slot, step, tops) {
+            if !self.fits_step(name, places, step, slot, tops) {
                 return false;
             }
         }
@@ -250,37 +247,45 @@ impl<'m, 'a, A: Allocator, B: Allocator> Types<'m, 'a, A, B> {
         self.fits_by(types, &[], slot, &[])
     }
 
-    /// The place of a type, or [`NOWHERE`] where there is none. Nothing is promised of it.
-    fn place(&self, name: &[u8]) -> usize {
+    /// The place of a type, or one past all types where there is none.
+    fn told_place(&self, name: &[u8]) -> usize
+        ensures { IsToldAt self.now name.now result }
+    {
         match self.parents.get_index_of(name) {
             Some(place) => place,
-            None => NOWHERE,
+            None => self.parents.len(),
         }
     }
 
-    /// Adds the places at which the primitives of a type stand, in turn. Nothing is promised of them.
+    /// Adds the places at which the primitives of a type stand, in turn, to an open run without places.
     ///
     /// Fails where memory for them is refused.
     pub fn add_places<'c, N: Allocator, C: Allocator>(
         &self,
         types: &TypeNames<N>,
-        places: &mut Vec<usize, &'c C>,
-    ) -> Result<(), AllocError> {
+        places: &mut Runs<'c, usize, C>,
+    ) -> Result<(), AllocError>
+        requires { places.old.1 ≡ [] }
+        ensures before { OnOk result (places.new.0 ≡ places.old.0) }
+        ensures told { OnOk result (AreToldAt self.now types.now places.new.1) }
+    {
         let primitives = types.as_slice();
         for primitive in primitives {
-            places.push(self.place(primitive.as_bytes()))?;
+            places.push(self.told_place(primitive.as_bytes()))?;
         }
         Ok(())
     }
 
-    /// The places at which the types of these objects stand, up to the first object that has not one type. Nothing is promised of them.
+    /// The places at which the types of these objects stand, up to the first object that has not one type.
     ///
     /// Fails where memory for them is refused.
     pub fn places_of<'c, C: Allocator>(
         &self,
         alloc: &'c C,
         objects: &Objects<'m, 'a, A, B>,
-    ) -> Result<Vec<usize, &'c C>, AllocError> {
+    ) -> Result<Vec<usize, &'c C>, AllocError>
+        ensures { IfOk result (λ places. AreObjectsAt self.now (map object_in objects.now.entries) places.items) }
+    {
         places_of(alloc, &self.parents, objects)
     }
 
@@ -321,39 +326,18 @@ impl<'m, 'a, A: Allocator, B: Allocator> Types<'m, 'a, A, B> {
         &self,
         primitives: &[TypeName<N>],
         step: usize,
-        tops: &mut Vec<Top, &'c C>,
+        tops: &mut Runs<'c, Top, C>,
     ) -> Result<(), AllocError>
         requires { step < length primitives.now }
+        ensures before { OnOk result (tops.new.0 ≡ tops.old.0) }
+        ensures tops { AreTops self.now primitives.now tops.old.1 → OnOk result (AreTops self.now primitives.now tops.new.1) }
     {
-        let name = primitives[step].as_bytes();
-        match self.parents.get_index_of(name) {
-            Some(place) => {
-                tops.push(Top {
-                    step,
-                    place,
-                    number: self.number_at(place),
-                    last: self.last_at(place),
-                })?;
-                Ok(())
-            }
-            None => Ok(()),
-        }
-    }
-
-    /// Adds those primitives of a type to tops of which [`Types::tops`] has the steps, in the order of their numbers.
-    ///
-    /// Fails where memory for them is refused.
-    pub fn add_tops<'c, N: Allocator, C: Allocator>(
-        &self,
-        types: &TypeNames<N>,
-        tops: &mut Vec<Top, &'c C>,
-    ) -> Result<(), AllocError> {
-        let primitives = types.as_slice();
-        if primitives.len() == 1 {
-            return self.add_top(primitives, 0, tops);
-        }
-        match self.tops(types) {
-            Some(steps) => self.add_each(primitives, &steps, tops),
+        match self.place(primitives[step].as_bytes()) {
+            Some(place) => tops.push(Top {
+                place,
+                number: self.number_at(place),
+                last: self.last_at(place),
+            }),
             None => Ok(()),
         }
     }
@@ -365,8 +349,11 @@ impl<'m, 'a, A: Allocator, B: Allocator> Types<'m, 'a, A, B> {
         &self,
         primitives: &[TypeName<N>],
         steps: &[usize],
-        tops: &mut Vec<Top, &'c C>,
-    ) -> Result<(), AllocError> {
+        tops: &mut Runs<'c, Top, C>,
+    ) -> Result<(), AllocError>
+        ensures before { OnOk result (tops.new.0 ≡ tops.old.0) }
+        ensures tops { AreTops self.now primitives.now tops.old.1 → OnOk result (AreTops self.now primitives.now tops.new.1) }
+    {
         for i in 0..steps.len() {
             let step = steps[i];
             if step < primitives.len() {
@@ -466,5 +453,28 @@ impl<'m, 'a, A: Allocator, B: Allocator> Types<'m, 'a, A, B> {
             self.known_item(typed, place)?;
         }
         Ok(())
+    }
+}
+
+/// Of a type those primitives are told of which [`Types::tops`] has the steps, in the order of their numbers.
+impl<'m, 'a, A: Allocator, B: Allocator, N: Allocator, C: Allocator> Tells<N, C, Top>
+    for Types<'m, 'a, A, B> {
+    ghost use Rattle.pddl_types.specs.Places.{AreTops};
+
+    ghost is_told = { AreTops };
+
+    fn tell<'c>(
+        &self,
+        types: &TypeNames<N>,
+        told: &mut Runs<'c, Top, C>,
+    ) -> Result<(), AllocError> {
+        let primitives = types.as_slice();
+        if primitives.len() == 1 {
+            return self.add_top(primitives, 0, told);
+        }
+        match self.tops(types) {
+            Some(steps) => self.add_each(primitives, &steps, told),
+            None => Ok(()),
+        }
     }
 }

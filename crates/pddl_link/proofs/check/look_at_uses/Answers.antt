@@ -1,4 +1,4 @@
-use Rattle.std.proofs.Common.{map, ◌∙◌}
+use Rattle.std.proofs.Common.{map, ◌∙◌, sym, subst}
 use Rattle.pddl_domain.specs.Domains.{domain_view}
 use Rattle.pddl_task.specs.Names.{firsts}
 use Rattle.pddl_task.specs.Linked.{domain_fault}
@@ -7,6 +7,7 @@ use Rattle.pddl_names.specs.FaultParts.{joined, domain_uses, use_rules}
 use Rattle.pddl_names.proofs.RuleParts.{domain_uses_stand}
 use Rattle.pddl_link.proofs.Settings.{setting_by_parts}
 use Rattle.pddl_link.proofs.Stages.{verdict_of}
+use Rattle.pddl_types.specs.Places.{AreSlotTops}
 use Rattle.pddl_link.proofs.check.look_at_uses.Goals as goal
 
 pub look_at_domain_uses-used-requires : goal.look_at_domain_uses-used-requires
@@ -19,3 +20,9 @@ pub returns : goal.returns
 returns g c =
     let d = domain_view c.args.domain.now in
     verdict_of (joined (domain_uses d)) (map (domain_fault d) use_rules) c.look_at_domain_uses-used.result (domain_uses_stand d) c.look_at_domain_uses-used.ensures
+
+pub known-requires-clause-predicate_tops : goal.known-requires-clause-predicate_tops
+known-requires-clause-predicate_tops g c = subst (λ fs. AreSlotTops c.args.types.now fs c.in_ok-declared.declared.tops.predicates) (sym c.in_ok-declared.ensures.predicates) c.in_ok-declared.ensures.predicate_tops
+
+pub known-requires-clause-function_tops : goal.known-requires-clause-function_tops
+known-requires-clause-function_tops g c = subst (λ fs. AreSlotTops c.args.types.now fs c.in_ok-declared.declared.tops.functions) (sym c.in_ok-declared.ensures.functions) c.in_ok-declared.ensures.function_tops

@@ -1,4 +1,4 @@
-use Rattle.std.proofs.Common.{◌++◌, map, ◌∙◌}
+use Rattle.std.proofs.Common.{◌++◌, map, sym, subst, ◌∙◌}
 use Rattle.pddl_domain.specs.Domains.{domain_view}
 use Rattle.pddl_problem.specs.Problems.{problem_view}
 use Rattle.pddl_task.specs.Names.{firsts}
@@ -6,6 +6,8 @@ use Rattle.pddl_task.specs.Settings.{objects_of}
 use Rattle.pddl_task.specs.Linked.{fault_in}
 use Rattle.pddl_search.specs.Claims.{HoldsValues}
 use Rattle.pddl_types.specs.KnownNames.{signature_in, object_in}
+use Rattle.pddl_types.specs.Places.{AreSlotTops, AreObjectsAt}
+use Rattle.pddl_types.proofs.TypePlaces.{first_objects, firsts_behind}
 use Rattle.pddl_names.specs.FaultParts.{joined, domain_uses, problem_uses, use_rules}
 use Rattle.pddl_names.proofs.FoundParts.{found_parts, second_kept}
 use Rattle.pddl_names.proofs.RuleParts.{uses_stand}
@@ -38,3 +40,25 @@ returns-clause-verdict g c =
     let p = problem_view c.args.problem.now in
     verdict_of (joined (domain_uses d ++ problem_uses d p)) (map (fault_in d p) use_rules) c.lower.result (uses_stand d p)
     (found_parts (domain_uses d) (problem_uses d p) c.look_at_domain_uses-used.result c.look_at_problem_uses.result c.lower.result c.lower.ensures.found c.look_at_domain_uses-used.ensures c.look_at_problem_uses.ensures.found)
+
+pub known-inner-requires-clause-predicate_tops : goal.known-inner-requires-clause-predicate_tops
+known-inner-requires-clause-predicate_tops g c = subst (λ fs. AreSlotTops c.args.types.now fs c.args.tables.now.declared.tops.predicates) (sym c.requires.predicates) c.requires.predicate_tops
+
+pub known-inner-requires-clause-function_tops : goal.known-inner-requires-clause-function_tops
+known-inner-requires-clause-function_tops g c = subst (λ fs. AreSlotTops c.args.types.now fs c.args.tables.now.declared.tops.functions) (sym c.requires.functions) c.requires.function_tops
+
+pub known-outer-requires-clause-predicate_tops : goal.known-outer-requires-clause-predicate_tops
+known-outer-requires-clause-predicate_tops g c = subst (λ fs. AreSlotTops c.args.types.now fs c.args.tables.now.declared.tops.predicates) (sym c.requires.predicates) c.requires.predicate_tops
+
+pub known-outer-requires-clause-function_tops : goal.known-outer-requires-clause-function_tops
+known-outer-requires-clause-function_tops g c = subst (λ fs. AreSlotTops c.args.types.now fs c.args.tables.now.declared.tops.functions) (sym c.requires.functions) c.requires.function_tops
+
+pub known-inner-requires-clause-places : goal.known-inner-requires-clause-places
+known-inner-requires-clause-places g c =
+    let d = domain_view c.args.domain.now in
+    let types = c.args.types.now in
+    let places = c.args.tables.now.places.places.items in
+    let behind = firsts_behind d.constants (problem_view c.args.problem.now).objects in
+    subst (AreObjectsAt types (map object_in c.args.constants.now.entries)) (sym c.places-places.ensures)
+    (subst (λ os. AreObjectsAt types os places) (sym c.requires.constants)
+    (first_objects types (firsts d.constants) (map object_in c.args.objects.now.entries) behind.0 places (c.requires.objects ∙ behind.1) c.requires.places))

@@ -7,5 +7,6 @@ returns-in-Ok-clause-tables g c =
       objects_are = c.requires.objects;
       objects_named = c.requires.named;
       counts_are = c.in_ok-tables.ensures.counts;
+      places_are = c.in_ok-tables.ensures.places;
       values_are = c.in-Ok.ensures.values;
     }

@@ -7,4 +7,4 @@ use Rattle.pddl_names.proofs.uses.is_known.Goals as goal
 pub returns-in-Variable : goal.returns-in-Variable
 returns-in-Variable g c =
     let n = c.in-Variable.variable.now in
-    rw c.in-Variable.is (ap (λ known. word_if (not known) n) (sym (c.is_some.ensures ∙ is_bound c.bound_type.result.0 (bound_of c.args.scope.now) n c.bound_type.ensures)))
+    rw c.in-Variable.is (ap (λ known. word_if (not known) n) (sym (c.is_some.ensures ∙ is_bound c.bound_type.result.0 (bound_of c.args.scope.now) n c.bound_type.ensures.types)))

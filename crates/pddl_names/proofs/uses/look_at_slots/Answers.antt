@@ -6,7 +6,7 @@ use Rattle.pddl_task.specs.Faults.{unknown_term, some_misfit}
 use Rattle.pddl_faults.specs.Parts.{terms_in}
 use Rattle.pddl_faults.specs.Scopes.{bound_of}
 use Rattle.pddl_faults.proofs.FoundFaults.{found_same}
-use Rattle.pddl_types.specs.KnownNames.{setting_of}
+use Rattle.pddl_types.specs.Settings.{setting_of}
 use Rattle.pddl_names.proofs.UseFaults.{in_turn, settled, no_slots}
 use Rattle.pddl_names.proofs.uses.look_at_slots.Goals as goal
 

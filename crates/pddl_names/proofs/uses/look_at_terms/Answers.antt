@@ -8,7 +8,7 @@ use Rattle.pddl_task.specs.Faults.{unknown_term, some_misfit}
 use Rattle.pddl_faults.specs.declared.fault.LinkFault.TheVariants as link
 use Rattle.pddl_faults.specs.Parts.{terms_in}
 use Rattle.pddl_faults.specs.Scopes.{bound_of}
-use Rattle.pddl_types.specs.KnownNames.{setting_of}
+use Rattle.pddl_types.specs.Settings.{setting_of}
 use Rattle.pddl_names.proofs.UseFaults.{first_found, second_found, third_found, has_word, has_no_word}
 use Rattle.pddl_names.proofs.uses.look_at_terms.Goals as goal
 

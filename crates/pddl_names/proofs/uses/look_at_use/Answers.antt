@@ -5,8 +5,10 @@ use Rattle.pddl_faults.specs.declared.fault.LinkFault.TheVariants as link
 use Rattle.pddl_faults.specs.Parts.{terms_in}
 use Rattle.pddl_faults.specs.Scopes.{bound_of}
 use Rattle.pddl_faults.proofs.FoundFaults.{found_same}
-use Rattle.pddl_types.specs.KnownNames.{signature_in, setting_of}
+use Rattle.pddl_types.specs.KnownNames.{signature_in}
+use Rattle.pddl_types.specs.Settings.{setting_of}
 use Rattle.pddl_names.specs.Uses.{faults_of_use, faults_of_terms}
+use Rattle.pddl_types.proofs.TypePlaces.{seen_entry}
 use Rattle.pddl_names.proofs.UseFaults.{undeclared_found, declared_is}
 use Rattle.pddl_names.proofs.uses.look_at_use.Goals as goal
 
@@ -27,3 +29,8 @@ returns-in-Some g c = λ before h.
     let slots = c.in-Some.slots.now in
     found_same (before ++ faults_of_terms s b n ts (length slots.now) (map typed_view slots.now)) (before ++ faults_of_use s b (record { name = n; terms = ts; declared = map signature_in c.args.declared.now.entries })) c.look_at_slots.result
     (ap (λ fs. before ++ fs) (declared_is s b ts c.args.declared.now.entries n slots (sym (ap (option_map (λ p. p.2.now)) c.in-Some.is) ∙ c.get_full.ensures.value))) (c.look_at_slots.ensures before h)
+
+pub look_at_slots-requires-clause-tops : goal.look_at_slots-requires-clause-tops
+look_at_slots-requires-clause-tops g c =
+    let entries = c.args.declared.now.entries in
+    c.requires.tops c.in-Some.name (signature_in (c.in-Some.field-0-1.now, c.in-Some.slots.now)) (seen_entry signature_in entries c.in-Some.name (c.in-Some.field-0-1.now, c.in-Some.slots.now) c.in-Some.ensures.entry)

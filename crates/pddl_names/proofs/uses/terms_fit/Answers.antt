@@ -5,8 +5,9 @@ use Rattle.pddl_formula.specs.TypedLists.{typed_view}
 use Rattle.pddl_task.specs.Faults.{unknown_term, some_misfit}
 use Rattle.pddl_faults.specs.Parts.{term_in, terms_in}
 use Rattle.pddl_faults.specs.Scopes.{bound_of}
-use Rattle.pddl_types.specs.KnownNames.{setting_of}
+use Rattle.pddl_types.specs.Settings.{setting_of}
 use Rattle.pddl_names.proofs.Slots.{unknown_here, known_here, fits_here}
+use Rattle.pddl_names.proofs.ToldUses.{slot_told}
 use Rattle.pddl_names.proofs.uses.terms_fit.Goals.{then-all_fit, else-all_fit}
 use Rattle.pddl_names.proofs.uses.terms_fit.Goals as goal
 
@@ -42,3 +43,6 @@ loop-i-preserved g c =
           fits_here s b typed_view all slots c.loop-i.i (term_in c.at-term.result) c.get.result c.term_fits.result c.in-Some.fits c.loop-i.all_fit c.if-all_fit.all_fit (some_misfit s b all (map typed_view slots))
           low c.at-term.ensures c.get.ensures.lookup c.loop-i.invariant.misfit c.term_fits.ensures c.in-Some.is next;
     }
+
+pub term_fits-requires-clause-tops : goal.term_fits-requires-clause-tops
+term_fits-requires-clause-tops g c = slot_told c.args.known.now.types.now c.args.slots.now _ c.loop-i.i c.get.result c.at.result.now c.requires.tops c.get.ensures.lookup c.at.ensures

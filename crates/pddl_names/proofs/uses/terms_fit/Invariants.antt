@@ -4,7 +4,7 @@ use Rattle.pddl_formula.specs.TypedLists.{typed_view}
 use Rattle.pddl_task.specs.Faults.{unknown_term, some_misfit}
 use Rattle.pddl_faults.specs.Parts.{terms_in}
 use Rattle.pddl_faults.specs.Scopes.{bound_of}
-use Rattle.pddl_types.specs.KnownNames.{setting_of}
+use Rattle.pddl_types.specs.Settings.{setting_of}
 use Rattle.pddl_names.proofs.uses.terms_fit.Given as goal
 
 -- the words of the whole are those of what is left, and some term of the whole does not fit where one did not so far, or one of those

@@ -1,6 +1,12 @@
-use Rattle.std.proofs.Common.{refl, sym, ap, ◌∙◌, subst}
-use Rattle.std.specs.List.{slice_get}
+use Rattle.std.proofs.Common.{[], map, refl, sym, ap, ◌∙◌, subst}
+use Rattle.std.specs.List.{slice_get, slice_index_or}
+use Rattle.pddl_formula.specs.TypedLists.{typed_view}
+use Rattle.pddl_domain.specs.Actions.{action_view}
 use Rattle.pddl_task.specs.Tasks.{TaskValue}
+use Rattle.pddl_faults.specs.Told.{AreTold}
+use Rattle.pddl_types.specs.KnownNames.{action_signature}
+use Rattle.pddl_types.specs.Places.{AreTops}
+use Rattle.pddl_types.proofs.TypePlaces.{seen_entry}
 use Rattle.pddl_tables.specs.Link.LinkedTasks.{files_of, task_of_files}
 use Rattle.pddl_tables.specs.Lookups.{task_in, price_in}
 use Rattle.pddl_plan_tables.specs.ActionChanges.{AreChangesOf}
@@ -88,3 +94,12 @@ returns-clause-objects g c =
 
 pub returns-clause-changes : goal.returns-clause-changes
 returns-clause-changes g c = subst (λ t. AreChangesOf t c.lacks_cost.new.changes.items) c.requires.tables.lookups c.in_ok-lacks_cost.ensures.changes
+
+pub some_unfit-requires : goal.some_unfit-requires
+some_unfit-requires g c =
+    let task = task_of_files c.args.tables.now.task.now in
+    let a = action_view c.in-Some.found.now.action.now in
+    subst (λ ps. AreTold (AreTops task.types) (map typed_view ps) (slice_index_or c.args.tables.now.tops c.in-Some.number [])) (sym c.deref-2.ensures.value)
+    (c.requires.tables.tops c.in-Some.number (action_signature a) (seen_entry action_signature task.actions c.in-Some.number a
+    (found_there task c.args.tables.now.actions.entries c.args.step.now c.action.result.now c.requires.tables.actions c.action.ensures
+    c.in-Some.number c.in-Some.field-0-1.now c.in-Some.found.now c.in-Some.ensures.index c.in-Some.ensures.entry)))

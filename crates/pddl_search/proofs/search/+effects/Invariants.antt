@@ -9,5 +9,5 @@ use Rattle.pddl_search.proofs.search.+effects.Given as goal
 
 abbrev pub invariant-search_effects-loop-effect : goal.invariant-search_effects-loop-effect
 invariant-search_effects-loop-effect g l = (before : List (ℕ × Name)) → IsFound before l.fn.so_far →
-    IsFoundUpTo before (effects_faults (g.S.Search.found l.search) (effects_of (map effect_view (drop l.effect-index l.effects.items))) (bound_of l.scope))
-    (effects_faults (g.S.Search.found l.search) (effects_of (map effect_view l.effects.items)) (bound_of l.scope)) l.found
+    IsFoundUpTo before (effects_faults (g.S.Search.found l.within.search.now) (effects_of (map effect_view (drop l.effect-index l.effects.items))) (bound_of l.within.scope.now))
+    (effects_faults (g.S.Search.found l.within.search.now) (effects_of (map effect_view l.effects.items)) (bound_of l.within.scope.now)) l.found

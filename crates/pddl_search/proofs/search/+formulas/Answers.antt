@@ -1,4 +1,5 @@
 use Rattle.std.proofs.Common.{◌++◌, ◌+◌, drop, map, ap, sym, ◌∙◌, refl}
+use Rattle.std.proofs.Math.Logic.{∥∥₁_map}
 use Rattle.pddl_formula.specs.TypedLists.{typed_view}
 use Rattle.pddl_formula.specs.Formulas.{formula_view, formulas_of}
 use Rattle.pddl_task.specs.Places.{at, binds, binding}
@@ -10,8 +11,8 @@ use Rattle.pddl_search.proofs.search.+formulas.Goals as goal
 
 pub search_formula-returns-in-Imply : goal.search_formula-returns-in-Imply
 search_formula-returns-in-Imply g t c = λ before h.
-    let w = g.S.Search.found c.args.search.now in
-    let b = bound_of c.args.scope.now in
+    let w = g.S.Search.found c.args.within.now.search.now in
+    let b = bound_of c.args.within.now.scope.now in
     let left = faults_in w (formula_view c.deref-in-Imply.result.now) b in
     let right = faults_in w (formula_view c.deref-in-Imply-2.result.now) b in
     found_in_two before left right (faults_in w (formula_view c.args.formula.now) b) c.search_formula-in-Imply.result
@@ -20,8 +21,8 @@ search_formula-returns-in-Imply g t c = λ before h.
 
 pub search_formula-returns-in-Exists : goal.search_formula-returns-in-Exists
 search_formula-returns-in-Exists g t c = λ before h.
-    let w = g.S.Search.found c.args.search.now in
-    let b = bound_of c.args.scope.now in
+    let w = g.S.Search.found c.args.within.now.search.now in
+    let b = bound_of c.args.within.now.scope.now in
     let xs = c.in-Exists.variables.items in
     let inner = c.in-Exists.inner.value in
     found_same (before ++ (w (at b (binds (map typed_view xs))) ++ faults_in w (formula_view inner) (binding (map typed_view xs) b))) (before ++ faults_in w (formula_view c.args.formula.now) b) c.search_quantified.result
@@ -29,8 +30,8 @@ search_formula-returns-in-Exists g t c = λ before h.
 
 pub search_formula-returns-in-Forall : goal.search_formula-returns-in-Forall
 search_formula-returns-in-Forall g t c = λ before h.
-    let w = g.S.Search.found c.args.search.now in
-    let b = bound_of c.args.scope.now in
+    let w = g.S.Search.found c.args.within.now.search.now in
+    let b = bound_of c.args.within.now.scope.now in
     let xs = c.in-Forall.variables.items in
     let inner = c.in-Forall.inner.value in
     found_same (before ++ (w (at b (binds (map typed_view xs))) ++ faults_in w (formula_view inner) (binding (map typed_view xs) b))) (before ++ faults_in w (formula_view c.args.formula.now) b) c.search_quantified-in-Forall.result
@@ -38,25 +39,28 @@ search_formula-returns-in-Forall g t c = λ before h.
 
 pub search_quantified-returns : goal.search_quantified-returns
 search_quantified-returns g t c = λ before h.
-    let w = g.S.Search.found c.args.search.now in
-    let b = bound_of c.args.scope.now in
+    let w = g.S.Search.found c.args.within.now.search.now in
+    let b = bound_of c.args.within.now.scope.now in
     let own = w (at b (binds (map typed_view c.args.variables.now.items))) in
-    let inside = faults_in w (formula_view c.deref.result.now) (binding c.in_ok-bound.bound b) in
+    let inside = faults_in w (formula_view c.deref.result.now) (binding c.in_ok-bound.bound.list b) in
     found_in_two before own inside (own ++ faults_in w (formula_view c.args.inner.now.value) (binding (map typed_view c.args.variables.now.items) b)) c.search_formula.result
-    (ap (λ vs. own ++ faults_in w (formula_view c.args.inner.now.value) (binding vs b)) (sym c.in_ok-bound.ensures) ∙ ap (λ k. own ++ faults_in w (formula_view k) (binding c.in_ok-bound.bound b)) (sym c.deref.ensures))
+    (ap (λ vs. own ++ faults_in w (formula_view c.args.inner.now.value) (binding vs b)) (sym c.in_ok-bound.ensures.list) ∙ ap (λ k. own ++ faults_in w (formula_view k) (binding c.in_ok-bound.bound.list b)) (sym c.deref.ensures))
     (c.search_formula.ensures (before ++ own) (c.look-so_far.ensures before h))
 
 pub search_formulas-loop-formula-init : goal.search_formulas-loop-formula-init
 search_formulas-loop-formula-init g t c = λ before h.
-    up_to_none before (faults_in_all (g.S.Search.found c.args.search.now) (formulas_of (map formula_view c.args.formulas.now.items)) (bound_of c.args.scope.now)) c.args.so_far h
+    up_to_none before (faults_in_all (g.S.Search.found c.args.within.now.search.now) (formulas_of (map formula_view c.args.formulas.now.items)) (bound_of c.args.within.now.scope.now)) c.args.so_far h
 
 pub search_formulas-loop-formula-preserved : goal.search_formulas-loop-formula-preserved
 search_formulas-loop-formula-preserved g t c = λ before h.
-    let w = g.S.Search.found c.args.search.now in
-    let b = bound_of c.args.scope.now in
+    let w = g.S.Search.found c.args.within.now.search.now in
+    let b = bound_of c.args.within.now.scope.now in
     let all = c.args.formulas.now.items in
     let i = c.loop-formula.formula-index in
     up_to_more before (faults_in_all w (formulas_of (map formula_view (drop i all))) b) (faults_in w (formula_view c.formula-item.result) b) (faults_in_all w (formulas_of (map formula_view (drop (i + 1) all))) b)
     (faults_in_all w (formulas_of (map formula_view all)) b) c.loop-formula.found c.search_formula-found.result
     (faults_left w b all c.deref-formula-items.result.now i c.formula-item.result c.deref-formula-items.ensures.value c.loop-formula-test.true c.formula-item.is)
     c.search_formula-found.ensures (c.loop-formula.invariant before h)
+
+pub search_quantified-invariant_of-inside : goal.search_quantified-invariant_of-inside
+search_quantified-invariant_of-inside g t c = record { told = ∥∥₁_map c.args.within.now.told (λ outer. (c.in_ok-bound.ensures.told, outer)) }

@@ -9,5 +9,5 @@ use Rattle.pddl_search.proofs.search.+formulas.Given as goal
 
 abbrev pub invariant-search_formulas-loop-formula : goal.invariant-search_formulas-loop-formula
 invariant-search_formulas-loop-formula g l = (before : List (ℕ × Name)) → IsFound before l.fn.so_far →
-    IsFoundUpTo before (faults_in_all (g.S.Search.found l.search) (formulas_of (map formula_view (drop l.formula-index l.formulas.items))) (bound_of l.scope))
-    (faults_in_all (g.S.Search.found l.search) (formulas_of (map formula_view l.formulas.items)) (bound_of l.scope)) l.found
+    IsFoundUpTo before (faults_in_all (g.S.Search.found l.within.search.now) (formulas_of (map formula_view (drop l.formula-index l.formulas.items))) (bound_of l.within.scope.now))
+    (faults_in_all (g.S.Search.found l.within.search.now) (formulas_of (map formula_view l.formulas.items)) (bound_of l.within.scope.now)) l.found

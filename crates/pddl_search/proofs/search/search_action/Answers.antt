@@ -14,11 +14,11 @@ pub returns : goal.returns
 returns g c = λ before h.
     let w = g.S.Search.found c.args.search.now in
     let a = c.args.action.now in
-    let b = binding c.in_ok-parameters.parameters [] in
+    let b = binding c.in_ok-parameters.parameters.list [] in
     let own = w (at [] (binds (map typed_view a.parameters.items))) in
     let precondition = faults_in w (formula_view a.precondition) b in
     let effect = effect_faults w (effect_view a.effect) b in
     found_in_two before own (precondition ++ effect) (flat_map w (action_places (action_view a))) c.search_effect.result
-    (faults_action w a a.parameters.items a.parameters.items c.in_ok-parameters.parameters refl refl c.in_ok-parameters.ensures)
+    (faults_action w a a.parameters.items a.parameters.items c.in_ok-parameters.parameters.list refl refl c.in_ok-parameters.ensures.list)
     (found_in_two (before ++ own) precondition effect (precondition ++ effect) c.search_effect.result refl
     (c.search_effect.ensures ((before ++ own) ++ precondition) (c.search_formula-so_far.ensures (before ++ own) (c.look-so_far.ensures before h))))

@@ -7,8 +7,8 @@ use Rattle.pddl_search.proofs.search.search_atom.Goals as goal
 
 pub returns : goal.returns
 returns g c = λ before h.
-    let w = g.S.Search.found c.args.search.now in
-    let b = bound_of c.args.scope.now in
+    let w = g.S.Search.found c.args.within.now.search.now in
+    let b = bound_of c.args.within.now.scope.now in
     let a = c.args.atom.now in
     found_same (before ++ w (at b (says (record { predicate = c.as_bytes.result.now; terms = map term_view c.deref.result.now })))) (before ++ w (at b (says (atom_view a)))) c.look.result
     (ap (λ n. before ++ w (at b (says (record { predicate = n; terms = map term_view a.terms.items })))) (sym c.as_bytes.ensures.value)

@@ -10,8 +10,8 @@ use Rattle.pddl_search.proofs.search.search_increase.Goals as goal
 
 pub returns-in-Number : goal.returns-in-Number
 returns-in-Number g c = λ before h.
-    let w = g.S.Search.found c.args.search.now in
-    let b = bound_of c.args.scope.now in
+    let w = g.S.Search.found c.args.within.now.search.now in
+    let b = bound_of c.args.within.now.scope.now in
     let total = w (at b (calls (bare c.as_slice.result.now))) in
     found_in_two before total (w (at b (counts c.as_slice-in-Number.result.now c.in-Number.number))) (increase_faults w (amount_view c.args.amount.now) b) c.look.result
     (faults_number w b c.args.amount.now c.in-Number.number c.as_slice.result.now c.as_slice-in-Number.result.now c.in-Number.is c.as_slice.ensures c.as_slice-in-Number.ensures)
@@ -19,8 +19,8 @@ returns-in-Number g c = λ before h.
 
 pub returns-in-Function : goal.returns-in-Function
 returns-in-Function g c = λ before h.
-    let w = g.S.Search.found c.args.search.now in
-    let b = bound_of c.args.scope.now in
+    let w = g.S.Search.found c.args.within.now.search.now in
+    let b = bound_of c.args.within.now.scope.now in
     let total = w (at b (calls (bare c.as_slice.result.now))) in
     found_in_two before total (w (at b (calls (record { function = c.as_bytes.result.now; terms = map term_view c.deref.result.now })))) (increase_faults w (amount_view c.args.amount.now) b) c.search_call.result
     (faults_function w b c.args.amount.now c.in-Function.call c.as_slice.result.now c.as_bytes.result.now c.deref.result.now c.in-Function.is c.as_slice.ensures c.as_bytes.ensures.value c.deref.ensures.value)

@@ -9,4 +9,4 @@ use Rattle.pddl_search.proofs.search_files.search_init.Given as goal
 
 abbrev pub invariant-loop-item : goal.invariant-loop-item
 invariant-loop-item g l = (before : List (ℕ × Name)) → IsFound before l.fn.so_far →
-    IsFoundUpTo before (flat_map (g.S.Search.found l.search) (flat_map init_places (map init_view (drop l.item-index l.init)))) (flat_map (g.S.Search.found l.search) (flat_map init_places (map init_view l.init))) l.found
+    IsFoundUpTo before (flat_map (g.S.Search.found l.outside.search.now) (flat_map init_places (map init_view (drop l.item-index l.init)))) (flat_map (g.S.Search.found l.outside.search.now) (flat_map init_places (map init_view l.init))) l.found

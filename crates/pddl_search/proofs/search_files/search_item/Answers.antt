@@ -10,8 +10,8 @@ use Rattle.pddl_search.proofs.search_files.search_item.Goals as goal
 
 pub returns-in-Holds : goal.returns-in-Holds
 returns-in-Holds g c = λ before h.
-    let w = g.S.Search.found c.args.search.now in
-    let b = bound_of c.args.outside.now in
+    let w = g.S.Search.found c.args.outside.now.search.now in
+    let b = bound_of c.args.outside.now.scope.now in
     let n = c.as_bytes.result.now in
     let objects = c.deref-in-Holds.result.now in
     found_same (before ++ w (at b (says (record { predicate = n; terms = map name objects })))) (before ++ flat_map w (init_places (init_view c.args.item.now))) c.look-in-Holds.result

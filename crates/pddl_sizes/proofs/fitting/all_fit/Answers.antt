@@ -12,7 +12,7 @@ loop-i-preserved g c =
     let numbers = c.args.numbers.now in
     let low : l.i ≤ length numbers = omega (arith, l.auto.i) in
     one_more (λ o. fits (pairs c.args.types.now) o.of c.args.slot.now) (map object_in c.args.objects.now.entries) numbers l.i (slice_index_or numbers (l.i - 1) 0) l.above
-    c.loop-i-test.true low refl (omega (arith, c.if-above-number.false)) (sym c.fits_at.ensures ∙ c.if-not-fits_at.false) l.invariant
+    c.loop-i-test.true low refl (omega (arith, c.if-above-number.false)) (sym c.object_fits.ensures ∙ c.if-not-object_fits.false) l.invariant
 
 pub returns : goal.returns
 returns g c = λ _.

@@ -1,21 +1,20 @@
-use Rattle.std.specs.Prelude.{Some, None}
-use Rattle.std.proofs.Common.{ap, ◌∙◌}
+use Rattle.std.proofs.Common.{false, map, ap, sym, subst, ◌∙◌}
+use Rattle.std.specs.List.{slice_get}
+use Rattle.std.specs.Option.{option_map_or}
+use Rattle.pddl_formula.specs.TypedLists.{TypedValue}
 use Rattle.pddl_domain.specs.Domains.{domain_view}
-use Rattle.pddl_problem.specs.Problems.{problem_view}
 use Rattle.pddl_task.specs.Types.{pairs, fits}
-use Rattle.pddl_task.specs.Settings.{objects_of}
-use Rattle.pddl_types.proofs.TaskNames.{fits_at}
+use Rattle.pddl_types.specs.KnownNames.{object_in}
+use Rattle.pddl_types.specs.Places.{AreTops}
 use Rattle.pddl_link.proofs.task.Task.object_fits_by.Goals as goal
 
-pub returns-in-Some : goal.returns-in-Some
-returns-in-Some g c =
-    let t = c.args.self.now in
-    let d = domain_view t.domain.now in
-    c.fits_by.ensures ∙ ap (λ ts. fits (pairs ts) c.in-Some.listed.now.now.types c.args.types.now) t.held.types_are
-    ∙ fits_at (λ o. fits (pairs d.types) o.of c.args.types.now) t.objects.entries (objects_of d (problem_view t.problem.now)) c.args.object (Some (c.in-Some.field-0-0.now, c.in-Some.listed.now)) t.held.behind.objects_are c.in-Some.ensures.entry
+pub object_fits-requires-clause-tops : goal.object_fits-requires-clause-tops
+object_fits-requires-clause-tops g c = subst (λ ds. AreTops ds c.args.types.now c.args.tops.now) (sym c.args.self.now.held.types_are) c.requires
 
-pub returns-in-None : goal.returns-in-None
-returns-in-None g c =
+pub returns : goal.returns
+returns g c =
     let t = c.args.self.now in
-    let d = domain_view t.domain.now in
-    fits_at (λ o. fits (pairs d.types) o.of c.args.types.now) t.objects.entries (objects_of d (problem_view t.problem.now)) c.args.object None t.held.behind.objects_are c.in-None.ensures.entry
+    let slot = c.args.types.now in
+    c.object_fits.ensures
+    ∙ ap (λ ds. option_map_or (λ (o : TypedValue). fits (pairs ds) o.of slot) (slice_get (map object_in t.objects.entries) c.args.object) false) t.held.types_are
+    ∙ ap (λ os. option_map_or (λ (o : TypedValue). fits (pairs (domain_view t.domain.now).types) o.of slot) (slice_get os c.args.object) false) t.held.behind.objects_are

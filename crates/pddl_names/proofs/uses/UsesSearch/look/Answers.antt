@@ -5,7 +5,7 @@ use Rattle.pddl_task.specs.Faults.{unknown_term, fraction_of}
 use Rattle.pddl_faults.specs.Found.{numbered}
 use Rattle.pddl_faults.specs.Scopes.{bound_of}
 use Rattle.pddl_faults.proofs.FoundFaults.{found_no_more, passed_found}
-use Rattle.pddl_types.specs.KnownNames.{setting_of}
+use Rattle.pddl_types.specs.Settings.{setting_of}
 use Rattle.pddl_names.proofs.UseFaults.{both_found}
 use Rattle.pddl_names.proofs.uses.UsesSearch.look.Goals as goal
 

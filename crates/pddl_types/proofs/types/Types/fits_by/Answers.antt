@@ -8,14 +8,14 @@ use Rattle.pddl_types.proofs.types.Types.fits_by.Goals as goal
 pub loop-step-preserved : goal.loop-step-preserved
 loop-step-preserved g c =
     let under : Name → Bool = λ t. list_any (is_under (pairs c.args.self.now) t) c.args.slot.now in
-    all_goes_on under c.as_slice-primitives.result.now c.loop-step.step c.index-primitives-step.result c.fits_some_by.result (fits (pairs c.args.self.now) c.args.types.now c.args.slot.now)
-    c.loop-step-test.true c.index-primitives-step.is (c.fits_some_by.ensures ∙ ap under c.as_bytes-name.ensures.value) c.if-not-fits_some_by.false c.loop-step.invariant
+    all_goes_on under c.as_slice-primitives.result.now c.loop-step.step c.index-primitives-step.result c.fits_step.result (fits (pairs c.args.self.now) c.args.types.now c.args.slot.now)
+    c.loop-step-test.true c.index-primitives-step.is (c.fits_step.ensures ∙ ap under c.as_bytes-name.ensures.value) c.if-not-fits_step.false c.loop-step.invariant
 
-pub returns-then-not-fits_some_by : goal.returns-then-not-fits_some_by
-returns-then-not-fits_some_by g c =
+pub returns-then-not-fits_step : goal.returns-then-not-fits_step
+returns-then-not-fits_step g c =
     let under : Name → Bool = λ t. list_any (is_under (pairs c.args.self.now) t) c.args.slot.now in
-    all_stops under c.as_slice-primitives.result.now c.loop-step.step c.index-primitives-step.result c.fits_some_by.result (fits (pairs c.args.self.now) c.args.types.now c.args.slot.now)
-    c.loop-step-test.true c.index-primitives-step.is (c.fits_some_by.ensures ∙ ap under c.as_bytes-name.ensures.value) c.if-not-fits_some_by.true c.loop-step.invariant
+    all_stops under c.as_slice-primitives.result.now c.loop-step.step c.index-primitives-step.result c.fits_step.result (fits (pairs c.args.self.now) c.args.types.now c.args.slot.now)
+    c.loop-step-test.true c.index-primitives-step.is (c.fits_step.ensures ∙ ap under c.as_bytes-name.ensures.value) c.if-not-fits_step.true c.loop-step.invariant
 
 pub returns : goal.returns
 returns g c =

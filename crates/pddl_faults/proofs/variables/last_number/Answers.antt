@@ -1,7 +1,7 @@
 use Rattle.std.proofs.Common.{◌∙◌, ap, sym, bytes_eq, arith}
 use Rattle.pddl_formula.specs.TypedLists.{typed_view}
 use Rattle.pddl_faults.proofs.BoundTypes.{last_here, last_before}
-use Rattle.pddl_faults.proofs.variables.last_type.Goals as goal
+use Rattle.pddl_faults.proofs.variables.last_number.Goals as goal
 
 pub returns-then-eq : goal.returns-then-eq
 returns-then-eq g c =

@@ -1,0 +1,14 @@
+use Rattle.std.proofs.Common.{map, subst, IfOk}
+use Rattle.pddl_domain.specs.Actions.{action_view}
+use Rattle.pddl_domain.specs.Domains.{domain_view}
+use Rattle.pddl_types.specs.KnownNames.{action_signature}
+use Rattle.pddl_types.specs.Places.{AreSlotTops}
+use Rattle.pddl_types.proofs.Views.{seen_of}
+use Rattle.pddl_link.proofs.task.Task.action_tops.Goals as goal
+
+pub returns : goal.returns
+returns g c =
+    let t = c.args.self.now in
+    let signatures = map action_signature (domain_view t.domain.now).actions in
+    subst (λ ds. IfOk c.of_declared.result (λ tops. AreSlotTops ds signatures tops)) t.held.types_are
+    (subst (λ fs. IfOk c.of_declared.result (λ tops. AreSlotTops t.types fs tops)) (seen_of action_signature action_view c.deref.ensures.value) c.of_declared.ensures)
