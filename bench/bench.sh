@@ -108,6 +108,15 @@ for count in 5000 20000; do
 done
 
 for count in 25000 100000; do
+    python3 "$here/files.py" named "$count" >"$folder/domain" || exit 1
+    printf '%-24s %8d  %s   %s\n' "domain, name of $count" "$(wc -c <"$folder/domain")" \
+        "$(seconds "$program" format domain "$folder/domain")" "$(seconds "$program" domain "$folder/domain")"
+    python3 "$here/files.py" named-facts "$count" >"$folder/file" || exit 1
+    printf '%-24s %8d  %s   %s\n' "problem, name of $count" "$(wc -c <"$folder/file")" \
+        "$(seconds "$program" format problem "$folder/file")" "$(seconds "$program" problem "$folder/domain" "$folder/file")"
+done
+
+for count in 25000 100000; do
     python3 "$here/files.py" ring "$count" >"$folder/domain" || exit 1
     # its types are above themselves, which is status 2
     printf '%-24s %8d  %s   %s\n' "domain, ring on $count types" "$(wc -c <"$folder/domain")" \
