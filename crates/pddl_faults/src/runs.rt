@@ -42,13 +42,6 @@ impl<'a, T: Copy, B: Allocator> Runs<'a, T, B> {
         }
     }
 
-    /// How many runs are closed.
-    pub fn len(&self) -> usize
-        ensures { result ≡ length self.now.0 }
-    {
-        self.spans.len()
-    }
-
     /// Adds an item to the open run.
     ///
     /// Fails where memory is refused.
