@@ -9,10 +9,11 @@ use Rattle.pddl_problem.specs.Problems.{ProblemValue}
 use Rattle.pddl_task.specs.Settings.{objects_of}
 use Rattle.pddl_task.specs.Linked.{IsLinked}
 use Rattle.pddl_task.specs.Tasks.{TaskValue, task_of}
-use Rattle.pddl_types.specs.KnownNames.{AreNamed, signature_in, object_in}
+use Rattle.pddl_types.specs.KnownNames.{signature_in, object_in}
 use Rattle.pddl_types.specs.ObjectCounts.{AreCountsOf}
-use Rattle.pddl_types.specs.Places.{AreObjectsAt}
+use Rattle.pddl_types.specs.Places.{AreListedAt}
 use Rattle.pddl_types.specs.TypeTables.{Row}
+use Rattle.pddl_types.specs.declared.listed.Listed.{Listed}
 use Rattle.pddl_search.specs.Claims.{HoldsValues}
 
 -- a domain and a problem
@@ -28,18 +29,17 @@ abbrev pub task_in : Files → TaskValue
 task_in f = task_of f.domain f.problem
 
 -- tables hold what two files declare beside types
-pub record HoldBehindTypes {A : Type 0} (d : DomainValue) (p : ProblemValue) (types : List TypeValue) (predicates : List (Bor (List ℕ) × Bor (List (Typed A))))
-    (objects : List (Bor (List ℕ) × Bor (Typed A))) (counts : List Row) (places : List ℕ) (values : List (GroundValue × ℕ)) : Type 0 where
+pub record HoldBehindTypes {A B : Type 0} (d : DomainValue) (p : ProblemValue) (types : List TypeValue) (predicates : List (Bor (List ℕ) × Bor (List (Typed A))))
+    (listed : Listed A B) (counts : List Row) (values : List (GroundValue × ℕ)) : Type 0 where
   pub predicates_are : map signature_in predicates ≡ d.predicates
-  pub objects_are : map object_in objects ≡ objects_of d p
-  pub objects_named : AreNamed objects
-  pub counts_are : AreCountsOf types (map object_in objects) counts
-  pub places_are : AreObjectsAt types (map object_in objects) places
+  pub objects_are : map object_in listed.objects.entries ≡ objects_of d p
+  pub counts_are : AreCountsOf types (map object_in listed.objects.entries) counts
+  pub places_are : AreListedAt types listed
   pub values_are : HoldsValues p.init values
 
 -- two files are linked, and the tables hold what they declare
-pub record AreTablesOf {A : Type 0} (d : DomainValue) (p : ProblemValue) (types : List TypeValue) (predicates : List (Bor (List ℕ) × Bor (List (Typed A))))
-    (objects : List (Bor (List ℕ) × Bor (Typed A))) (counts : List Row) (places : List ℕ) (values : List (GroundValue × ℕ)) : Type 0 where
+pub record AreTablesOf {A B : Type 0} (d : DomainValue) (p : ProblemValue) (types : List TypeValue) (predicates : List (Bor (List ℕ) × Bor (List (Typed A))))
+    (listed : Listed A B) (counts : List Row) (values : List (GroundValue × ℕ)) : Type 0 where
   pub linked : IsLinked d p
   pub types_are : types ≡ d.types
-  pub behind : HoldBehindTypes d p types predicates objects counts places values
+  pub behind : HoldBehindTypes d p types predicates listed counts values

@@ -7,30 +7,31 @@ ghost use Rattle.pddl_task.specs.Settings.{symbol_of, function_signatures};
 ghost use Rattle.pddl_task.specs.Linked.{domain_fault, domain_faults, rules};
 ghost use Rattle.pddl_faults.specs.Passes.{Verdict};
 ghost use Rattle.pddl_types.specs.KnownNames.{object_in};
+ghost use Rattle.pddl_types.specs.Places.{IsEmpty, AreListedAt};
 ghost use Rattle.pddl_names.specs.FaultParts.{name_rules, use_rules};
 
-use crate::task::let_go;
-use indexmap::IndexMap;
+use crate::task::{let_go, let_go_objects};
 use pddl_domain::Domain;
 use pddl_faults::{LinkFault, lower};
 use pddl_names::{Declared, list_objects, look_at_domain, look_at_domain_uses, type_twice};
-use pddl_types::{Objects, Types};
+use pddl_types::{Listed, Types};
 use std::alloc::Allocator;
 
 /// The lowest fault of types and names in a domain, whose constants are added to no objects.
 fn look_at_names<'m, 'a, A: Allocator, B: Allocator>(
     alloc: &'a B,
     types: &Types<'m, 'a, A, B>,
-    constants: &mut Objects<'m, 'a, A, B>,
+    constants: &mut Listed<'m, 'a, A, B>,
     domain: &'m Domain<A>,
 ) -> Result<(), LinkFault<'m>>
     requires types { types.now ≡ (domain_view domain.now).types }
-    requires none { constants.old.entries ≡ [] }
-    ensures constants { OnOk result (map object_in constants.new.entries ≡ firsts (domain_view domain.now).constants) }
+    requires none { IsEmpty constants.old }
+    ensures constants { OnOk result (map object_in constants.new.objects.entries ≡ firsts (domain_view domain.now).constants) }
+    ensures places { OnOk result (AreListedAt types.now constants.new) }
     ensures verdict { Verdict (map (domain_fault (domain_view domain.now)) name_rules) result }
 {
     let above = types.cycle();
-    let listed = list_objects(constants, &domain.constants);
+    let listed = list_objects(types, constants, &domain.constants);
     lower(above, lower(listed, look_at_domain(alloc, types, domain)))
 }
 
@@ -38,17 +39,18 @@ fn look_at_names<'m, 'a, A: Allocator, B: Allocator>(
 fn look_at_uses<'m, 'a, A: Allocator, B: Allocator>(
     alloc: &'a B,
     types: &Types<'m, 'a, A, B>,
-    constants: &Objects<'m, 'a, A, B>,
+    constants: &Listed<'m, 'a, A, B>,
     domain: &'m Domain<A>,
 ) -> Result<(), LinkFault<'m>>
     requires types { types.now ≡ (domain_view domain.now).types }
-    requires constants { map object_in constants.now.entries ≡ firsts (domain_view domain.now).constants }
+    requires constants { map object_in constants.now.objects.entries ≡ firsts (domain_view domain.now).constants }
+    requires places { AreListedAt types.now constants.now }
     requires predicates { repeated [] (map symbol_of (domain_view domain.now).predicates) ≡ [] }
     requires functions { repeated [] (map symbol_of (function_signatures (domain_view domain.now))) ≡ [] }
     ensures { Verdict (map (domain_fault (domain_view domain.now)) use_rules) result }
 {
     let declared = Declared::of(alloc, types, domain)?;
-    let used = look_at_domain_uses(alloc, &declared.known(types, constants, &[]), domain);
+    let used = look_at_domain_uses(alloc, &declared.known(types, constants), domain);
     let_go(declared);
     used
 }
@@ -62,12 +64,12 @@ fn check_by_types<'m, 'a, A: Allocator, B: Allocator>(
     requires { types.now ≡ (domain_view domain.now).types }
     ensures { Verdict (map (domain_fault (domain_view domain.now)) (drop 2 rules)) result }
 {
-    let mut constants: Objects<'m, 'a, A, B> = IndexMap::new(alloc);
+    let mut constants = Listed::new(alloc);
     let checked = match look_at_names(alloc, types, &mut constants, domain) {
         Ok(()) => look_at_uses(alloc, types, &constants, domain),
         Err(fault) => Err(fault),
     };
-    drop(constants);
+    let_go_objects(constants);
     checked
 }
 

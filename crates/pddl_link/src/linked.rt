@@ -9,13 +9,13 @@ ghost use Rattle.pddl_task.specs.Linked.{fault_in, faults, rules};
 ghost use Rattle.pddl_faults.specs.Passes.{Verdict};
 ghost use Rattle.pddl_search.specs.Claims.{HoldsValues};
 ghost use Rattle.pddl_types.specs.ObjectCounts.{AreCountsOf};
-ghost use Rattle.pddl_types.specs.KnownNames.{AreNamed, signature_in, object_in};
-ghost use Rattle.pddl_types.specs.Places.{AreSlotTops, AreObjectsAt};
+ghost use Rattle.pddl_types.specs.KnownNames.{signature_in, object_in};
+ghost use Rattle.pddl_types.specs.Places.{AreSlotTops, IsEmpty, AreListedAt};
 ghost use Rattle.pddl_names.specs.FaultParts.{first_rules, name_rules, use_rules};
 ghost use Rattle.pddl_link.specs.TaskTables.{files, HoldBehindTypes};
 ghost use Rattle.pddl_link.specs.LinkedTasks.{files_of};
 
-use crate::task::{Tables, Task, let_go};
+use crate::task::{Tables, Task, let_go, let_go_objects};
 use indexmap::IndexMap;
 use pddl_domain::Domain;
 use pddl_faults::{LinkFault, lower};
@@ -25,65 +25,66 @@ use pddl_names::{
 };
 use pddl_problem::Problem;
 use pddl_search::{Values, domain_name};
-use pddl_sizes::{ObjectCounts, ObjectPlaces, goal_size};
-use pddl_types::{Objects, TypeCounts, Types};
+use pddl_sizes::{ObjectCounts, ObjectOrder, goal_size};
+use pddl_types::{Listed, TypeCounts, Types};
 use std::alloc::{AllocError, Allocator};
 
 /// The lowest fault of types and names in a domain and a problem, whose constants and objects are added to none.
 fn look_at_both<'m, 'a, A: Allocator, B: Allocator>(
     alloc: &'a B,
     types: &Types<'m, 'a, A, B>,
-    constants: &mut Objects<'m, 'a, A, B>,
-    objects: &mut Objects<'m, 'a, A, B>,
+    constants: &mut Listed<'m, 'a, A, B>,
+    listed: &mut Listed<'m, 'a, A, B>,
     domain: &'m Domain<A>,
     problem: &'m Problem<A>,
 ) -> Result<(), LinkFault<'m>>
     requires types { types.now ≡ (domain_view domain.now).types }
-    requires no_constants { constants.old.entries ≡ [] }
-    requires no_objects { objects.old.entries ≡ [] }
-    ensures constants { OnOk result (map object_in constants.new.entries ≡ firsts (domain_view domain.now).constants) }
-    ensures objects { OnOk result (map object_in objects.new.entries ≡ objects_of (domain_view domain.now) (problem_view problem.now)) }
-    ensures named { OnOk result (AreNamed objects.new.entries) }
+    requires no_constants { IsEmpty constants.old }
+    requires no_objects { IsEmpty listed.old }
+    ensures constants { OnOk result (map object_in constants.new.objects.entries ≡ firsts (domain_view domain.now).constants) }
+    ensures objects { OnOk result (map object_in listed.new.objects.entries ≡ objects_of (domain_view domain.now) (problem_view problem.now)) }
+    ensures constants_at { OnOk result (AreListedAt types.now constants.new) }
+    ensures objects_at { OnOk result (AreListedAt types.now listed.new) }
     ensures verdict { Verdict (map (fault_in (domain_view domain.now) (problem_view problem.now)) name_rules) result }
 {
     let above = types.cycle();
-    let listed = list_objects(constants, &domain.constants);
+    let inner = list_objects(types, constants, &domain.constants);
     let declared = look_at_domain(alloc, types, domain);
-    let all = list_all(objects, domain, problem);
+    let all = list_all(types, listed, domain, problem);
     let bound = look_at_problem(alloc, types, problem);
-    lower(above, lower(listed, lower(declared, lower(all, bound))))
+    lower(above, lower(inner, lower(declared, lower(all, bound))))
 }
 
 /// The lowest fault of what a domain and a problem use; the values of functions of objects are added to none.
 fn look_at_uses<'t, 'm, 'a, A: Allocator, B: Allocator>(
     alloc: &'a B,
     types: &'t Types<'m, 'a, A, B>,
-    constants: &'t Objects<'m, 'a, A, B>,
-    objects: &'t Objects<'m, 'a, A, B>,
+    constants: &'t Listed<'m, 'a, A, B>,
+    listed: &'t Listed<'m, 'a, A, B>,
     tables: &'t Tables<'m, 'a, A, B>,
     values: &mut Values<'m, 'a, A, B>,
     domain: &'m Domain<A>,
     problem: &'m Problem<A>,
 ) -> Result<(), LinkFault<'m>>
     requires types { types.now ≡ (domain_view domain.now).types }
-    requires constants { map object_in constants.now.entries ≡ firsts (domain_view domain.now).constants }
-    requires objects { map object_in objects.now.entries ≡ objects_of (domain_view domain.now) (problem_view problem.now) }
+    requires constants { map object_in constants.now.objects.entries ≡ firsts (domain_view domain.now).constants }
+    requires objects { map object_in listed.now.objects.entries ≡ objects_of (domain_view domain.now) (problem_view problem.now) }
     requires predicates { map signature_in tables.now.declared.predicates.entries ≡ (domain_view domain.now).predicates }
     requires functions { map signature_in tables.now.declared.functions.entries ≡ function_signatures (domain_view domain.now) }
-    requires counts { AreCountsOf types.now (map object_in objects.now.entries) tables.now.counts.entries }
-    requires places { AreObjectsAt types.now (map object_in objects.now.entries) tables.now.places.places.items }
+    requires constants_at { AreListedAt types.now constants.now }
+    requires objects_at { AreListedAt types.now listed.now }
+    requires counts { AreCountsOf types.now (map object_in listed.now.objects.entries) tables.now.counts.entries }
     requires predicate_tops { AreSlotTops types.now (domain_view domain.now).predicates tables.now.declared.tops.predicates }
     requires function_tops { AreSlotTops types.now (function_signatures (domain_view domain.now)) tables.now.declared.tops.functions }
     requires none { values.old.entries ≡ [] }
     ensures values { OnOk result (HoldsValues (problem_view problem.now).init values.new.entries) }
     ensures verdict { Verdict (map (fault_in (domain_view domain.now) (problem_view problem.now)) use_rules) result }
 {
-    let places = tables.places.places();
-    let inner = tables.declared.known(types, constants, places);
-    let outer = tables.declared.known(types, objects, places);
+    let inner = tables.declared.known(types, constants);
+    let outer = tables.declared.known(types, listed);
     let counts = ObjectCounts {
         types,
-        objects,
+        listed,
         counts: &tables.counts,
     };
     let used = look_at_domain_uses(alloc, &inner, domain);
@@ -94,20 +95,20 @@ fn look_at_uses<'t, 'm, 'a, A: Allocator, B: Allocator>(
     )
 }
 
-/// How many objects fit each type, and where the types of objects stand.
+/// How many objects fit each type, and the order of the types of objects.
 ///
 /// Fails where memory for these is refused.
 fn fits_of<'m, 'a, A: Allocator, B: Allocator>(
     alloc: &'a B,
     types: &Types<'m, 'a, A, B>,
-    objects: &Objects<'m, 'a, A, B>,
-) -> Result<(TypeCounts<'m, 'a, B>, ObjectPlaces<'a, B>), AllocError>
-    ensures counts { IfOk result (λ fits. AreCountsOf types.now (map object_in objects.now.entries) fits.0.entries) }
-    ensures places { IfOk result (λ fits. AreObjectsAt types.now (map object_in objects.now.entries) fits.1.places.items) }
+    listed: &Listed<'m, 'a, A, B>,
+) -> Result<(TypeCounts<'m, 'a, B>, ObjectOrder<'a, B>), AllocError>
+    requires { AreListedAt types.now listed.now }
+    ensures { IfOk result (λ fits. AreCountsOf types.now (map object_in listed.now.objects.entries) fits.0.entries) }
 {
-    let places = ObjectPlaces::of(alloc, types, objects)?;
-    match types.counts(alloc, objects) {
-        Ok(counts) => Ok((counts, places)),
+    let order = ObjectOrder::of(alloc, types, &listed.places)?;
+    match types.counts(alloc, listed) {
+        Ok(counts) => Ok((counts, order)),
         Err(error) => Err(error),
     }
 }
@@ -118,28 +119,28 @@ fn fits_of<'m, 'a, A: Allocator, B: Allocator>(
 fn tables_of<'m, 'a, A: Allocator, B: Allocator>(
     alloc: &'a B,
     types: &Types<'m, 'a, A, B>,
-    objects: &Objects<'m, 'a, A, B>,
+    listed: &Listed<'m, 'a, A, B>,
     domain: &'m Domain<A>,
 ) -> Result<Tables<'m, 'a, A, B>, AllocError>
+    requires objects_at { AreListedAt types.now listed.now }
     requires predicates { repeated [] (map symbol_of (domain_view domain.now).predicates) ≡ [] }
     requires functions { repeated [] (map symbol_of (function_signatures (domain_view domain.now))) ≡ [] }
     ensures predicates { IfOk result (λ tables. map signature_in tables.declared.predicates.entries ≡ (domain_view domain.now).predicates) }
     ensures functions { IfOk result (λ tables. map signature_in tables.declared.functions.entries ≡ function_signatures (domain_view domain.now)) }
-    ensures counts { IfOk result (λ tables. AreCountsOf types.now (map object_in objects.now.entries) tables.counts.entries) }
-    ensures places { IfOk result (λ tables. AreObjectsAt types.now (map object_in objects.now.entries) tables.places.places.items) }
+    ensures counts { IfOk result (λ tables. AreCountsOf types.now (map object_in listed.now.objects.entries) tables.counts.entries) }
     ensures predicate_tops { IfOk result (λ tables. AreSlotTops types.now (domain_view domain.now).predicates tables.declared.tops.predicates) }
     ensures function_tops { IfOk result (λ tables. AreSlotTops types.now (function_signatures (domain_view domain.now)) tables.declared.tops.functions) }
 {
-    let (counts, places) = fits_of(alloc, types, objects)?;
+    let (counts, order) = fits_of(alloc, types, listed)?;
     match Declared::of(alloc, types, domain) {
         Ok(declared) => Ok(Tables {
             declared,
             counts,
-            places,
+            order,
         }),
         Err(error) => {
             drop(counts);
-            drop(places);
+            drop(order);
             Err(error)
         }
     }
@@ -149,31 +150,32 @@ fn tables_of<'m, 'a, A: Allocator, B: Allocator>(
 fn tables_behind<'m, 'a, A: Allocator, B: Allocator>(
     alloc: &'a B,
     types: &Types<'m, 'a, A, B>,
-    constants: &Objects<'m, 'a, A, B>,
-    objects: &Objects<'m, 'a, A, B>,
+    constants: &Listed<'m, 'a, A, B>,
+    listed: &Listed<'m, 'a, A, B>,
     values: &mut Values<'m, 'a, A, B>,
     domain: &'m Domain<A>,
     problem: &'m Problem<A>,
 ) -> Result<Tables<'m, 'a, A, B>, LinkFault<'m>>
     requires types { types.now ≡ (domain_view domain.now).types }
-    requires constants { map object_in constants.now.entries ≡ firsts (domain_view domain.now).constants }
-    requires objects { map object_in objects.now.entries ≡ objects_of (domain_view domain.now) (problem_view problem.now) }
-    requires named { AreNamed objects.now.entries }
+    requires constants { map object_in constants.now.objects.entries ≡ firsts (domain_view domain.now).constants }
+    requires objects { map object_in listed.now.objects.entries ≡ objects_of (domain_view domain.now) (problem_view problem.now) }
+    requires constants_at { AreListedAt types.now constants.now }
+    requires objects_at { AreListedAt types.now listed.now }
     requires predicates { repeated [] (map symbol_of (domain_view domain.now).predicates) ≡ [] }
     requires functions { repeated [] (map symbol_of (function_signatures (domain_view domain.now))) ≡ [] }
     requires none { values.old.entries ≡ [] }
-    ensures tables { IfOk result (λ tables. HoldBehindTypes (domain_view domain.now) (problem_view problem.now) types.now tables.declared.predicates.entries objects.now.entries tables.counts.entries tables.places.places.items values.new.entries) }
+    ensures tables { IfOk result (λ tables. HoldBehindTypes (domain_view domain.now) (problem_view problem.now) types.now tables.declared.predicates.entries listed.now tables.counts.entries values.new.entries) }
     ensures verdict { Verdict (map (fault_in (domain_view domain.now) (problem_view problem.now)) use_rules) result }
 {
-    let tables = tables_of(alloc, types, objects, domain)?;
+    let tables = tables_of(alloc, types, listed, domain)?;
     match look_at_uses(
-        alloc, types, constants, objects, &tables, values, domain, problem,
+        alloc, types, constants, listed, &tables, values, domain, problem,
     ) {
         Ok(()) => Ok(tables),
         Err(fault) => {
             let_go(tables.declared);
             drop(tables.counts);
-            drop(tables.places);
+            drop(tables.order);
             Err(fault)
         }
     }
@@ -184,23 +186,23 @@ fn tables_behind<'m, 'a, A: Allocator, B: Allocator>(
 fn tables_behind_types<'m, 'a, A: Allocator, B: Allocator>(
     alloc: &'a B,
     types: &Types<'m, 'a, A, B>,
-    objects: &mut Objects<'m, 'a, A, B>,
+    listed: &mut Listed<'m, 'a, A, B>,
     values: &mut Values<'m, 'a, A, B>,
     domain: &'m Domain<A>,
     problem: &'m Problem<A>,
 ) -> Result<Tables<'m, 'a, A, B>, LinkFault<'m>>
     requires types { types.now ≡ (domain_view domain.now).types }
-    requires no_objects { objects.old.entries ≡ [] }
+    requires no_objects { IsEmpty listed.old }
     requires no_values { values.old.entries ≡ [] }
-    ensures tables { IfOk result (λ tables. HoldBehindTypes (domain_view domain.now) (problem_view problem.now) types.now tables.declared.predicates.entries objects.new.entries tables.counts.entries tables.places.places.items values.new.entries) }
+    ensures tables { IfOk result (λ tables. HoldBehindTypes (domain_view domain.now) (problem_view problem.now) types.now tables.declared.predicates.entries listed.new tables.counts.entries values.new.entries) }
     ensures verdict { Verdict (map (fault_in (domain_view domain.now) (problem_view problem.now)) (drop 2 rules)) result }
 {
-    let mut constants: Objects<'m, 'a, A, B> = IndexMap::new(alloc);
-    let made = match look_at_both(alloc, types, &mut constants, objects, domain, problem) {
-        Ok(()) => tables_behind(alloc, types, &constants, objects, values, domain, problem),
+    let mut constants = Listed::new(alloc);
+    let made = match look_at_both(alloc, types, &mut constants, listed, domain, problem) {
+        Ok(()) => tables_behind(alloc, types, &constants, listed, values, domain, problem),
         Err(fault) => Err(fault),
     };
-    drop(constants);
+    let_go_objects(constants);
     made
 }
 
@@ -233,20 +235,20 @@ pub fn link<'m, 'a, A: Allocator, B: Allocator>(
     ensures verdict { Verdict (faults (domain_view domain.now) (problem_view problem.now)) result }
 {
     let types = types_of(alloc, domain, problem)?;
-    let mut objects: Objects<'m, 'a, A, B> = IndexMap::new(alloc);
+    let mut listed = Listed::new(alloc);
     let mut values: Values<'m, 'a, A, B> = IndexMap::new(alloc);
-    match tables_behind_types(alloc, &types, &mut objects, &mut values, domain, problem) {
+    match tables_behind_types(alloc, &types, &mut listed, &mut values, domain, problem) {
         Ok(tables) => Ok(Task {
             domain,
             problem,
             types,
-            objects,
+            listed,
             tables,
             values,
         }),
         Err(fault) => {
             drop(types);
-            drop(objects);
+            let_go_objects(listed);
             Err(fault)
         }
     }

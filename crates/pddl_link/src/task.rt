@@ -19,17 +19,17 @@ use pddl_formula::{Formula, TypeNames};
 use pddl_names::Declared;
 use pddl_problem::Problem;
 use pddl_search::{Ground, Values};
-use pddl_sizes::{ObjectCounts, ObjectPlaces, action_ground_size, fitting_objects, ground_size};
+use pddl_sizes::{ObjectCounts, ObjectOrder, action_ground_size, fitting_objects, ground_size};
 use pddl_token::Name;
-use pddl_types::{FunctionNumbers, Objects, SlotTops, Top, TypeCounts, Types, object_fits};
+use pddl_types::{FunctionNumbers, Listed, SlotTops, Top, TypeCounts, Types};
 use std::alloc::{AllocError, Allocator};
 
-/// What a domain declares by name, how many objects fit each type, and where the types of objects stand, in tables that borrow from the files.
+/// What a domain declares by name, how many objects fit each type, and the order of the types of objects, in tables that borrow from the files.
 #[derive(Drop)]
 pub(crate) struct Tables<'m, 'a, A: Allocator, B: Allocator> {
     pub(crate) declared: Declared<'m, 'a, A, B>,
     pub(crate) counts: TypeCounts<'m, 'a, B>,
-    pub(crate) places: ObjectPlaces<'a, B>,
+    pub(crate) order: ObjectOrder<'a, B>,
 }
 
 /// Lets go what a domain declares, table by table. (A call of `drop` with the whole has no proof today.)
@@ -37,6 +37,12 @@ pub(crate) fn let_go<'m, 'a, A: Allocator, B: Allocator>(declared: Declared<'m, 
     drop(declared.predicates);
     drop(declared.functions);
     drop(declared.tops);
+}
+
+/// Lets go objects, likewise.
+pub(crate) fn let_go_objects<'m, 'a, A: Allocator, B: Allocator>(listed: Listed<'m, 'a, A, B>) {
+    drop(listed.objects);
+    drop(listed.places);
 }
 
 /// What a domain and a problem that link say together.
@@ -48,11 +54,11 @@ pub struct Task<'m, 'a, A: Allocator, B: Allocator> {
     pub(crate) domain: &'m Domain<A>,
     pub(crate) problem: &'m Problem<A>,
     pub(crate) types: Types<'m, 'a, A, B>,
-    pub(crate) objects: Objects<'m, 'a, A, B>,
+    pub(crate) listed: Listed<'m, 'a, A, B>,
     pub(crate) tables: Tables<'m, 'a, A, B>,
     /// The values that `:init` gives to functions of objects.
     pub(crate) values: Values<'m, 'a, A, B>,
-    ghost held: { AreTablesOf (domain_view domain.now) (problem_view problem.now) types tables.declared.predicates.entries objects.entries tables.counts.entries tables.places.places.items values.entries },
+    ghost held: { AreTablesOf (domain_view domain.now) (problem_view problem.now) types tables.declared.predicates.entries listed tables.counts.entries values.entries },
 }
 
 impl<'m, 'a, A: Allocator, B: Allocator> Task<'m, 'a, A, B> {
@@ -95,7 +101,7 @@ impl<'m, 'a, A: Allocator, B: Allocator> Task<'m, 'a, A, B> {
     pub fn object_count(&self) -> usize
         ensures { result ≡ length (task_of_files self.now).objects }
     {
-        self.objects.len()
+        self.listed.objects.len()
     }
 
     /// How many predicates there are.
@@ -146,8 +152,7 @@ impl<'m, 'a, A: Allocator, B: Allocator> Task<'m, 'a, A, B> {
         ensures { result ≡ option_map_or (λ o. fits (pairs (task_of_files self.now).types) o.of types.now)
             (slice_get (task_of_files self.now).objects object) false }
     {
-        let places = self.tables.places.places();
-        object_fits(&self.types, &self.objects, places, object, types, tops)
+        self.listed.fits(&self.types, object, types, tops)
     }
 
     /// Whether the object of a number fits a type; past the last there is none that does.
@@ -170,10 +175,10 @@ impl<'m, 'a, A: Allocator, B: Allocator> Task<'m, 'a, A, B> {
     {
         let counts = ObjectCounts {
             types: &self.types,
-            objects: &self.objects,
+            listed: &self.listed,
             counts: &self.tables.counts,
         };
-        fitting_objects(alloc, &counts, &self.tables.places, types)
+        fitting_objects(alloc, &counts, &self.tables.order, types)
     }
 
     /// The ground size of a formula over the task's objects, or 1,000,001 where it is over 1,000,000.
@@ -182,7 +187,7 @@ impl<'m, 'a, A: Allocator, B: Allocator> Task<'m, 'a, A, B> {
     {
         let counts = ObjectCounts {
             types: &self.types,
-            objects: &self.objects,
+            listed: &self.listed,
             counts: &self.tables.counts,
         };
         ground_size(&counts, formula)
@@ -194,7 +199,7 @@ impl<'m, 'a, A: Allocator, B: Allocator> Task<'m, 'a, A, B> {
     {
         let counts = ObjectCounts {
             types: &self.types,
-            objects: &self.objects,
+            listed: &self.listed,
             counts: &self.tables.counts,
         };
         action_ground_size(&counts, action)
@@ -225,7 +230,7 @@ impl<'m, 'a, A: Allocator, B: Allocator> Task<'m, 'a, A, B> {
     pub fn object_name(&self, number: usize) -> Option<&Name<A>>
         ensures { option_map (λ name. name.now) result ≡ slice_get (object_names (task_of_files self.now)) number }
     {
-        match self.objects.get_index(number) {
+        match self.listed.objects.get_index(number) {
             Some((_, listed)) => Some(&listed.name),
             None => None,
         }
@@ -235,7 +240,7 @@ impl<'m, 'a, A: Allocator, B: Allocator> Task<'m, 'a, A, B> {
     pub fn object_number(&self, name: &[u8]) -> Option<usize>
         ensures { result ≡ position (bytes_eq name.now) (object_names (task_of_files self.now)) }
     {
-        self.objects.get_index_of(name)
+        self.listed.objects.get_index_of(name)
     }
 
     /// The number of the predicate of a name, or `None` where there is none.

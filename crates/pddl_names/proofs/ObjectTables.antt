@@ -14,20 +14,11 @@ use Rattle.pddl_task.specs.Faults.{retyped}
 use Rattle.pddl_task.proofs.DistinctNames.{word_none}
 use Rattle.pddl_task.proofs.Lists.{append-none, bytes_same, nil_parts}
 use Rattle.pddl_types.specs.KnownNames.{AreNamed, object_in}
+use Rattle.pddl_names.specs.ObjectTables.{type_in, is_at_odds, put}
 use Rattle.pddl_search.proofs.Claims.{disagree, at_odds, Tells, tells_more, clash_told}
 use Rattle.pddl_search.proofs.SeenItems.{seen_at, seen_more, seen_bad, seen_good, seen_all}
 
 -- ---- a table of names with types
-
--- the type of the first of a name
-abbrev pub type_in : List TypedValue → Name → Option (List Name)
-type_in [] n = None
-type_in (x ∷ xs) n = cond (bytes_eq n x.item) (Some x.of) (type_in xs n)
-
--- the table with one more: one that is there keeps its place, and has the new type
-abbrev pub put : TypedValue → List TypedValue → List TypedValue
-put x [] = x ∷ []
-put x (y ∷ ys) = cond (bytes_eq x.item y.item) (record { item = y.item; of = x.of } ∷ ys) (y ∷ put x ys)
 
 bytes_turn : (m n : Name) → bytes_eq m n ≡ bytes_eq n m
 bytes_turn m n = nat_list_eq_equiv.symm m n
@@ -190,7 +181,7 @@ tells_before before h = tells_all [] before (λ k v. sym (retypes_own v)) h
 
 -- ---- the entries of a map
 
-pub put_entry : {A : Type 0} (k : Bor (List ℕ)) (v : Bor (Typed A)) (es : List (Bor (List ℕ) × Bor (Typed A)))
+put_entry : {A : Type 0} (k : Bor (List ℕ)) (v : Bor (Typed A)) (es : List (Bor (List ℕ) × Bor (Typed A)))
     → map object_in (insert_entry (λ j l. bytes_eq j.now l.now) es k v) ≡ put (object_in (k, v)) (map object_in es)
 put_entry k v [] = refl
 put_entry k v (e ∷ es) = go (bytes_eq k.now e.0.now) (put_entry k v es)
@@ -200,6 +191,11 @@ put_entry k v (e ∷ es) = go (bytes_eq k.now e.0.now) (put_entry k v es)
         ≡ cond b (record { item = e.0.now; of = v.now.types } ∷ map object_in es) (object_in e ∷ put (object_in (k, v)) (map object_in es))
     go true later = refl
     go false later = ap (λ ys. object_in e ∷ ys) later
+
+-- an object under its name
+pub put_there : {A : Type 0} (k : Bor (List ℕ)) (v : Bor (Typed A)) (es next : List (Bor (List ℕ) × Bor (Typed A)))
+    → k.now ≡ v.now.name → next ≡ insert_entry (λ j l. bytes_eq j.now l.now) es k v → map object_in next ≡ put (typed_view v.now) (map object_in es)
+put_there k v es next named is = ap (map object_in) is ∙ put_entry k v es ∙ ap (λ n. put (record { item = n; of = v.now.types }) (map object_in es)) named
 
 -- what is put under its name leaves each under its own
 pub named_entry : {A : Type 0} (k : Bor (List ℕ)) (v : Bor (Typed A)) (es : List (Bor (List ℕ) × Bor (Typed A)))
@@ -227,29 +223,43 @@ type_entry {A} (e ∷ es) n = go (bytes_eq n e.0.now) (type_entry es n)
     go true later = refl
     go false later = later
 
-unwrap_now : {A : Type 0} (o : Option (Bor (Typed A))) (d : Bor (Typed A)) → (unwrap_or o d).now.types ≡ unwrap_or (option_map (λ (b : Bor (Typed A)). b.now.types) o) d.now.types
-unwrap_now None d = refl
-unwrap_now (Some b) d = refl
+-- what an insertion answers, for an object whose name is there, and for one whose name is new
+module _ {A : Type 0} (es : List (Bor (List ℕ) × Bor (Typed A))) (n : Name) (t : List Name) (old : Option (Bor (Typed A))) (old_is : old ≡ lookup (λ k. bytes_eq n k.now) es) where
+  abbrev object : TypedValue
+  object = record { item = n; of = t }
 
--- what an insertion answers tells whether the table has another type
-pub odds_of : {A : Type 0} (es : List (Bor (List ℕ) × Bor (Typed A))) (n : Name) (t : List Name) (old : Option (Bor (Typed A))) (first given : Bor (Typed A)) (same b : Bool)
-    → old ≡ lookup (λ k. bytes_eq n k.now) es → first ≡ unwrap_or old given → given.now.types ≡ t → same ≡ same_names first.now.types t → not same ≡ b → at_odds retypes (type_in (map object_in es) n) t ≡ b
-odds_of {A} es n t old first given same b old_is first_is given_is same_is odds =
-    ap (λ o. at_odds retypes o t) (type_entry es n ∙ ap (option_map (λ (c : Bor (Typed A)). c.now.types)) (sym old_is))
-    ∙ ap (λ d. not (same_names (unwrap_or (option_map (λ (c : Bor (Typed A)). c.now.types) old) d) t)) (sym given_is)
-    ∙ ap (λ u. not (same_names u t)) (sym (ap (λ (c : Bor (Typed A)). c.now.types) first_is ∙ unwrap_now old given))
-    ∙ ap not (sym same_is)
-    ∙ odds
+  type_was : type_in (map object_in es) n ≡ option_map (λ (b : Bor (Typed A)). b.now.types) old
+  type_was = type_entry es n ∙ ap (option_map (λ (b : Bor (Typed A)). b.now.types)) (sym old_is)
+
+  module _ (before : Bor (Typed A)) (was : old ≡ Some before) (same : Bool) (same_is : same ≡ same_names before.now.types t) where
+    type_there : type_in (map object_in es) n ≡ Some before.now.types
+    type_there = type_was ∙ ap (option_map (λ (b : Bor (Typed A)). b.now.types)) was
+
+    pub odds_there : is_at_odds (map object_in es) object ≡ not same
+    odds_there = ap (λ o. not (same_names (unwrap_or o t) t)) type_there ∙ ap not (sym same_is)
+
+    pub kept_there : same ≡ true → put object (map object_in es) ≡ map object_in es
+    kept_there is = put_same object (map object_in es) (type_there ∙ ap Some (sym (retypes_is t before.now.types (ap not (sym same_is ∙ is)))))
+
+  module _ (none : old ≡ None) where
+    type_new : type_in (map object_in es) n ≡ None
+    type_new = type_was ∙ ap (option_map (λ (b : Bor (Typed A)). b.now.types)) none
+
+    pub odds_new : is_at_odds (map object_in es) object ≡ false
+    odds_new = ap (λ o. not (same_names (unwrap_or o t) t)) type_new ∙ retypes_own t
+
+    pub last_new : put object (map object_in es) ≡ map object_in es ++ object ∷ []
+    last_new = put_new object (map object_in es) type_new
 
 -- ---- a walk over what is listed
 
 -- In front of what is listed at i, the table has each name so far at its first place, and nothing so far was retyped.
-pub record Listed {A : Type 0} (before : List TypedValue) (xs : List (Typed A)) (i : ℕ) (es : List TypedValue) : Type 0 where
+pub record ListedUpTo {A : Type 0} (before : List TypedValue) (xs : List (Typed A)) (i : ℕ) (es : List TypedValue) : Type 0 where
   pub told : TellsTypes (seen_at typed_view before xs i)
   pub kept : es ≡ firsts (seen_at typed_view before xs i)
   pub rest : retyped (seen_at typed_view before xs i) (map typed_view (drop i xs)) ≡ retyped before (map typed_view xs)
 
-pub listed_start : {A : Type 0} (before : List TypedValue) (xs : List (Typed A)) (es : List TypedValue) → retyped [] before ≡ [] → es ≡ firsts before → Listed before xs 0 es
+pub listed_start : {A : Type 0} (before : List TypedValue) (xs : List (Typed A)) (es : List TypedValue) → retyped [] before ≡ [] → es ≡ firsts before → ListedUpTo before xs 0 es
 listed_start before xs es none is =
     let nothing : seen_at typed_view before xs 0 ≡ before = append-none before in
     record {
@@ -259,15 +269,15 @@ listed_start before xs es none is =
     }
 
 module _ {A : Type 0} (before : List TypedValue) (xs : List (Typed A)) (i : ℕ) (x : Typed A) (es : List TypedValue)
-    (h : i < length xs) (at : x ≡ get_or xs i x) (l : Listed before xs i es) where
+    (h : i < length xs) (at : x ≡ get_or xs i x) (l : ListedUpTo before xs i es) where
   -- one of another type
-  pub listed_twice : at_odds retypes (type_in es x.name) x.types ≡ true → Contains (retyped before (map typed_view xs)) x.name
+  pub listed_twice : is_at_odds es (typed_view x) ≡ true → Contains (retyped before (map typed_view xs)) x.name
   listed_twice odds =
       seen_bad typed_view (λ y. y.item) (λ seen y. list_any (clash y) seen) retyped (λ seen y ys. refl) before xs i x (retyped before (map typed_view xs)) h at l.rest
       (told (seen_at typed_view before xs i) (typed_view x) l.told ∙ sym (ap (λ fs. at_odds retypes (type_in fs x.name) x.types) l.kept) ∙ odds)
 
   -- another one
-  pub listed_more : (next : List TypedValue) → next ≡ put (typed_view x) es → at_odds retypes (type_in es x.name) x.types ≡ false → Listed before xs (i + 1) next
+  pub listed_more : (next : List TypedValue) → next ≡ put (typed_view x) es → is_at_odds es (typed_view x) ≡ false → ListedUpTo before xs (i + 1) next
   listed_more next is odds =
       let seen = seen_at typed_view before xs i in
       let agrees : at_odds retypes (type_in (firsts seen) x.name) x.types ≡ false = sym (ap (λ fs. at_odds retypes (type_in fs x.name) x.types) l.kept) ∙ odds in
@@ -280,7 +290,7 @@ module _ {A : Type 0} (before : List TypedValue) (xs : List (Typed A)) (i : ℕ)
       }
 
 -- all is listed
-pub listed_all : {A : Type 0} (before : List TypedValue) (xs : List (Typed A)) (i : ℕ) (es : List TypedValue) → length xs ≤ i → Listed before xs i es
+pub listed_all : {A : Type 0} (before : List TypedValue) (xs : List (Typed A)) (i : ℕ) (es : List TypedValue) → length xs ≤ i → ListedUpTo before xs i es
     → (retyped before (map typed_view xs) ≡ []) × (es ≡ firsts (before ++ map typed_view xs))
 listed_all before xs i es past l =
     (seen_all typed_view retyped (λ seen. refl) before xs i (retyped before (map typed_view xs)) past l.rest, l.kept ∙ ap (λ ys. firsts (before ++ map typed_view ys)) (take_all i xs past))

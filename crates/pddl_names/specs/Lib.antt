@@ -1,2 +1,3 @@
+pub mod ObjectTables
 pub mod Uses
 pub mod FaultParts

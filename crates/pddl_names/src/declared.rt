@@ -7,10 +7,10 @@ ghost use Rattle.pddl_task.specs.Types.{pairs};
 ghost use Rattle.pddl_task.specs.Settings.{symbol_of, function_signatures};
 ghost use Rattle.pddl_types.specs.KnownNames.{signature_in, object_in};
 ghost use Rattle.pddl_types.specs.Settings.{setting_of};
-ghost use Rattle.pddl_types.specs.Places.{AreSlotTops, AreObjectsAt};
+ghost use Rattle.pddl_types.specs.Places.{AreSlotTops, AreListedAt};
 
 use pddl_domain::Domain;
-use pddl_types::{Known, Objects, Signatures, Tops, Types, signatures};
+use pddl_types::{Known, Listed, Signatures, Tops, Types, signatures};
 use std::alloc::{AllocError, Allocator};
 
 /// What a domain declares beside types and constants, by name.
@@ -47,25 +47,23 @@ impl<'m, 'a, A: Allocator, B: Allocator> Declared<'m, 'a, A, B> {
         })
     }
 
-    /// What may be named beside these objects, whose types stand at these places.
+    /// What may be named beside these objects.
     pub fn known<'t>(
         &'t self,
         types: &'t Types<'m, 'a, A, B>,
-        objects: &'t Objects<'m, 'a, A, B>,
-        places: &'t [usize],
+        listed: &'t Listed<'m, 'a, A, B>,
     ) -> Known<'t, 'm, 'a, A, B>
         requires predicate_tops { AreSlotTops types.now (map signature_in self.now.predicates.entries) self.now.tops.predicates }
         requires function_tops { AreSlotTops types.now (map signature_in self.now.functions.entries) self.now.tops.functions }
-        requires places { AreObjectsAt types.now (map object_in objects.now.entries) places.now }
-        ensures { setting_of result ≡ record { pairs = pairs types.now; predicates = map signature_in self.now.predicates.entries; functions = map signature_in self.now.functions.entries; objects = map object_in objects.now.entries } }
+        requires places { AreListedAt types.now listed.now }
+        ensures { setting_of result ≡ record { pairs = pairs types.now; predicates = map signature_in self.now.predicates.entries; functions = map signature_in self.now.functions.entries; objects = map object_in listed.now.objects.entries } }
     {
         Known {
             types,
             predicates: &self.predicates,
             functions: &self.functions,
             tops: &self.tops,
-            objects,
-            places,
+            listed,
         }
     }
 }

@@ -1,12 +1,12 @@
 //! The search for names that are not known, other numbers of terms than declared, terms that do not fit their slots, and numbers that are not
 //! whole, with one look-up of each name.
 
-ghost use Rattle.std.specs.Prelude.{true, length, ◌≡◌, [], not, map, find, Option, option_map, IfOk, IfSome};
+ghost use Rattle.std.specs.Prelude.{true, length, ◌≡◌, [], not, map, Option, option_map, IfOk, IfSome};
 ghost use Rattle.std.specs.Option.{option_copied};
 ghost use Rattle.std.specs.List.{flat_map, slice_index_or};
 ghost use Rattle.pddl_formula.specs.Terms.{term_view};
 ghost use Rattle.pddl_formula.specs.TypedLists.{TypedValue, typed_view};
-ghost use Rattle.pddl_task.specs.Names.{is_named, word_if};
+ghost use Rattle.pddl_task.specs.Names.{word_if};
 ghost use Rattle.pddl_task.specs.Types.{pairs};
 ghost use Rattle.pddl_task.specs.Places.{counts};
 ghost use Rattle.pddl_task.specs.Faults.{primitives_of, typed_term, unknown_term, some_misfit, fraction_of};
@@ -25,27 +25,13 @@ use pddl_faults::{
 };
 use pddl_formula::{Term, TypeNames, Typed};
 use pddl_token::Fixed;
-use pddl_types::{Known, Signatures, SlotTops, Top, is_object, one_place};
+use pddl_types::{Known, Signatures, SlotTops, Top};
 use std::alloc::{AllocError, Allocator};
 
 /// Looks for what is wrong with names that are used, and with numbers.
 #[derive(Drop)]
 pub struct Uses<'k, 't, 'm, 'a, A: Allocator, B: Allocator> {
     pub known: &'k Known<'t, 'm, 'a, A, B>,
-}
-
-/// The type of the object of this name, and the places at which its primitives stand, as far as they are known.
-fn object_type<'t, 'm, 'a, A: Allocator, B: Allocator>(
-    known: &Known<'t, 'm, 'a, A, B>,
-    object: &[u8],
-) -> (Option<&'m TypeNames<A>>, &'t [usize])
-    ensures types { option_copied result.0 ≡ option_map primitives_of (find (is_named object.now) (setting_of known.now).objects) }
-    ensures told { IfSome result.0 (λ types. AreToldAt known.now.types.now types.now result.1.now) }
-{
-    match known.objects.get_full(object) {
-        Some((number, _, listed)) => (Some(&listed.types), one_place(known.places, number)),
-        None => (None, &[]),
-    }
 }
 
 /// Whether what has a type, whose primitives stand at these places, fits a slot with these tops, where there is one.
@@ -83,7 +69,7 @@ fn term_fits<'t, 'm, 'a, A: Allocator, B: Allocator>(
 {
     match term {
         LentTerm::Object(object) => {
-            let (types, places) = object_type(known, *object);
+            let (types, places) = known.listed.type_of(*object);
             fits_slot(known, types, places, slot, tops)
         }
         LentTerm::Variable(variable) => {
@@ -226,7 +212,7 @@ fn is_known<'t, 'm, 'a, A: Allocator, B: Allocator>(
     ensures { unknown_term (setting_of known.now) (bound_of scope.now) (term_in term.now) ≡ word_if (not result) (term_name (term_in term.now)) }
 {
     match term {
-        LentTerm::Object(object) => is_object(known.objects, *object),
+        LentTerm::Object(object) => known.listed.contains(*object),
         LentTerm::Variable(variable) => {
             let (types, _) = bound_type(scope, *variable);
             types.is_some()

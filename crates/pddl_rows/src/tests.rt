@@ -61,7 +61,7 @@ fn layouts(rt: HostRuntime) -> Result<(), Fail> {
 
 #[test]
 fn problems(rt: HostRuntime) -> Result<(), Fail> {
-    all_hold(&rt, rows::PROBLEMS, 59)
+    all_hold(&rt, rows::PROBLEMS, 63)
 }
 
 #[test]

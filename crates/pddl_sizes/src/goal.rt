@@ -22,7 +22,7 @@ pub fn goal_size<'k, 'm, 'a, 'd, A: Allocator, B: Allocator>(
     problem: &'d Problem<A>,
 ) -> Result<(), LinkFault<'d>>
     requires types { counts.now.types.now ≡ (domain_view domain.now).types }
-    requires objects { map object_in counts.now.objects.now.entries ≡ objects_of (domain_view domain.now) (problem_view problem.now) }
+    requires objects { map object_in counts.now.listed.now.objects.entries ≡ objects_of (domain_view domain.now) (problem_view problem.now) }
     ensures { Passes 35 (large_goals (domain_view domain.now) (problem_view problem.now)) result }
 {
     if ground_size(counts, &problem.goal) > 1_000_000 {

@@ -10,16 +10,16 @@ ghost use Rattle.pddl_types.specs.ObjectCounts.{AreCountsOf, IsCountAt, IsSumOf}
 
 use crate::size::FittingCount;
 use pddl_formula::TypeNames;
-use pddl_types::{Objects, TypeCounts, Types, single};
+use pddl_types::{Listed, Objects, TypeCounts, Types, single};
 use std::alloc::Allocator;
 
 /// Counts the objects that fit a type: by a table, and one by one where types have a cycle, where an object has not one type, or where memory is refused.
 #[derive(Drop)]
 pub struct ObjectCounts<'t, 'm, 'a, A: Allocator, B: Allocator> {
     pub types: &'t Types<'m, 'a, A, B>,
-    pub objects: &'t Objects<'m, 'a, A, B>,
+    pub listed: &'t Listed<'m, 'a, A, B>,
     pub counts: &'t TypeCounts<'m, 'a, B>,
-    ghost told: { AreCountsOf types.now (map object_in objects.now.entries) counts.now.entries },
+    ghost told: { AreCountsOf types.now (map object_in listed.now.objects.entries) counts.now.entries },
 }
 
 /// How many objects fit a type, where it is one type that stands in a table of counts.
@@ -115,14 +115,14 @@ impl<'t, 'm, 'a, A: Allocator, B: Allocator, N: Allocator> FittingCount<N>
     ghost use Rattle.pddl_task.specs.GroundSize.{fitting_count};
     ghost use Rattle.pddl_types.specs.KnownNames.{object_in};
 
-    ghost count = { λ counts slot. fitting_count (pairs counts.types.now) (map object_in counts.objects.now.entries) slot };
+    ghost count = { λ counts slot. fitting_count (pairs counts.types.now) (map object_in counts.listed.now.objects.entries) slot };
 
     fn fitting_count(&self, types: &TypeNames<N>) -> usize {
         match single_count(self.counts, types) {
             Some(count) => count,
             None => match sum_of_tops(self.types, self.counts, types) {
                 Some(sum) => sum,
-                None => count_each(self.types, self.objects, types),
+                None => count_each(self.types, &self.listed.objects, types),
             },
         }
     }

@@ -1,10 +1,9 @@
 -- Objects that are counted by the places of their types.
-use Rattle.std.proofs.Common.{◌≡◌, ℕ, zero, suc, ◌+◌, ◌<◌, Bool, true, false, ◌||◌, ◌&&◌, cond, List, [], ◌∷◌, ◌++◌, map, filter, length, take, Some, None, refl, sym, ap, ◌∙◌, subst, bytes_eq, arith, inl, inr}
-use Rattle.std.specs.Prelude.{Option, IfSome, option_map, slice_get, position, Contains}
+use Rattle.std.proofs.Common.{◌≡◌, slice_index_or, ℕ, zero, suc, ◌+◌, ◌<◌, Bool, true, false, ◌||◌, ◌&&◌, cond, List, [], ◌∷◌, ◌++◌, map, filter, length, Some, refl, sym, ap, ◌∙◌, subst, bytes_eq, arith}
+use Rattle.std.specs.Prelude.{slice_get, Contains}
 use Rattle.std.specs.Borrow.{Bor}
-use Rattle.std.specs.Map.{lookup, keys_of}
-use Rattle.std.proofs.lemmas.List.{length-map, map-append}
-use Rattle.std.proofs.lemmas.List.Elements.{Contains-push_cases}
+use Rattle.std.specs.Map.{lookup}
+use Rattle.std.proofs.lemmas.List.{length-map}
 use Rattle.indexmap.specs.IndexMap.{insert_entry}
 use Rattle.pddl_forest.specs.Forests.{number_at}
 use Rattle.pddl_forest.specs.Counts.{count, AreCounts}
@@ -15,34 +14,16 @@ use Rattle.pddl_task.specs.Types.{types_of, pairs, fits, is_under}
 use Rattle.pddl_task.specs.Faults.{primitives_of}
 use Rattle.pddl_task.specs.GroundSize.{fitting_count}
 use Rattle.pddl_types.specs.TypeTables.{Row, names_in, name_at, IsTypeTable}
-use Rattle.pddl_types.specs.ObjectCounts.{is_single, AreSingle, AreCountsOf, IsPlaceOf, ArePlacesOf, AreNamedCounts}
+use Rattle.pddl_types.specs.ObjectCounts.{is_single, AreSingle, AreCountsOf, ArePlacesOf, AreNamedCounts}
+use Rattle.pddl_types.specs.Places.{AreObjectsAt}
 use Rattle.pddl_task.proofs.Lists.{bytes_same}
-use Rattle.pddl_types.specs.KnownNames.{object_in}
 use Rattle.pddl_types.proofs.TypeTables.{table_has}
-use Rattle.pddl_types.proofs.CountedObjects.{Object}
-use Rattle.pddl_types.proofs.TypeLookups.{found_place}
 use Rattle.pddl_faults.proofs.PutValues.{lookup_put}
 use Rattle.pddl_types.proofs.TypeClimbs.{name_has, has_in}
 use Rattle.pddl_types.proofs.TypeForests.{parents_in, under_numbered}
+use Rattle.pddl_types.proofs.TypePlaces.{same_at, as_long}
 
--- ---- the place of an object's type
-
-object_at : {A : Type 0} (es : List (Object A)) (n : ℕ) (e : Object A) → Some e ≡ slice_get es n → option_map primitives_of (slice_get (map object_in es) n) ≡ Some e.1.now.types
-object_at [] n e at = absurd (cc)
-object_at {A} (f ∷ es) zero e at = let same : e ≡ f = cc in ap (λ (x : Object A). Some x.1.now.types) (sym same)
-object_at (f ∷ es) (suc n) e at = object_at es n e at
-
-pub named_found : (rows : List Row) (q : Bor (List ℕ)) (o : Option ℕ) → o ≡ position (λ k. bytes_eq q.now k.now) (keys_of rows) → IfSome o (λ place. name_at rows place ≡ q.now)
-named_found rows q None is = tt
-named_found rows q (Some place) is = (found_place rows q place (sym is)).1
-
-pub is_place : {A : Type 0} (rows : List Row) (es : List (Object A)) (n : ℕ) (e : Object A) (q : Bor (List ℕ)) (o : Option ℕ) → Some e ≡ slice_get es n → e.1.now.types ≡ q.now ∷ []
-    → IfSome o (λ place. place < length rows) → IfSome o (λ place. name_at rows place ≡ q.now) → IfSome o (λ place. IsPlaceOf rows (slice_get (map object_in es) n) place)
-is_place rows es n e q None at single low is = tt
-is_place rows es n e q (Some place) at single low is = record {
-  in_range = low;
-  name = object_at es n e at ∙ ap Some (single ∙ ap (λ m. m ∷ []) (sym is));
-}
+-- ---- names at places
 
 pub named_place : (rows : List Row) (n : ℕ) (k : Bor (List ℕ)) (p : ℕ) → Some (k, p) ≡ slice_get rows n → (n < length rows) × (name_at rows n ≡ k.now)
 named_place [] n k p at = absurd (cc)
@@ -55,22 +36,26 @@ pub pushed_length : (xs : List ℕ) (x n : ℕ) → length xs ≡ n → length (
 pushed_length [] x n h = omega (arith, h)
 pushed_length (y ∷ xs) x n h = let rest = pushed_length xs x (length xs) refl in omega (arith, h, rest)
 
-next_names : (objects : List TypedValue) (n : ℕ) (ns : List Name) → option_map primitives_of (slice_get objects n) ≡ Some ns
-    → map primitives_of (take (suc n) objects) ≡ map primitives_of (take n objects) ++ ns ∷ []
-next_names [] n ns is = absurd (cc)
-next_names (o ∷ objects) zero ns is = let same : o.of ≡ ns = cc in ap (λ ms. ms ∷ []) same
-next_names (o ∷ objects) (suc n) ns is = ap (λ rest. o.of ∷ rest) (next_names objects n ns is)
+-- each of some numbers is low
+pub low_all : (places : List ℕ) (size : ℕ) → ((k : ℕ) → k < length places → slice_index_or places k 0 < size) → (p : ℕ) → Contains places p → p < size
+low_all [] size h p (k, less, is) = absurd (omega (arith, less))
+low_all (q ∷ places) size h p (zero, less, is) = subst (λ n. n < size) is (h zero (omega arith))
+low_all (q ∷ places) size h p (suc k, less, is) = low_all places size (λ j low. h (suc j) (omega (arith, low))) p (k, omega (arith, less), is)
 
-pub next_placed : (rows : List Row) (objects : List TypedValue) (n place : ℕ) (places : List ℕ) → IsPlaceOf rows (slice_get objects n) place → ArePlacesOf rows (take n objects) places
-    → ArePlacesOf rows (take (n + 1) objects) (places ++ place ∷ [])
-next_placed rows objects n place places here before = record {
-  names = map-append (λ p. name_at rows p ∷ []) places (place ∷ []) ∙ ap (λ ns. ns ++ (name_at rows place ∷ []) ∷ []) before.names
-      ∙ sym (let next : n + 1 ≡ suc n = omega arith in ap (λ k. map primitives_of (take k objects)) next ∙ next_names objects n (name_at rows place ∷ []) here.name);
-  in_range = λ p there. elim (Contains-push_cases places place p there) as (λ _. p < length rows) [
-    | inl earlier ↦ before.in_range p earlier
-    | inr is ↦ subst (λ q. q < length rows) is here.in_range
-  ];
-}
+-- objects of one type each, whose places stand in the table
+pub placed : (declared : List TypeValue) (rows : List Row) (objects : List TypedValue) (places : List ℕ) → IsTypeTable declared rows → AreObjectsAt declared objects places
+    → ((p : ℕ) → Contains places p → p < length rows) → ArePlacesOf rows objects places
+placed declared rows objects places table are low = record { names = all objects places are low; in_range = low }
+  where
+    all : (objects : List TypedValue) (places : List ℕ) → AreObjectsAt declared objects places → ((p : ℕ) → Contains places p → p < length rows) → map (λ p. name_at rows p ∷ []) places ≡ map primitives_of objects
+    all [] [] are low = refl
+    all [] (p ∷ places) are low = absurd (omega (arith, are.many))
+    all (x ∷ objects) [] are low = absurd (omega (arith, are.many))
+    all (x ∷ objects) (p ∷ places) are low =
+        let there : p < length rows = low p (0, omega arith, refl) in
+        let rest : AreObjectsAt declared objects places = record { many = omega (arith, are.many); each = λ k q y object place. are.each (suc k) q y object place } in
+        ap (λ ns. ns ∷ map (λ q. name_at rows q ∷ []) places) (ap (λ n. n ∷ []) (same_at declared rows table p) ∙ sym (are.each 0 p x refl refl (omega (arith, there, as_long declared rows table))))
+        ∙ ap (λ ns. x.of ∷ ns) (all objects places rest (λ q in_it. low q (suc in_it.0, omega (arith, in_it.1), in_it.2)))
 
 -- ---- counts by names
 

@@ -1,30 +1,47 @@
 -- Types by their places in a table.
-use Rattle.std.proofs.Common.{◌≡◌, ℕ, zero, suc, ◌+◌, ◌<◌, Bool, true, List, [], ◌∷◌, ◌++◌, map, length, take, drop, filter, not, refl, sym, ap, ◌∙◌, subst, arith, bytes_eq, ◌⊎◌, inl, inr}
+use Rattle.std.proofs.Common.{◌≡◌, ℕ, zero, suc, ◌+◌, ◌<◌, ◌==◌, Bool, true, false, true≢false, not, cond, List, [], ◌∷◌, ◌++◌, map, length, take, drop, refl, sym, ap, ◌∙◌, subst, arith, bytes_eq, ◌⊎◌, inl, inr}
 use Rattle.std.specs.Prelude.{Option, Some, None, IfSome, Result, Ok, Err, OnOk, Contains, slice_get, option_map}
 use Rattle.std.specs.Borrow.{Bor}
-use Rattle.std.specs.List.{list_any, position, slice_index_or}
-use Rattle.std.specs.Map.{keys_of}
+use Rattle.std.specs.Cmp.Lexicographic.{bytes_decides, pointwise_decides}
+use Rattle.std.specs.List.{list_any, position, position_or_len, slice_index_or, IsDistinct}
+use Rattle.std.specs.Map.{lookup, keys_of}
+use Rattle.std.proofs.lemmas.Bool.{eqb-true, eq-eqb}
 use Rattle.std.proofs.lemmas.List.{length-map, length-append}
-use Rattle.std.proofs.lemmas.List.Elements.{Contains-append_cases, filter-append}
+use Rattle.std.proofs.lemmas.List.Elements.{Contains-append_cases}
+use Rattle.std.proofs.lemmas.Map.Keys.{IsDistinct-head, IsDistinct-tail}
 use Rattle.std.proofs.lemmas.Option.{slice_get-map, slice_get_within}
 use Rattle.pddl_formula.specs.TypedLists.{TypedValue}
+use Rattle.pddl_formula.specs.declared.type_names.Typed.{Typed}
 use Rattle.pddl_domain.specs.Declarations.{TypeValue}
-use Rattle.pddl_task.specs.Names.{Name, is_in, is_named, firsts}
-use Rattle.pddl_task.specs.Types.{root, pairs, is_under}
-use Rattle.pddl_task.specs.Faults.{primitives_of}
-use Rattle.pddl_types.specs.TypeTables.{Row, name_at, type_names, climbs, IsTypeTable}
-use Rattle.pddl_types.specs.ObjectCounts.{ArePlacesOf}
-use Rattle.pddl_types.specs.Places.{type_at, IsToldAt, AreToldAt, AreTops, AreObjectsAt}
+use Rattle.pddl_task.specs.Names.{Name, is_in, same_names}
+use Rattle.pddl_task.specs.Types.{root, types_of, pairs, is_under}
+use Rattle.pddl_types.specs.TypeTables.{Row, names_in, name_at, type_names, climbs, IsTypeTable}
+use Rattle.pddl_types.specs.KnownNames.{AreNamed, object_in}
+use Rattle.pddl_types.specs.Places.{type_at, IsToldAt, AreToldAt, AreTops, IsOnlyAt, AreObjectsAt, IsEmpty, AreListedAt}
+use Rattle.pddl_types.specs.declared.listed.Listed.{Listed}
 use Rattle.pddl_types.specs.declared.top.Top.{Top}
-use Rattle.pddl_task.proofs.Lists.{bytes_same, any_found, found_any, has_cases, has_none}
+use Rattle.pddl_task.proofs.Lists.{bytes_same, any_found, found_any, has_cases, has_later, has_none}
+use Rattle.pddl_types.proofs.TypeTables.{table_once, apart}
 use Rattle.pddl_types.proofs.TypeClimbs.{has_in, climbs_decide}
 use Rattle.pddl_types.proofs.TypeLookups.{found_place, no_place, under_same, no_subtype, no_supertype}
 
-get-take : {X : Type 0} (xs : List X) (n k : ℕ) → k < n → slice_get (take n xs) k ≡ slice_get xs k
-get-take xs zero k low = absurd (omega (arith, low))
-get-take [] (suc n) k low = refl
-get-take (x ∷ xs) (suc n) zero low = refl
-get-take (x ∷ xs) (suc n) (suc k) low = get-take xs n k (omega (arith, low))
+both_or_neither : (a b : Bool) → (a ≡ true → b ≡ true) → (b ≡ true → a ≡ true) → a ≡ b
+both_or_neither true b to from = sym (to refl)
+both_or_neither false true to from = from refl
+both_or_neither false false to from = refl
+
+index_has : (ns : List Name) (i : ℕ) (d : Name) → i < length ns → Contains ns (slice_index_or ns i d)
+index_has [] i d low = absurd (omega (arith, low))
+index_has (n ∷ ns) zero d low = (0, omega arith, refl)
+index_has (n ∷ ns) (suc i) d low = has_later n ns (slice_index_or ns i d) (index_has ns i d (omega (arith, low)))
+
+-- names that differ stand at one place each
+distinct_at : (ns : List Name) (i g : ℕ) (d : Name) → IsDistinct bytes_eq ns → i < length ns → g < length ns → slice_index_or ns i d ≡ slice_index_or ns g d → i ≡ g
+distinct_at [] i g d once low also same = absurd (omega (arith, low))
+distinct_at (n ∷ ns) zero zero d once low also same = refl
+distinct_at (n ∷ ns) zero (suc g) d once low also same = absurd (true≢false (sym ((bytes_decides n (slice_index_or ns g d)).1 same) ∙ apart n ns (slice_index_or ns g d) (IsDistinct-head bytes_eq n ns once) (index_has ns g d (omega (arith, also)))))
+distinct_at (n ∷ ns) (suc i) zero d once low also same = absurd (true≢false (sym ((bytes_decides n (slice_index_or ns i d)).1 (sym same)) ∙ apart n ns (slice_index_or ns i d) (IsDistinct-head bytes_eq n ns once) (index_has ns i d (omega (arith, low)))))
+distinct_at (n ∷ ns) (suc i) (suc g) d once low also same = ap suc (distinct_at ns i g d (IsDistinct-tail bytes_eq n ns once) (omega (arith, low)) (omega (arith, also)) same)
 
 module _ (declared : List TypeValue) (rows : List Row) (h : IsTypeTable declared rows) where
   pub as_long : length (type_names declared) ≡ length rows
@@ -63,22 +80,24 @@ module _ (declared : List TypeValue) (rows : List Row) (h : IsTypeTable declared
   pub past_told : (n : Name) (i : ℕ) → i ≡ length rows → IsToldAt declared n i
   past_told n i past low = absurd (omega (arith, past, low, as_long))
 
-  -- ---- objects of one type
+  -- ---- a place of a type that is one primitive
 
-  pub objects_at : (objects : List TypedValue) (places : List ℕ) → ArePlacesOf rows (take (length places) objects) places → AreObjectsAt declared objects places
-  objects_at objects places are k p x object at =
-      let within : k < length places = slice_get_within places k p at in
-      let name : x.of ≡ name_at rows p ∷ [] =
-      some_same (sym (ap (option_map primitives_of) (get-take objects (length places) k within ∙ object)) ∙ sym (slice_get-map primitives_of (take (length places) objects) k)
-      ∙ sym (ap (λ ns. slice_get ns k) are.names) ∙ slice_get-map (λ q. name_at rows q ∷ []) places k ∙ ap (option_map (λ q. name_at rows q ∷ [])) at) in
-      λ s q n primitive place. one_alone s q n (sym (ap (λ ns. slice_get ns s) name) ∙ primitive) place
-    where
-      some_same : {X : Type 0} {x y : X} → Some x ≡ Some y → x ≡ y
-      some_same h = cc
+  pub one_only : (n : Name) (types : List Name) (i : ℕ) → types ≡ n ∷ [] → IsToldAt declared n i → IsOnlyAt declared types i
+  one_only n types i is told low = is ∙ ap (λ m. m ∷ []) (sym (told low))
 
-      one_alone : (s q : ℕ) (n : Name) → slice_get (name_at rows p ∷ []) s ≡ Some n → slice_get (p ∷ []) s ≡ Some q → IsToldAt declared n q
-      one_alone zero q n is at low = sym (same_at q) ∙ ap (name_at rows) (sym (some_same at)) ∙ some_same is
-      one_alone (suc s) q n is at low = cc
+  pub past_only : (types : List Name) (i : ℕ) → i ≡ length rows → IsOnlyAt declared types i
+  past_only types i past low = absurd (omega (arith, past, low, as_long))
+
+  -- types at two places are the same where the places are
+  pub same_by_places : (i g : ℕ) (types others : List Name) → i < length rows → g < length rows → IsOnlyAt declared types i → IsOnlyAt declared others g → (i == g) ≡ same_names types others
+  same_by_places i g types others low also only other =
+      let one : types ≡ name_at rows i ∷ [] = only (omega (arith, low, as_long)) ∙ ap (λ n. n ∷ []) (sym (same_at i)) in
+      let two : others ≡ name_at rows g ∷ [] = other (omega (arith, also, as_long)) ∙ ap (λ n. n ∷ []) (sym (same_at g)) in
+      both_or_neither (i == g) (same_names types others)
+      (λ is. let here = eqb-true i g is in (pointwise_decides bytes_decides types others).1 (one ∙ ap (λ k. name_at rows k ∷ []) here ∙ sym two))
+      (λ is. let names : name_at rows i ≡ name_at rows g = ap (λ ns. slice_index_or ns 0 root) (sym one ∙ (pointwise_decides bytes_decides types others).0 is ∙ two) in
+      let here = distinct_at (names_in rows) i g root (table_once (types_of declared) declared rows h.table) (omega (arith, low, length-map rows (λ (r : Row). r.0.now))) (omega (arith, also, length-map rows (λ (r : Row). r.0.now))) names in
+      eq-eqb i g here)
 
 -- ---- tops
 
@@ -170,24 +189,51 @@ pub object_told : (declared : List TypeValue) (objects : List TypedValue) (place
     → AreToldAt declared x.of (take 1 (drop k places))
 object_told declared objects places k x are object s p n primitive place =
     let one = only_one places k s p place in
-    are k p x object one.1 0 p n (ap (slice_get x.of) (sym one.0) ∙ primitive) refl
+    λ low. some_same (ap (λ ns. slice_get ns 0) (sym (are.each k p x object one.1 low)) ∙ ap (slice_get x.of) (sym one.0) ∙ primitive)
+  where
+    some_same : {n m : Name} → Some n ≡ Some m → n ≡ m
+    some_same h = cc
 
-get_front : {X : Type 0} (xs ys : List X) (k : ℕ) (x : X) → slice_get xs k ≡ Some x → slice_get (xs ++ ys) k ≡ Some x
-get_front [] ys k x h = cc
-get_front (y ∷ xs) ys zero x h = h
-get_front (y ∷ xs) ys (suc k) x h = get_front xs ys k x h
+-- none are listed
+pub none_listed : {A B : Type 0} (declared : List TypeValue) (l : Listed A B) → IsEmpty l → AreListedAt declared l
+none_listed declared l none = record {
+  named = subst AreNamed (sym none.0) refl;
+  at = record {
+    many = ap length none.1 ∙ sym (ap (λ es. length (map object_in es)) none.0);
+    each = λ k p x object place. absurd (omega (arith, slice_get_within (map object_in l.objects.entries) k x object, ap (λ es. length (map object_in es)) none.0));
+  };
+}
 
--- and for the first objects
-pub first_objects : (declared : List TypeValue) (front whole rest : List TypedValue) (places : List ℕ) → whole ≡ front ++ rest → AreObjectsAt declared whole places → AreObjectsAt declared front places
-first_objects declared front whole rest places is are k p x object place = are k p x (ap (λ os. slice_get os k) is ∙ get_front front rest k x object) place
+-- one that is listed last
+pub listed_more : (declared : List TypeValue) (objects : List TypedValue) (places : List ℕ) (x : TypedValue) (p : ℕ) → IsOnlyAt declared x.of p → AreObjectsAt declared objects places
+    → AreObjectsAt declared (objects ++ x ∷ []) (places ++ p ∷ [])
+listed_more declared objects places x p told are = record {
+  many = length-append places (p ∷ []) ∙ ap (λ n. n + 1) are.many ∙ sym (length-append objects (x ∷ []));
+  each = λ k q y object place. one k q y (at_end objects x y k object) (at_end places p q k place);
+}
+  where
+    one : (k q : ℕ) (y : TypedValue) → (slice_get objects k ≡ Some y) ⊎ ((k ≡ length objects) × (x ≡ y)) → (slice_get places k ≡ Some q) ⊎ ((k ≡ length places) × (p ≡ q)) → IsOnlyAt declared y.of q
+    one k q y (inl object) (inl place) = are.each k q y object place
+    one k q y (inl object) (inr last) = absurd (omega (arith, slice_get_within objects k y object, last.0, are.many))
+    one k q y (inr last) (inl place) = absurd (omega (arith, slice_get_within places k q place, last.0, are.many))
+    one k q y (inr last) (inr also) = subst (IsOnlyAt declared y.of) also.1 (subst (λ z. IsOnlyAt declared z.of p) last.1 told)
 
--- each name at its first place, of a list and of one behind it
-pub firsts_behind : (xs ys : List TypedValue) → (rest : List TypedValue) × (firsts (xs ++ ys) ≡ firsts xs ++ rest)
-firsts_behind [] ys = (firsts ys, refl)
-firsts_behind (x ∷ xs) ys =
-    let later = firsts_behind xs ys in
-    let q = λ (y : TypedValue). not (is_named x.item y) in
-    (filter q later.0, ap (λ os. x ∷ filter q os) later.1 ∙ ap (λ os. x ∷ os) (filter-append q (firsts xs) later.0))
+-- an object that is found by its name
+pub found_at : {A : Type 0} (es : List (Bor (List ℕ) × Bor (Typed A))) (n : Name) (found : Bor (Typed A)) → lookup (λ k. bytes_eq n k.now) es ≡ Some found
+    → (x : TypedValue) × (slice_get (map object_in es) (position_or_len (λ k. bytes_eq n k.now) (keys_of es)) ≡ Some x) × (x.of ≡ found.now.types)
+found_at [] n found h = absurd (cc (h))
+found_at {A} (e ∷ es) n found h = go (bytes_eq n e.0.now) (found_at es n found) h
+  where
+    later : ℕ
+    later = position_or_len (λ k. bytes_eq n k.now) (keys_of es)
+
+    go : (b : Bool) → (lookup (λ k. bytes_eq n k.now) es ≡ Some found → (x : TypedValue) × (slice_get (map object_in es) later ≡ Some x) × (x.of ≡ found.now.types))
+        → cond b (Some e.1) (lookup (λ k. bytes_eq n k.now) es) ≡ Some found
+        → (x : TypedValue) × (slice_get (object_in e ∷ map object_in es) (cond (not b) (1 + later) 0) ≡ Some x) × (x.of ≡ found.now.types)
+    go true rest is = let same : e.1 ≡ found = cc is in (object_in e, refl, ap (λ (t : Bor (Typed A)). t.now.types) same)
+    go false rest is =
+        let one : 1 + later ≡ suc later = omega arith in
+        ((rest is).0, ap (slice_get (object_in e ∷ map object_in es)) one ∙ (rest is).1, (rest is).2)
 
 -- what is seen of an entry
 pub seen_entry : {E Y : Type 0} (view : E → Y) (es : List E) (k : ℕ) (e : E) → slice_get es k ≡ Some e → slice_get (map view es) k ≡ Some (view e)

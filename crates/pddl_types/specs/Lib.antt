@@ -1,5 +1,5 @@
 pub mod TypeTables
-pub mod Places
 pub mod KnownNames
+pub mod Places
 pub mod Settings
 pub mod ObjectCounts

@@ -1,5 +1,5 @@
 -- How many objects fit each type, as it is held for look-ups by name.
-use Rattle.std.specs.Prelude.{◌≡◌, ◌≢◌, ◌<◌, ℕ, Bool, false, IsTrue, List, [], ◌∷◌, map, length, bytes_eq, Contains, Option, Some, option_map}
+use Rattle.std.specs.Prelude.{◌≡◌, ◌≢◌, ◌<◌, ℕ, Bool, false, IsTrue, List, [], ◌∷◌, map, length, bytes_eq, Contains, Some}
 use Rattle.std.specs.List.{slice_index_or}
 use Rattle.std.specs.Map.{lookup}
 use Rattle.pddl_forest.specs.Forests.{number_at}
@@ -49,11 +49,6 @@ IsSumOf declared objects types steps sum =
 pub record AreNamesAt (rows : List Row) (names : List Name) (places : List ℕ) : Type 0 where
   pub names_are : map (name_at rows) places ≡ names
   pub in_range : (p : ℕ) → Contains places p → p < length rows
-
--- an object has one type, which stands at a place
-pub record IsPlaceOf (rows : List Row) (object : Option TypedValue) (place : ℕ) : Type 0 where
-  pub in_range : place < length rows
-  pub name : option_map primitives_of object ≡ Some (name_at rows place ∷ [])
 
 -- the places of the types of objects, each of which has one type
 pub record ArePlacesOf (rows : List Row) (objects : List TypedValue) (places : List ℕ) : Type 0 where

@@ -1,5 +1,5 @@
 -- Types by their places in a table. Own.
-use Rattle.std.specs.Prelude.{◌≡◌, ◌<◌, ℕ, true, List, [], ◌∷◌, Some, length, slice_get, Contains}
+use Rattle.std.specs.Prelude.{◌≡◌, ◌<◌, ℕ, true, List, [], ◌∷◌, Some, map, length, slice_get, Contains}
 use Rattle.std.specs.List.{slice_index_or}
 use Rattle.pddl_formula.specs.TypedLists.{TypedValue}
 use Rattle.pddl_domain.specs.Declarations.{TypeValue, Signature}
@@ -7,7 +7,9 @@ use Rattle.pddl_task.specs.Names.{Name, is_in}
 use Rattle.pddl_task.specs.Types.{root}
 use Rattle.pddl_faults.specs.Told.{AreTold}
 use Rattle.pddl_types.specs.TypeTables.{type_names}
+use Rattle.pddl_types.specs.KnownNames.{AreNamed, object_in}
 use Rattle.pddl_types.specs.declared.top.Top.{Top}
+use Rattle.pddl_types.specs.declared.listed.Listed.{Listed}
 
 -- the type at a place
 abbrev pub type_at : List TypeValue → ℕ → Name
@@ -29,6 +31,20 @@ AreTops declared names tops = (t : Top) → Contains tops t → t.place < length
 abbrev pub AreSlotTops : List TypeValue → List Signature → List (List (List Top)) → Type 0
 AreSlotTops declared signatures tops = (k : ℕ) (f : Signature) → slice_get signatures k ≡ Some f → AreTold (AreTops declared) f.parameters (slice_index_or tops k [])
 
--- places for objects that have one type each, as far as there are some
-abbrev pub AreObjectsAt : List TypeValue → List TypedValue → List ℕ → Type 0
-AreObjectsAt declared objects places = (k p : ℕ) (x : TypedValue) → slice_get objects k ≡ Some x → slice_get places k ≡ Some p → AreToldAt declared x.of (p ∷ [])
+-- a place stands for the one primitive of a type, if a type stands there
+abbrev pub IsOnlyAt : List TypeValue → List Name → ℕ → Type 0
+IsOnlyAt declared types place = place < length (type_names declared) → types ≡ type_at declared place ∷ []
+
+-- so there is one for the type of each object
+pub record AreObjectsAt (declared : List TypeValue) (objects : List TypedValue) (places : List ℕ) : Type 0 where
+  pub many : length places ≡ length objects
+  pub each : (k p : ℕ) (x : TypedValue) → slice_get objects k ≡ Some x → slice_get places k ≡ Some p → IsOnlyAt declared x.of p
+
+-- no objects are listed
+abbrev pub IsEmpty : {A B : _} → Listed A B → Type 0
+IsEmpty l = (l.objects.entries ≡ []) × (l.places.items ≡ [])
+
+-- objects that are listed stand each under its own name, with such a place
+pub record AreListedAt {A B : Type 0} (declared : List TypeValue) (l : Listed A B) : Type 0 where
+  pub named : AreNamed l.objects.entries
+  pub at : AreObjectsAt declared (map object_in l.objects.entries) l.places.items

@@ -10,5 +10,5 @@ setting_of known = record {
   pairs = pairs known.types.now;
   predicates = map signature_in known.predicates.now.entries;
   functions = map signature_in known.functions.now.entries;
-  objects = map object_in known.objects.now.entries;
+  objects = map object_in known.listed.now.objects.entries;
 }

@@ -6,7 +6,7 @@
 mod declares;
 mod function_numbers;
 mod known;
-mod near;
+mod listed;
 mod slot_tops;
 mod top;
 mod tops;
@@ -16,8 +16,8 @@ mod types;
 
 pub use declares::Declares;
 pub use function_numbers::FunctionNumbers;
-pub use known::{Known, Objects, Signatures, is_object, object_fits, signatures};
-pub use near::{one_place, place_at};
+pub use known::{Known, Signatures, signatures};
+pub use listed::{Listed, Objects};
 pub use slot_tops::{SlotTops, Tops};
 pub use top::Top;
 pub use type_counts::{TypeCounts, single};

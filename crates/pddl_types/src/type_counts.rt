@@ -1,13 +1,12 @@
 //! How many objects fit each type, counted once for all types by their numbers in pre-order.
 
-ghost use Rattle.std.specs.Prelude.{◌≡◌, ◌∷◌, [], List, map, take, length, slice_get, IfOk, IfSome};
+ghost use Rattle.std.specs.Prelude.{◌≡◌, ◌∷◌, ◌<◌, ℕ, [], true, List, map, IfOk, IfSome, Contains};
+ghost use Rattle.pddl_formula.specs.TypedLists.{TypedValue};
 ghost use Rattle.pddl_domain.specs.Declarations.{TypeValue};
-ghost use Rattle.pddl_types.specs.KnownNames.{object_in};
 ghost use Rattle.pddl_types.specs.TypeTables.{IsTypeTable};
-ghost use Rattle.pddl_types.specs.ObjectCounts.{AreCountsOf, IsPlaceOf, ArePlacesOf, AreNamedCounts};
+ghost use Rattle.pddl_types.specs.ObjectCounts.{AreCountsOf, AreNamedCounts};
+ghost use Rattle.pddl_types.specs.Places.{AreObjectsAt};
 
-use crate::known::Objects;
-use crate::near::place_in;
 use indexmap::IndexMap;
 use pddl_faults::Hashed;
 use pddl_forest::Preorder;
@@ -29,47 +28,16 @@ pub fn single<N: Allocator>(types: &TypeNames<N>) -> Option<&[u8]>
     }
 }
 
-/// The place of the type of the object of a number, where it has one type alone, which stands in the table. It is looked for first at a place that is near.
-fn place_of<'m, 'a, A: Allocator, B: Allocator>(
-    parents: &IndexMap<&'m [u8], usize, Hashed, &'a B>,
-    objects: &Objects<'m, 'a, A, B>,
-    number: usize,
-    near: usize,
-) -> Option<usize>
-    ensures { IfSome result (λ place. IsPlaceOf parents.now.entries (slice_get (map object_in objects.now.entries) number) place) }
+/// Whether each place is one of so many.
+fn are_within(places: &[usize], size: usize) -> bool
+    ensures { result ≡ true → (p : ℕ) → Contains places.now p → p < size }
 {
-    match objects.get_index(number) {
-        None => None,
-        Some((_, object)) => match single(&object.types) {
-            None => None,
-            Some(name) => place_in(parents, near, name),
-        },
-    }
-}
-
-/// The places of the types of objects, up to the first that has not one type which stands in the table.
-///
-/// Fails where memory for them is refused.
-pub fn places_of<'m, 'a, 'c, A: Allocator, B: Allocator, C: Allocator>(
-    alloc: &'c C,
-    parents: &IndexMap<&'m [u8], usize, Hashed, &'a B>,
-    objects: &Objects<'m, 'a, A, B>,
-) -> Result<Vec<usize, &'c C>, AllocError>
-    ensures all { IfOk result (λ places. length places.items ≡ length objects.now.entries → ArePlacesOf parents.now.entries (map object_in objects.now.entries) places.items) }
-    ensures first { IfOk result (λ places. ArePlacesOf parents.now.entries (take (length places.items) (map object_in objects.now.entries)) places.items) }
-{
-    let mut places = Vec::with_capacity(alloc, objects.len())?;
-    let mut near = 0;
-    for number in 0..objects.len() {
-        match place_of(parents, objects, number, near) {
-            Some(place) => {
-                places.push(place)?;
-                near = place;
-            }
-            None => return Ok(places),
+    for number in 0..places.len() {
+        if size <= places[number] {
+            return false;
         }
     }
-    Ok(places)
+    true
 }
 
 /// The counts of places by the names of their types.
@@ -94,24 +62,23 @@ fn by_name<'m, 'a, B: Allocator>(
     Ok(named)
 }
 
-/// How many of some objects fit each type of a table whose places are numbered. Where an object has not one type, or one that does not
-/// stand in the table, nothing is counted.
+/// How many objects, whose types stand at these places, fit each type of a table whose places are numbered. Where a place is none of the table's, nothing is
+/// counted.
 ///
 /// Fails where memory for the counts is refused.
-pub fn type_counts<'m, 'a, A: Allocator, B: Allocator>(
+pub fn type_counts<'m, 'a, B: Allocator>(
     alloc: &'a B,
     parents: &IndexMap<&'m [u8], usize, Hashed, &'a B>,
     order: &Preorder<'a, B>,
-    objects: &Objects<'m, 'a, A, B>,
+    places: &[usize],
 ) -> Result<TypeCounts<'m, 'a, B>, AllocError>
     requires { order.now ≡ map (λ r. r.1) parents.now.entries }
-    ensures { IfOk result (λ counts. (declared : List TypeValue) → IsTypeTable declared parents.now.entries
-        → AreCountsOf declared (map object_in objects.now.entries) counts.entries) }
+    ensures { IfOk result (λ counts. (declared : List TypeValue) (objects : List TypedValue) → IsTypeTable declared parents.now.entries → AreObjectsAt declared objects places.now
+        → AreCountsOf declared objects counts.entries) }
 {
-    let places = places_of(alloc, parents, objects)?;
-    if places.len() != objects.len() {
+    if !are_within(places, parents.len()) {
         return Ok(IndexMap::new(alloc));
     }
-    let counts = order.counts(alloc, &places)?;
+    let counts = order.counts(alloc, places)?;
     by_name(alloc, parents, &counts)
 }

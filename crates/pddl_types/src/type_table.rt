@@ -1,13 +1,12 @@
 //! The table of the types of a domain, each with the place of its parent, and what is told of the places.
 
-ghost use Rattle.std.specs.Prelude.{◌≡◌, ◌<◌, [], ◌∷◌, map, length, IfOk, OnOk};
+ghost use Rattle.std.specs.Prelude.{◌≡◌, ◌<◌, [], ◌∷◌, true, map, length, IfOk, OnOk};
 ghost use Rattle.pddl_domain.specs.Declarations.{type_view};
 ghost use Rattle.pddl_task.specs.Names.{repeated, item_of};
 ghost use Rattle.pddl_task.specs.Types.{root};
 ghost use Rattle.pddl_forest.specs.Rounds.{AreOffRounds};
 ghost use Rattle.pddl_types.specs.TypeTables.{IsTableOf, IsTypeTable, AreNumbered, with_name, name_at, parent_place, climbs};
 
-use crate::near::is_at;
 use indexmap::IndexMap;
 use pddl_domain::DeclaredType;
 use pddl_faults::Hashed;
@@ -41,7 +40,23 @@ fn place_of<'m, 'a, B: Allocator>(
     }
 }
 
-/// [`place_of`], which looks first at a place that is near.
+/// Whether the type at a place has this name.
+fn is_at<'m, 'a, B: Allocator>(
+    parents: &IndexMap<&'m [u8], usize, Hashed, &'a B>,
+    place: usize,
+    name: &[u8],
+) -> bool
+    ensures within { result ≡ true → place < length parents.now.entries }
+    ensures named { result ≡ true → name_at parents.now.entries place ≡ name.now }
+{
+    match parents.get_index(place) {
+        Some((key, _)) => *key == name,
+        None => false,
+    }
+}
+
+/// [`place_of`], which looks first at a place that is near: types that follow each other often have one parent, and to compare a name takes less than to
+/// look it up.
 fn place_near<'m, 'a, B: Allocator>(
     parents: &mut IndexMap<&'m [u8], usize, Hashed, &'a B>,
     near: usize,

@@ -388,6 +388,51 @@ file ))))
 | good: problem p
 once good problem
 
+row objects of a type with a long name that are constants too
+part (define (domain d) (:types a
+times 100000 e
+part ) (:constants
+series 20000  o#0
+part  - a
+times 100000 e
+file ))
+part (define (problem p) (:domain d) (:objects
+series 20000  o#0
+part  - a
+times 100000 e
+file ) (:init) (:goal (and)))
+| good: problem p
+once good problem
+
+row a constant of one of two types whose names differ late that is an object of the other
+growths 20
+part (define (domain d) (:types a
+times 50 e
+part  a
+times 50 e
+part o) (:constants b c - a
+times 50 e
+file ))
+part (define (problem p) (:domain d) (:objects b - a
+times 50 e
+part  c - a
+times 50 e
+file o) (:init) (:goal (and)))
+| link: fault 24 NameTwice c
+refused problem
+
+row an either that is listed again
+file (define (domain d) (:types s t) (:constants c - (either s t)))
+file (define (problem p) (:domain d) (:objects c - (either s t)) (:init) (:goal (and)))
+| link: fault 25 ObjectTypes c
+refused problem
+
+row an either that is listed again in another order
+file (define (domain d) (:types s t) (:constants c - (either s t)))
+file (define (problem p) (:domain d) (:objects c - (either t s)) (:init) (:goal (and)))
+| link: fault 24 NameTwice c
+refused problem
+
 row a variable of an either of many types that does not fit a slot of another
 growths 20
 part (define (domain d) (:types

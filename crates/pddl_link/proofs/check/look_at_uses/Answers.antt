@@ -13,7 +13,7 @@ use Rattle.pddl_link.proofs.check.look_at_uses.Goals as goal
 pub look_at_domain_uses-used-requires : goal.look_at_domain_uses-used-requires
 look_at_domain_uses-used-requires g c =
     let d = domain_view c.args.domain.now in
-    c.known.ensures ∙ setting_by_parts d c.args.types.now (map signature_in c.in_ok-declared.declared.predicates.entries) (map signature_in c.in_ok-declared.declared.functions.entries) (map object_in c.args.constants.now.entries) (firsts d.constants)
+    c.known.ensures ∙ setting_by_parts d c.args.types.now (map signature_in c.in_ok-declared.declared.predicates.entries) (map signature_in c.in_ok-declared.declared.functions.entries) (map object_in c.args.constants.now.objects.entries) (firsts d.constants)
     c.requires.types c.in_ok-declared.ensures.predicates c.in_ok-declared.ensures.functions c.requires.constants
 
 pub returns : goal.returns

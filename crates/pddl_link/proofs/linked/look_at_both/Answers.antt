@@ -1,6 +1,5 @@
-use Rattle.std.proofs.Common.{◌≡◌, List, [], ◌∷◌, ◌++◌, map, filter, refl, ap, subst, ◌∙◌}
+use Rattle.std.proofs.Common.{◌≡◌, List, [], ◌∷◌, ◌++◌, map, filter, refl, ap, subst}
 use Rattle.std.proofs.lemmas.Result.{on_ok_weaker}
-use Rattle.pddl_formula.specs.TypedLists.{typed_view}
 use Rattle.pddl_domain.specs.Declarations.{TypeValue}
 use Rattle.pddl_domain.specs.Domains.{domain_view}
 use Rattle.pddl_problem.specs.Problems.{problem_view}
@@ -10,35 +9,47 @@ use Rattle.pddl_task.specs.Settings.{objects_of}
 use Rattle.pddl_task.specs.Faults.{first_alone, retyped}
 use Rattle.pddl_task.specs.Linked.{fault_in}
 use Rattle.pddl_faults.specs.Found.{IsFound, numbered}
-use Rattle.pddl_types.specs.KnownNames.{AreNamed, object_in}
+use Rattle.pddl_types.specs.KnownNames.{object_in}
+use Rattle.pddl_types.specs.Places.{AreListedAt}
+use Rattle.pddl_types.proofs.TypePlaces.{none_listed}
 use Rattle.pddl_names.specs.FaultParts.{joined, domain_parts, problem_parts, name_rules}
 use Rattle.pddl_names.proofs.FoundParts.{found_parts, passed_part, first_kept, second_kept}
 use Rattle.pddl_names.proofs.RuleParts.{names_stand}
 use Rattle.pddl_link.proofs.Stages.{verdict_of}
 use Rattle.pddl_link.proofs.linked.look_at_both.Goals as goal
 
+pub list_objects-inner-requires : goal.list_objects-inner-requires
+list_objects-inner-requires g c = none_listed c.args.types.now c.args.constants.now c.requires.no_constants
+
 pub returns-clause-constants : goal.returns-clause-constants
 returns-clause-constants g c =
-    let listed = map object_in c.list_objects-listed.new.objects.entries ≡ firsts (domain_view c.args.domain.now).constants in
+    let listed = map object_in c.list_objects-inner.new.listed.objects.entries ≡ firsts (domain_view c.args.domain.now).constants in
     second_kept c.cycle-above.result c.lower-3.result c.lower-4.result listed c.lower-4.ensures.both
-    (first_kept c.list_objects-listed.result c.lower-2.result c.lower-3.result listed c.lower-3.ensures.both
-    (on_ok_weaker c.list_objects-listed.result (λ lists. lists [] refl (ap (map object_in) c.requires.no_constants) ∙ ap (λ xs. firsts (map typed_view xs)) c.deref.ensures.value) c.list_objects-listed.ensures.lists))
+    (first_kept c.list_objects-inner.result c.lower-2.result c.lower-3.result listed c.lower-3.ensures.both
+    (on_ok_weaker c.list_objects-inner.result (λ lists. lists [] refl (ap (map object_in) c.requires.no_constants.0)) c.list_objects-inner.ensures.lists))
 
 pub returns-clause-objects : goal.returns-clause-objects
 returns-clause-objects g c =
-    let listed = map object_in c.list_all-all.new.objects.entries ≡ objects_of (domain_view c.args.domain.now) (problem_view c.args.problem.now) in
+    let listed = map object_in c.list_all-all.new.listed.objects.entries ≡ objects_of (domain_view c.args.domain.now) (problem_view c.args.problem.now) in
     second_kept c.cycle-above.result c.lower-3.result c.lower-4.result listed c.lower-4.ensures.both
-    (second_kept c.list_objects-listed.result c.lower-2.result c.lower-3.result listed c.lower-3.ensures.both
+    (second_kept c.list_objects-inner.result c.lower-2.result c.lower-3.result listed c.lower-3.ensures.both
     (second_kept c.look_at_domain-declared.result c.lower.result c.lower-2.result listed c.lower-2.ensures.both
     (first_kept c.list_all-all.result c.look_at_problem-bound.result c.lower.result listed c.lower.ensures.both c.list_all-all.ensures.objects)))
 
-pub returns-clause-named : goal.returns-clause-named
-returns-clause-named g c =
-    let named = AreNamed c.list_all-all.new.objects.entries in
-    second_kept c.cycle-above.result c.lower-3.result c.lower-4.result named c.lower-4.ensures.both
-    (second_kept c.list_objects-listed.result c.lower-2.result c.lower-3.result named c.lower-3.ensures.both
-    (second_kept c.look_at_domain-declared.result c.lower.result c.lower-2.result named c.lower-2.ensures.both
-    (first_kept c.list_all-all.result c.look_at_problem-bound.result c.lower.result named c.lower.ensures.both c.list_all-all.ensures.names)))
+pub returns-clause-constants_at : goal.returns-clause-constants_at
+returns-clause-constants_at g c =
+    let at = AreListedAt c.args.types.now c.list_objects-inner.new.listed in
+    second_kept c.cycle-above.result c.lower-3.result c.lower-4.result at c.lower-4.ensures.both
+    (first_kept c.list_objects-inner.result c.lower-2.result c.lower-3.result at c.lower-3.ensures.both
+    c.list_objects-inner.ensures.places)
+
+pub returns-clause-objects_at : goal.returns-clause-objects_at
+returns-clause-objects_at g c =
+    let at = AreListedAt c.args.types.now c.list_all-all.new.listed in
+    second_kept c.cycle-above.result c.lower-3.result c.lower-4.result at c.lower-4.ensures.both
+    (second_kept c.list_objects-inner.result c.lower-2.result c.lower-3.result at c.lower-3.ensures.both
+    (second_kept c.look_at_domain-declared.result c.lower.result c.lower-2.result at c.lower-2.ensures.both
+    (first_kept c.list_all-all.result c.look_at_problem-bound.result c.lower.result at c.lower.ensures.both c.list_all-all.ensures.places)))
 
 pub returns-clause-verdict : goal.returns-clause-verdict
 returns-clause-verdict g c =
@@ -52,8 +63,8 @@ returns-clause-verdict g c =
     (subst (λ us. IsFound (joined (above us ∷ (listed ∷ (domain_parts us d ++ (all ∷ problem_parts us p))))) c.lower-4.result) c.requires.types
     (found_parts (above ts ∷ []) (listed ∷ (domain_parts ts d ++ (all ∷ problem_parts ts p))) c.cycle-above.result c.lower-3.result c.lower-4.result c.lower-4.ensures.found
     (passed_part 22 c.cycle-above.result refl c.cycle-above.ensures)
-    (found_parts (listed ∷ []) (domain_parts ts d ++ (all ∷ problem_parts ts p)) c.list_objects-listed.result c.lower-2.result c.lower-3.result c.lower-3.ensures.found
-    (passed_part 24 c.list_objects-listed.result (ap (λ xs. retyped [] (map typed_view xs)) c.deref.ensures.value) (c.list_objects-listed.ensures.passes [] refl (ap (map object_in) c.requires.no_constants)))
+    (found_parts (listed ∷ []) (domain_parts ts d ++ (all ∷ problem_parts ts p)) c.list_objects-inner.result c.lower-2.result c.lower-3.result c.lower-3.ensures.found
+    (passed_part 24 c.list_objects-inner.result refl (c.list_objects-inner.ensures.passes [] refl (ap (map object_in) c.requires.no_constants.0)))
     (found_parts (domain_parts ts d) (all ∷ problem_parts ts p) c.look_at_domain-declared.result c.lower.result c.lower-2.result c.lower-2.ensures.found c.look_at_domain-declared.ensures
     (found_parts (all ∷ []) (problem_parts ts p) c.list_all-all.result c.look_at_problem-bound.result c.lower.result c.lower.ensures.found
     (passed_part 24 c.list_all-all.result refl c.list_all-all.ensures.passes) c.look_at_problem-bound.ensures)))))

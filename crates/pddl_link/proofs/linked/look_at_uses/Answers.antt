@@ -6,8 +6,7 @@ use Rattle.pddl_task.specs.Settings.{objects_of}
 use Rattle.pddl_task.specs.Linked.{fault_in}
 use Rattle.pddl_search.specs.Claims.{HoldsValues}
 use Rattle.pddl_types.specs.KnownNames.{signature_in, object_in}
-use Rattle.pddl_types.specs.Places.{AreSlotTops, AreObjectsAt}
-use Rattle.pddl_types.proofs.TypePlaces.{first_objects, firsts_behind}
+use Rattle.pddl_types.specs.Places.{AreSlotTops}
 use Rattle.pddl_names.specs.FaultParts.{joined, domain_uses, problem_uses, use_rules}
 use Rattle.pddl_names.proofs.FoundParts.{found_parts, second_kept}
 use Rattle.pddl_names.proofs.RuleParts.{uses_stand}
@@ -18,13 +17,13 @@ use Rattle.pddl_link.proofs.linked.look_at_uses.Goals as goal
 pub look_at_domain_uses-used-requires : goal.look_at_domain_uses-used-requires
 look_at_domain_uses-used-requires g c =
     let d = domain_view c.args.domain.now in
-    c.known-inner.ensures ∙ setting_by_parts d c.args.types.now (map signature_in c.args.tables.now.declared.predicates.entries) (map signature_in c.args.tables.now.declared.functions.entries) (map object_in c.args.constants.now.entries) (firsts d.constants)
+    c.known-inner.ensures ∙ setting_by_parts d c.args.types.now (map signature_in c.args.tables.now.declared.predicates.entries) (map signature_in c.args.tables.now.declared.functions.entries) (map object_in c.args.constants.now.objects.entries) (firsts d.constants)
     c.requires.types c.requires.predicates c.requires.functions c.requires.constants
 
 pub look_at_problem_uses-requires-clause-known : goal.look_at_problem_uses-requires-clause-known
 look_at_problem_uses-requires-clause-known g c =
     let d = domain_view c.args.domain.now in
-    c.known-outer.ensures ∙ setting_by_parts d c.args.types.now (map signature_in c.args.tables.now.declared.predicates.entries) (map signature_in c.args.tables.now.declared.functions.entries) (map object_in c.args.objects.now.entries) (objects_of d (problem_view c.args.problem.now))
+    c.known-outer.ensures ∙ setting_by_parts d c.args.types.now (map signature_in c.args.tables.now.declared.predicates.entries) (map signature_in c.args.tables.now.declared.functions.entries) (map object_in c.args.listed.now.objects.entries) (objects_of d (problem_view c.args.problem.now))
     c.requires.types c.requires.predicates c.requires.functions c.requires.objects
 
 pub look_at_problem_uses-requires-clause-size : goal.look_at_problem_uses-requires-clause-size
@@ -52,13 +51,3 @@ known-outer-requires-clause-predicate_tops g c = subst (λ fs. AreSlotTops c.arg
 
 pub known-outer-requires-clause-function_tops : goal.known-outer-requires-clause-function_tops
 known-outer-requires-clause-function_tops g c = subst (λ fs. AreSlotTops c.args.types.now fs c.args.tables.now.declared.tops.functions) (sym c.requires.functions) c.requires.function_tops
-
-pub known-inner-requires-clause-places : goal.known-inner-requires-clause-places
-known-inner-requires-clause-places g c =
-    let d = domain_view c.args.domain.now in
-    let types = c.args.types.now in
-    let places = c.args.tables.now.places.places.items in
-    let behind = firsts_behind d.constants (problem_view c.args.problem.now).objects in
-    subst (AreObjectsAt types (map object_in c.args.constants.now.entries)) (sym c.places-places.ensures)
-    (subst (λ os. AreObjectsAt types os places) (sym c.requires.constants)
-    (first_objects types (firsts d.constants) (map object_in c.args.objects.now.entries) behind.0 places (c.requires.objects ∙ behind.1) c.requires.places))

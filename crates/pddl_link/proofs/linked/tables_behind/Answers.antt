@@ -5,8 +5,7 @@ returns-in-Ok-clause-tables g c =
     record {
       predicates_are = c.in_ok-tables.ensures.predicates;
       objects_are = c.requires.objects;
-      objects_named = c.requires.named;
       counts_are = c.in_ok-tables.ensures.counts;
-      places_are = c.in_ok-tables.ensures.places;
+      places_are = c.requires.objects_at;
       values_are = c.in-Ok.ensures.values;
     }

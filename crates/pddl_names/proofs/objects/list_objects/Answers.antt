@@ -1,36 +1,52 @@
-use Rattle.std.proofs.Common.{refl, sym, ap, ◌∙◌, subst, map, not, true, false, bytes_eq}
+use Rattle.std.proofs.Common.{◌<◌, ◌≡◌, length, get_or, slice_get, map, not, refl, sym, ap, ◌∙◌, subst, arith}
 use Rattle.std.specs.Prelude.{Contains}
-use Rattle.std.specs.Map.{lookup}
+use Rattle.std.proofs.lemmas.Option.{slice_get_read}
 use Rattle.pddl_formula.specs.TypedLists.{typed_view}
 use Rattle.pddl_task.specs.Faults.{retyped}
-use Rattle.pddl_types.specs.KnownNames.{AreNamed, object_in}
-use Rattle.pddl_names.proofs.ObjectTables.{put_entry, named_entry, put, odds_of, listed_start, listed_twice, listed_more}
+use Rattle.pddl_types.specs.KnownNames.{object_in}
+use Rattle.pddl_types.proofs.TypePlaces.{seen_entry}
+use Rattle.pddl_names.proofs.ObjectTables.{listed_start, listed_twice, listed_more}
 use Rattle.pddl_names.proofs.objects.list_objects.Goals as goal
 
-pub loop-object-init : goal.loop-object-init
-loop-object-init g c = (λ named. named, λ before none is. listed_start before c.args.listed.now (map object_in c.args.objects.now.entries) none is)
+pub loop-number-init : goal.loop-number-init
+loop-number-init g c = record {
+  lists = λ before none is. listed_start before c.args.objects.now.items (map object_in c.args.listed.now.objects.entries) none is;
+  places = c.requires;
+  last = λ j x next. absurd (omega (arith, next));
+}
 
-pub returns-then-not-same_types-clause-passes : goal.returns-then-not-same_types-clause-passes
-returns-then-not-same_types-clause-passes g c = λ before none is. (
-  refl,
-  subst (λ n. Contains (retyped before (map typed_view c.args.listed.now)) n) (sym c.as_bytes-name.ensures.value)
-      (listed_twice before c.args.listed.now c.loop-object.object-index c.object-item.result (map object_in c.loop-object.objects.entries)
-      c.loop-object-test.true c.object-item.is (c.loop-object.invariant.1 before none is)
-      (odds_of c.loop-object.objects.entries c.object-item.result.name c.object-item.result.types c.in_ok-insert.field-0 c.unwrap_or-before.result _ c.same_types.result true
-      (c.in_ok-insert.ensures.old ∙ ap (λ n. lookup (λ k. bytes_eq n k.now) c.loop-object.objects.entries) c.as_bytes-name.ensures.value) c.unwrap_or-before.ensures refl c.same_types.ensures (ap not c.if-not-same_types.true))),
-)
+pub loop-number-preserved : goal.loop-number-preserved
+loop-number-preserved g c =
+    let l = c.loop-number in
+    let xs = c.args.objects.now.items in
+    let x = c.index-deref-number.result in
+    let es = map object_in l.listed.objects.entries in
+    let low : l.number < length xs = omega (arith, c.loop-number-test.true, c.len-number-end.ensures) in
+    let at : x ≡ get_or xs l.number x = c.index-deref-number.is ∙ ap (λ ys. get_or ys l.number x) c.deref.ensures.value in
+    record {
+      lists = λ before none is.
+          listed_more before xs l.number x es low at (l.invariant.lists before none is) (map object_in c.list_object.new.listed.objects.entries) c.in_ok-list_object.ensures.objects
+          (c.in_ok-list_object.ensures.right ∙ ap not c.if-not-branch.false);
+      places = c.in_ok-list_object.ensures.places c.if-not-branch.false;
+      last = λ j y next there. c.place_in-place.ensures y (ap (slice_get (map typed_view xs)) (omega (arith, next)) ∙ there);
+    }
 
-pub loop-object-preserved : goal.loop-object-preserved
-loop-object-preserved g c = (
-  λ named. subst AreNamed (sym c.in_ok-insert.ensures.entries) (named_entry c.as_bytes-name.result _ c.loop-object.objects.entries (sym c.as_bytes-name.ensures.value) (c.loop-object.invariant.0 named)),
-  λ before none is.
-      listed_more before c.args.listed.now c.loop-object.object-index c.object-item.result (map object_in c.loop-object.objects.entries)
-      c.loop-object-test.true c.object-item.is (c.loop-object.invariant.1 before none is) (map object_in c.insert.new.self.entries)
-      (ap (map object_in) c.in_ok-insert.ensures.entries ∙ put_entry c.as_bytes-name.result _ c.loop-object.objects.entries
-      ∙ ap (λ n. put (record { item = n; of = c.object-item.result.types }) (map object_in c.loop-object.objects.entries)) c.as_bytes-name.ensures.value)
-      (odds_of c.loop-object.objects.entries c.object-item.result.name c.object-item.result.types c.in_ok-insert.field-0 c.unwrap_or-before.result _ c.same_types.result false
-      (c.in_ok-insert.ensures.old ∙ ap (λ n. lookup (λ k. bytes_eq n k.now) c.loop-object.objects.entries) c.as_bytes-name.ensures.value) c.unwrap_or-before.ensures refl c.same_types.ensures (ap not c.if-not-same_types.false)),
-)
+pub list_object-requires-clause-place : goal.list_object-requires-clause-place
+list_object-requires-clause-place g c =
+    let xs = c.args.objects.now.items in
+    let x = c.index-deref-number.result in
+    let low : c.loop-number.number < length xs = omega (arith, c.loop-number-test.true, c.len-number-end.ensures) in
+    let at : x ≡ get_or xs c.loop-number.number x = c.index-deref-number.is ∙ ap (λ ys. get_or ys c.loop-number.number x) c.deref.ensures.value in
+    c.place_in-place.ensures (typed_view x) (seen_entry typed_view xs c.loop-number.number x (slice_get_read xs (length xs) c.loop-number.number x refl low at))
 
-pub returns-clause-names : goal.returns-clause-names
-returns-clause-names g c = c.loop-object.invariant.0
+pub returns-then-not-branch-clause-passes : goal.returns-then-not-branch-clause-passes
+returns-then-not-branch-clause-passes g c = λ before none is.
+    let l = c.loop-number in
+    let xs = c.args.objects.now.items in
+    let x = c.index-deref-number.result in
+    let low : l.number < length xs = omega (arith, c.loop-number-test.true, c.len-number-end.ensures) in
+    let at : x ≡ get_or xs l.number x = c.index-deref-number.is ∙ ap (λ ys. get_or ys l.number x) c.deref.ensures.value in (
+      refl,
+      subst (λ n. Contains (retyped before (map typed_view xs)) n) (sym c.as_bytes.ensures.value)
+          (listed_twice before xs l.number x (map object_in l.listed.objects.entries) low at (l.invariant.lists before none is) (c.in_ok-list_object.ensures.right ∙ ap not c.if-not-branch.true)),
+    )

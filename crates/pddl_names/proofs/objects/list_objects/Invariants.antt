@@ -1,12 +1,16 @@
-use Rattle.std.proofs.Common.{◌≡◌, [], List, map}
-use Rattle.pddl_formula.specs.TypedLists.{TypedValue}
+use Rattle.std.proofs.Common.{◌≡◌, ℕ, suc, [], List, map, slice_get, Some}
+use Rattle.pddl_formula.specs.TypedLists.{TypedValue, typed_view}
 use Rattle.pddl_task.specs.Names.{firsts}
 use Rattle.pddl_task.specs.Faults.{retyped}
-use Rattle.pddl_types.specs.KnownNames.{AreNamed, object_in}
-use Rattle.pddl_names.proofs.ObjectTables.{Listed}
+use Rattle.pddl_types.specs.KnownNames.{object_in}
+use Rattle.pddl_types.specs.Places.{IsOnlyAt, AreListedAt}
+use Rattle.pddl_names.proofs.ObjectTables.{ListedUpTo}
 use Rattle.pddl_names.proofs.objects.list_objects.Given as goal
 
-abbrev pub invariant-loop-object : goal.invariant-loop-object
-invariant-loop-object g l =
-    (AreNamed l.fn.objects.entries → AreNamed l.objects.entries) ×
-    ((before : List TypedValue) → retyped [] before ≡ [] → map object_in l.fn.objects.entries ≡ firsts before → Listed before l.listed l.object-index (map object_in l.objects.entries))
+-- what is listed so far, and the place of the type of the item before
+abbrev pub invariant-loop-number : goal.invariant-loop-number
+invariant-loop-number g l = record {
+  lists : (before : List TypedValue) → retyped [] before ≡ [] → map object_in l.fn.listed.objects.entries ≡ firsts before → ListedUpTo before l.objects.items l.number (map object_in l.listed.objects.entries);
+  places : AreListedAt l.types l.listed;
+  last : (j : ℕ) (x : TypedValue) → suc j ≡ l.number → slice_get (map typed_view l.objects.items) j ≡ Some x → IsOnlyAt l.types x.of l.place;
+}

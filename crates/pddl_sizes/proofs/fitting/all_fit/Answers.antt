@@ -11,12 +11,12 @@ loop-i-preserved g c =
     let l = c.loop-i in
     let numbers = c.args.numbers.now in
     let low : l.i ≤ length numbers = omega (arith, l.auto.i) in
-    one_more (λ o. fits (pairs c.args.types.now) o.of c.args.slot.now) (map object_in c.args.objects.now.entries) numbers l.i (slice_index_or numbers (l.i - 1) 0) l.above
-    c.loop-i-test.true low refl (omega (arith, c.if-above-number.false)) (sym c.object_fits.ensures ∙ c.if-not-object_fits.false) l.invariant
+    one_more (λ o. fits (pairs c.args.types.now) o.of c.args.slot.now) (map object_in c.args.listed.now.objects.entries) numbers l.i (slice_index_or numbers (l.i - 1) 0) l.above
+    c.loop-i-test.true low refl (omega (arith, c.if-above-number.false)) (sym c.fits.ensures ∙ c.if-not-fits.false) l.invariant
 
 pub returns : goal.returns
 returns g c = λ _.
     let none : c.loop-i.i ≡ 0 = omega (arith, c.loop-i-test.false) in
     let test = λ (o : TypedValue). fits (pairs c.args.types.now) o.of c.args.slot.now in
-    let objects = map object_in c.args.objects.now.entries in
+    let objects = map object_in c.args.listed.now.objects.entries in
     from_less test objects 0 c.loop-i.above c.args.numbers.now (omega arith) (subst (λ n. AreSome test objects c.loop-i.above (drop n c.args.numbers.now)) none c.loop-i.invariant)

@@ -9,7 +9,7 @@ use Rattle.pddl_sizes.proofs.fitting.fitting_under.Goals as goal
 pub returns-then-all_fit : goal.returns-then-all_fit
 returns-then-all_fit g c =
     let test = λ (o : TypedValue). fits (pairs c.args.counts.now.types.now) o.of c.args.slot.now in
-    let objects = map object_in c.args.counts.now.objects.now.entries in
-    are_all test objects c.add_all.new.numbers.items
-    (subst (AreSome test objects 0) c.deref.ensures.value (c.all_fit.ensures c.if-all_fit.true))
-    (omega (arith, c.len.ensures, c.if-len-fitting_count.true, c.fitting_count.ensures, c.add_all.new.numbers.ok.0))
+    let objects = map object_in c.args.counts.now.listed.now.objects.entries in
+    are_all test objects c.add_all.new.found.items
+    (subst (AreSome test objects 0) c.deref-then-len-fitting_count.ensures.value (c.all_fit.ensures c.if-all_fit.true))
+    (omega (arith, c.len.ensures, c.if-len-fitting_count.true, c.fitting_count.ensures, c.add_all.new.found.ok.0))

@@ -11,5 +11,5 @@ returns g c =
     let t = c.args.self.now in
     let a = action_view c.args.action.now in
     c.action_ground_size.ensures
-    ∙ ap (λ ts. capped (action_size (fitting_count (pairs ts) (map object_in t.objects.entries)) a)) t.held.types_are
+    ∙ ap (λ ts. capped (action_size (fitting_count (pairs ts) (map object_in t.listed.objects.entries)) a)) t.held.types_are
     ∙ ap (λ os. capped (action_size (fitting_count (pairs (domain_view t.domain.now).types) os) a)) t.held.behind.objects_are

@@ -13,9 +13,9 @@ returns g c =
     let t = c.args.self.now in
     let slot = c.args.types.now in
     let d = domain_view t.domain.now in
-    IfOk-weaker c.fitting_objects.result (λ v. v.items ≡ places_from 0 (λ o. fits (pairs t.types) o.of slot) (map object_in t.objects.entries))
+    IfOk-weaker c.fitting_objects.result (λ v. v.items ≡ places_from 0 (λ o. fits (pairs t.types) o.of slot) (map object_in t.listed.objects.entries))
     (λ v. v.items ≡ places_from 0 (λ o. fits (pairs d.types) o.of slot) (objects_of d (problem_view t.problem.now)))
     (λ v is.
-    is ∙ ap (λ ts. places_from 0 (λ o. fits (pairs ts) o.of slot) (map object_in t.objects.entries)) t.held.types_are
+    is ∙ ap (λ ts. places_from 0 (λ o. fits (pairs ts) o.of slot) (map object_in t.listed.objects.entries)) t.held.types_are
     ∙ ap (λ os. places_from 0 (λ o. fits (pairs d.types) o.of slot) os) t.held.behind.objects_are)
     c.fitting_objects.ensures

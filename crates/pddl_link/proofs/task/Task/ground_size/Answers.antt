@@ -11,5 +11,5 @@ returns g c =
     let t = c.args.self.now in
     let f = formula_view c.args.formula.now in
     c.ground_size.ensures
-    ∙ ap (λ ts. capped (formula_size (fitting_count (pairs ts) (map object_in t.objects.entries)) f)) t.held.types_are
+    ∙ ap (λ ts. capped (formula_size (fitting_count (pairs ts) (map object_in t.listed.objects.entries)) f)) t.held.types_are
     ∙ ap (λ os. capped (formula_size (fitting_count (pairs (domain_view t.domain.now).types) os) f)) t.held.behind.objects_are

@@ -1,4 +1,4 @@
-use Rattle.std.proofs.Common.{◌-◌, length, arith}
+use Rattle.std.proofs.Common.{◌-◌, arith}
 use Rattle.std.proofs.lemmas.List.Elements.{Contains-get_or}
 use Rattle.pddl_types.proofs.types.Types.top_of.Goals as goal
 

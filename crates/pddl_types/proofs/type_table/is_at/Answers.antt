@@ -1,7 +1,7 @@
 use Rattle.std.proofs.Common.{sym, ◌∙◌}
 use Rattle.pddl_task.proofs.Lists.{bytes_same}
 use Rattle.pddl_types.proofs.TypeCounts.{named_place}
-use Rattle.pddl_types.proofs.near.is_at.Goals as goal
+use Rattle.pddl_types.proofs.type_table.is_at.Goals as goal
 
 pub returns-in-Some-clause-named : goal.returns-in-Some-clause-named
 returns-in-Some-clause-named g c = λ same.

@@ -1,6 +1,6 @@
 use Rattle.std.proofs.Common.{◌≡◌, drop}
 use Rattle.pddl_task.specs.Names.{same_names}
-use Rattle.pddl_names.proofs.objects.same_types.Given as goal
+use Rattle.pddl_types.proofs.types.same_types.Given as goal
 
 -- the rest of the lists decides
 abbrev pub invariant-loop-i : goal.invariant-loop-i
