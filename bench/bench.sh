@@ -114,6 +114,10 @@ for count in 25000 100000; do
     python3 "$here/files.py" named-facts "$count" >"$folder/file" || exit 1
     printf '%-24s %8d  %s   %s\n' "problem, name of $count" "$(wc -c <"$folder/file")" \
         "$(seconds "$program" format problem "$folder/file")" "$(seconds "$program" problem "$folder/domain" "$folder/file")"
+    python3 "$here/files.py" named-constants "$count" >"$folder/domain" || exit 1
+    python3 "$here/files.py" named-objects "$count" >"$folder/file" || exit 1
+    # its canonical text names the type once for each object
+    printf '%-24s %8d  %17s   %s\n' "problem, $count constants" "$(cat "$folder/domain" "$folder/file" | wc -c)" - "$(seconds "$program" problem "$folder/domain" "$folder/file")"
 done
 
 for count in 25000 100000; do

@@ -5,14 +5,14 @@ A plan has steps with three objects each: plain, timed, or with a comment before
 actions; a problem has many objects and a long `:init`.
 
 Usage: files.py plain|timed|comments|domain|problem MIB
-       files.py actions|items|parameters|variables|eithers|facts|spoken|seen|ring|below|slots|named|named-facts|short|long N
+       files.py actions|items|parameters|variables|eithers|facts|spoken|seen|ring|below|slots|named|named-facts|named-constants|named-objects|short|long N
 
 The second form makes a domain with so many actions, or a problem of it with so many items in `:init` and two objects for each five of them: these link.
 So do a domain with an action of so many parameters, and a problem of it whose goal quantifies over so many variables of a type with one object, beside
 twice as many others; each variable is spoken of once. So do a domain of so many types with a slot and a parameter of an `either` of them all, a problem of it with an object
 of each and three facts for each, one whose goal speaks thirty times as often of a variable of that `either`, and a valid plan of a step for each. So do so many types below one whose name has five letters for each of them, and
 so many types with a predicate of as many slots, and a quantifier of as many variables, each list before one `either` of them all. So do an action that speaks so many times of a parameter whose type has a name of as many letters,
-and a problem of it with so many facts of an object of that type. So many types in a chain, the last two of which are above themselves, do not. Or it makes a plan of so many steps, each with two objects of few letters, or with eight of many.
+and a problem of it with so many facts of an object of that type; and a domain with so many constants of such a type, and a problem of it that lists them again. So many types in a chain, the last two of which are above themselves, do not. Or it makes a plan of so many steps, each with two objects of few letters, or with eight of many.
 """
 import itertools
 import random
@@ -173,6 +173,14 @@ def long_type_facts(count):
     return f"(define (problem named-1)\n  (:domain named)\n  (:objects o - {'t' * count})\n  (:init {'(open o) ' * count})\n  (:goal (open o)))\n"
 
 
+def long_type_constants(count):
+    return f"(define (domain named)\n  (:types {'t' * count})\n  (:constants {numbered('o#', count)} - {'t' * count}))\n"
+
+
+def long_type_objects(count):
+    return f"(define (problem named-2)\n  (:domain named)\n  (:objects {numbered('o#', count)} - {'t' * count})\n  (:init)\n  (:goal (and)))\n"
+
+
 def short_plan(steps):
     return "".join(f"(go a{number % 97} b{number % 89})\n" for number in range(steps))
 
@@ -196,6 +204,8 @@ COUNTED = {
     "slots": slots_of_types,
     "named": long_type,
     "named-facts": long_type_facts,
+    "named-constants": long_type_constants,
+    "named-objects": long_type_objects,
     "short": short_plan,
     "long": long_plan,
 }
