@@ -8,7 +8,7 @@ use Rattle.pddl_formula.proofs.typed_list.add_names.Given as goal
 abbrev pub invariant-loop-name : goal.invariant-loop-name
 invariant-loop-name g l = record {
   grouped : AreGrouped l.items.items;
-  last : l.shares ≡ true → EndsWith l.items.items l.types;
+  last : l.shares ≡ true → EndsWith typed_view l.items.items l.types;
   added : map typed_view l.items.items ≡ map typed_view l.initial.items.items ++ of_type l.yielded l.types;
   left : l.yielded ++ l.name-iterator.rest.items ≡ l.fn.names.items;
 }

@@ -1,5 +1,6 @@
 use Rattle.std.proofs.Common.{◌-◌, refl, arith}
 use Rattle.std.proofs.lemmas.Option.{slice_get_read}
+use Rattle.pddl_formula.specs.TypedLists.{typed_view}
 use Rattle.pddl_formula.proofs.Grouped.{one_type}
 use Rattle.pddl_formula.proofs.typed_list.TypedList.shares.Goals as goal
 
@@ -8,4 +9,4 @@ returns-in-Some-clause-same g c =
     let found = c.in-Some.ensures.lookup in
     let here = slice_get_read c.deref.result.now _ c.args.place c.in-Some.item.now refl found.3.0 found.1 in
     λ s. rw (← c.self.view_is)
-    (one_type c.self.inside.items.items (c.args.place - 1) c.args.place c.in-Some.item.now (omega (arith, c.if-place-eq0.false)) c.self.invariant (rw c.deref.ensures.value at here) s)
+    (one_type typed_view (λ x. x.shares) c.self.inside.items.items (c.args.place - 1) c.args.place c.in-Some.item.now (omega (arith, c.if-place-eq0.false)) c.self.invariant (rw c.deref.ensures.value at here) s)
