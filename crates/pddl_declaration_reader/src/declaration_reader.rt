@@ -10,8 +10,8 @@ ghost use Rattle.pddl_domain.specs.Declarations.{number, type_view, predicate_vi
 ghost use Rattle.pddl_declaration_reader.specs.Inner.Signatures.{signature_view};
 ghost use Rattle.pddl_declaration_reader.specs.Inner.DeclarationReading.{predicate_of_list, predicate_signature_at, function_of_list, function_signature_at, types_of, functions_of};
 
-use pddl_build::{list_if_right, push_found};
-use pddl_domain::{DeclaredFunction, DeclaredPredicate, DeclaredType};
+use pddl_build::{if_right, list_if_right, push_found};
+use pddl_domain::{DeclaredFunction, DeclaredPredicate, DeclaredTypes};
 use pddl_formula::{TypeName, TypeNames, TypedList};
 use pddl_formula_reader::{
     is_dash, name_of, predicate_of, type_called, type_name_called, type_name_of, type_of,
@@ -208,28 +208,13 @@ pub fn declared_functions_of<'a, B: Allocator>(
     list_if_right(found, right)
 }
 
-/// Adds types, which share their parent.
-fn add_below<A: Allocator>(
-    found: &mut Vec<DeclaredType<A>, A>,
-    names: Vec<TypeName<A>, A>,
-    parent: &Rc<TypeName<A>, A>,
-) -> Result<(), AllocError>
-    ensures { OnOk result (map type_view found.new.items ≡ map type_view found.old.items ++ of_type names.items parent.now.value) }
-{
-    for name in names {
-        let parent = parent.clone()?;
-        found.push(DeclaredType { name, parent })?;
-    }
-    Ok(())
-}
-
 /// Adds the types of a group, with their parent, if there is one; true exactly where there is one, and then the next group, which is empty, stands in its
 /// place.
 ///
 /// Fails as the parent failed, and where memory for the types is refused.
 fn add_types<'a, B: Allocator>(
     alloc: &'a B,
-    found: &mut Vec<DeclaredType<&'a B>, &'a B>,
+    found: &mut DeclaredTypes<&'a B>,
     group: &mut Vec<TypeName<&'a B>, &'a B>,
     next: Vec<TypeName<&'a B>, &'a B>,
     parent: Result<Option<TypeName<&'a B>>, AllocError>,
@@ -244,14 +229,14 @@ fn add_types<'a, B: Allocator>(
         return Ok(false);
     };
     let parent = Rc::new(alloc, parent)?;
-    add_below(found, replace(group, next), &parent)?;
+    found.add(replace(group, next), &parent)?;
     Ok(true)
 }
 
 /// Adds the types that some items declare, behind a group that has no parent yet; true exactly where they declare some.
 fn add_declared_types<'a, B: Allocator>(
     alloc: &'a B,
-    found: &mut Vec<DeclaredType<&'a B>, &'a B>,
+    found: &mut DeclaredTypes<&'a B>,
     group: &mut Vec<TypeName<&'a B>, &'a B>,
     items: &[Item<'_, &'a B>],
 ) -> Result<bool, AllocError>
@@ -299,11 +284,11 @@ fn add_declared_types<'a, B: Allocator>(
 pub fn declared_types_of<'a, B: Allocator>(
     alloc: &'a B,
     items: &[Item<'_, &'a B>],
-) -> Result<Option<Vec<DeclaredType<&'a B>, &'a B>>, AllocError>
+) -> Result<Option<DeclaredTypes<&'a B>>, AllocError>
     ensures { IfOk result (λ found. option_map (λ v. map type_view v.items) found ≡ types_of (item_trees items.now)) }
 {
-    let mut found = Vec::new(alloc);
+    let mut found = DeclaredTypes::new(alloc);
     let mut group = Vec::new(alloc);
     let right = add_declared_types(alloc, &mut found, &mut group, items);
-    list_if_right(found, right)
+    if_right(found, right)
 }

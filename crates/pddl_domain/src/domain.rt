@@ -1,18 +1,10 @@
 //! Domains and what they declare.
 
+use crate::declared_types::DeclaredTypes;
 use pddl_effect::Effect;
-use pddl_formula::{Formula, Predicate, TypeName, TypeNames, TypedList};
+use pddl_formula::{Formula, Predicate, TypeNames, TypedList};
 use pddl_token::Name;
 use std::alloc::Allocator;
-use std::rc::Rc;
-
-/// A declared type and its parent, which the types of a group share.
-#[derive(Drop)]
-#[derive_where(Debug)]
-pub struct DeclaredType<A: Allocator> {
-    pub name: TypeName<A>,
-    pub parent: Rc<TypeName<A>, A>,
-}
 
 /// A declared predicate and its parameters, which are variables (without `?`).
 #[derive(Drop)]
@@ -48,7 +40,7 @@ pub struct Domain<A: Allocator> {
     pub name: Name<A>,
     /// The flags of `:requirements`, without their colons.
     pub requirements: Vec<Name<A>, A>,
-    pub types: Vec<DeclaredType<A>, A>,
+    pub types: DeclaredTypes<A>,
     pub constants: TypedList<A>,
     pub predicates: Vec<DeclaredPredicate<A>, A>,
     pub functions: Vec<DeclaredFunction<A>, A>,

@@ -13,7 +13,7 @@ ghost use Rattle.pddl_domain_reader.specs.Inner.DomainReading.{domain_of};
 ghost use Rattle.pddl_domain_reader.specs.Inner.Sections.{domain_verdict, AddsParts, domain_answer, AnswersDomain};
 
 use crate::section_reader::add_sections;
-use pddl_domain::Domain;
+use pddl_domain::{DeclaredTypes, Domain};
 use pddl_file::FileFault;
 use pddl_formula::TypedList;
 use pddl_sections::open_file;
@@ -28,7 +28,7 @@ fn empty_domain<'a, B: Allocator>(alloc: &'a B, name: Name<&'a B>) -> Domain<&'a
     Domain {
         name,
         requirements: Vec::new(alloc),
-        types: Vec::new(alloc),
+        types: DeclaredTypes::new(alloc),
         constants: TypedList::new(alloc),
         predicates: Vec::new(alloc),
         functions: Vec::new(alloc),

@@ -14,7 +14,7 @@ use pddl_build::{append_found, push_found};
 use pddl_declaration_reader::{
     action_of, declared_functions_of, declared_predicates_of, declared_types_of,
 };
-use pddl_domain::Domain;
+use pddl_domain::{DeclaredTypes, Domain};
 use pddl_file::{FileFault, SectionKeyword, Seen, flags_of, head_keyword_of, keyword_of, refusal};
 use pddl_formula::TypedList;
 use pddl_formula_reader::typed_names_of;
@@ -38,6 +38,22 @@ fn append_typed<A: Allocator>(
     Ok(true)
 }
 
+/// Puts declared types behind others, if there are some to put there; true exactly where there are.
+///
+/// Fails as the types failed, and where memory for them is refused; the others are then as they were.
+fn append_types<A: Allocator>(
+    list: &mut DeclaredTypes<A>,
+    types: Result<Option<DeclaredTypes<A>>, AllocError>,
+) -> Result<bool, AllocError>
+    ensures { AppendsFound list.old.items types list.new.items result }
+{
+    let Some(types) = types? else {
+        return Ok(false);
+    };
+    list.append(types)?;
+    Ok(true)
+}
+
 /// Adds what the items behind this keyword say; true exactly where they are a section.
 fn add_content<'a, B: Allocator>(
     alloc: &'a B,
@@ -51,7 +67,7 @@ fn add_content<'a, B: Allocator>(
         SectionKeyword::Requirements => {
             append_found(&mut domain.requirements, flags_of(alloc, items))
         }
-        SectionKeyword::Types => append_found(&mut domain.types, declared_types_of(alloc, items)),
+        SectionKeyword::Types => append_types(&mut domain.types, declared_types_of(alloc, items)),
         SectionKeyword::Constants => {
             append_typed(&mut domain.constants, typed_names_of(alloc, items))
         }

@@ -5,6 +5,6 @@ use Rattle.pddl_declaration_reader.proofs.declaration_reader.declared_types_of.G
 
 pub returns : goal.returns
 returns g c =
-    rw c.list_if_right.ensures
+    rw c.if_right.ensures
     (right_part (λ v. map type_view v.items) c.add_declared_types-right.new.found c.add_declared_types-right.result _
-    (rw (c.new-found.ensures.items, c.new-group.ensures.items) at c.add_declared_types-right.ensures))
+    (rw (c.new-found.ensures, c.new-group.ensures.items) at c.add_declared_types-right.ensures))
