@@ -3,17 +3,18 @@ use Rattle.std.proofs.Common.{◌≡◌, ◌+◌, ℕ, Bool, List, [], ◌++◌,
 use Rattle.std.specs.List.{flat_map}
 use Rattle.std.proofs.lemmas.List.Elements.{filter-append}
 use Rattle.std.proofs.lemmas.Option.{slice_get_within, get_or_from_slice_get}
-use Rattle.pddl_formula.specs.TypedLists.{TypedValue}
+use Rattle.pddl_formula.specs.TypedLists.{WithType, TypedValue}
 use Rattle.pddl_formula.specs.Groups.{HaveOneType}
 use Rattle.pddl_task.specs.Names.{Name}
 use Rattle.pddl_task.specs.Faults.{primitives_of}
 use Rattle.pddl_faults.proofs.ListTurns.{rest_is}
 
 -- what holds of the type of an item holds of that of the next, where the two have one type
-pub of_next : (P : List Name → Type 0) (xs : List TypedValue) (i j : ℕ) → HaveOneType xs i j → ((x : TypedValue) → slice_get xs i ≡ Some x → P x.of) → (y : TypedValue) → slice_get xs j ≡ Some y → P y.of
-of_next P xs i j one known y at =
+pub of_next : {X T : Type 0} (P : T → Type 0) (xs : List (WithType X T)) (i j : ℕ) → HaveOneType xs i j → ((x : WithType X T) → slice_get xs i ≡ Some x → P x.of)
+    → (y : WithType X T) → slice_get xs j ≡ Some y → P y.of
+of_next {X} {T} P xs i j one known y at =
     let same : one.1 ≡ y = cc in
-    subst P (one.4 ∙ ap (λ (z : TypedValue). z.of) same) (known one.0 one.2)
+    subst P (one.4 ∙ ap (λ (z : WithType X T). z.of) same) (known one.0 one.2)
 
 -- the item at a place of a list that has one there
 abbrev pub item_at : List TypedValue → ℕ → TypedValue

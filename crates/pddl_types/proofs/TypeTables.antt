@@ -106,7 +106,7 @@ table_again types told rows n h there = record {
 
 -- ---- places
 
-longer : (rows : List Row) (k : Bor (List ℕ)) (p : ℕ) → (length rows ≤ length (put rows k p)) × (0 < length (put rows k p))
+pub longer : (rows : List Row) (k : Bor (List ℕ)) (p : ℕ) → (length rows ≤ length (put rows k p)) × (0 < length (put rows k p))
 longer [] k p = (omega arith, omega arith)
 longer (r ∷ rows) k p =
     elim (bytes_eq k.now r.0.now) as (λ b. (length (r ∷ rows) ≤ length (cond b ((r.0, p) ∷ rows) (r ∷ put rows k p))) × (0 < length (cond b ((r.0, p) ∷ rows) (r ∷ put rows k p)))) [
@@ -115,7 +115,7 @@ longer (r ∷ rows) k p =
     ]
 
 -- what stands keeps its place
-place_put : (rows : List Row) (k : Bor (List ℕ)) (p i : ℕ) → i < length rows → name_at (put rows k p) i ≡ name_at rows i
+pub place_put : (rows : List Row) (k : Bor (List ℕ)) (p i : ℕ) → i < length rows → name_at (put rows k p) i ≡ name_at rows i
 place_put [] k p i low = absurd (omega (arith, low))
 place_put (r ∷ rows) k p zero low =
     elim (bytes_eq k.now r.0.now) as (λ b. name_at (cond b ((r.0, p) ∷ rows) (r ∷ put rows k p)) zero ≡ r.0.now) [ true ↦ refl | false ↦ refl ]

@@ -11,8 +11,8 @@ use Rattle.pddl_task.specs.Names.{Name, is_in, repeated, item_of}
 use Rattle.pddl_task.specs.Types.{root, parent_of}
 use Rattle.pddl_types.specs.TypeTables.{Row, names_in, name_at, with_name, each_behind, IsTableOf}
 use Rattle.pddl_task.proofs.Lists.{append-none, or_right, none_left, none_right, is_mapped}
-use Rattle.pddl_types.proofs.TypeTables.{put, apart, table_has, table_again, put_under_root, put_under}
-use Rattle.pddl_types.proofs.TypeClimbs.{has_in, parent_undeclared, once_declared}
+use Rattle.pddl_types.proofs.TypeTables.{put, apart, table_has, table_again, longer, place_put, put_under_root, put_under}
+use Rattle.pddl_types.proofs.TypeClimbs.{has_in, name_has, parent_undeclared, once_declared}
 use Rattle.pddl_types.proofs.Views.{map-map}
 
 -- ---- names so far
@@ -79,33 +79,57 @@ tells_none view (x ∷ xs) rows h = record {
   parents = h.parents;
 }
 
-parent_there : {X : Type 0} (view : X → TypeValue) (xs : List X) (i : ℕ) (x : X) (rows : List Row) (k : Bor (List ℕ)) → i < length xs → x ≡ get_or xs i x → k.now ≡ (view x).of
-    → Tells view xs (take i xs) rows
-    → IsTableOf (root ∷ map item_of (map view xs) ++ map parent_of (map view (take (i + 1) xs))) (map view (take i xs)) (with_name rows k)
-parent_there view xs i x rows k low is named h =
+-- ---- the same, with the parent of the next
+
+abbrev pub HasNextParent : {X : Type 0} → (X → TypeValue) → List X → ℕ → List Row → Type 0
+HasNextParent view xs i rows = IsTableOf (root ∷ map item_of (map view xs) ++ map parent_of (map view (take (i + 1) xs))) (map view (take i xs)) rows
+
+-- a name stands at a place of a table
+abbrev pub StandsAt : List Row → ℕ → Name → Type 0
+StandsAt rows place n = (place < length rows) × (name_at rows place ≡ n)
+
+-- it stands there already
+pub parent_there : {X : Type 0} (view : X → TypeValue) (xs : List X) (i : ℕ) (x : X) (rows : List Row) → i < length xs → x ≡ get_or xs i x
+    → Tells view xs (take i xs) rows → is_in (names_in rows) (view x).of ≡ true → HasNextParent view xs i rows
+parent_there view xs i x rows low is h there =
     let front = root ∷ map item_of (map view xs) in
     let types = front ++ map parent_of (map view (take i xs)) in
     let told = map view (take i xs) in
-    subst (λ ns. IsTableOf ns told (with_name rows k)) (name_next view parent_of front xs i x k.now low is named)
-    (elim (is_in (names_in rows) k.now) as (λ b. is_in (names_in rows) k.now ≡ b → IsTableOf (types ++ k.now ∷ []) told (cond b rows (put rows k 0))) [
-      | true ↦ λ there. table_again types told rows k.now h (sym (table_has types told rows h k.now) ∙ there)
+    subst (λ ns. IsTableOf ns told rows) (name_next view parent_of front xs i x (view x).of low is refl)
+    (table_again types told rows (view x).of h (sym (table_has types told rows h (view x).of) ∙ there))
+
+-- it stands at a place
+pub parent_at : {X : Type 0} (view : X → TypeValue) (xs : List X) (i : ℕ) (x : X) (rows : List Row) (place : ℕ) → i < length xs → x ≡ get_or xs i x
+    → Tells view xs (take i xs) rows → StandsAt rows place (view x).of → HasNextParent view xs i rows
+parent_at view xs i x rows place low is h at =
+    parent_there view xs i x rows low is h (ap (is_in (names_in rows)) (sym at.1) ∙ has_in (names_in rows) (name_at rows place) (name_has rows place at.0))
+
+-- it is put there
+pub parent_put : {X : Type 0} (view : X → TypeValue) (xs : List X) (i : ℕ) (x : X) (rows wider : List Row) (k : Bor (List ℕ)) → i < length xs → x ≡ get_or xs i x → k.now ≡ (view x).of
+    → Tells view xs (take i xs) rows → wider ≡ with_name rows k → HasNextParent view xs i wider
+parent_put view xs i x rows wider k low is named h widened =
+    let front = root ∷ map item_of (map view xs) in
+    let types = front ++ map parent_of (map view (take i xs)) in
+    let told = map view (take i xs) in
+    subst (HasNextParent view xs i) (sym widened)
+    (elim (is_in (names_in rows) k.now) as (λ b. is_in (names_in rows) k.now ≡ b → HasNextParent view xs i (cond b rows (put rows k 0))) [
+      | true ↦ λ there. parent_there view xs i x rows low is h (ap (is_in (names_in rows)) (sym named) ∙ there)
       | false ↦ λ new.
           let off : is_in types k.now ≡ false = sym (table_has types told rows h k.now) ∙ new in
           let undeclared : is_in (map item_of (map view xs)) k.now ≡ false = none_right (bytes_eq k.now root) (is_in (map item_of (map view xs)) k.now) (in_front front (map parent_of told) k.now off) in
           let untold : is_in (map item_of told) k.now ≡ false =
           ap (λ ns. is_in ns k.now) (map-map item_of view (take i xs)) ∙ in_all (λ y. (view y).item) xs i k.now (ap (λ ns. is_in ns k.now) (sym (map-map item_of view xs)) ∙ undeclared) in
-          put_under_root types told rows k h (parent_undeclared told k.now untold)
+          subst (λ ns. IsTableOf ns told (put rows k 0)) (name_next view parent_of front xs i x k.now low is named)
+          (put_under_root types told rows k h (parent_undeclared told k.now untold))
     ] refl)
 
--- a declared type is told its parent, which stands in the table by then
-pub told_next : {X : Type 0} (view : X → TypeValue) (xs : List X) (i : ℕ) (x : X) (rows wider next : List Row) (parent child : Bor (List ℕ)) (place : ℕ)
-    → i < length xs → x ≡ get_or xs i x → parent.now ≡ (view x).of → child.now ≡ (view x).item → repeated [] (map item_of (map view xs)) ≡ []
-    → Tells view xs (take i xs) rows → wider ≡ with_name rows parent → place < length wider → name_at wider place ≡ parent.now → next ≡ put wider child place
-    → Tells view xs (take (i + 1) xs) next
-told_next view xs i x rows wider next parent child place low is above named once h widened there at put_in =
+-- a declared type is told its parent, which stands at a place
+pub told_next : {X : Type 0} (view : X → TypeValue) (xs : List X) (i : ℕ) (x : X) (rows next : List Row) (child : Bor (List ℕ)) (place : ℕ)
+    → i < length xs → x ≡ get_or xs i x → child.now ≡ (view x).item → repeated [] (map item_of (map view xs)) ≡ []
+    → HasNextParent view xs i rows → StandsAt rows place (view x).of → next ≡ put rows child place → Tells view xs (take (i + 1) xs) next
+told_next view xs i x rows next child place low is named once table at put_in =
     let front = root ∷ map item_of (map view xs) in
     let more = front ++ map parent_of (map view (take (i + 1) xs)) in
-    let table = subst (IsTableOf more (map view (take i xs))) (sym widened) (parent_there view xs i x rows parent low is above h) in
     let distinct : IsDistinct bytes_eq (map (λ y. (view y).item) xs) = subst (IsDistinct bytes_eq) (map-map item_of view xs) (once_declared (map view xs) once) in
     let new : is_in (map item_of (map view (take i xs))) child.now ≡ false =
     ap (λ ns. is_in ns child.now) (map-map item_of view (take i xs)) ∙ ap (is_in (map (λ y. (view y).item) (take i xs))) (named ∙ ap (λ y. (view y).item) is) ∙ not_before (λ y. (view y).item) xs i x distinct low in
@@ -115,5 +139,9 @@ told_next view xs i x rows wider next parent child place low is above named once
     (ap (is_in (map item_of (map view xs))) (named ∙ ap (λ y. (view y).item) is) ∙ has_in (map item_of (map view xs)) (view (get_or xs i x)).item
     (is_mapped item_of (map view xs) (view (get_or xs i x)) (is_mapped view xs (get_or xs i x) (Contains-get_or xs i x low))))) in
     subst (IsTableOf more (map view (take (i + 1) xs))) (sym put_in)
-    (subst (λ d. IsTableOf more d (put wider child place)) (sym (view_next view xs i x low is))
-    (put_under more (map view (take i xs)) wider child place (view x) table type there new (sym named) (sym above ∙ sym at)))
+    (subst (λ d. IsTableOf more d (put rows child place)) (sym (view_next view xs i x low is))
+    (put_under more (map view (take i xs)) rows child place (view x) table type at.0 new (sym named) (sym at.1)))
+
+-- and it stands there still
+pub stands_on : (rows : List Row) (k : Bor (List ℕ)) (p place : ℕ) (n : Name) → StandsAt rows place n → StandsAt (put rows k p) place n
+stands_on rows k p place n at = let room = (longer rows k p).0 in (omega (arith, at.0, room), place_put rows k p place at.0 ∙ at.1)

@@ -1,6 +1,6 @@
 //! The table of the types of a domain, each with the place of its parent, and what is told of the places.
 
-ghost use Rattle.std.specs.Prelude.{◌≡◌, ◌<◌, [], ◌∷◌, true, map, length, IfOk, OnOk};
+ghost use Rattle.std.specs.Prelude.{◌≡◌, ◌<◌, [], ◌∷◌, map, length, IfOk, OnOk};
 ghost use Rattle.pddl_domain.specs.Declarations.{type_view};
 ghost use Rattle.pddl_task.specs.Names.{repeated, item_of};
 ghost use Rattle.pddl_task.specs.Types.{root};
@@ -8,7 +8,7 @@ ghost use Rattle.pddl_forest.specs.Rounds.{AreOffRounds};
 ghost use Rattle.pddl_types.specs.TypeTables.{IsTableOf, IsTypeTable, AreNumbered, with_name, name_at, parent_place, climbs};
 
 use indexmap::IndexMap;
-use pddl_domain::DeclaredType;
+use pddl_domain::{DeclaredType, DeclaredTypes};
 use pddl_faults::Hashed;
 use pddl_forest::{Preorder, off_rounds};
 use std::alloc::{AllocError, Allocator};
@@ -40,39 +40,6 @@ fn place_of<'m, 'a, B: Allocator>(
     }
 }
 
-/// Whether the type at a place has this name.
-fn is_at<'m, 'a, B: Allocator>(
-    parents: &IndexMap<&'m [u8], usize, Hashed, &'a B>,
-    place: usize,
-    name: &[u8],
-) -> bool
-    ensures within { result ≡ true → place < length parents.now.entries }
-    ensures named { result ≡ true → name_at parents.now.entries place ≡ name.now }
-{
-    match parents.get_index(place) {
-        Some((key, _)) => *key == name,
-        None => false,
-    }
-}
-
-/// [`place_of`], which looks first at a place that is near: types that follow each other often have one parent, and to compare a name takes less than to
-/// look it up.
-fn place_near<'m, 'a, B: Allocator>(
-    parents: &mut IndexMap<&'m [u8], usize, Hashed, &'a B>,
-    near: usize,
-    name: &'m [u8],
-) -> Result<usize, AllocError>
-    ensures rows { OnOk result (parents.new.entries ≡ with_name parents.old.entries name.entry) }
-    ensures place { IfOk result (λ place. place < length parents.new.entries) }
-    ensures named { IfOk result (λ place. name_at parents.new.entries place ≡ name.now) }
-{
-    if is_at(parents, near, name) {
-        Ok(near)
-    } else {
-        place_of(parents, name)
-    }
-}
-
 /// Puts each declared type under `object`.
 fn put_under_object<'m, 'a, A: Allocator, B: Allocator>(
     parents: &mut IndexMap<&'m [u8], usize, Hashed, &'a B>,
@@ -87,20 +54,22 @@ fn put_under_object<'m, 'a, A: Allocator, B: Allocator>(
     Ok(())
 }
 
-/// Puts each declared type under its parent, which is looked for first where the parent of the one before was found.
+/// Puts each declared type under its parent, whose place is looked up once for each group.
 fn put_under_parents<'m, 'a, A: Allocator, B: Allocator>(
     parents: &mut IndexMap<&'m [u8], usize, Hashed, &'a B>,
-    declared: &'m [DeclaredType<A>],
+    declared: &'m DeclaredTypes<A>,
 ) -> Result<(), AllocError>
-    requires once { repeated [] (map item_of (map type_view declared.now)) ≡ [] }
-    requires table { IsTableOf (root ∷ map item_of (map type_view declared.now)) [] parents.old.entries }
-    ensures { OnOk result (IsTypeTable (map type_view declared.now) parents.new.entries) }
+    requires once { repeated [] (map item_of (map type_view declared.now.items)) ≡ [] }
+    requires table { IsTableOf (root ∷ map item_of (map type_view declared.now.items)) [] parents.old.entries }
+    ensures { OnOk result (IsTypeTable (map type_view declared.now.items) parents.new.entries) }
 {
-    let mut near = 0;
-    for declared_type in declared {
-        let place = place_near(parents, near, declared_type.parent.as_bytes())?;
-        parents.insert(declared_type.name.as_bytes(), place)?;
-        near = place;
+    let mut over = 0;
+    for number in 0..declared.len() {
+        let declared_type = &declared[number];
+        if !declared.shares(number) {
+            over = place_of(parents, declared_type.parent.as_bytes())?;
+        }
+        parents.insert(declared_type.name.as_bytes(), over)?;
     }
     Ok(())
 }
@@ -110,10 +79,10 @@ fn put_under_parents<'m, 'a, A: Allocator, B: Allocator>(
 /// Fails where memory for it is refused.
 pub(crate) fn parent_table<'m, 'a, A: Allocator, B: Allocator>(
     alloc: &'a B,
-    declared: &'m [DeclaredType<A>],
+    declared: &'m DeclaredTypes<A>,
 ) -> Result<IndexMap<&'m [u8], usize, Hashed, &'a B>, AllocError>
-    requires { repeated [] (map item_of (map type_view declared.now)) ≡ [] }
-    ensures { IfOk result (λ parents. IsTypeTable (map type_view declared.now) parents.entries) }
+    requires { repeated [] (map item_of (map type_view declared.now.items)) ≡ [] }
+    ensures { IfOk result (λ parents. IsTypeTable (map type_view declared.now.items) parents.entries) }
 {
     let mut parents: IndexMap<&'m [u8], usize, Hashed, &'a B> = IndexMap::new(alloc);
     parents.insert(b"object".as_slice(), 0)?;

@@ -19,7 +19,7 @@ use crate::tops::tops;
 use crate::type_counts::{TypeCounts, single, type_counts};
 use crate::type_table::{Places, climbs, parent_table, places_of_parents};
 use indexmap::IndexMap;
-use pddl_domain::DeclaredType;
+use pddl_domain::{DeclaredType, DeclaredTypes};
 use pddl_faults::{Hashed, LinkFault, Runs, Tells};
 use pddl_formula::{TypeName, TypeNames, TypedList};
 use std::alloc::{AllocError, Allocator};
@@ -82,15 +82,15 @@ impl<'m, 'a, A: Allocator, B: Allocator> Types<'m, 'a, A, B> {
     /// Fails where memory for the table is refused.
     pub fn of(
         alloc: &'a B,
-        declared: &'m [DeclaredType<A>],
+        declared: &'m DeclaredTypes<A>,
     ) -> Result<Types<'m, 'a, A, B>, AllocError>
-        requires { repeated [] (map item_of (map type_view declared.now)) ≡ [] }
-        ensures { IfOk result (λ types. types ≡ map type_view declared.now) }
+        requires { repeated [] (map item_of (map type_view declared.now.items)) ≡ [] }
+        ensures { IfOk result (λ types. types ≡ map type_view declared.now.items) }
     {
         let parents = parent_table(alloc, declared)?;
         let places = places_of_parents(alloc, &parents)?;
         Ok(Types {
-            declared,
+            declared: declared.as_slice(),
             parents,
             places,
         })

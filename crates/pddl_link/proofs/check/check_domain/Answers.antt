@@ -1,17 +1,9 @@
-use Rattle.std.proofs.Common.{[], ◌∷◌, map, drop, refl, ap, ◌∙◌}
+use Rattle.std.proofs.Common.{[], ◌∷◌, map, drop, refl}
 use Rattle.std.proofs.lemmas.Result.{err_from_is_err_and}
-use Rattle.pddl_domain.specs.Declarations.{type_view}
 use Rattle.pddl_domain.specs.Domains.{domain_view}
-use Rattle.pddl_task.specs.Names.{repeated, item_of}
 use Rattle.pddl_task.specs.Linked.{fault, domain_fault, rules}
 use Rattle.pddl_faults.proofs.Verdicts.{found_at, decided_after}
 use Rattle.pddl_link.proofs.check.check_domain.Goals as goal
-
-pub of-requires : goal.of-requires
-of-requires g c = ap (λ ts. repeated [] (map item_of (map type_view ts))) c.deref.ensures.value ∙ c.in_ok-type_twice.ensures
-
-pub check_by_types-checked-requires : goal.check_by_types-checked-requires
-check_by_types-checked-requires g c = c.in_ok-types.ensures ∙ ap (map type_view) c.deref.ensures.value
 
 pub returns-in_err-type_twice : goal.returns-in_err-type_twice
 returns-in_err-type_twice g c =

@@ -1,10 +1,9 @@
-use Rattle.std.proofs.Common.{◌≡◌, ℕ, List, [], ◌++◌, map, Result, Ok, Err, ap, ◌∙◌}
+use Rattle.std.proofs.Common.{◌≡◌, ℕ, List, [], ◌++◌, map, Result, Ok, Err}
 use Rattle.std.specs.Prelude.{IsOk}
 use Rattle.std.proofs.lemmas.Result.{err_from_is_err_and}
-use Rattle.pddl_domain.specs.Declarations.{type_view}
 use Rattle.pddl_domain.specs.Domains.{domain_view}
 use Rattle.pddl_problem.specs.Problems.{problem_view}
-use Rattle.pddl_task.specs.Names.{Name, repeated, item_of}
+use Rattle.pddl_task.specs.Names.{Name}
 use Rattle.pddl_task.specs.Faults.{domain_names, types_twice}
 use Rattle.pddl_task.specs.Linked.{fault_in}
 use Rattle.pddl_faults.specs.declared.fault.LinkFault.{LinkFault}
@@ -22,9 +21,7 @@ none_found n words (Ok u) done h = h
 none_found n words (Err e) done h = absurd (cc (done))
 
 pub of-requires : goal.of-requires
-of-requires g c =
-    ap (λ ts. repeated [] (map item_of (map type_view ts))) c.deref.ensures.value
-    ∙ none_found 21 (types_twice (domain_view c.args.domain.now)) c.type_twice.result c.in_ok-lower.ensures.both.1 c.type_twice.ensures
+of-requires g c = none_found 21 (types_twice (domain_view c.args.domain.now)) c.type_twice.result c.in_ok-lower.ensures.both.1 c.type_twice.ensures
 
 pub returns-in_err-lower-clause-verdict : goal.returns-in_err-lower-clause-verdict
 returns-in_err-lower-clause-verdict g c =
@@ -35,9 +32,6 @@ returns-in_err-lower-clause-verdict g c =
     let p = err_from_is_err_and c.from_residual.result c.from_residual.ensures.1 in
     rw (p.1, p.2) (verdict_of {T = Unit {0}} (names ++ twice) (map (fault_in d q) first_rules) (Err c.in_err-lower.field-0.0) (first_stand d q)
     (c.in_err-lower.ensures.found names twice (passed_found 20 (domain_names d q) c.domain_name.result c.domain_name.ensures) (passed_found 21 (types_twice d) c.type_twice.result c.type_twice.ensures)))
-
-pub returns-clause-types : goal.returns-clause-types
-returns-clause-types g c = c.in_ok-of.ensures ∙ ap (map type_view) c.deref.ensures.value
 
 pub returns-clause-verdict : goal.returns-clause-verdict
 returns-clause-verdict g c =
