@@ -26,7 +26,7 @@ fn costs(rt: HostRuntime) -> Result<(), Fail> {
 
 #[test]
 fn domains(rt: HostRuntime) -> Result<(), Fail> {
-    all_hold(&rt, rows::DOMAINS, 23)
+    all_hold(&rt, rows::DOMAINS, 24)
 }
 
 #[test]
@@ -101,7 +101,7 @@ fn twice(rt: HostRuntime) -> Result<(), Fail> {
 
 #[test]
 fn typed_lists(rt: HostRuntime) -> Result<(), Fail> {
-    all_hold(&rt, rows::TYPED_LISTS, 38)
+    all_hold(&rt, rows::TYPED_LISTS, 46)
 }
 
 #[test]

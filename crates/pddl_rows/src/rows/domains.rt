@@ -75,6 +75,16 @@ file  t99999 - t99998))
 | link: fault 22 TypeCycle t99998
 once refused domain
 
+# The name of a parent is not looked at once for each type below it.
+row many types below one parent with a long name
+part (define (domain d) (:types
+series 100000  t#0
+part  - n
+times 399999 n
+file ))
+| good: domain d
+once good domain
+
 # Variables, each spoken of once: no work is the square of their number.
 row an action of many parameters
 part (define (domain d) (:types a) (:predicates (p ?x - a)) (:action n :parameters (

@@ -180,6 +180,93 @@ file
 | true
 good list subtypes
 
+# No group declares p. That of q is below p, and one of the next is below q; then come two groups below p, and one without a parent.
+row subtypes where types of groups have a parent that is declared, and one that is not
+file (define (domain d) (:types q r - p a b c - q d e - p f g - p h i))
+copy bare
+file
+| q p
+| r p
+| r q
+| a q
+| c q
+| c p
+| c r
+| d p
+| e p
+| e q
+| f p
+| g p
+| g d
+| i p
+| h object
+| g object
+| p object
+| p q
+file
+| true
+| true
+| false
+| true
+| true
+| true
+| false
+| true
+| true
+| false
+| true
+| true
+| false
+| false
+| true
+| true
+| true
+| false
+good list subtypes
+
+row the objects that fit where types of groups have a parent that is declared behind them, and one that is not
+file (define (domain d) (:types a b - q c d - p e f - q q))
+file (define (problem p) (:domain d) (:objects o - a u - d v - f w - q x - c y - p z - b) (:init) (:goal (and)))
+| q
+| p
+| b
+| a d
+| object
+file
+| 0 2 3 6 - 0 2 3 6
+| 1 4 5 - 1 4 5
+| 6 - 6
+| 0 1 - 0 1
+| 0 1 2 3 4 5 6 - 0 1 2 3 4 5 6
+good list fitting
+
+row a type twice in a group below one parent
+file (define (domain d) (:types a b c b - p))
+| link: fault 21 TypeTwice b
+refused domain
+copy bare
+file
+| link: fault 21 TypeTwice b
+refused problem
+
+row a type in two groups below one parent
+file (define (domain d) (:types a b - p c b - p))
+| link: fault 21 TypeTwice b
+refused domain
+copy bare
+file
+| link: fault 21 TypeTwice b
+refused problem
+
+row a parent that is a type of a group below it, through one of another
+file (define (domain d) (:types a b c - p d p - c e f - p))
+| link: fault 22 TypeCycle c
+refused domain
+copy bare
+file
+| link: fault 22 TypeCycle c
+refused problem
+
 row the objects that fit where neighbours have the same type and others
 file (define (domain d) (:types a b))
 file (define (problem p) (:domain d) (:objects o - a u v - b w - a) (:init) (:goal (and)))
