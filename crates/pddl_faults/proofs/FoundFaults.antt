@@ -1,6 +1,7 @@
 -- What is found in parts, and what is found in the whole.
 use Rattle.std.proofs.Common.{◌≡◌, ◌≤◌, ◌<◌, ℕ, List, [], ◌∷◌, ◌++◌, Option, Some, None, Result, Ok, Err, IfSome, refl, sym, ap, ◌∙◌, subst, arith, inl, inr}
 use Rattle.std.specs.Prelude.{Contains}
+use Rattle.std.specs.List.{flat_map}
 use Rattle.std.specs.Option.{option_map_or}
 use Rattle.std.proofs.lemmas.List.{append_assoc}
 use Rattle.std.proofs.lemmas.List.Elements.{Contains-append_left, Contains-append_right, Contains-append_cases}
@@ -10,7 +11,7 @@ use Rattle.pddl_task.proofs.Lists.{has_first, has_later, has_cases, has_none, ma
 use Rattle.pddl_faults.specs.declared.fault.LinkFault.{LinkFault}
 use Rattle.pddl_faults.specs.declared.fault.LinkFault.TheVariants as link
 use Rattle.pddl_faults.specs.Passes.{fault_of, Passes, Verdict}
-use Rattle.pddl_faults.specs.Found.{IsLowestOf, IsFound, numbered, standing}
+use Rattle.pddl_faults.specs.Found.{IsLowestOf, IsFound, numbered}
 
 -- ---- two parts
 
@@ -134,6 +135,10 @@ found_rest xs ys (Ok v) none h = both_none xs ys none h
 found_rest xs ys (Err e) none h = back_found xs ys (fault_of e) none h
 
 -- ---- verdicts
+
+-- the faults of a list that stand
+abbrev pub standing : List Fault → List (ℕ × Name)
+standing fs = flat_map (λ f. numbered f.number f.words) fs
 
 standing_stands : (fs : List Fault) (g : ℕ × Name) → Contains (standing fs) g → Stands fs g.0 g.1
 standing_stands [] g c = absurd (has_none g c)

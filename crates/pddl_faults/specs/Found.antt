@@ -1,8 +1,6 @@
 -- What is found of faults that stand, each told by its number and its word (own).
 use Rattle.std.specs.Prelude.{◌≡◌, ◌≤◌, ℕ, List, [], ◌++◌, map, Contains, Result, MatchResult, IfSome}
-use Rattle.std.specs.List.{flat_map}
 use Rattle.pddl_task.specs.Names.{Name}
-use Rattle.pddl_task.specs.Linked.{Fault}
 use Rattle.pddl_faults.specs.declared.fault.LinkFault.{LinkFault}
 use Rattle.pddl_faults.specs.Passes.{fault_of}
 
@@ -22,7 +20,3 @@ FindsMore more so_far r = (before : List (ℕ × Name)) → IsFound before so_fa
 -- words, each with the number of its fault
 abbrev pub numbered : ℕ → List Name → List (ℕ × Name)
 numbered n words = map (λ w. (n, w)) words
-
--- the faults of a list that stand
-abbrev pub standing : List Fault → List (ℕ × Name)
-standing fs = flat_map (λ f. numbered f.number f.words) fs

@@ -1,11 +1,16 @@
 //! Types, and items of typed lists.
 
-ghost use Rattle.std.specs.Prelude.{◌≡◌, IfOk, IsTrue};
+ghost use Rattle.std.proofs.Common.{ap};
+ghost use Rattle.std.specs.Prelude.{◌≡◌, IfOk, IsTrue, bytes_eq};
+ghost use Rattle.std.specs.Cmp.{partial_equiv_from_equiv};
+ghost use Rattle.std.specs.Cmp.Lexicographic.{pointwise, bytes_decides, pointwise_decides, lists_equiv, nat_list_eq_equiv};
+ghost use Rattle.std.specs.Hash as fed;
 ghost use Rattle.std.specs.List.{list_all};
 ghost use Rattle.pddl_formula.specs.Reserved.{is_type_name, type_name_of, is_type, type_of};
 
 use pddl_token::Name;
 use std::alloc::{AllocError, Allocator};
+use std::hash::{Hash, Hasher};
 use std::marker::Model;
 use std::rc::Rc;
 
@@ -55,6 +60,30 @@ impl<A: Allocator> TypeName<A> {
         ensures type_name { IsTrue (is_type_name self.now) }
     {
         &self.name
+    }
+}
+
+impl<A: Allocator> PartialEq for TypeName<A> {
+    ghost eq = { bytes_eq };
+
+    ghost laws = { partial_equiv_from_equiv nat_list_eq_equiv };
+
+    fn eq(&self, other: &TypeName<A>) -> bool {
+        self.as_bytes() == other.as_bytes()
+    }
+}
+
+impl<A: Allocator> Eq for TypeName<A> {
+    ghost laws = { nat_list_eq_equiv };
+}
+
+impl<A: Allocator> Hash for TypeName<A> {
+    ghost hash_input = { fed.slice fed.u8 };
+
+    ghost respects_eq = { λ t u same. ap (fed.slice fed.u8) ((bytes_decides t u).0 same) };
+
+    fn hash<H: Hasher>(&self, state: &mut H) {
+        self.as_bytes().hash(state);
     }
 }
 
@@ -111,6 +140,31 @@ impl<A: Allocator> TypeNames<A> {
         ensures types { IsTrue (is_type self.now) }
     {
         &self.names
+    }
+}
+
+/// Types are equal where they have the same primitive types in the same order.
+impl<A: Allocator> PartialEq for TypeNames<A> {
+    ghost eq = { pointwise bytes_eq };
+
+    ghost laws = { partial_equiv_from_equiv (lists_equiv nat_list_eq_equiv) };
+
+    fn eq(&self, other: &TypeNames<A>) -> bool {
+        self.as_slice() == other.as_slice()
+    }
+}
+
+impl<A: Allocator> Eq for TypeNames<A> {
+    ghost laws = { lists_equiv nat_list_eq_equiv };
+}
+
+impl<A: Allocator> Hash for TypeNames<A> {
+    ghost hash_input = { fed.slice (fed.slice fed.u8) };
+
+    ghost respects_eq = { λ t u same. ap (fed.slice (fed.slice fed.u8)) ((pointwise_decides bytes_decides t u).0 same) };
+
+    fn hash<H: Hasher>(&self, state: &mut H) {
+        self.as_slice().hash(state);
     }
 }
 

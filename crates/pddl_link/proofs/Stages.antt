@@ -9,8 +9,8 @@ use Rattle.pddl_task.specs.Linked.{Fault, Stands, IsLowest}
 use Rattle.pddl_task.proofs.Lists.{all_found}
 use Rattle.pddl_faults.specs.declared.fault.LinkFault.{LinkFault}
 use Rattle.pddl_faults.specs.Passes.{fault_of, Verdict}
-use Rattle.pddl_faults.specs.Found.{IsFound, standing}
-use Rattle.pddl_faults.proofs.FoundFaults.{found_as, found_verdict}
+use Rattle.pddl_faults.specs.Found.{IsFound}
+use Rattle.pddl_faults.proofs.FoundFaults.{found_as, standing, found_verdict}
 use Rattle.pddl_names.proofs.RuleParts.{Same}
 
 -- what is found among faults is the verdict on those rules that have the same

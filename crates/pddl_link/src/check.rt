@@ -31,7 +31,7 @@ fn look_at_names<'m, 'a, A: Allocator, B: Allocator>(
     ensures verdict { Verdict (map (domain_fault (domain_view domain.now)) name_rules) result }
 {
     let above = types.cycle();
-    let listed = list_objects(types, constants, &domain.constants);
+    let listed = list_objects(alloc, types, constants, &domain.constants);
     lower(above, lower(listed, look_at_domain(alloc, types, domain)))
 }
 

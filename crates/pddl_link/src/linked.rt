@@ -48,9 +48,9 @@ fn look_at_both<'m, 'a, A: Allocator, B: Allocator>(
     ensures verdict { Verdict (map (fault_in (domain_view domain.now) (problem_view problem.now)) name_rules) result }
 {
     let above = types.cycle();
-    let inner = list_objects(types, constants, &domain.constants);
+    let inner = list_objects(alloc, types, constants, &domain.constants);
     let declared = look_at_domain(alloc, types, domain);
-    let all = list_all(types, listed, domain, problem);
+    let all = list_all(alloc, types, listed, domain, problem);
     let bound = look_at_problem(alloc, types, problem);
     lower(above, lower(inner, lower(declared, lower(all, bound))))
 }

@@ -1,6 +1,7 @@
 pub mod ActionFaults
 pub mod FoundParts
 pub mod ObjectTables
+pub mod MetTypes
 pub mod RuleParts
 pub mod SeenNames
 pub mod Slots

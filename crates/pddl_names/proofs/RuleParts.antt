@@ -15,7 +15,8 @@ use Rattle.pddl_task.specs.Settings.{symbol_of, parameters_of, function_signatur
 use Rattle.pddl_task.specs.Faults.{domain_names, types_twice, retyped, variables_at, repeated_at, repeated_in_actions, type_cycles, object_types, unknown_at, arity_at, misfit_at, fraction_at, contradictions, cost_values, object_fluents, other_metrics, large_goals}
 use Rattle.pddl_task.specs.Linked.{domain_fault, fault_in}
 use Rattle.pddl_task.proofs.Lists.{has_none, or_cases, and_left, and_right, bytes_same}
-use Rattle.pddl_faults.specs.Found.{numbered, standing}
+use Rattle.pddl_faults.specs.Found.{numbered}
+use Rattle.pddl_faults.proofs.FoundFaults.{standing}
 use Rattle.pddl_names.specs.FaultParts.{joined, action_faults, domain_parts, problem_parts, domain_uses, problem_uses, first_rules, name_rules, use_rules}
 use Rattle.pddl_names.specs.Uses.{unknown_among, binding_faults, use_faults}
 use Rattle.pddl_names.proofs.UnknownTypes.{unknown-domain, unknown-problem}

@@ -1,3 +1,4 @@
 pub mod ObjectTables
+pub mod MetTypes
 pub mod Uses
 pub mod FaultParts

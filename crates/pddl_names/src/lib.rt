@@ -5,6 +5,7 @@ mod bindings;
 mod declarations;
 mod declared;
 mod files;
+mod met_types;
 mod objects;
 mod repeats;
 mod uses;

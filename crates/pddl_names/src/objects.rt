@@ -2,6 +2,7 @@
 
 ghost use Rattle.std.specs.Prelude.{◌≡◌, [], ◌++◌, List, IsTrue, not, map, IfOk, OnOk};
 ghost use Rattle.pddl_formula.specs.TypedLists.{TypedValue, typed_view};
+ghost use Rattle.pddl_domain.specs.Declarations.{TypeValue};
 ghost use Rattle.pddl_domain.specs.Domains.{domain_view};
 ghost use Rattle.pddl_problem.specs.Problems.{problem_view};
 ghost use Rattle.pddl_task.specs.Names.{firsts};
@@ -9,9 +10,11 @@ ghost use Rattle.pddl_task.specs.Settings.{objects_of};
 ghost use Rattle.pddl_task.specs.Faults.{retyped};
 ghost use Rattle.pddl_types.specs.KnownNames.{object_in};
 ghost use Rattle.pddl_types.specs.Places.{IsOnlyAt, IsEmpty, AreListedAt};
+ghost use Rattle.pddl_names.specs.MetTypes.{IsMetAt, AreMet};
 ghost use Rattle.pddl_names.specs.ObjectTables.{put, is_at_odds};
 ghost use Rattle.pddl_faults.specs.Passes.{Passes};
 
+use crate::met_types::{Group, MetTypes, let_go};
 use pddl_domain::Domain;
 use pddl_faults::LinkFault;
 use pddl_formula::{Typed, TypedList};
@@ -19,59 +22,84 @@ use pddl_problem::Problem;
 use pddl_types::{Listed, Types};
 use std::alloc::{AllocError, Allocator};
 
-/// Adds an object to those that were listed before, with the place of its type; true exactly where its name has no other type there. One that is there adds
-/// nothing.
+/// Adds an object to those that were listed before, with what is known of its type; true exactly where its name has no other type there. One that is there
+/// adds nothing.
 ///
 /// Fails where memory for it is refused.
 fn list_object<'m, 'a, A: Allocator, B: Allocator>(
-    types: &Types<'m, 'a, A, B>,
     listed: &mut Listed<'m, 'a, A, B>,
+    met: &mut MetTypes<'m, 'a, A, B>,
     object: &'m Typed<A>,
-    place: usize,
+    group: Group,
 ) -> Result<bool, AllocError>
-    requires listed { AreListedAt types.now listed.old }
-    requires place { IsOnlyAt types.now object.now.types place }
+    requires met { AreMet (map object_in listed.old.objects.entries) met.old }
+    requires group { IsMetAt met.old object.now.types group.number }
     ensures objects { OnOk result (map object_in listed.new.objects.entries ≡ put (typed_view object.now) (map object_in listed.old.objects.entries)) }
     ensures right { IfOk result (λ right. is_at_odds (map object_in listed.old.objects.entries) (typed_view object.now) ≡ not right) }
-    ensures places { IfOk result (λ right. IsTrue right → AreListedAt types.now listed.new) }
+    ensures places { (declared : List TypeValue) → AreListedAt declared listed.old → IsOnlyAt declared object.now.types group.place → IfOk result (λ right. IsTrue right → AreListedAt declared listed.new) }
+    ensures met { IfOk result (λ right. IsTrue right → AreMet (map object_in listed.new.objects.entries) met.new) }
+    ensures kept { OnOk result (met.new.types ≡ met.old.types) }
 {
     let (number, before) = listed.objects.insert_full(object.name.as_bytes(), object)?;
     match before {
-        Some(before) => {
-            let known = listed.places[number];
-            Ok(types.are_same(&before.types, known, &object.types, place))
-        }
+        Some(_before) => Ok(met.of_objects[number] == group.number),
         None => {
-            listed.places.push(place)?;
+            listed.places.push(group.place)?;
+            met.of_objects.push(group.number)?;
             Ok(true)
         }
     }
 }
 
-/// Adds constants or objects to those that were listed before, where no name has two types. The place of a type is looked up once for each group.
-pub fn list_objects<'m, 'a, A: Allocator, B: Allocator>(
+/// Adds constants or objects to those that were listed before, where no name has two types.
+fn add_objects<'m, 'a, A: Allocator, B: Allocator>(
     types: &Types<'m, 'a, A, B>,
     listed: &mut Listed<'m, 'a, A, B>,
+    met: &mut MetTypes<'m, 'a, A, B>,
     objects: &'m TypedList<A>,
 ) -> Result<(), LinkFault<'m>>
-    requires { AreListedAt types.now listed.old }
+    requires listed { AreListedAt types.now listed.old }
+    requires met { AreMet (map object_in listed.old.objects.entries) met.old }
     ensures passes { (before : List TypedValue) → retyped [] before ≡ [] → map object_in listed.old.objects.entries ≡ firsts before → Passes 24 (retyped before (map typed_view objects.now.items)) result }
     ensures lists { OnOk result ((before : List TypedValue) → retyped [] before ≡ [] → map object_in listed.old.objects.entries ≡ firsts before → map object_in listed.new.objects.entries ≡ firsts (before ++ map typed_view objects.now.items)) }
     ensures places { OnOk result (AreListedAt types.now listed.new) }
+    ensures met { OnOk result (AreMet (map object_in listed.new.objects.entries) met.new) }
 {
-    let mut place = 0;
+    let mut group = Group {
+        place: 0,
+        number: 0,
+    };
     for number in 0..objects.len() {
+        group = met.group_at(types, objects, number, group)?;
         let object = &objects[number];
-        place = types.place_in(objects, number, place);
-        if !list_object(types, listed, object, place)? {
+        if !list_object(listed, met, object, group)? {
             return Err(LinkFault::NameTwice(object.name.as_bytes()));
         }
     }
     Ok(())
 }
 
+/// Adds constants or objects to no objects, where no name has two types.
+pub fn list_objects<'m, 'a, A: Allocator, B: Allocator>(
+    alloc: &'a B,
+    types: &Types<'m, 'a, A, B>,
+    listed: &mut Listed<'m, 'a, A, B>,
+    objects: &'m TypedList<A>,
+) -> Result<(), LinkFault<'m>>
+    requires { IsEmpty listed.old }
+    ensures passes { Passes 24 (retyped [] (map typed_view objects.now.items)) result }
+    ensures lists { OnOk result (map object_in listed.new.objects.entries ≡ firsts (map typed_view objects.now.items)) }
+    ensures places { OnOk result (AreListedAt types.now listed.new) }
+{
+    let mut met = MetTypes::new(alloc);
+    let added = add_objects(types, listed, &mut met, objects);
+    let_go(met);
+    added
+}
+
 /// Adds a domain's constants and then a problem's objects to no objects, where no name has two types.
 pub fn list_all<'m, 'a, A: Allocator, B: Allocator>(
+    alloc: &'a B,
     types: &Types<'m, 'a, A, B>,
     listed: &mut Listed<'m, 'a, A, B>,
     domain: &'m Domain<A>,
@@ -82,6 +110,16 @@ pub fn list_all<'m, 'a, A: Allocator, B: Allocator>(
     ensures objects { OnOk result (map object_in listed.new.objects.entries ≡ objects_of (domain_view domain.now) (problem_view problem.now)) }
     ensures places { OnOk result (AreListedAt types.now listed.new) }
 {
-    list_objects(types, listed, &domain.constants)?;
-    list_objects(types, listed, &problem.objects)
+    let mut met = MetTypes::new(alloc);
+    match add_objects(types, listed, &mut met, &domain.constants) {
+        Ok(()) => {
+            let added = add_objects(types, listed, &mut met, &problem.objects);
+            let_go(met);
+            added
+        }
+        Err(fault) => {
+            let_go(met);
+            Err(fault)
+        }
+    }
 }

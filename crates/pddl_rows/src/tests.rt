@@ -61,7 +61,7 @@ fn layouts(rt: HostRuntime) -> Result<(), Fail> {
 
 #[test]
 fn problems(rt: HostRuntime) -> Result<(), Fail> {
-    all_hold(&rt, rows::PROBLEMS, 63)
+    all_hold(&rt, rows::PROBLEMS, 66)
 }
 
 #[test]

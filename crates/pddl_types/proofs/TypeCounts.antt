@@ -14,7 +14,7 @@ use Rattle.pddl_task.specs.Types.{types_of, pairs, fits, is_under}
 use Rattle.pddl_task.specs.Faults.{primitives_of}
 use Rattle.pddl_task.specs.GroundSize.{fitting_count}
 use Rattle.pddl_types.specs.TypeTables.{Row, names_in, name_at, IsTypeTable}
-use Rattle.pddl_types.specs.ObjectCounts.{is_single, AreSingle, AreCountsOf, ArePlacesOf, AreNamedCounts}
+use Rattle.pddl_types.specs.ObjectCounts.{is_single, AreSingle, AreCountsOf, AreNamedCounts}
 use Rattle.pddl_types.specs.Places.{AreObjectsAt}
 use Rattle.pddl_task.proofs.Lists.{bytes_same}
 use Rattle.pddl_types.proofs.TypeTables.{table_has}
@@ -31,6 +31,11 @@ named_place (r ∷ rows) zero k p at = let same : (k, p) ≡ r = cc in (omega ar
 named_place (r ∷ rows) (suc n) k p at = let rest = named_place rows n k p at in (omega (arith, rest.0), rest.1)
 
 -- ---- places of objects, one after another
+
+-- the places of the types of objects, each of which has one type
+pub record ArePlacesOf (rows : List Row) (objects : List TypedValue) (places : List ℕ) : Type 0 where
+  pub names : map (λ p. name_at rows p ∷ []) places ≡ map primitives_of objects
+  pub in_range : (p : ℕ) → Contains places p → p < length rows
 
 pub pushed_length : (xs : List ℕ) (x n : ℕ) → length xs ≡ n → length (xs ++ x ∷ []) ≡ n + 1
 pushed_length [] x n h = omega (arith, h)

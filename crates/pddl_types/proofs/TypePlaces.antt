@@ -17,31 +17,13 @@ use Rattle.pddl_task.specs.Names.{Name, is_in, same_names}
 use Rattle.pddl_task.specs.Types.{root, types_of, pairs, is_under}
 use Rattle.pddl_types.specs.TypeTables.{Row, names_in, name_at, type_names, climbs, IsTypeTable}
 use Rattle.pddl_types.specs.KnownNames.{AreNamed, object_in}
-use Rattle.pddl_types.specs.Places.{type_at, IsToldAt, AreToldAt, AreTops, IsOnlyAt, AreObjectsAt, IsEmpty, AreListedAt}
+use Rattle.pddl_types.specs.Places.{type_at, IsToldAt, AreToldAt, AreTops, IsOnlyAt, HaveNumbers, AreObjectsAt, IsEmpty, AreListedAt}
 use Rattle.pddl_types.specs.declared.listed.Listed.{Listed}
 use Rattle.pddl_types.specs.declared.top.Top.{Top}
 use Rattle.pddl_task.proofs.Lists.{bytes_same, any_found, found_any, has_cases, has_later, has_none}
 use Rattle.pddl_types.proofs.TypeTables.{table_once, apart}
 use Rattle.pddl_types.proofs.TypeClimbs.{has_in, climbs_decide}
 use Rattle.pddl_types.proofs.TypeLookups.{found_place, no_place, under_same, no_subtype, no_supertype}
-
-both_or_neither : (a b : Bool) → (a ≡ true → b ≡ true) → (b ≡ true → a ≡ true) → a ≡ b
-both_or_neither true b to from = sym (to refl)
-both_or_neither false true to from = from refl
-both_or_neither false false to from = refl
-
-index_has : (ns : List Name) (i : ℕ) (d : Name) → i < length ns → Contains ns (slice_index_or ns i d)
-index_has [] i d low = absurd (omega (arith, low))
-index_has (n ∷ ns) zero d low = (0, omega arith, refl)
-index_has (n ∷ ns) (suc i) d low = has_later n ns (slice_index_or ns i d) (index_has ns i d (omega (arith, low)))
-
--- names that differ stand at one place each
-distinct_at : (ns : List Name) (i g : ℕ) (d : Name) → IsDistinct bytes_eq ns → i < length ns → g < length ns → slice_index_or ns i d ≡ slice_index_or ns g d → i ≡ g
-distinct_at [] i g d once low also same = absurd (omega (arith, low))
-distinct_at (n ∷ ns) zero zero d once low also same = refl
-distinct_at (n ∷ ns) zero (suc g) d once low also same = absurd (true≢false (sym ((bytes_decides n (slice_index_or ns g d)).1 same) ∙ apart n ns (slice_index_or ns g d) (IsDistinct-head bytes_eq n ns once) (index_has ns g d (omega (arith, also)))))
-distinct_at (n ∷ ns) (suc i) zero d once low also same = absurd (true≢false (sym ((bytes_decides n (slice_index_or ns i d)).1 (sym same)) ∙ apart n ns (slice_index_or ns i d) (IsDistinct-head bytes_eq n ns once) (index_has ns i d (omega (arith, low)))))
-distinct_at (n ∷ ns) (suc i) (suc g) d once low also same = ap suc (distinct_at ns i g d (IsDistinct-tail bytes_eq n ns once) (omega (arith, low)) (omega (arith, also)) same)
 
 module _ (declared : List TypeValue) (rows : List Row) (h : IsTypeTable declared rows) where
   pub as_long : length (type_names declared) ≡ length rows
@@ -87,17 +69,6 @@ module _ (declared : List TypeValue) (rows : List Row) (h : IsTypeTable declared
 
   pub past_only : (types : List Name) (i : ℕ) → i ≡ length rows → IsOnlyAt declared types i
   past_only types i past low = absurd (omega (arith, past, low, as_long))
-
-  -- types at two places are the same where the places are
-  pub same_by_places : (i g : ℕ) (types others : List Name) → i < length rows → g < length rows → IsOnlyAt declared types i → IsOnlyAt declared others g → (i == g) ≡ same_names types others
-  same_by_places i g types others low also only other =
-      let one : types ≡ name_at rows i ∷ [] = only (omega (arith, low, as_long)) ∙ ap (λ n. n ∷ []) (sym (same_at i)) in
-      let two : others ≡ name_at rows g ∷ [] = other (omega (arith, also, as_long)) ∙ ap (λ n. n ∷ []) (sym (same_at g)) in
-      both_or_neither (i == g) (same_names types others)
-      (λ is. let here = eqb-true i g is in (pointwise_decides bytes_decides types others).1 (one ∙ ap (λ k. name_at rows k ∷ []) here ∙ sym two))
-      (λ is. let names : name_at rows i ≡ name_at rows g = ap (λ ns. slice_index_or ns 0 root) (sym one ∙ (pointwise_decides bytes_decides types others).0 is ∙ two) in
-      let here = distinct_at (names_in rows) i g root (table_once (types_of declared) declared rows h.table) (omega (arith, low, length-map rows (λ (r : Row). r.0.now))) (omega (arith, also, length-map rows (λ (r : Row). r.0.now))) names in
-      eq-eqb i g here)
 
 -- ---- tops
 
@@ -205,18 +176,18 @@ none_listed declared l none = record {
 }
 
 -- one that is listed last
-pub listed_more : (declared : List TypeValue) (objects : List TypedValue) (places : List ℕ) (x : TypedValue) (p : ℕ) → IsOnlyAt declared x.of p → AreObjectsAt declared objects places
-    → AreObjectsAt declared (objects ++ x ∷ []) (places ++ p ∷ [])
-listed_more declared objects places x p told are = record {
-  many = length-append places (p ∷ []) ∙ ap (λ n. n + 1) are.many ∙ sym (length-append objects (x ∷ []));
-  each = λ k q y object place. one k q y (at_end objects x y k object) (at_end places p q k place);
+pub numbers_more : (Holds : List Name → ℕ → Type 0) (objects : List TypedValue) (numbers : List ℕ) (x : TypedValue) (n : ℕ) → Holds x.of n → HaveNumbers Holds objects numbers
+    → HaveNumbers Holds (objects ++ x ∷ []) (numbers ++ n ∷ [])
+numbers_more Holds objects numbers x n told are = record {
+  many = length-append numbers (n ∷ []) ∙ ap (λ k. k + 1) are.many ∙ sym (length-append objects (x ∷ []));
+  each = λ k q y object number. one k q y (at_end objects x y k object) (at_end numbers n q k number);
 }
   where
-    one : (k q : ℕ) (y : TypedValue) → (slice_get objects k ≡ Some y) ⊎ ((k ≡ length objects) × (x ≡ y)) → (slice_get places k ≡ Some q) ⊎ ((k ≡ length places) × (p ≡ q)) → IsOnlyAt declared y.of q
-    one k q y (inl object) (inl place) = are.each k q y object place
+    one : (k q : ℕ) (y : TypedValue) → (slice_get objects k ≡ Some y) ⊎ ((k ≡ length objects) × (x ≡ y)) → (slice_get numbers k ≡ Some q) ⊎ ((k ≡ length numbers) × (n ≡ q)) → Holds y.of q
+    one k q y (inl object) (inl number) = are.each k q y object number
     one k q y (inl object) (inr last) = absurd (omega (arith, slice_get_within objects k y object, last.0, are.many))
-    one k q y (inr last) (inl place) = absurd (omega (arith, slice_get_within places k q place, last.0, are.many))
-    one k q y (inr last) (inr also) = subst (IsOnlyAt declared y.of) also.1 (subst (λ z. IsOnlyAt declared z.of p) last.1 told)
+    one k q y (inr last) (inl number) = absurd (omega (arith, slice_get_within numbers k q number, last.0, are.many))
+    one k q y (inr last) (inr also) = subst (Holds y.of) also.1 (subst (λ z. Holds z.of n) last.1 told)
 
 -- an object that is found by its name
 pub found_at : {A : Type 0} (es : List (Bor (List ℕ) × Bor (Typed A))) (n : Name) (found : Bor (Typed A)) → lookup (λ k. bytes_eq n k.now) es ≡ Some found

@@ -13,10 +13,10 @@ use Rattle.pddl_task.specs.Types.{root, types_of, pairs, fits, is_under}
 use Rattle.pddl_task.specs.Faults.{primitives_of}
 use Rattle.pddl_task.specs.GroundSize.{fitting_count}
 use Rattle.pddl_types.specs.TypeTables.{Row, name_at, IsTypeTable}
-use Rattle.pddl_types.specs.ObjectCounts.{is_single, AreSingle, ArePlacesOf, AreNamesAt, primitive_at, AddUp, IsCountAt, IsSumOf}
+use Rattle.pddl_types.specs.ObjectCounts.{is_single, AreSingle, AreNamesAt, primitive_at, AddUp, IsCountAt, IsSumOf}
 use Rattle.pddl_types.proofs.TypeTables.{table_has}
 use Rattle.pddl_types.proofs.TypeClimbs.{has_row, place_of}
-use Rattle.pddl_types.proofs.TypeCounts.{count_map, one_alone}
+use Rattle.pddl_types.proofs.TypeCounts.{ArePlacesOf, count_map, one_alone}
 use Rattle.pddl_types.proofs.TypeForests.{parents_in, under_numbered}
 
 pub if_some : {A : Type 0} (P Q : A → Type 0) (o : Option A) → ((a : A) → P a → Q a) → IfSome o P → IfSome o Q

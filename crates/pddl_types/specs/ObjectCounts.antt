@@ -50,11 +50,6 @@ pub record AreNamesAt (rows : List Row) (names : List Name) (places : List ℕ) 
   pub names_are : map (name_at rows) places ≡ names
   pub in_range : (p : ℕ) → Contains places p → p < length rows
 
--- the places of the types of objects, each of which has one type
-pub record ArePlacesOf (rows : List Row) (objects : List TypedValue) (places : List ℕ) : Type 0 where
-  pub names : map (λ p. name_at rows p ∷ []) places ≡ map primitives_of objects
-  pub in_range : (p : ℕ) → Contains places p → p < length rows
-
 -- each name that is found is that of a place, and has its count
 abbrev pub AreNamedCounts : List Row → List ℕ → List Row → Type 0
 AreNamedCounts rows counts named = (n : Name) (c : ℕ) → lookup (λ k. bytes_eq n k.now) named ≡ Some c → (g : ℕ) × (g < length rows) × (name_at rows g ≡ n) × (number_at counts g ≡ c)

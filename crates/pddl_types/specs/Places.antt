@@ -35,10 +35,14 @@ AreSlotTops declared signatures tops = (k : ℕ) (f : Signature) → slice_get s
 abbrev pub IsOnlyAt : List TypeValue → List Name → ℕ → Type 0
 IsOnlyAt declared types place = place < length (type_names declared) → types ≡ type_at declared place ∷ []
 
--- so there is one for the type of each object
-pub record AreObjectsAt (declared : List TypeValue) (objects : List TypedValue) (places : List ℕ) : Type 0 where
-  pub many : length places ≡ length objects
-  pub each : (k p : ℕ) (x : TypedValue) → slice_get objects k ≡ Some x → slice_get places k ≡ Some p → IsOnlyAt declared x.of p
+-- each of some objects has a number, of which this holds with its type
+pub record HaveNumbers (Holds : List Name → ℕ → Type 0) (objects : List TypedValue) (numbers : List ℕ) : Type 0 where
+  pub many : length numbers ≡ length objects
+  pub each : (k n : ℕ) (x : TypedValue) → slice_get objects k ≡ Some x → slice_get numbers k ≡ Some n → Holds x.of n
+
+-- so there is a place for the type of each object
+abbrev pub AreObjectsAt : List TypeValue → List TypedValue → List ℕ → Type 0
+AreObjectsAt declared = HaveNumbers (IsOnlyAt declared)
 
 -- no objects are listed
 abbrev pub IsEmpty : {A B : _} → Listed A B → Type 0

@@ -4,7 +4,7 @@ ghost use Rattle.std.specs.Prelude.{◌≡◌, ◌<◌, ℕ, List, suc, [], true
 ghost use Rattle.std.specs.List.{flat_map, list_any};
 ghost use Rattle.pddl_formula.specs.TypedLists.{TypedValue, typed_view};
 ghost use Rattle.pddl_domain.specs.Declarations.{type_view};
-ghost use Rattle.pddl_task.specs.Names.{is_in, same_names, repeated, item_of};
+ghost use Rattle.pddl_task.specs.Names.{is_in, repeated, item_of};
 ghost use Rattle.pddl_task.specs.Types.{says_nothing, types_of, pairs, is_under, is_subtype, is_cyclic, fits};
 ghost use Rattle.pddl_task.specs.Faults.{primitives_of, first_alone};
 ghost use Rattle.pddl_faults.specs.Passes.{Passes};
@@ -57,23 +57,6 @@ fn says_nothing<A: Allocator>(declared: &DeclaredType<A>) -> bool
 {
     declared.name.as_bytes() == b"object".as_slice()
         && declared.parent.as_bytes() == b"object".as_slice()
-}
-
-/// Whether two types have the same primitives in the same order.
-fn same_types<A: Allocator, B: Allocator>(first: &TypeNames<A>, second: &TypeNames<B>) -> bool
-    ensures { result ≡ same_names first.now second.now }
-{
-    let first = first.as_slice();
-    let second = second.as_slice();
-    if first.len() != second.len() {
-        return false;
-    }
-    for i in 0..first.len() {
-        if first[i].as_bytes() != second[i].as_bytes() {
-            return false;
-        }
-    }
-    true
 }
 
 impl<'m, 'a, A: Allocator, B: Allocator> Types<'m, 'a, A, B> {
@@ -294,51 +277,12 @@ impl<'m, 'a, A: Allocator, B: Allocator> Types<'m, 'a, A, B> {
     }
 
     /// The place of a type that is one primitive, or one past all types where it is none or has several.
-    fn single_place<N: Allocator>(&self, types: &TypeNames<N>) -> usize
+    pub fn single_place<N: Allocator>(&self, types: &TypeNames<N>) -> usize
         ensures { IsOnlyAt self.now types.now result }
     {
         match single(types) {
             Some(name) => self.told_place(name),
             None => self.parents.len(),
-        }
-    }
-
-    /// [`Types::single_place`] of the type of an item, where that of the item before it, whose type it may share, is this.
-    pub fn place_in<T: Allocator>(
-        &self,
-        typed: &TypedList<T>,
-        number: usize,
-        before: usize,
-    ) -> usize
-        requires within { number < length typed.now.items }
-        requires before { (j : ℕ) (x : TypedValue) → suc j ≡ number → slice_get (map typed_view typed.now.items) j ≡ Some x → IsOnlyAt self.now x.of before }
-        ensures { (x : TypedValue) → slice_get (map typed_view typed.now.items) number ≡ Some x → IsOnlyAt self.now x.of result }
-    {
-        if typed.shares(number) {
-            before
-        } else {
-            self.single_place(&typed[number].types)
-        }
-    }
-
-    /// Whether two types have the same primitives in the same order, where the one primitive of each stands at a place, if it is known. Where both are, no name
-    /// is compared.
-    pub fn are_same<F: Allocator, S: Allocator>(
-        &self,
-        first: &TypeNames<F>,
-        first_place: usize,
-        second: &TypeNames<S>,
-        second_place: usize,
-    ) -> bool
-        requires first { IsOnlyAt self.now first.now first_place }
-        requires second { IsOnlyAt self.now second.now second_place }
-        ensures { result ≡ same_names first.now second.now }
-    {
-        let size = self.parents.len();
-        if first_place < size && second_place < size {
-            first_place == second_place
-        } else {
-            same_types(first, second)
         }
     }
 

@@ -404,6 +404,35 @@ file ) (:init) (:goal (and)))
 | good: problem p
 once good problem
 
+# The types of objects that are listed again are told apart by numbers: each is read once for its group, and not for each object.
+row objects of an either of many types that are constants too
+part (define (domain d) (:types
+series 1000  t#0
+part ) (:constants
+series 20000  o#0
+part  - (either
+series 1000  t#0
+file )))
+part (define (problem p) (:domain d) (:objects
+series 20000  o#0
+part  - (either
+series 1000  t#0
+file )) (:init) (:goal (and)))
+| link: fault 25 ObjectTypes o0
+once refused problem
+
+row constants that are listed again in other groups
+file (define (domain d) (:types s t) (:constants a b - s c - t d - s))
+file (define (problem p) (:domain d) (:objects c - t d a - s e - t b - s) (:init) (:goal (and)))
+| good: problem p
+good problem
+
+row a constant that is listed again in a group of another type, behind one of its own
+file (define (domain d) (:types s t) (:constants a b - s c - t))
+file (define (problem p) (:domain d) (:objects a - s c - t b - t) (:init) (:goal (and)))
+| link: fault 24 NameTwice b
+refused problem
+
 row a constant of one of two types whose names differ late that is an object of the other
 growths 20
 part (define (domain d) (:types a

@@ -1,5 +1,4 @@
-use Rattle.std.proofs.Common.{◌≡◌, List, [], ◌∷◌, map, filter, refl, ap, subst}
-use Rattle.std.proofs.lemmas.Result.{on_ok_weaker}
+use Rattle.std.proofs.Common.{◌≡◌, List, [], ◌∷◌, map, filter, refl, subst}
 use Rattle.pddl_domain.specs.Declarations.{TypeValue}
 use Rattle.pddl_domain.specs.Domains.{domain_view}
 use Rattle.pddl_task.specs.Names.{firsts, item_of}
@@ -9,22 +8,18 @@ use Rattle.pddl_task.specs.Linked.{domain_fault}
 use Rattle.pddl_faults.specs.Found.{IsFound, numbered}
 use Rattle.pddl_types.specs.KnownNames.{object_in}
 use Rattle.pddl_types.specs.Places.{AreListedAt}
-use Rattle.pddl_types.proofs.TypePlaces.{none_listed}
 use Rattle.pddl_names.specs.FaultParts.{joined, domain_parts, name_rules}
 use Rattle.pddl_names.proofs.FoundParts.{found_parts, passed_part, first_kept, second_kept}
 use Rattle.pddl_names.proofs.RuleParts.{domain_names_stand}
 use Rattle.pddl_link.proofs.Stages.{verdict_of}
 use Rattle.pddl_link.proofs.check.look_at_names.Goals as goal
 
-pub list_objects-listed-requires : goal.list_objects-listed-requires
-list_objects-listed-requires g c = none_listed c.args.types.now c.args.constants.now c.requires.none
-
 pub returns-clause-constants : goal.returns-clause-constants
 returns-clause-constants g c =
     let listed = map object_in c.list_objects-listed.new.listed.objects.entries ≡ firsts (domain_view c.args.domain.now).constants in
     second_kept c.cycle-above.result c.lower.result c.lower-2.result listed c.lower-2.ensures.both
     (first_kept c.list_objects-listed.result c.look_at_domain.result c.lower.result listed c.lower.ensures.both
-    (on_ok_weaker c.list_objects-listed.result (λ lists. lists [] refl (ap (map object_in) c.requires.none.0)) c.list_objects-listed.ensures.lists))
+    c.list_objects-listed.ensures.lists)
 
 pub returns-clause-places : goal.returns-clause-places
 returns-clause-places g c =
@@ -43,5 +38,5 @@ returns-clause-verdict g c =
     (found_parts (above c.args.types.now ∷ []) (listed ∷ domain_parts c.args.types.now d) c.cycle-above.result c.lower.result c.lower-2.result c.lower-2.ensures.found
     (passed_part 22 c.cycle-above.result refl c.cycle-above.ensures)
     (found_parts (listed ∷ []) (domain_parts c.args.types.now d) c.list_objects-listed.result c.look_at_domain.result c.lower.result c.lower.ensures.found
-    (passed_part 24 c.list_objects-listed.result refl (c.list_objects-listed.ensures.passes [] refl (ap (map object_in) c.requires.none.0)))
+    (passed_part 24 c.list_objects-listed.result refl c.list_objects-listed.ensures.passes)
     c.look_at_domain.ensures)))

@@ -1,5 +1,4 @@
-use Rattle.std.proofs.Common.{◌≡◌, List, [], ◌∷◌, ◌++◌, map, filter, refl, ap, subst}
-use Rattle.std.proofs.lemmas.Result.{on_ok_weaker}
+use Rattle.std.proofs.Common.{◌≡◌, List, [], ◌∷◌, ◌++◌, map, filter, refl, subst}
 use Rattle.pddl_domain.specs.Declarations.{TypeValue}
 use Rattle.pddl_domain.specs.Domains.{domain_view}
 use Rattle.pddl_problem.specs.Problems.{problem_view}
@@ -11,22 +10,18 @@ use Rattle.pddl_task.specs.Linked.{fault_in}
 use Rattle.pddl_faults.specs.Found.{IsFound, numbered}
 use Rattle.pddl_types.specs.KnownNames.{object_in}
 use Rattle.pddl_types.specs.Places.{AreListedAt}
-use Rattle.pddl_types.proofs.TypePlaces.{none_listed}
 use Rattle.pddl_names.specs.FaultParts.{joined, domain_parts, problem_parts, name_rules}
 use Rattle.pddl_names.proofs.FoundParts.{found_parts, passed_part, first_kept, second_kept}
 use Rattle.pddl_names.proofs.RuleParts.{names_stand}
 use Rattle.pddl_link.proofs.Stages.{verdict_of}
 use Rattle.pddl_link.proofs.linked.look_at_both.Goals as goal
 
-pub list_objects-inner-requires : goal.list_objects-inner-requires
-list_objects-inner-requires g c = none_listed c.args.types.now c.args.constants.now c.requires.no_constants
-
 pub returns-clause-constants : goal.returns-clause-constants
 returns-clause-constants g c =
     let listed = map object_in c.list_objects-inner.new.listed.objects.entries ≡ firsts (domain_view c.args.domain.now).constants in
     second_kept c.cycle-above.result c.lower-3.result c.lower-4.result listed c.lower-4.ensures.both
     (first_kept c.list_objects-inner.result c.lower-2.result c.lower-3.result listed c.lower-3.ensures.both
-    (on_ok_weaker c.list_objects-inner.result (λ lists. lists [] refl (ap (map object_in) c.requires.no_constants.0)) c.list_objects-inner.ensures.lists))
+    c.list_objects-inner.ensures.lists)
 
 pub returns-clause-objects : goal.returns-clause-objects
 returns-clause-objects g c =
@@ -64,7 +59,7 @@ returns-clause-verdict g c =
     (found_parts (above ts ∷ []) (listed ∷ (domain_parts ts d ++ (all ∷ problem_parts ts p))) c.cycle-above.result c.lower-3.result c.lower-4.result c.lower-4.ensures.found
     (passed_part 22 c.cycle-above.result refl c.cycle-above.ensures)
     (found_parts (listed ∷ []) (domain_parts ts d ++ (all ∷ problem_parts ts p)) c.list_objects-inner.result c.lower-2.result c.lower-3.result c.lower-3.ensures.found
-    (passed_part 24 c.list_objects-inner.result refl (c.list_objects-inner.ensures.passes [] refl (ap (map object_in) c.requires.no_constants.0)))
+    (passed_part 24 c.list_objects-inner.result refl c.list_objects-inner.ensures.passes)
     (found_parts (domain_parts ts d) (all ∷ problem_parts ts p) c.look_at_domain-declared.result c.lower.result c.lower-2.result c.lower-2.ensures.found c.look_at_domain-declared.ensures
     (found_parts (all ∷ []) (problem_parts ts p) c.list_all-all.result c.look_at_problem-bound.result c.lower.result c.lower.ensures.found
     (passed_part 24 c.list_all-all.result refl c.list_all-all.ensures.passes) c.look_at_problem-bound.ensures)))))

@@ -1,31 +1,20 @@
-use Rattle.std.proofs.Common.{◌≡◌, ◌<◌, ◌∷◌, [], ◌++◌, map, length, slice_get, Some, bytes_eq, refl, sym, ap, ◌∙◌, subst, arith}
+use Rattle.std.proofs.Common.{◌==◌, ◌∷◌, [], ◌++◌, map, bytes_eq, sym, ap, ◌∙◌, subst, arith}
 use Rattle.std.specs.Map.{lookup}
-use Rattle.std.proofs.lemmas.Option.{slice_get_read, slice_get_within}
 use Rattle.pddl_formula.specs.TypedLists.{typed_view}
 use Rattle.pddl_types.specs.KnownNames.{AreNamed, object_in}
-use Rattle.pddl_types.specs.Places.{IsOnlyAt, AreObjectsAt}
-use Rattle.pddl_types.proofs.TypePlaces.{found_at, listed_more}
+use Rattle.pddl_types.specs.Places.{HaveNumbers, AreObjectsAt, IsOnlyAt}
+use Rattle.pddl_types.proofs.TypePlaces.{numbers_more}
+use Rattle.pddl_names.specs.MetTypes.{IsMetAt, AreMet}
+use Rattle.pddl_names.proofs.MetTypes.{known_type, same_by_numbers}
 use Rattle.pddl_names.proofs.ObjectTables.{put_there, named_entry, odds_there, kept_there, odds_new, last_new}
 use Rattle.pddl_names.proofs.objects.list_object.Goals as goal
 
-pub index-known-requires : goal.index-known-requires
-index-known-requires g c =
-    let l = c.args.listed.now in
-    let objects = map object_in l.objects.entries in
-    let found = found_at l.objects.entries c.as_bytes.result.now c.in-Some.before (sym c.in_ok-number.ensures.old ∙ c.in-Some.is) in
-    omega (arith, slice_get_within objects c.in_ok-number.number found.0 (ap (slice_get objects) c.in_ok-number.ensures.index ∙ found.1), c.requires.listed.at.many, l.places.ok.0)
-
-pub are_same-requires-clause-first : goal.are_same-requires-clause-first
-are_same-requires-clause-first g c =
-    let l = c.args.listed.now in
-    let objects = map object_in l.objects.entries in
-    let number = c.in_ok-number.number in
-    let known = c.index-known.result.now in
-    let found = found_at l.objects.entries c.as_bytes.result.now c.in-Some.before (sym c.in_ok-number.ensures.old ∙ c.in-Some.is) in
-    let at : slice_get objects number ≡ Some found.0 = ap (slice_get objects) c.in_ok-number.ensures.index ∙ found.1 in
-    let low : number < length l.places.items = omega (arith, slice_get_within objects number found.0 at, c.requires.listed.at.many) in
-    subst (λ ts. IsOnlyAt c.args.types.now ts known) found.2
-    (c.requires.listed.at.each number known found.0 at (slice_get_read l.places.items (length l.places.items) number known refl low c.index-known.ensures))
+pub index-requires : goal.index-requires
+index-requires g c =
+    let met = c.args.met.now in
+    let known = known_type c.args.listed.now.objects.entries c.as_bytes.result.now c.in-Some._before met.types.keys met.of_objects.items c.in_ok-number.number
+    (sym c.in_ok-number.ensures.old ∙ c.in-Some.is) c.in_ok-number.ensures.index c.requires.met.numbers in
+    omega (arith, known.0, met.of_objects.ok.0)
 
 pub returns-in-Some-clause-objects : goal.returns-in-Some-clause-objects
 returns-in-Some-clause-objects g c =
@@ -34,40 +23,75 @@ returns-in-Some-clause-objects g c =
 pub returns-in-Some-clause-right : goal.returns-in-Some-clause-right
 returns-in-Some-clause-right g c =
     let es = c.args.listed.now.objects.entries in
+    let met = c.args.met.now in
+    let known = known_type es c.as_bytes.result.now c.in-Some._before met.types.keys met.of_objects.items c.in_ok-number.number
+    (sym c.in_ok-number.ensures.old ∙ c.in-Some.is) c.in_ok-number.ensures.index c.requires.met.numbers in
+    let same = same_by_numbers met.types.keys c.index.result.now c.args.group.number c.in-Some._before.now.types c.args.object.now.types c.requires.met.once (known.1 c.index.result.now c.index.ensures) c.requires.group in
     odds_there es c.args.object.now.name c.args.object.now.types c.in_ok-number.before (c.in_ok-number.ensures.old ∙ ap (λ n. lookup (λ k. bytes_eq n k.now) es) c.as_bytes.ensures.value)
-    c.in-Some.before c.in-Some.is c.are_same.result c.are_same.ensures
+    c.in-Some._before c.in-Some.is (c.index.result.now == c.args.group.number) same
 
 pub returns-in-Some-clause-places : goal.returns-in-Some-clause-places
-returns-in-Some-clause-places g c = λ same.
+returns-in-Some-clause-places g c = λ declared listed only right.
     let es = c.args.listed.now.objects.entries in
+    let met = c.args.met.now in
+    let known = known_type es c.as_bytes.result.now c.in-Some._before met.types.keys met.of_objects.items c.in_ok-number.number
+    (sym c.in_ok-number.ensures.old ∙ c.in-Some.is) c.in_ok-number.ensures.index c.requires.met.numbers in
+    let same = same_by_numbers met.types.keys c.index.result.now c.args.group.number c.in-Some._before.now.types c.args.object.now.types c.requires.met.once (known.1 c.index.result.now c.index.ensures) c.requires.group in
     let x = c.args.object.now in
     record {
-      named = subst AreNamed (sym c.in_ok-number.ensures.entries) (named_entry c.as_bytes.result c.args.object es (sym c.as_bytes.ensures.value) c.requires.listed.named);
-      at = subst (λ os. AreObjectsAt c.args.types.now os c.args.listed.now.places.items)
+      named = subst AreNamed (sym c.in_ok-number.ensures.entries) (named_entry c.as_bytes.result c.args.object es (sym c.as_bytes.ensures.value) listed.named);
+      at = subst (λ os. AreObjectsAt declared os c.args.listed.now.places.items)
           (sym (put_there c.as_bytes.result c.args.object es c.insert_full.new.self.entries c.as_bytes.ensures.value c.in_ok-number.ensures.entries
-          ∙ kept_there es x.name x.types c.in_ok-number.before (c.in_ok-number.ensures.old ∙ ap (λ n. lookup (λ k. bytes_eq n k.now) es) c.as_bytes.ensures.value) c.in-Some.before c.in-Some.is c.are_same.result c.are_same.ensures same))
-          c.requires.listed.at;
+          ∙ kept_there es x.name x.types c.in_ok-number.before (c.in_ok-number.ensures.old ∙ ap (λ n. lookup (λ k. bytes_eq n k.now) es) c.as_bytes.ensures.value) c.in-Some._before c.in-Some.is (c.index.result.now == c.args.group.number) same right))
+          listed.at;
     }
 
-pub returns-in_ok-push-in-None-clause-objects : goal.returns-in_ok-push-in-None-clause-objects
-returns-in_ok-push-in-None-clause-objects g c =
+pub returns-in-Some-clause-met : goal.returns-in-Some-clause-met
+returns-in-Some-clause-met g c = λ right.
+    let es = c.args.listed.now.objects.entries in
+    let met = c.args.met.now in
+    let known = known_type es c.as_bytes.result.now c.in-Some._before met.types.keys met.of_objects.items c.in_ok-number.number
+    (sym c.in_ok-number.ensures.old ∙ c.in-Some.is) c.in_ok-number.ensures.index c.requires.met.numbers in
+    let same = same_by_numbers met.types.keys c.index.result.now c.args.group.number c.in-Some._before.now.types c.args.object.now.types c.requires.met.once (known.1 c.index.result.now c.index.ensures) c.requires.group in
+    let x = c.args.object.now in
+    subst (λ os. AreMet os c.args.met.now)
+    (sym (put_there c.as_bytes.result c.args.object es c.insert_full.new.self.entries c.as_bytes.ensures.value c.in_ok-number.ensures.entries
+    ∙ kept_there es x.name x.types c.in_ok-number.before (c.in_ok-number.ensures.old ∙ ap (λ n. lookup (λ k. bytes_eq n k.now) es) c.as_bytes.ensures.value) c.in-Some._before c.in-Some.is (c.index.result.now == c.args.group.number) same right))
+    c.requires.met
+
+pub returns-in_ok-push-in-None-2-clause-objects : goal.returns-in_ok-push-in-None-2-clause-objects
+returns-in_ok-push-in-None-2-clause-objects g c =
     put_there c.as_bytes.result c.args.object c.args.listed.now.objects.entries c.insert_full.new.self.entries c.as_bytes.ensures.value c.in_ok-number.ensures.entries
 
-pub returns-in_ok-push-in-None-clause-right : goal.returns-in_ok-push-in-None-clause-right
-returns-in_ok-push-in-None-clause-right g c =
+pub returns-in_ok-push-in-None-2-clause-right : goal.returns-in_ok-push-in-None-2-clause-right
+returns-in_ok-push-in-None-2-clause-right g c =
     let es = c.args.listed.now.objects.entries in
     odds_new es c.args.object.now.name c.args.object.now.types c.in_ok-number.before (c.in_ok-number.ensures.old ∙ ap (λ n. lookup (λ k. bytes_eq n k.now) es) c.as_bytes.ensures.value) c.in-None.is
 
-pub returns-in_ok-push-in-None-clause-places : goal.returns-in_ok-push-in-None-clause-places
-returns-in_ok-push-in-None-clause-places g c = λ _.
+pub returns-in_ok-push-in-None-2-clause-places : goal.returns-in_ok-push-in-None-2-clause-places
+returns-in_ok-push-in-None-2-clause-places g c = λ declared listed only right.
     let l = c.args.listed.now in
     let es = l.objects.entries in
     let x = c.args.object.now in
     record {
-      named = subst AreNamed (sym c.in_ok-number.ensures.entries) (named_entry c.as_bytes.result c.args.object es (sym c.as_bytes.ensures.value) c.requires.listed.named);
-      at = subst (λ os. AreObjectsAt c.args.types.now os c.push.new.self.items)
+      named = subst AreNamed (sym c.in_ok-number.ensures.entries) (named_entry c.as_bytes.result c.args.object es (sym c.as_bytes.ensures.value) listed.named);
+      at = subst (λ os. AreObjectsAt declared os c.push.new.self.items)
           (sym (put_there c.as_bytes.result c.args.object es c.insert_full.new.self.entries c.as_bytes.ensures.value c.in_ok-number.ensures.entries
           ∙ last_new es x.name x.types c.in_ok-number.before (c.in_ok-number.ensures.old ∙ ap (λ n. lookup (λ k. bytes_eq n k.now) es) c.as_bytes.ensures.value) c.in-None.is))
-          (subst (AreObjectsAt c.args.types.now (map object_in es ++ typed_view x ∷ [])) (sym c.in_ok-push-in-None.ensures.items)
-          (listed_more c.args.types.now (map object_in es) l.places.items (typed_view x) c.args.place c.requires.place c.requires.listed.at));
+          (subst (AreObjectsAt declared (map object_in es ++ typed_view x ∷ [])) (sym c.in_ok-push-in-None.ensures.items)
+          (numbers_more (IsOnlyAt declared) (map object_in es) l.places.items (typed_view x) c.args.group.place only listed.at));
+    }
+
+pub returns-in_ok-push-in-None-2-clause-met : goal.returns-in_ok-push-in-None-2-clause-met
+returns-in_ok-push-in-None-2-clause-met g c = λ right.
+    let met = c.args.met.now in
+    let es = c.args.listed.now.objects.entries in
+    let x = c.args.object.now in
+    record {
+      once = c.requires.met.once;
+      numbers = subst (λ os. HaveNumbers (IsMetAt met) os c.push-in-None.new.self.items)
+          (sym (put_there c.as_bytes.result c.args.object es c.insert_full.new.self.entries c.as_bytes.ensures.value c.in_ok-number.ensures.entries
+          ∙ last_new es x.name x.types c.in_ok-number.before (c.in_ok-number.ensures.old ∙ ap (λ n. lookup (λ k. bytes_eq n k.now) es) c.as_bytes.ensures.value) c.in-None.is))
+          (subst (HaveNumbers (IsMetAt met) (map object_in es ++ typed_view x ∷ [])) (sym c.in_ok-push-in-None-2.ensures.items)
+          (numbers_more (IsMetAt met) (map object_in es) met.of_objects.items (typed_view x) c.args.group.number c.requires.group c.requires.met.numbers));
     }

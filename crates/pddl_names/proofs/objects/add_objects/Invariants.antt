@@ -3,14 +3,16 @@ use Rattle.pddl_formula.specs.TypedLists.{TypedValue, typed_view}
 use Rattle.pddl_task.specs.Names.{firsts}
 use Rattle.pddl_task.specs.Faults.{retyped}
 use Rattle.pddl_types.specs.KnownNames.{object_in}
-use Rattle.pddl_types.specs.Places.{IsOnlyAt, AreListedAt}
+use Rattle.pddl_types.specs.Places.{AreListedAt}
+use Rattle.pddl_names.specs.MetTypes.{AreMet, IsGroupOf}
 use Rattle.pddl_names.proofs.ObjectTables.{ListedUpTo}
-use Rattle.pddl_names.proofs.objects.list_objects.Given as goal
+use Rattle.pddl_names.proofs.objects.add_objects.Given as goal
 
--- what is listed so far, and the place of the type of the item before
+-- what is listed so far, and what is known of the type of the item before
 abbrev pub invariant-loop-number : goal.invariant-loop-number
 invariant-loop-number g l = record {
   lists : (before : List TypedValue) → retyped [] before ≡ [] → map object_in l.fn.listed.objects.entries ≡ firsts before → ListedUpTo before l.objects.items l.number (map object_in l.listed.objects.entries);
   places : AreListedAt l.types l.listed;
-  last : (j : ℕ) (x : TypedValue) → suc j ≡ l.number → slice_get (map typed_view l.objects.items) j ≡ Some x → IsOnlyAt l.types x.of l.place;
+  met : AreMet (map object_in l.listed.objects.entries) l.met;
+  last : (j : ℕ) (x : TypedValue) → suc j ≡ l.number → slice_get (map typed_view l.objects.items) j ≡ Some x → IsGroupOf l.types l.met x.of l.group;
 }

@@ -1,0 +1,59 @@
+use Rattle.std.proofs.Common.{◌<◌, ◌≡◌, Some, length, get_or, slice_get, map, not, refl, sym, ap, ◌∙◌, subst, arith}
+use Rattle.std.specs.Prelude.{Contains}
+use Rattle.std.proofs.lemmas.Option.{slice_get_read}
+use Rattle.pddl_formula.specs.TypedLists.{typed_view}
+use Rattle.pddl_task.specs.Faults.{retyped}
+use Rattle.pddl_types.specs.KnownNames.{object_in}
+use Rattle.pddl_types.proofs.TypePlaces.{seen_entry}
+use Rattle.std.specs.HashSet.{HashSet}
+use Rattle.pddl_names.proofs.MetTypes.{type_of_number}
+use Rattle.pddl_names.proofs.ObjectTables.{listed_start, listed_twice, listed_more}
+use Rattle.pddl_names.proofs.objects.add_objects.Goals as goal
+
+pub loop-number-init : goal.loop-number-init
+loop-number-init g c = record {
+  lists = λ before none is. listed_start before c.args.objects.now.items (map object_in c.args.listed.now.objects.entries) none is;
+  places = c.requires.listed;
+  met = c.requires.met;
+  last = λ j x next. absurd (omega (arith, next));
+}
+
+pub loop-number-preserved : goal.loop-number-preserved
+loop-number-preserved g c =
+    let l = c.loop-number in
+    let xs = c.args.objects.now.items in
+    let x = c.index-deref-number.result in
+    let es = map object_in l.listed.objects.entries in
+    let low : l.number < length xs = omega (arith, c.loop-number-test.true, c.len-number-end.ensures) in
+    let at : x ≡ get_or xs l.number x = c.index-deref-number.is ∙ ap (λ ys. get_or ys l.number x) c.deref.ensures.value in
+    let here = c.in_ok-group.ensures.group (typed_view x) (seen_entry typed_view xs l.number x (slice_get_read xs (length xs) l.number x refl low at)) in
+    record {
+      lists = λ before none is.
+          listed_more before xs l.number x es low at (l.invariant.lists before none is) (map object_in c.list_object.new.listed.objects.entries) c.in_ok-list_object.ensures.objects
+          (c.in_ok-list_object.ensures.right ∙ ap not c.if-not-branch.false);
+      places = c.in_ok-list_object.ensures.places c.args.types.now l.invariant.places here.0 c.if-not-branch.false;
+      met = c.in_ok-list_object.ensures.met c.if-not-branch.false;
+      last = λ j y next there.
+          let group = c.in_ok-group.ensures.group y (ap (slice_get (map typed_view xs)) (omega (arith, next)) ∙ there) in
+          (group.0, subst (λ (types : HashSet _ _). type_of_number types.keys c.in_ok-group.group.number ≡ Some y.of) (sym c.in_ok-list_object.ensures.kept) group.1);
+    }
+
+pub list_object-requires-clause-group : goal.list_object-requires-clause-group
+list_object-requires-clause-group g c =
+    let xs = c.args.objects.now.items in
+    let x = c.index-deref-number.result in
+    let low : c.loop-number.number < length xs = omega (arith, c.loop-number-test.true, c.len-number-end.ensures) in
+    let at : x ≡ get_or xs c.loop-number.number x = c.index-deref-number.is ∙ ap (λ ys. get_or ys c.loop-number.number x) c.deref.ensures.value in
+    (c.in_ok-group.ensures.group (typed_view x) (seen_entry typed_view xs c.loop-number.number x (slice_get_read xs (length xs) c.loop-number.number x refl low at))).1
+
+pub returns-then-not-branch-clause-passes : goal.returns-then-not-branch-clause-passes
+returns-then-not-branch-clause-passes g c = λ before none is.
+    let l = c.loop-number in
+    let xs = c.args.objects.now.items in
+    let x = c.index-deref-number.result in
+    let low : l.number < length xs = omega (arith, c.loop-number-test.true, c.len-number-end.ensures) in
+    let at : x ≡ get_or xs l.number x = c.index-deref-number.is ∙ ap (λ ys. get_or ys l.number x) c.deref.ensures.value in (
+      refl,
+      subst (λ n. Contains (retyped before (map typed_view xs)) n) (sym c.as_bytes.ensures.value)
+          (listed_twice before xs l.number x (map object_in l.listed.objects.entries) low at (l.invariant.lists before none is) (c.in_ok-list_object.ensures.right ∙ ap not c.if-not-branch.true)),
+    )
