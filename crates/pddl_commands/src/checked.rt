@@ -12,10 +12,10 @@ use crate::fault_names::link_fault_name;
 use crate::formatted::{Formatted, refused_domain, refused_problem};
 use crate::line::fault_line;
 use crate::outcome::Outcome;
-use pddl_domain::Domain;
+use pddl_domain::{Domain, let_go_domain};
 use pddl_domain_reader::read_domain;
 use pddl_link::{LinkFault, check_domain, link};
-use pddl_problem::Problem;
+use pddl_problem::{Problem, let_go_problem};
 use pddl_problem_reader::read_problem;
 use std::alloc::{AllocError, Allocator};
 
@@ -121,7 +121,7 @@ pub fn checked_domain<'a, B: Allocator>(
     match read_domain(alloc, text) {
         Ok(domain) => {
             let answer = judged_domain(alloc, &domain);
-            drop(domain);
+            let_go_domain(domain);
             answer
         }
         Err(fault) => refused_domain(alloc, text, &fault),
@@ -139,7 +139,7 @@ pub fn checked_problem<'a, B: Allocator>(
     match read_problem(alloc, text) {
         Ok(problem) => {
             let answer = judged_problem(alloc, domain, &problem);
-            drop(problem);
+            let_go_problem(problem);
             answer
         }
         Err(fault) => refused_problem(alloc, text, &fault),

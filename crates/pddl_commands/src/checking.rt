@@ -14,7 +14,7 @@ use crate::formatted::{Formatted, refused_domain};
 use crate::outcome::{Outcome, RunFault, or_memory};
 use crate::reading::{Content, read_file};
 use pddl_device::{Sink, Source, write_text};
-use pddl_domain::Domain;
+use pddl_domain::{Domain, let_go_domain};
 use pddl_domain_reader::read_domain;
 use pddl_kind::Kind;
 use std::alloc::Allocator;
@@ -85,7 +85,7 @@ fn read_both<'a, B: Allocator, S: Source, T: Source>(
         Content::Text(text) => match read_domain(alloc, &text) {
             Ok(read) => {
                 let answer = read_problem_checked(alloc, &read, problem);
-                drop(read);
+                let_go_domain(read);
                 answer
             }
             Err(fault) => or_memory(refused_domain(alloc, &text, &fault)),

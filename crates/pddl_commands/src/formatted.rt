@@ -18,11 +18,13 @@ ghost use Rattle.pddl_commands.specs.Lines.{file_fault_name, IsFaultLine};
 use crate::fault_names::{file_fault_name, text_fault_name};
 use crate::line::{fault_line, fault_line_at, position_of};
 use crate::outcome::Outcome;
+use pddl_domain::let_go_domain;
 use pddl_domain_reader::read_domain;
 use pddl_file::FileFault;
 use pddl_file_layout::{domain_text, problem_text};
 use pddl_kind::Kind;
 use pddl_layout::plan_text;
+use pddl_problem::let_go_problem;
 use pddl_problem_reader::read_problem;
 use pddl_text::{LONGEST, TextFault};
 use pddl_tree::Plan;
@@ -108,7 +110,7 @@ pub(crate) fn formatted_domain<'a, B: Allocator>(
     match read_domain(alloc, text) {
         Ok(domain) => {
             let printed = domain_text(alloc, &domain);
-            drop(domain);
+            let_go_domain(domain);
             good(printed)
         }
         Err(fault) => refused_domain(alloc, text, &fault),
@@ -125,7 +127,7 @@ pub(crate) fn formatted_problem<'a, B: Allocator>(
     match read_problem(alloc, text) {
         Ok(problem) => {
             let printed = problem_text(alloc, &problem);
-            drop(problem);
+            let_go_problem(problem);
             good(printed)
         }
         Err(fault) => refused_problem(alloc, text, &fault),

@@ -31,6 +31,11 @@ pub enum PlanContent<'a, B: Allocator> {
     Refused(Vec<u8, &'a B>),
 }
 
+/// Lets a plan go. A crate in which one ends proves how it is taken apart, with each type in it; crates that call this do not.
+pub fn let_go_plan<A: Allocator>(plan: Plan<A>) {
+    drop(plan);
+}
+
 /// The file of a plan, so far as it has come.
 #[derive(Drop)]
 struct PlanFile<A: Allocator> {

@@ -46,3 +46,8 @@ pub struct Domain<A: Allocator> {
     pub functions: Vec<DeclaredFunction<A>, A>,
     pub actions: Vec<Action<A>, A>,
 }
+
+/// Lets a domain go. A crate in which one ends proves how it is taken apart, with each type in it; crates that call this do not.
+pub fn let_go_domain<A: Allocator>(domain: Domain<A>) {
+    drop(domain);
+}

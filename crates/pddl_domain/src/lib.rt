@@ -5,4 +5,4 @@ mod declared_types;
 mod domain;
 
 pub use declared_types::{DeclaredType, DeclaredTypes};
-pub use domain::{Action, DeclaredFunction, DeclaredPredicate, Domain};
+pub use domain::{Action, DeclaredFunction, DeclaredPredicate, Domain, let_go_domain};

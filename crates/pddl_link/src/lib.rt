@@ -13,4 +13,4 @@ pub use linked::link;
 pub use pddl_faults::{Hashed, LinkFault};
 pub use pddl_sizes::{FittingCount, action_ground_size, effect_ground_size, ground_size};
 pub use pddl_types::{FunctionNumbers, SlotTops};
-pub use task::Task;
+pub use task::{Task, let_go_task};

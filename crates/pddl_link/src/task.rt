@@ -250,3 +250,8 @@ impl<'m, 'a, A: Allocator, B: Allocator> Task<'m, 'a, A, B> {
         self.tables.declared.predicates.get_index_of(name)
     }
 }
+
+/// Lets a task go. A crate in which one ends proves how it is taken apart, with each type in it; crates that call this do not.
+pub fn let_go_task<'m, 'a, A: Allocator, B: Allocator>(task: Task<'m, 'a, A, B>) {
+    drop(task);
+}

@@ -3,4 +3,4 @@
 
 mod problem;
 
-pub use problem::{Direction, Fact, GroundFunction, InitItem, Metric, Problem};
+pub use problem::{Direction, Fact, GroundFunction, InitItem, Metric, Problem, let_go_problem};

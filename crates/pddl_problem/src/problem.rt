@@ -58,3 +58,8 @@ pub struct Problem<A: Allocator> {
     pub goal: Formula<A>,
     pub metric: Option<Metric<A>>,
 }
+
+/// Lets a problem go. A crate in which one ends proves how it is taken apart, with each type in it; crates that call this do not.
+pub fn let_go_problem<A: Allocator>(problem: Problem<A>) {
+    drop(problem);
+}
