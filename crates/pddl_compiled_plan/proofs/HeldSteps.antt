@@ -10,7 +10,7 @@ use Rattle.std.proofs.lemmas.Option.{slice_get_within, get_or_from_slice_get}
 use Rattle.pddl_task.specs.Linked.{IsLinked}
 use Rattle.pddl_task.specs.Tasks.{TaskValue}
 use Rattle.pddl_state.specs.Atoms.{AtomValue}
-use Rattle.pddl_plan_steps.specs.Link.TaskTables.{Files, task_in}
+use Rattle.pddl_plan_steps.specs.Link.LinkedTasks.{Files, task_of_files}
 use Rattle.pddl_compiled.specs.CompiledMeaning.{is_true}
 use Rattle.pddl_compiled.specs.Views.{condition_view, change_view}
 use Rattle.pddl_compiled.specs.declared.compiled.Condition.{Condition}
@@ -25,9 +25,9 @@ use Rattle.pddl_compiled_plan.specs.declared.action.CompiledAction.{CompiledActi
 use Rattle.pddl_compiled_plan.proofs.Forms.{step_by_form, few_increases, goal_by_form}
 
 module _ {A : Type 0} (files : Files) (linked : IsLinked files.domain files.problem) {steps : List LinkedStepValue} {actions : List (Option (CompiledAction A))} {goal : Condition A}
-    {prices : AtomValue → Option ℕ} (kept : ∥ IsHeldPlan (task_in files) steps actions goal prices ∥₁) where
+    {prices : AtomValue → Option ℕ} (kept : ∥ IsHeldPlan (task_of_files files) steps actions goal prices ∥₁) where
   abbrev task : TaskValue
-  task = task_in files
+  task = task_of_files files
 
   -- the action of a step, read at its place
   module _ (k : ℕ) (s : LinkedStepValue) (is : Some s ≡ slice_get steps k) where

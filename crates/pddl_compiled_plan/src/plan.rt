@@ -1,6 +1,7 @@
 //! Linked plans whose steps can be executed.
 
 ghost use Rattle.std.specs.Prelude.{◌≡◌, ◌<◌, ◌≤◌, ◌||◌, length, OnOk};
+ghost use Rattle.pddl_task.specs.Linked.{IsLinked};
 ghost use Rattle.pddl_plan_steps.specs.Link.LinkedTasks.{task_of_files};
 ghost use Rattle.pddl_state.specs.Atoms.{AtomValue};
 ghost use Rattle.pddl_state.specs.AtomSets.{is_listed};
@@ -20,6 +21,7 @@ use pddl_plan_steps::pddl_linked_plan::{Steps, initial_atoms};
 use pddl_state::{Atom, AtomStore};
 use pddl_tables::TaskPrices;
 use std::alloc::{AllocError, Allocator};
+use std::marker::Model;
 
 /// A linked plan whose steps can be executed: a course of steps for the judge, over any store.
 ///
@@ -39,7 +41,30 @@ where
     actions: UsedActions<'c, D>,
     goal: Condition<&'c D>,
     prices: TaskPrices<'c, D>,
-    ghost held: { ∥ IsHeldPlan (task_of_files task.now) steps.now actions.items goal (price_in prices) ∥₁ },
+}
+
+impl<'t, 'm, 'a, 's, 'b, 'c, A, B, C, D> Model for CompiledPlan<'t, 'm, 'a, 's, 'b, 'c, A, B, C, D>
+where
+    A: Allocator,
+    B: Allocator,
+    C: Allocator,
+    D: Allocator,
+{
+    ghost use Rattle.std.specs.Coded.{codes};
+    ghost use Rattle.pddl_task.specs.Linked.{IsLinked};
+    ghost use Rattle.pddl_tables.specs.Lookups.{price_in};
+    ghost use Rattle.pddl_plan_steps.specs.Link.LinkedTasks.{task_of_files};
+    ghost use Rattle.pddl_plan_steps.specs.Link.Codes.{formula_code, effect_code};
+    ghost use Rattle.pddl_compiled_plan.specs.CompiledSteps.{IsHeldPlan};
+    ghost use Rattle.pddl_compiled_plan.specs.HeldPlans.{HeldPlan};
+
+    ghost Value = { HeldPlan };
+
+    ghost coded = { Prim.hlevel (codes, formula_code, effect_code) };
+
+    ghost view = { λ p. record { files = p.task.now; steps = p.steps.now } };
+
+    ghost invariant = { λ p. IsLinked p.task.now.domain p.task.now.problem × ∥ IsHeldPlan (task_of_files p.task.now) p.steps.now p.actions.items p.goal (price_in p.prices) ∥₁ };
 }
 
 /// An action by numbers, and the numbers of the objects that it is applied to.
@@ -109,7 +134,8 @@ where
         goal: Condition<&'c D>,
         prices: TaskPrices<'c, D>,
     ) -> CompiledPlan<'t, 'm, 'a, 's, 'b, 'c, A, B, C, D>
-        requires { IsHeldPlan (task_of_files task.now) steps.now actions.items goal (price_in prices) }
+        requires linked { IsLinked task.now.domain task.now.problem }
+        requires held { IsHeldPlan (task_of_files task.now) steps.now actions.items goal (price_in prices) }
         ensures task { plan_task result ≡ task_of_files task.now }
         ensures steps { plan_steps result ≡ steps.now }
     {

@@ -1,2 +1,3 @@
-pub mod TaskTables
 pub mod LinkedTasks
+pub mod TaskTables
+pub mod Codes

@@ -1,14 +1,16 @@
--- The task of a `Task`.
-use Rattle.pddl_domain.specs.Domains.{domain_view}
-use Rattle.pddl_problem.specs.Problems.{problem_view}
-use Rattle.pddl_task.specs.Tasks.{TaskValue}
-use Rattle.pddl_link.specs.TaskTables.{Files, files, task_in}
-use Rattle.pddl_link.specs.declared.task.Task.{Task}
+-- Two linked files, and the task that they make.
+use Rattle.pddl_domain.specs.Domains.{DomainValue}
+use Rattle.pddl_problem.specs.Problems.{ProblemValue}
+use Rattle.pddl_task.specs.Tasks.{TaskValue, task_of}
 
--- the two files that it is of
-abbrev pub files_of : {A B : _} → Task A B → Files
-files_of t = files (domain_view t.domain.now) (problem_view t.problem.now)
+-- a domain and a problem
+pub record Files : Type 0 where
+  pub domain : DomainValue
+  pub problem : ProblemValue
 
--- what they make
-abbrev pub task_of_files : {A B : _} → Task A B → TaskValue
-task_of_files t = task_in (files_of t)
+abbrev pub files : DomainValue → ProblemValue → Files
+files d p = record { domain = d; problem = p }
+
+-- the task that they make
+abbrev pub task_of_files : Files → TaskValue
+task_of_files f = task_of f.domain f.problem

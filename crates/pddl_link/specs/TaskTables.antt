@@ -1,4 +1,4 @@
--- Two linked files with tables of what they declare, and what is asked of the task that they make.
+-- Tables of what two linked files declare.
 use Rattle.std.specs.Prelude.{◌≡◌, ℕ, List, map}
 use Rattle.std.specs.Borrow.{Bor}
 use Rattle.pddl_formula.specs.declared.type_names.Typed.{Typed}
@@ -8,25 +8,12 @@ use Rattle.pddl_problem.specs.Inits.{GroundValue}
 use Rattle.pddl_problem.specs.Problems.{ProblemValue}
 use Rattle.pddl_task.specs.Settings.{objects_of}
 use Rattle.pddl_task.specs.Linked.{IsLinked}
-use Rattle.pddl_task.specs.Tasks.{TaskValue, task_of}
 use Rattle.pddl_types.specs.KnownNames.{signature_in, object_in}
 use Rattle.pddl_types.specs.ObjectCounts.{AreCountsOf}
 use Rattle.pddl_types.specs.Places.{AreListedAt}
 use Rattle.pddl_types.specs.TypeTables.{Row}
 use Rattle.pddl_types.specs.declared.listed.Listed.{Listed}
 use Rattle.pddl_search.specs.Claims.{HoldsValues}
-
--- a domain and a problem
-pub record Files : Type 0 where
-  pub domain : DomainValue
-  pub problem : ProblemValue
-
-abbrev pub files : DomainValue → ProblemValue → Files
-files d p = record { domain = d; problem = p }
-
--- the task that they make
-abbrev pub task_in : Files → TaskValue
-task_in f = task_of f.domain f.problem
 
 -- tables hold what two files declare beside types
 pub record HoldBehindTypes {A B : Type 0} (d : DomainValue) (p : ProblemValue) (types : List TypeValue) (predicates : List (Bor (List ℕ) × Bor (List (Typed A))))

@@ -12,8 +12,8 @@ ghost use Rattle.pddl_types.specs.ObjectCounts.{AreCountsOf};
 ghost use Rattle.pddl_types.specs.KnownNames.{signature_in, object_in};
 ghost use Rattle.pddl_types.specs.Places.{AreSlotTops, IsEmpty, AreListedAt};
 ghost use Rattle.pddl_names.specs.FaultParts.{first_rules, name_rules, use_rules};
-ghost use Rattle.pddl_link.specs.TaskTables.{files, HoldBehindTypes};
-ghost use Rattle.pddl_link.specs.LinkedTasks.{files_of};
+ghost use Rattle.pddl_link.specs.TaskTables.{HoldBehindTypes};
+ghost use Rattle.pddl_link.specs.LinkedTasks.{files};
 
 use crate::task::{Tables, Task, let_go, let_go_objects};
 use indexmap::IndexMap;
@@ -231,7 +231,7 @@ pub fn link<'m, 'a, A: Allocator, B: Allocator>(
     domain: &'m Domain<A>,
     problem: &'m Problem<A>,
 ) -> Result<Task<'m, 'a, A, B>, LinkFault<'m>>
-    ensures task { IfOk result (λ task. files_of task ≡ files (domain_view domain.now) (problem_view problem.now)) }
+    ensures task { IfOk result (λ task. task ≡ files (domain_view domain.now) (problem_view problem.now)) }
     ensures verdict { Verdict (faults (domain_view domain.now) (problem_view problem.now)) result }
 {
     let types = types_of(alloc, domain, problem)?;

@@ -12,7 +12,7 @@ ghost use Rattle.pddl_task.specs.Linked.{IsLinked};
 ghost use Rattle.pddl_task.specs.Tasks.{task_count, predicate_names, object_names, fitting_numbers, cost_of};
 ghost use Rattle.pddl_types.specs.KnownNames.{action_signature};
 ghost use Rattle.pddl_types.specs.Places.{AreTops, AreSlotTops};
-ghost use Rattle.pddl_link.specs.TaskTables.{AreTablesOf};
+ghost use Rattle.pddl_link.specs.LinkedTasks.{task_of_files};
 
 use pddl_domain::{Action, Domain};
 use pddl_formula::{Formula, TypeNames};
@@ -23,6 +23,7 @@ use pddl_sizes::{ObjectCounts, ObjectOrder, action_ground_size, fitting_objects,
 use pddl_token::Name;
 use pddl_types::{FunctionNumbers, Listed, SlotTops, Top, TypeCounts, Types};
 use std::alloc::{AllocError, Allocator};
+use std::marker::Model;
 
 /// What a domain declares by name, how many objects fit each type, and the order of the types of objects, in tables that borrow from the files.
 #[derive(Drop)]
@@ -58,26 +59,47 @@ pub struct Task<'m, 'a, A: Allocator, B: Allocator> {
     pub(crate) tables: Tables<'m, 'a, A, B>,
     /// The values that `:init` gives to functions of objects.
     pub(crate) values: Values<'m, 'a, A, B>,
-    ghost held: { AreTablesOf (domain_view domain.now) (problem_view problem.now) types tables.declared.predicates.entries listed tables.counts.entries values.entries },
+}
+
+impl<'m, 'a, A: Allocator, B: Allocator> Model for Task<'m, 'a, A, B> {
+    ghost use Rattle.std.specs.Coded.{codes};
+    ghost use Rattle.pddl_domain.specs.Domains.{domain_view};
+    ghost use Rattle.pddl_problem.specs.Problems.{problem_view};
+    ghost use Rattle.pddl_link.specs.LinkedTasks.{Files, files};
+    ghost use Rattle.pddl_link.specs.TaskTables.{AreTablesOf};
+    ghost use Rattle.pddl_link.specs.Codes.{formula_code, effect_code};
+
+    ghost Value = { Files };
+
+    ghost coded = { Prim.hlevel (codes, formula_code, effect_code) };
+
+    ghost view = { λ t. files (domain_view t.domain.now) (problem_view t.problem.now) };
+
+    ghost invariant = { λ t. AreTablesOf (domain_view t.domain.now) (problem_view t.problem.now) t.types t.tables.declared.predicates.entries t.listed t.tables.counts.entries t.values.entries };
 }
 
 impl<'m, 'a, A: Allocator, B: Allocator> Task<'m, 'a, A, B> {
-    ghost use Rattle.pddl_link.specs.LinkedTasks.{files_of, task_of_files};
-
     /// The domain that it is of.
     pub fn domain(&self) -> &'m Domain<A>
-        ensures domain { domain_view result.now ≡ (files_of self.now).domain }
-        ensures linked { IsLinked (files_of self.now).domain (files_of self.now).problem }
+        ensures domain { domain_view result.now ≡ self.now.domain }
+        ensures linked { IsLinked self.now.domain self.now.problem }
     {
         self.domain
     }
 
     /// The problem that it is of.
     pub fn problem(&self) -> &'m Problem<A>
-        ensures problem { problem_view result.now ≡ (files_of self.now).problem }
-        ensures linked { IsLinked (files_of self.now).domain (files_of self.now).problem }
+        ensures problem { problem_view result.now ≡ self.now.problem }
+        ensures linked { IsLinked self.now.domain self.now.problem }
     {
         self.problem
+    }
+
+    /// Law: the two files that a task is of are linked.
+    pub fn files_are_linked(&self)
+        ensures { IsLinked self.now.domain self.now.problem }
+    {
+        let _ = &self.domain;
     }
 
     /// The action of a number, in the domain's order.

@@ -106,6 +106,7 @@ where
     requires { AreLinkedSteps (task_of_files task.now) steps.now }
     ensures { IfOk result (λ answer. AreStepsJudged (printing_of wanted) (task_of_files task.now) steps.now answer.0.items answer.1) }
 {
+    task.files_are_linked();
     let verdict = validate(alloc, task, steps, store)?;
     let answer = shown(alloc, task, steps, &verdict, wanted);
     drop(verdict);

@@ -9,7 +9,7 @@ ghost use Rattle.pddl_task.specs.Tasks.{object_names};
 ghost use Rattle.pddl_faults.specs.Told.{AreTold};
 ghost use Rattle.pddl_types.specs.Places.{AreTops};
 ghost use Rattle.pddl_tables.specs.Link.LinkedTasks.{task_of_files};
-ghost use Rattle.pddl_tables.specs.Lookups.{task_in, price_in};
+ghost use Rattle.pddl_tables.specs.Lookups.{price_in};
 ghost use Rattle.pddl_plan_tables.specs.ChangeCosts.{is_unpriced, some_cost};
 ghost use Rattle.pddl_plan_tables.specs.ActionChanges.{effect_of, AreChangesOf};
 ghost use Rattle.pddl_linked_plan.specs.StepFaults.{action_names, step_faults};
@@ -80,10 +80,10 @@ fn lacks_cost<'t, 'm, 'a, 'c, A: Allocator, B: Allocator, C: Allocator>(
     changes: &mut Changes<'c, C>,
     call: &mut Atom<&'c C>,
 ) -> Result<bool, AllocError>
-    requires action { slice_get (task_in tables.now.lookups).actions number ≡ Some (action_view action.now) }
-    requires changes { AreChangesOf (task_in tables.now.lookups) changes.old.items }
-    ensures answer { IfOk result (λ yes. yes ≡ some_cost (effect_of (task_in tables.now.lookups) (action_view action.now)) (is_unpriced (price_in tables.now.prices)) (reverse numbers.now)) }
-    ensures changes { OnOk result (AreChangesOf (task_in tables.now.lookups) changes.new.items) }
+    requires action { slice_get (task_of_files tables.now.lookups).actions number ≡ Some (action_view action.now) }
+    requires changes { AreChangesOf (task_of_files tables.now.lookups) changes.old.items }
+    ensures answer { IfOk result (λ yes. yes ≡ some_cost (effect_of (task_of_files tables.now.lookups) (action_view action.now)) (is_unpriced (price_in tables.now.prices)) (reverse numbers.now)) }
+    ensures changes { OnOk result (AreChangesOf (task_of_files tables.now.lookups) changes.new.items) }
 {
     make_change(tables.alloc, &tables.lookups, number, action, changes)?;
     match &changes[number] {

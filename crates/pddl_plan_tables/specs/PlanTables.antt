@@ -1,26 +1,24 @@
 -- Tables that a plan's steps are looked up in hold what linked files declare (own).
-use Rattle.std.specs.Prelude.{◌≡◌, map}
+use Rattle.std.specs.Prelude.{◌≡◌, ℕ, List, map}
 use Rattle.pddl_task.specs.Linked.{IsLinked}
 use Rattle.pddl_task.specs.Tasks.{TaskValue}
 use Rattle.pddl_state.specs.Atoms.{AtomValue}
 use Rattle.pddl_types.specs.KnownNames.{action_signature}
 use Rattle.pddl_types.specs.Places.{AreSlotTops}
-use Rattle.pddl_tables.specs.Link.LinkedTasks.{files_of, task_of_files}
-use Rattle.pddl_tables.specs.declared.lookups.TaskLookups.{TaskLookups}
-use Rattle.pddl_tables.specs.declared.prices.TaskPrices.{TaskPrices}
-use Rattle.pddl_tables.specs.Lookups.{task_in, price_in}
+use Rattle.pddl_tables.specs.Link.LinkedTasks.{Files, task_of_files}
+use Rattle.pddl_tables.specs.Lookups.{price_in}
 use Rattle.pddl_tables.specs.Prices.{price_at}
 use Rattle.pddl_plan_tables.specs.StepTables.{AreActionsOf}
 use Rattle.pddl_plan_tables.specs.declared.tables.PlanTables.{PlanTables}
 
 -- tables hold a task and its costs
-pub record AreCostTables {A B C : Type 0} (task : TaskValue) (l : TaskLookups A B C) (p : TaskPrices C) : Type 0 where
-  pub lookups : task_in l ≡ task
+pub record AreCostTables (task : TaskValue) (l : Files) (p : List (AtomValue × ℕ)) : Type 0 where
+  pub lookups : task_of_files l ≡ task
   pub prices : (call : AtomValue) → price_in p call ≡ price_at task call
 
 pub record ArePlanTables {A B C : Type 0} (tables : PlanTables A B C) : Type 0 where
-  pub linked : IsLinked (files_of tables.task.now).domain (files_of tables.task.now).problem
+  pub linked : IsLinked tables.task.now.domain tables.task.now.problem
   pub actions : AreActionsOf (task_of_files tables.task.now) tables.actions.entries
   pub tops : AreSlotTops (task_of_files tables.task.now).types (map action_signature (task_of_files tables.task.now).actions) tables.tops
-  pub lookups : task_in tables.lookups ≡ task_of_files tables.task.now
+  pub lookups : task_of_files tables.lookups ≡ task_of_files tables.task.now
   pub prices : (call : AtomValue) → price_in tables.prices call ≡ price_at (task_of_files tables.task.now) call

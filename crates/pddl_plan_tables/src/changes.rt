@@ -4,7 +4,7 @@ ghost use Rattle.std.specs.Prelude.{◌≡◌, Some, None, map, replicate, slice
 ghost use Rattle.pddl_effect.specs.Effects.{effect_view, effects_of};
 ghost use Rattle.pddl_domain.specs.Actions.{action_view};
 ghost use Rattle.pddl_compiled.specs.Views.{change_view};
-ghost use Rattle.pddl_tables.specs.Lookups.{task_in};
+ghost use Rattle.pddl_tables.specs.Link.LinkedTasks.{task_of_files};
 ghost use Rattle.pddl_plan_tables.specs.ChangeCosts.{HasSameCosts, has_function, some_has_function};
 ghost use Rattle.pddl_plan_tables.specs.ActionChanges.{effect_of, AreChangesOf, HasChange};
 
@@ -56,7 +56,7 @@ fn effect_of<'t, 'm, 'a, 'c, A: Allocator, B: Allocator, C: Allocator>(
     lookups: &TaskLookups<'t, 'm, 'a, 'c, A, B, C>,
     action: &Action<A>,
 ) -> Result<Change<&'c C>, AllocError>
-    ensures { IfOk result (λ change. change_view change ≡ effect_of (task_in lookups.now) (action_view action.now)) }
+    ensures { IfOk result (λ change. change_view change ≡ effect_of (task_of_files lookups.now) (action_view action.now)) }
 {
     let slots = parameter_slots(alloc, &action.parameters)?;
     let scope = Scope::Inside(&slots, &Scope::Empty);
@@ -71,7 +71,7 @@ fn costs_of<'t, 'm, 'a, 'c, A: Allocator, B: Allocator, C: Allocator>(
     lookups: &TaskLookups<'t, 'm, 'a, 'c, A, B, C>,
     action: &Action<A>,
 ) -> Result<Change<&'c C>, AllocError>
-    ensures { IfOk result (λ change. HasSameCosts (change_view change) (effect_of (task_in lookups.now) (action_view action.now))) }
+    ensures { IfOk result (λ change. HasSameCosts (change_view change) (effect_of (task_of_files lookups.now) (action_view action.now))) }
 {
     if has_function(&action.effect) {
         effect_of(alloc, lookups, action)
@@ -106,9 +106,9 @@ pub fn make_change<'t, 'm, 'a, 'c, A: Allocator, B: Allocator, C: Allocator>(
     action: &Action<A>,
     changes: &mut Changes<'c, C>,
 ) -> Result<(), AllocError>
-    requires action { slice_get (task_in lookups.now).actions number ≡ Some (action_view action.now) }
-    requires changes { AreChangesOf (task_in lookups.now) changes.old.items }
-    ensures changes { OnOk result (AreChangesOf (task_in lookups.now) changes.new.items) }
+    requires action { slice_get (task_of_files lookups.now).actions number ≡ Some (action_view action.now) }
+    requires changes { AreChangesOf (task_of_files lookups.now) changes.old.items }
+    ensures changes { OnOk result (AreChangesOf (task_of_files lookups.now) changes.new.items) }
     ensures made { OnOk result (HasChange changes.new.items number) }
 {
     if changes[number].is_none() {

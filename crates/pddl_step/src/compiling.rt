@@ -2,11 +2,11 @@
 
 ghost use Rattle.std.specs.Prelude.{◌≡◌, [], Ok, IfOk};
 ghost use Rattle.pddl_formula.specs.Formulas.{formula_view};
+ghost use Rattle.pddl_task.specs.Linked.{IsLinked};
 ghost use Rattle.pddl_plan_steps.specs.Link.LinkedTasks.{task_of_files};
 ghost use Rattle.pddl_compiled.specs.Compiler.{condition_of};
 ghost use Rattle.pddl_compiled.specs.TaskTables.{tables_of};
 ghost use Rattle.pddl_compiled.specs.Views.{condition_view};
-ghost use Rattle.pddl_tables.specs.Lookups.{task_in};
 ghost use Rattle.pddl_plan_steps.specs.LinkedPlan.LinkedSteps.{AreLinkedSteps};
 ghost use Rattle.pddl_compiled_plan.specs.CompiledSteps.{AreForms, AreHeld};
 ghost use Rattle.pddl_compiled_plan.specs.HeldPlans.{plan_task, plan_steps};
@@ -52,6 +52,7 @@ where
     L: Lookups<A, D>,
     P: Drop,
     requires tables { L.tables lookups.now ≡ tables_of (task_of_files task.now) }
+    requires files { IsLinked task.now.domain task.now.problem }
     requires linked { AreLinkedSteps (task_of_files task.now) steps.now }
     ensures forms { IfOk result (λ made. AreForms (task_of_files task.now) made.0.items) }
     ensures used { IfOk result (λ made. AreHeld steps.now made.0.items) }
@@ -77,7 +78,8 @@ where
     B: Allocator,
     C: Allocator,
     D: Allocator,
-    requires lookups { task_in lookups.now ≡ task_of_files task.now }
+    requires lookups { task_of_files lookups.now ≡ task_of_files task.now }
+    requires files { IsLinked task.now.domain task.now.problem }
     requires linked { AreLinkedSteps (task_of_files task.now) steps.now }
     ensures task { IfOk result (λ plan. plan_task plan ≡ task_of_files task.now) }
     ensures steps { IfOk result (λ plan. plan_steps plan ≡ steps.now) }
@@ -106,6 +108,7 @@ where
     ensures task { IfOk result (λ plan. plan_task plan ≡ task_of_files task.now) }
     ensures steps { IfOk result (λ plan. plan_steps plan ≡ steps.now) }
 {
+    task.files_are_linked();
     let lookups = task_lookups(alloc, task)?;
     let compiled = compile_by(alloc, &lookups, task, steps);
     drop(lookups);

@@ -11,13 +11,29 @@ use pddl_formula::TypeNames;
 use pddl_link::{FunctionNumbers, Task};
 use pddl_problem::Problem;
 use std::alloc::{AllocError, Allocator};
+use std::marker::Model;
 
 /// A task with its functions by name: what formulas and effects are compiled by.
 #[derive(Drop)]
 pub struct TaskLookups<'t, 'm, 'a, 'c, A: Allocator, B: Allocator, C: Allocator> {
     pub(crate) task: &'t Task<'m, 'a, A, B>,
     pub(crate) functions: FunctionNumbers<'m, 'c, A, C>,
-    ghost functions_are: { functions ≡ (task_of_files task.now).functions },
+}
+
+impl<'t, 'm, 'a, 'c, A: Allocator, B: Allocator, C: Allocator> Model
+    for TaskLookups<'t, 'm, 'a, 'c, A, B, C> {
+    ghost use Rattle.std.specs.Prelude.{◌≡◌};
+    ghost use Rattle.std.specs.Coded.{codes};
+    ghost use Rattle.pddl_link.specs.Codes.{formula_code, effect_code};
+    ghost use Rattle.pddl_link.specs.LinkedTasks.{Files, task_of_files};
+
+    ghost Value = { Files };
+
+    ghost coded = { Prim.hlevel (codes, formula_code, effect_code) };
+
+    ghost view = { λ l. l.task.now };
+
+    ghost invariant = { λ l. l.functions ≡ (task_of_files l.task.now).functions };
 }
 
 impl<'t, 'm, 'a, 'c, A: Allocator, B: Allocator, C: Allocator> TaskLookups<
@@ -29,11 +45,9 @@ impl<'t, 'm, 'a, 'c, A: Allocator, B: Allocator, C: Allocator> TaskLookups<
     B,
     C,
 > {
-    ghost use Rattle.pddl_tables.specs.Lookups.{task_in};
-
     /// The problem that it is of.
     pub(crate) fn problem(&self) -> &'m Problem<A>
-        ensures { filter_map cost_in (map init_view result.now.init.items) ≡ (task_in self.now).costs }
+        ensures { filter_map cost_in (map init_view result.now.init.items) ≡ (task_of_files self.now).costs }
     {
         self.task.problem()
     }
@@ -42,9 +56,9 @@ impl<'t, 'm, 'a, 'c, A: Allocator, B: Allocator, C: Allocator> TaskLookups<
 impl<'t, 'm, 'a, 'c, A: Allocator, B: Allocator, C: Allocator, D: Allocator> Lookups<A, D>
     for TaskLookups<'t, 'm, 'a, 'c, A, B, C> {
     ghost use Rattle.pddl_compiled.specs.TaskTables.{tables_of};
-    ghost use Rattle.pddl_tables.specs.Lookups.{task_in};
+    ghost use Rattle.pddl_link.specs.LinkedTasks.{task_of_files};
 
-    ghost tables = { λ lookups. tables_of (task_in lookups) };
+    ghost tables = { λ lookups. tables_of (task_of_files lookups) };
 
     fn predicate_number(&self, name: &[u8]) -> usize {
         let found = self.task.predicate_number(name);

@@ -8,7 +8,8 @@ ghost use Rattle.pddl_task.specs.Names.{number_in};
 ghost use Rattle.pddl_task.specs.Tasks.{cost_in};
 ghost use Rattle.pddl_state.specs.Atoms.{AtomValue, atom_eq};
 ghost use Rattle.pddl_compiled.specs.Tables.{number_atom};
-ghost use Rattle.pddl_tables.specs.Lookups.{task_in, price_in};
+ghost use Rattle.pddl_link.specs.LinkedTasks.{task_of_files};
+ghost use Rattle.pddl_tables.specs.Lookups.{price_in};
 ghost use Rattle.pddl_tables.specs.Prices.{numbered_cost, price_at, price_before};
 
 use crate::lookups::TaskLookups;
@@ -20,6 +21,7 @@ use pddl_problem::{GroundFunction, InitItem};
 use pddl_state::Atom;
 use pddl_token::Name;
 use std::alloc::{AllocError, Allocator};
+use std::marker::Model;
 
 /// Functions of objects by numbers, each with its cost.
 type Costs<'c, C> = IndexMap<Atom<&'c C>, u64, Hashed, &'c C>;
@@ -28,6 +30,15 @@ type Costs<'c, C> = IndexMap<Atom<&'c C>, u64, Hashed, &'c C>;
 #[derive(Drop)]
 pub struct TaskPrices<'c, C: Allocator> {
     prices: Costs<'c, C>,
+}
+
+impl<'c, C: Allocator> Model for TaskPrices<'c, C> {
+    ghost use Rattle.std.specs.Prelude.{List, ℕ};
+    ghost use Rattle.pddl_state.specs.Atoms.{AtomValue};
+
+    ghost Value = { List (AtomValue × ℕ) };
+
+    ghost view = { λ p. p.prices.entries };
 }
 
 impl<'c, C: Allocator> TaskPrices<'c, C> {
@@ -92,7 +103,7 @@ fn add_price<'t, 'm, 'a, 'c, A: Allocator, B: Allocator, C: Allocator>(
     prices: &mut Costs<'c, C>,
 ) -> Result<(), AllocError>
     ensures { OnOk result ((call : AtomValue) → lookup (atom_eq call) prices.new.entries
-        ≡ price_before (task_in lookups.now) (init_view item.now) (λ c. lookup (atom_eq c) prices.old.entries) call) }
+        ≡ price_before (task_of_files lookups.now) (init_view item.now) (λ c. lookup (atom_eq c) prices.old.entries) call) }
 {
     match item {
         InitItem::Holds(_) => Ok(()),
@@ -116,7 +127,7 @@ fn add_prices<'t, 'm, 'a, 'c, A: Allocator, B: Allocator, C: Allocator>(
 ) -> Result<(), AllocError>
     requires { prices.old.entries ≡ [] }
     ensures { OnOk result ((call : AtomValue) → lookup (atom_eq call) prices.new.entries
-        ≡ lookup (atom_eq call) (map (numbered_cost (task_in lookups.now)) (filter_map cost_in (map init_view init.now)))) }
+        ≡ lookup (atom_eq call) (map (numbered_cost (task_of_files lookups.now)) (filter_map cost_in (map init_view init.now)))) }
 {
     let mut left = init.len();
     while left > 0 {
@@ -133,7 +144,7 @@ pub fn task_prices<'t, 'm, 'a, 'c, A: Allocator, B: Allocator, C: Allocator>(
     alloc: &'c C,
     lookups: &TaskLookups<'t, 'm, 'a, 'c, A, B, C>,
 ) -> Result<TaskPrices<'c, C>, AllocError>
-    ensures { IfOk result (λ prices. (call : AtomValue) → price_in prices call ≡ price_at (task_in lookups.now) call) }
+    ensures { IfOk result (λ prices. (call : AtomValue) → price_in prices call ≡ price_at (task_of_files lookups.now) call) }
 {
     let problem = lookups.problem();
     let mut prices = IndexMap::new(alloc);

@@ -2,7 +2,6 @@
 
 ghost use Rattle.std.specs.Prelude.{◌≡◌, IfOk};
 ghost use Rattle.pddl_link.specs.LinkedTasks.{task_of_files};
-ghost use Rattle.pddl_tables.specs.Lookups.{task_in};
 
 use crate::lookups::TaskLookups;
 use pddl_link::Task;
@@ -15,7 +14,7 @@ pub fn task_lookups<'t, 'm, 'a, 'c, A: Allocator, B: Allocator, C: Allocator>(
     alloc: &'c C,
     task: &'t Task<'m, 'a, A, B>,
 ) -> Result<TaskLookups<'t, 'm, 'a, 'c, A, B, C>, AllocError>
-    ensures { IfOk result (λ lookups. task_in lookups ≡ task_of_files task.now) }
+    ensures { IfOk result (λ lookups. task_of_files lookups ≡ task_of_files task.now) }
 {
     let functions = task.functions(alloc)?;
     Ok(TaskLookups { task, functions })

@@ -20,11 +20,9 @@ invariant_of-result g c =
     let d = domain_view c.args.domain.now in
     let q = problem_view c.args.problem.now in
     record {
-      held = record {
-        linked = none_behind (map (fault_in d q) first_rules) (map (fault_in d q) (drop 2 rules)) c.in_ok-types.ensures.verdict c.in-Ok.ensures.verdict;
-        types_are = c.in_ok-types.ensures.types;
-        behind = c.in-Ok.ensures.tables;
-      };
+      linked = none_behind (map (fault_in d q) first_rules) (map (fault_in d q) (drop 2 rules)) c.in_ok-types.ensures.verdict c.in-Ok.ensures.verdict;
+      types_are = c.in_ok-types.ensures.types;
+      behind = c.in-Ok.ensures.tables;
     }
 
 pub returns-clause-verdict : goal.returns-clause-verdict

@@ -1,13 +1,13 @@
 use Rattle.std.proofs.Common.{◌+◌, ◌∙◌, map, refl, sym, ap, subst, arith}
 use Rattle.pddl_problem.specs.Inits.{fact_view, init_view}
-use Rattle.pddl_link.specs.LinkedTasks.{files_of, task_of_files}
+use Rattle.pddl_link.specs.LinkedTasks.{task_of_files}
 use Rattle.pddl_linked_plan.proofs.InitialAtoms.{AreFacts, first_facts, fact_known, one_more_fact, no_fact, initial_are}
 use Rattle.pddl_linked_plan.proofs.initial.initial_atoms.Goals as goal
 use Rattle.pddl_linked_plan.proofs.initial.initial_atoms.Goals.{in-Holds+in_ok-numbered-in-Holds+in_ok-push-in-Holds, in-Fails, in-Value}
 
 pub loop-item-init : goal.loop-item-init
 loop-item-init g c =
-    let files = files_of c.args.task.now in
+    let files = c.args.task.now in
     first_facts files.domain files.problem c.as_slice-init.result.now c.new-atoms.result.items c.problem-problem.ensures.linked
     (ap (map init_view) c.as_slice-init.ensures.value ∙ ap (λ p. p.init) c.problem-problem.ensures.problem) c.new-atoms.ensures.items
 
@@ -38,6 +38,6 @@ loop-item-preserved g c =
 
 pub returns : goal.returns
 returns g c =
-    let files = files_of c.args.task.now in
+    let files = c.args.task.now in
     initial_are files.domain files.problem c.as_slice-init.result.now c.loop-item.item-index c.loop-item.atoms.items
     (ap (map init_view) c.as_slice-init.ensures.value ∙ ap (λ p. p.init) c.problem-problem.ensures.problem) (omega (arith, c.loop-item-test.false)) c.loop-item.invariant

@@ -1,6 +1,4 @@
 use Rattle.std.proofs.lemmas.Result.{IfOk-weaker}
-use Rattle.pddl_domain.specs.Domains.{domain_view}
-use Rattle.pddl_problem.specs.Problems.{problem_view}
 use Rattle.pddl_serial_plans.specs.Link.LinkedTasks.{task_of_files}
 use Rattle.pddl_plan_commands.specs.PlanChecks.{AreStepsJudged}
 use Rattle.pddl_plan_commands.specs.Inner.WantedPrintings.{printing_of}
@@ -11,13 +9,13 @@ pub shown-answer-requires-clause-accepted : goal.shown-answer-requires-clause-ac
 shown-answer-requires-clause-accepted g c =
     let task = c.args.task.now in
     let verdict = c.in_ok-verdict in
-    verdict_of (domain_view task.domain.now) (problem_view task.problem.now) task.held.linked c.args.steps.now c.requires verdict.verdict _ verdict.ensures.happenings verdict.ensures.accepted
+    verdict_of task.domain task.problem c.files_are_linked.ensures c.args.steps.now c.requires verdict.verdict _ verdict.ensures.happenings verdict.ensures.accepted
 
 pub shown-answer-requires-clause-in_range : goal.shown-answer-requires-clause-in_range
 shown-answer-requires-clause-in_range g c =
     let task = c.args.task.now in
     let verdict = c.in_ok-verdict in
-    shown_in_range (domain_view task.domain.now) (problem_view task.problem.now) task.held.linked c.args.steps.now c.requires verdict.verdict verdict.ensures.interference
+    shown_in_range task.domain task.problem c.files_are_linked.ensures c.args.steps.now c.requires verdict.verdict verdict.ensures.interference
 
 pub returns : goal.returns
 returns g c =
@@ -26,6 +24,6 @@ returns g c =
     let verdict = c.in_ok-verdict in
     let said = verdict.ensures in
     IfOk-weaker c.shown-answer.result _ (λ answer. AreStepsJudged (printing_of c.args.wanted) (task_of_files task) steps answer.0.items answer.1)
-    (λ answer shown. shown_judged (domain_view task.domain.now) (problem_view task.problem.now) task.held.linked steps c.requires (printing_of c.args.wanted) verdict.verdict _ said.happenings said.accepted said.converges
+    (λ answer shown. shown_judged task.domain task.problem c.files_are_linked.ensures steps c.requires (printing_of c.args.wanted) verdict.verdict _ said.happenings said.accepted said.converges
     said.precondition said.interference said.passes said.goal said.refused answer.0.items answer.1 shown)
     c.shown-answer.ensures

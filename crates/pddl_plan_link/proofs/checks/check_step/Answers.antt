@@ -7,8 +7,8 @@ use Rattle.pddl_faults.specs.Told.{AreTold}
 use Rattle.pddl_types.specs.KnownNames.{action_signature}
 use Rattle.pddl_types.specs.Places.{AreTops}
 use Rattle.pddl_types.proofs.TypePlaces.{seen_entry}
-use Rattle.pddl_tables.specs.Link.LinkedTasks.{files_of, task_of_files}
-use Rattle.pddl_tables.specs.Lookups.{task_in, price_in}
+use Rattle.pddl_tables.specs.Link.LinkedTasks.{task_of_files}
+use Rattle.pddl_tables.specs.Lookups.{price_in}
 use Rattle.pddl_plan_tables.specs.ActionChanges.{AreChangesOf}
 use Rattle.pddl_plan_link.proofs.CheckedSteps.{action_unknown, number_is, found_there, arity_differs, object_unknown, numbers_are, type_differs, step_is_large, cost_is_undefined, step_is_good}
 use Rattle.pddl_plan_link.proofs.checks.check_step.Goals as goal
@@ -61,24 +61,24 @@ lacks_cost-requires g c =
 
 pub returns-then-branch-clause-verdict : goal.returns-then-branch-clause-verdict
 returns-then-branch-clause-verdict g c =
-    let files = files_of c.args.tables.now.task.now in (
+    let files = c.args.tables.now.task.now in (
       refl,
       cost_is_undefined (task_of_files c.args.tables.now.task.now) c.args.tables.now.actions.entries c.args.step.now c.action.result.now c.requires.tables.actions c.action.ensures
           c.in-Some.number c.in-Some.field-0-1.now c.in-Some.found.now c.in-Some.ensures.index c.in-Some.ensures.entry c.arity.result c.len.result c.arity.ensures c.len.ensures c.if-arity-len.false
           c.args.step.now.objects c.in_ok-number_objects.field-0 refl c.in_ok-number_objects.ensures.known c.number_objects.new.numbers.items c.in_ok-number_objects.ensures.numbers c.if-not-branch.false
           c.deref.result.now c.deref-2.result.now c.some_unfit.result c.deref.ensures.value c.deref-2.ensures.value c.some_unfit.ensures
-          c.if-some_unfit.false c.if-found-gt1000000.false files.domain files.problem c.requires.tables.linked refl (task_in c.args.tables.now.lookups) (price_in c.args.tables.now.prices)
+          c.if-some_unfit.false c.if-found-gt1000000.false files.domain files.problem c.requires.tables.linked refl (task_of_files c.args.tables.now.lookups) (price_in c.args.tables.now.prices)
           c.requires.tables.lookups c.requires.tables.prices c.deref-3.result.now c.in_ok-lacks_cost.field-0 c.deref-3.ensures.value c.in_ok-lacks_cost.ensures.answer c.if-branch.true,
     )
 
 pub returns-clause-verdict : goal.returns-clause-verdict
 returns-clause-verdict g c =
-    let files = files_of c.args.tables.now.task.now in
+    let files = c.args.tables.now.task.now in
     step_is_good (task_of_files c.args.tables.now.task.now) c.args.tables.now.actions.entries c.args.step.now c.action.result.now c.requires.tables.actions c.action.ensures
     c.in-Some.number c.in-Some.field-0-1.now c.in-Some.found.now c.in-Some.ensures.index c.in-Some.ensures.entry c.arity.result c.len.result c.arity.ensures c.len.ensures c.if-arity-len.false
     c.args.step.now.objects c.in_ok-number_objects.field-0 refl c.in_ok-number_objects.ensures.known c.number_objects.new.numbers.items c.in_ok-number_objects.ensures.numbers c.if-not-branch.false
     c.deref.result.now c.deref-2.result.now c.some_unfit.result c.deref.ensures.value c.deref-2.ensures.value c.some_unfit.ensures
-    c.if-some_unfit.false c.if-found-gt1000000.false files.domain files.problem c.requires.tables.linked refl (task_in c.args.tables.now.lookups) (price_in c.args.tables.now.prices)
+    c.if-some_unfit.false c.if-found-gt1000000.false files.domain files.problem c.requires.tables.linked refl (task_of_files c.args.tables.now.lookups) (price_in c.args.tables.now.prices)
     c.requires.tables.lookups c.requires.tables.prices c.deref-3.result.now c.in_ok-lacks_cost.field-0 c.deref-3.ensures.value c.in_ok-lacks_cost.ensures.answer c.if-branch.false
 
 pub returns-clause-action : goal.returns-clause-action

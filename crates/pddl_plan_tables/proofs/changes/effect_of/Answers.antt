@@ -6,12 +6,12 @@ use Rattle.pddl_compiled.specs.Frames.{parameter_slot}
 use Rattle.pddl_compiled.specs.Scopes.{slot_view}
 use Rattle.pddl_compiled.specs.TaskTables.{tables_of}
 use Rattle.pddl_compiled.specs.Views.{change_view}
-use Rattle.pddl_tables.specs.Lookups.{task_in}
+use Rattle.pddl_tables.specs.Link.LinkedTasks.{task_of_files}
 use Rattle.pddl_plan_tables.proofs.changes.effect_of.Goals as goal
 
 pub returns : goal.returns
 returns g c =
-    subst (λ (s : ScopeValue). IfOk c.compile_change.result (λ change. change_view change ≡ change_of (tables_of (task_in c.args.lookups.now)) (action_view c.args.action.now).effect s))
+    subst (λ (s : ScopeValue). IfOk c.compile_change.result (λ change. change_view change ≡ change_of (tables_of (task_of_files c.args.lookups.now)) (action_view c.args.action.now).effect s))
     (ap (λ ss. map slot_view ss ++ []) c.deref-2.ensures.value ∙ append-nil (map slot_view c.in_ok-slots.slots.items) ∙ c.in_ok-slots.ensures
     ∙ ap (λ ps. reverse (map parameter_slot (map typed_view ps))) c.deref.ensures.value)
     c.compile_change.ensures

@@ -5,7 +5,7 @@ use Rattle.pddl_domain.specs.Domains.{DomainValue}
 use Rattle.pddl_task.specs.Tasks.{task_count}
 use Rattle.pddl_types.specs.KnownNames.{action_signature}
 use Rattle.pddl_types.specs.Places.{AreSlotTops}
-use Rattle.pddl_tables.specs.Link.LinkedTasks.{files_of, task_of_files}
+use Rattle.pddl_tables.specs.Link.LinkedTasks.{task_of_files}
 use Rattle.pddl_plan_tables.specs.StepTables.{named_action, named_in}
 use Rattle.pddl_plan_tables.specs.PlanTables.{AreCostTables}
 use Rattle.pddl_plan_tables.proofs.NamedActions.{once_in_files}
@@ -14,7 +14,7 @@ use Rattle.pddl_plan_tables.proofs.tables.plan_tables.Goals as goal
 
 pub actions_by_name-actions-requires : goal.actions_by_name-actions-requires
 actions_by_name-actions-requires g c =
-    once_in_files c.domain-domain.result.now (files_of c.args.task.now) c.deref.result.now c.domain-domain.ensures.domain c.domain-domain.ensures.linked c.deref.ensures.value
+    once_in_files c.domain-domain.result.now c.args.task.now c.deref.result.now c.domain-domain.ensures.domain c.domain-domain.ensures.linked c.deref.ensures.value
 
 pub returns-clause-tables : goal.returns-clause-tables
 returns-clause-tables g c =

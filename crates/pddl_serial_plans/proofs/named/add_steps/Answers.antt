@@ -2,7 +2,7 @@ use Rattle.std.proofs.Common.{◌≡◌, [], ◌∷◌, ◌++◌, map, sym, ap, 
 use Rattle.std.proofs.lemmas.List.{take_all}
 use Rattle.pddl_tree.specs.Building.{Building}
 use Rattle.pddl_tree.specs.Plans.{plan_of, step_of_names}
-use Rattle.pddl_valid.specs.Link.LinkedTasks.{files_of, task_of_files}
+use Rattle.pddl_valid.specs.Link.LinkedTasks.{task_of_files}
 use Rattle.pddl_valid.specs.LinkedPlan.LinkedLaws.{named_step}
 use Rattle.pddl_valid.specs.LinkedPlan.StepParts.{lent_step}
 use Rattle.pddl_valid.proofs.PlanSteps.PlanSteps.{each_linked}
@@ -20,7 +20,7 @@ loop-number-init g c = record {
 
 pub add_names-requires : goal.add_names-requires
 add_names-requires g c =
-    let files = files_of c.args.task.now in
+    let files = c.args.task.now in
     each_linked files.domain files.problem c.domain-linked.ensures.linked c.args.steps.now c.requires.linked _ (lent_step c.step.result) (sym c.step.ensures)
 
 pub end_step-requires-clause-named : goal.end_step-requires-clause-named

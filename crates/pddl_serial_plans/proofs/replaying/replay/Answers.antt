@@ -2,7 +2,6 @@ use Rattle.std.proofs.Common.{◌≡◌, ◌≤◌, length, sym, ap, ap₂, subs
 use Rattle.pddl_task.specs.Tasks.{TaskValue, task_of}
 use Rattle.pddl_happenings.specs.Happenings.{HaveEachOnce}
 use Rattle.pddl_judge.specs.HappeningValues.{groups_of, moments_of}
-use Rattle.pddl_valid.specs.Link.LinkedTasks.{files_of}
 use Rattle.pddl_valid.proofs.LinkedPlan.SoundSteps.{steps_are_sound}
 use Rattle.pddl_valid.specs.PlanSteps.PlanSteps.{numbered_steps, numbered_start, numbered_goal}
 use Rattle.pddl_valid.specs.Step.HeldPlans.{plan_task, plan_steps}
@@ -13,12 +12,12 @@ use Rattle.pddl_serial_plans.proofs.replaying.replay.Goals as goal
 
 pub happenings-requires : goal.happenings-requires
 happenings-requires g c =
-    let files = files_of c.args.task.now in
+    let files = c.args.task.now in
     ((steps_are_sound files.domain files.problem c.domain-linked.ensures.linked c.args.steps.now).0 c.requires).short
 
 pub replay-run-requires-clause-count : goal.replay-run-requires-clause-count
 replay-run-requires-clause-count g c =
-    let files = files_of c.args.task.now in
+    let files = c.args.task.now in
     subst (λ l. length l ≤ 1000000) (sym c.in_ok-plan.ensures.steps) ((steps_are_sound files.domain files.problem c.domain-linked.ensures.linked c.args.steps.now).0 c.requires).short
 
 pub replay-run-requires-clause-each : goal.replay-run-requires-clause-each
@@ -29,7 +28,7 @@ replay-run-requires-clause-each g c =
 
 pub returns : goal.returns
 returns g c =
-    let files = files_of c.args.task.now in
+    let files = c.args.task.now in
     let task : TaskValue = task_of files.domain files.problem in
     let held = plan_task c.in_ok-plan.plan in
     let steps = c.args.steps.now in

@@ -3,7 +3,7 @@ use Rattle.std.specs.Prelude.{All, IfOk}
 use Rattle.pddl_tree.specs.Plans.{PlanValue, plan_view}
 use Rattle.pddl_happenings.specs.NamedSteps.{by_name}
 use Rattle.pddl_judge.specs.HappeningValues.{groups_of}
-use Rattle.pddl_valid.specs.Link.LinkedTasks.{files_of, task_of_files}
+use Rattle.pddl_valid.specs.Link.LinkedTasks.{task_of_files}
 use Rattle.pddl_valid.specs.PlanSteps.NumberedSteps.{number_of}
 use Rattle.pddl_serial.specs.Orders.{in_order}
 use Rattle.pddl_serial_plans.specs.NewPlans.{IsSerialPlan}
@@ -14,7 +14,7 @@ use Rattle.pddl_serial_plans.proofs.serial_plan.serialise.Goals as goal
 
 pub add_steps-made-requires-clause-within : goal.add_steps-made-requires-clause-within
 add_steps-made-requires-clause-within g c =
-    let files = files_of c.args.task.now in
+    let files = c.args.task.now in
     let gs = groups_of c.args.accepted.now.happenings.items in
     let same : c.deref-2.result.now ≡ in_order c.args.order gs =
     c.deref-2.ensures.value ∙ (c.in_ok-order.ensures ∙ ap (λ hs. in_order c.args.order (groups_of hs)) c.deref.ensures.value) in
@@ -23,7 +23,7 @@ add_steps-made-requires-clause-within g c =
 
 pub returns : goal.returns
 returns g c =
-    let files = files_of c.args.task.now in
+    let files = c.args.task.now in
     let task = task_of_files c.args.task.now in
     let steps = c.args.steps.now in
     let gs = groups_of c.args.accepted.now.happenings.items in

@@ -7,7 +7,7 @@ use Rattle.pddl_happenings.specs.Happenings.{HaveEachOnce}
 use Rattle.pddl_happenings.specs.NamedSteps.{by_name}
 use Rattle.pddl_happenings.specs.Splits.{IsSplitOf, split_moments}
 use Rattle.pddl_judge.specs.HappeningValues.{groups_of}
-use Rattle.pddl_valid.specs.Link.LinkedTasks.{files_of, task_of_files}
+use Rattle.pddl_valid.specs.Link.LinkedTasks.{task_of_files}
 use Rattle.pddl_valid.specs.PlanSteps.NumberedSteps.{number_of}
 use Rattle.pddl_serial_plans.specs.NewPlans.{IsSplitPlan}
 use Rattle.pddl_serial_plans.specs.NewSteps.{picked, at_moments, timed_plan}
@@ -16,14 +16,14 @@ use Rattle.pddl_serial_plans.proofs.split_plan.split.Goals as goal
 
 pub split-requires : goal.split-requires
 split-requires g c =
-    let files = files_of c.args.task.now in
+    let files = c.args.task.now in
     let hs = ap groups_of c.deref.ensures.value in
     subst (λ n. HaveEachOnce n (groups_of c.deref.result.now)) (sym c.len.ensures)
     (subst (λ gs. HaveEachOnce (length c.args.steps.now) gs) (sym hs) (each_once files.domain files.problem c.domain-linked.ensures.linked c.requires))
 
 pub timed_plan-plan-requires-clause-within : goal.timed_plan-plan-requires-clause-within
 timed_plan-plan-requires-clause-within g c =
-    let files = files_of c.args.task.now in
+    let files = c.args.task.now in
     let groups = map (λ h. h.items) c.args.groups.now in
     let order = subst (λ o. IfSome o (λ new. new.order.items ≡ concat groups)) c.in-Some.is c.in_ok-new.ensures.order in
     let Splits = λ (gs : List (List ℕ)). IsSplitOf gs groups in
@@ -40,14 +40,14 @@ timed_plan-plan-requires-clause-as_many g c =
 
 pub timed_plan-plan-requires-clause-small : goal.timed_plan-plan-requires-clause-small
 timed_plan-plan-requires-clause-small g c =
-    let files = files_of c.args.task.now in
+    let files = c.args.task.now in
     let moments = c.in-Some.new.moments.items in
     let early = subst (λ o. IfSome o (λ new. All (λ m. (1 ≤ m) × (m ≤ c.len.result)) new.moments.items)) c.in-Some.is c.in_ok-new.ensures.within in
     small files.domain files.problem c.domain-linked.ensures.linked c.requires moments (subst (λ n. All (λ m. (1 ≤ m) × (m ≤ n)) moments) c.len.ensures early)
 
 pub returns-in-Some : goal.returns-in-Some
 returns-in-Some g c =
-    let files = files_of c.args.task.now in
+    let files = c.args.task.now in
     let task = task_of_files c.args.task.now in
     let steps = c.args.steps.now in
     let groups = map (λ h. h.items) c.args.groups.now in

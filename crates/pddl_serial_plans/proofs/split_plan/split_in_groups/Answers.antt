@@ -5,7 +5,7 @@ use Rattle.pddl_tree.specs.Plans.{plan_view}
 use Rattle.pddl_happenings.specs.NamedSteps.{by_name}
 use Rattle.pddl_happenings.specs.Splits.{IsSplitOf}
 use Rattle.pddl_judge.specs.HappeningValues.{groups_of}
-use Rattle.pddl_valid.specs.Link.LinkedTasks.{files_of, task_of_files}
+use Rattle.pddl_valid.specs.Link.LinkedTasks.{task_of_files}
 use Rattle.pddl_valid.specs.PlanSteps.NumberedSteps.{number_of}
 use Rattle.pddl_serial.specs.Cuts.{cut_in_order}
 use Rattle.pddl_serial_plans.specs.NewPlans.{IsSplitPlan}
@@ -14,7 +14,7 @@ use Rattle.pddl_serial_plans.proofs.split_plan.split_in_groups.Goals as goal
 
 pub of_a_split-requires : goal.of_a_split-requires
 of_a_split-requires g c failed =
-    let files = files_of c.args.task.now in
+    let files = c.args.task.now in
     let gs = groups_of c.args.accepted.now.happenings.items in
     let cut : map (λ h. h.items) c.deref-2.result.now ≡ cut_in_order c.args.size c.args.order gs =
     ap (map (λ h. h.items)) c.deref-2.ensures.value ∙ (c.in_ok-groups.ensures ∙ ap (λ hs. cut_in_order c.args.size c.args.order (groups_of hs)) c.deref.ensures.value) in

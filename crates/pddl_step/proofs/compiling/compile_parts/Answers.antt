@@ -2,7 +2,7 @@ use Rattle.std.proofs.Common.{◌≡◌, [], ap, ◌∙◌}
 use Rattle.std.specs.Prelude.{Ok}
 use Rattle.std.proofs.lemmas.Result.{IfOk-weaker, IfOk-at_ok}
 use Rattle.pddl_formula.specs.Formulas.{formula_view}
-use Rattle.pddl_plan_steps.specs.Link.LinkedTasks.{files_of, task_of_files}
+use Rattle.pddl_plan_steps.specs.Link.LinkedTasks.{task_of_files}
 use Rattle.pddl_compiled.specs.Compiler.{condition_of}
 use Rattle.pddl_compiled.specs.TaskTables.{tables_of}
 use Rattle.pddl_compiled.specs.Views.{condition_view}
@@ -12,8 +12,8 @@ use Rattle.pddl_step.proofs.compiling.compile_parts.Goals as goal
 
 pub used_actions-actions-requires-clause-range : goal.used_actions-actions-requires-clause-range
 used_actions-actions-requires-clause-range g c =
-    let files = files_of c.args.task.now in
-    action_low files.domain files.problem c.args.task.now.held.linked c.args.steps.now c.requires.linked
+    let files = c.args.task.now in
+    action_low files.domain files.problem c.requires.files c.args.steps.now c.requires.linked
 
 pub returns : goal.returns
 returns g c =

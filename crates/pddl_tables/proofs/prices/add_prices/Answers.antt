@@ -2,7 +2,7 @@ use Rattle.std.proofs.Common.{◌≡◌, ◌<◌, ◌-◌, map, length, drop, ap
 use Rattle.std.specs.Map.{lookup}
 use Rattle.pddl_problem.specs.Inits.{init_view}
 use Rattle.pddl_state.specs.Atoms.{atom_eq}
-use Rattle.pddl_tables.specs.Lookups.{task_in}
+use Rattle.pddl_link.specs.LinkedTasks.{task_of_files}
 use Rattle.pddl_tables.proofs.PriceTables.{given, one_earlier}
 use Rattle.pddl_tables.proofs.prices.add_prices.Goals as goal
 
@@ -13,7 +13,7 @@ loop-left-preserved g c =
     let low : left - 1 < length init = omega (arith, c.loop-left-test.true, c.loop-left.invariant.within) in
     record {
       within = omega (arith, low);
-      held = one_earlier (task_in c.args.lookups.now) init_view init (left - 1) left c.index-init-left.result
+      held = one_earlier (task_of_files c.args.lookups.now) init_view init (left - 1) left c.index-init-left.result
           (λ q. lookup (atom_eq q) c.loop-left.prices.entries) (λ q. lookup (atom_eq q) c.add_price.new.prices.entries) low c.index-init-left.is
           (omega (arith, c.loop-left-test.true)) c.loop-left.invariant.held c.in_ok-add_price.ensures;
     }
@@ -21,4 +21,4 @@ loop-left-preserved g c =
 pub returns : goal.returns
 returns g c = λ call.
     let none_left : c.loop-left.left ≡ 0 = omega (arith, c.loop-left-test.false) in
-    c.loop-left.invariant.held call ∙ ap (λ k. given (task_in c.args.lookups.now) (map init_view (drop k c.args.init.now)) call) none_left
+    c.loop-left.invariant.held call ∙ ap (λ k. given (task_of_files c.args.lookups.now) (map init_view (drop k c.args.init.now)) call) none_left

@@ -2,7 +2,6 @@ use Rattle.std.proofs.Common.{◌≡◌, ◌≤◌, length, sym, ap, ap₂, subs
 use Rattle.pddl_task.specs.Tasks.{TaskValue, task_of}
 use Rattle.pddl_happenings.specs.Serialisations.{Converges}
 use Rattle.pddl_judge.specs.HappeningValues.{groups_of, moments_of}
-use Rattle.pddl_step.specs.Link.LinkedTasks.{files_of}
 use Rattle.pddl_step.proofs.LinkedPlan.SoundSteps.{steps_are_sound}
 use Rattle.pddl_step.specs.HeldPlans.{plan_task, plan_steps}
 use Rattle.pddl_step.specs.PlanSteps.PlanSteps.{named_steps, numbered_steps, initial_state, numbered_start, numbered_goal}
@@ -13,17 +12,17 @@ use Rattle.pddl_valid.proofs.verdict.validate.Goals as goal
 
 pub happenings-requires : goal.happenings-requires
 happenings-requires g c =
-    let files = files_of c.args.task.now in
+    let files = c.args.task.now in
     ((steps_are_sound files.domain files.problem c.domain-linked.ensures.linked c.args.steps.now).0 c.requires).short
 
 pub judge-verdict-requires-clause-count : goal.judge-verdict-requires-clause-count
 judge-verdict-requires-clause-count g c =
-    let files = files_of c.args.task.now in
+    let files = c.args.task.now in
     subst (λ l. length l ≤ 1000000) (sym c.in_ok-plan.ensures.steps) ((steps_are_sound files.domain files.problem c.domain-linked.ensures.linked c.args.steps.now).0 c.requires).short
 
 pub returns : goal.returns
 returns g c =
-    let files = files_of c.args.task.now in
+    let files = c.args.task.now in
     let task : TaskValue = task_of files.domain files.problem in
     let held = plan_task c.in_ok-plan.plan in
     let steps = c.args.steps.now in

@@ -8,8 +8,8 @@ use Rattle.pddl_link.proofs.task.Task.action_ground_size.Goals as goal
 
 pub returns : goal.returns
 returns g c =
-    let t = c.args.self.now in
+    let t = c.self.inside in
     let a = action_view c.args.action.now in
-    c.action_ground_size.ensures
-    ∙ ap (λ ts. capped (action_size (fitting_count (pairs ts) (map object_in t.listed.objects.entries)) a)) t.held.types_are
-    ∙ ap (λ os. capped (action_size (fitting_count (pairs (domain_view t.domain.now).types) os) a)) t.held.behind.objects_are
+    rw (← c.self.view_is) (c.action_ground_size.ensures
+    ∙ ap (λ ts. capped (action_size (fitting_count (pairs ts) (map object_in t.listed.objects.entries)) a)) c.self.invariant.types_are
+    ∙ ap (λ os. capped (action_size (fitting_count (pairs (domain_view t.domain.now).types) os) a)) c.self.invariant.behind.objects_are)

@@ -8,7 +8,7 @@ use Rattle.pddl_link.proofs.task.Task.action_tops.Goals as goal
 
 pub returns : goal.returns
 returns g c =
-    let t = c.args.self.now in
+    let t = c.self.inside in
     let signatures = map action_signature (domain_view t.domain.now).actions in
-    subst (λ ds. IfOk c.of_declared.result (λ tops. AreSlotTops ds signatures tops)) t.held.types_are
-    (subst (λ fs. IfOk c.of_declared.result (λ tops. AreSlotTops t.types fs tops)) (seen_of action_signature action_view c.deref.ensures.value) c.of_declared.ensures)
+    rw (← c.self.view_is) (subst (λ ds. IfOk c.of_declared.result (λ tops. AreSlotTops ds signatures tops)) c.self.invariant.types_are
+    (subst (λ fs. IfOk c.of_declared.result (λ tops. AreSlotTops t.types fs tops)) (seen_of action_signature action_view c.deref.ensures.value) c.of_declared.ensures))

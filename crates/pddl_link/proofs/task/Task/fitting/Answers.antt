@@ -10,12 +10,12 @@ use Rattle.pddl_link.proofs.task.Task.fitting.Goals as goal
 
 pub returns : goal.returns
 returns g c =
-    let t = c.args.self.now in
+    let t = c.self.inside in
     let slot = c.args.types.now in
     let d = domain_view t.domain.now in
-    IfOk-weaker c.fitting_objects.result (λ v. v.items ≡ places_from 0 (λ o. fits (pairs t.types) o.of slot) (map object_in t.listed.objects.entries))
+    rw (← c.self.view_is) (IfOk-weaker c.fitting_objects.result (λ v. v.items ≡ places_from 0 (λ o. fits (pairs t.types) o.of slot) (map object_in t.listed.objects.entries))
     (λ v. v.items ≡ places_from 0 (λ o. fits (pairs d.types) o.of slot) (objects_of d (problem_view t.problem.now)))
     (λ v is.
-    is ∙ ap (λ ts. places_from 0 (λ o. fits (pairs ts) o.of slot) (map object_in t.listed.objects.entries)) t.held.types_are
-    ∙ ap (λ os. places_from 0 (λ o. fits (pairs d.types) o.of slot) os) t.held.behind.objects_are)
-    c.fitting_objects.ensures
+    is ∙ ap (λ ts. places_from 0 (λ o. fits (pairs ts) o.of slot) (map object_in t.listed.objects.entries)) c.self.invariant.types_are
+    ∙ ap (λ os. places_from 0 (λ o. fits (pairs d.types) o.of slot) os) c.self.invariant.behind.objects_are)
+    c.fitting_objects.ensures)

@@ -9,6 +9,6 @@ use Rattle.pddl_link.proofs.task.Task.functions.Goals as goal
 
 pub of-requires : goal.of-requires
 of-requires g c =
-    let t = c.args.self.now in
+    let t = c.self.inside in
     ap (λ fs. repeated [] (map symbol_of (map item_of (map function_view fs)))) c.deref.ensures.value
-    ∙ functions_once (domain_view t.domain.now) (problem_view t.problem.now) t.held.linked
+    ∙ functions_once (domain_view t.domain.now) (problem_view t.problem.now) c.self.invariant.linked

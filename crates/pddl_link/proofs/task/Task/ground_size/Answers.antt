@@ -8,8 +8,8 @@ use Rattle.pddl_link.proofs.task.Task.ground_size.Goals as goal
 
 pub returns : goal.returns
 returns g c =
-    let t = c.args.self.now in
+    let t = c.self.inside in
     let f = formula_view c.args.formula.now in
-    c.ground_size.ensures
-    ∙ ap (λ ts. capped (formula_size (fitting_count (pairs ts) (map object_in t.listed.objects.entries)) f)) t.held.types_are
-    ∙ ap (λ os. capped (formula_size (fitting_count (pairs (domain_view t.domain.now).types) os) f)) t.held.behind.objects_are
+    rw (← c.self.view_is) (c.ground_size.ensures
+    ∙ ap (λ ts. capped (formula_size (fitting_count (pairs ts) (map object_in t.listed.objects.entries)) f)) c.self.invariant.types_are
+    ∙ ap (λ os. capped (formula_size (fitting_count (pairs (domain_view t.domain.now).types) os) f)) c.self.invariant.behind.objects_are)

@@ -9,12 +9,12 @@ use Rattle.pddl_types.specs.Places.{AreTops}
 use Rattle.pddl_link.proofs.task.Task.object_fits_by.Goals as goal
 
 pub fits-requires-clause-tops : goal.fits-requires-clause-tops
-fits-requires-clause-tops g c = subst (λ ds. AreTops ds c.args.types.now c.args.tops.now) (sym c.args.self.now.held.types_are) c.requires
+fits-requires-clause-tops g c = subst (λ ds. AreTops ds c.args.types.now c.args.tops.now) (ap (λ f. f.domain.types) (sym c.self.view_is) ∙ sym c.self.invariant.types_are) c.requires
 
 pub returns : goal.returns
 returns g c =
-    let t = c.args.self.now in
+    let t = c.self.inside in
     let slot = c.args.types.now in
-    c.fits.ensures
-    ∙ ap (λ ds. option_map_or (λ (o : TypedValue). fits (pairs ds) o.of slot) (slice_get (map object_in t.listed.objects.entries) c.args.object) false) t.held.types_are
-    ∙ ap (λ os. option_map_or (λ (o : TypedValue). fits (pairs (domain_view t.domain.now).types) o.of slot) (slice_get os c.args.object) false) t.held.behind.objects_are
+    rw (← c.self.view_is) (c.fits.ensures
+    ∙ ap (λ ds. option_map_or (λ (o : TypedValue). fits (pairs ds) o.of slot) (slice_get (map object_in t.listed.objects.entries) c.args.object) false) c.self.invariant.types_are
+    ∙ ap (λ os. option_map_or (λ (o : TypedValue). fits (pairs (domain_view t.domain.now).types) o.of slot) (slice_get os c.args.object) false) c.self.invariant.behind.objects_are)

@@ -6,5 +6,5 @@ use Rattle.pddl_link.proofs.task.Task.object_number.Goals as goal
 
 pub returns : goal.returns
 returns g c =
-    let t = c.args.self.now in
-    object_number t.listed.objects.entries (objects_of (domain_view t.domain.now) (problem_view t.problem.now)) c.args.name.now c.get_index_of.result t.held.behind.objects_are c.get_index_of.ensures.index
+    let t = c.self.inside in
+    rw (← c.self.view_is) (object_number t.listed.objects.entries (objects_of (domain_view t.domain.now) (problem_view t.problem.now)) c.args.name.now c.get_index_of.result c.self.invariant.behind.objects_are c.get_index_of.ensures.index)

@@ -6,6 +6,6 @@ use Rattle.pddl_tables.proofs.lookups.TaskLookupsLookups.function_number.Goals a
 
 pub returns : goal.returns
 returns g c =
-    c.unwrap_or.ensures
-    ∙ looked_up symbol_of c.args.self.now.functions c.args.name.now c.number-found.result c.len.result c.number-found.ensures c.len.ensures
-    ∙ ap (λ fs. number_in (map symbol_of fs) c.args.name.now) c.args.self.now.functions_are
+    rw (← c.self.view_is) (c.unwrap_or.ensures
+    ∙ looked_up symbol_of c.self.inside.functions c.args.name.now c.number-found.result c.len.result c.number-found.ensures c.len.ensures
+    ∙ ap (λ fs. number_in (map symbol_of fs) c.args.name.now) c.self.invariant)

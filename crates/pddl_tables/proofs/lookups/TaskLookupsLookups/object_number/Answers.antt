@@ -6,6 +6,6 @@ use Rattle.pddl_tables.proofs.lookups.TaskLookupsLookups.object_number.Goals as 
 
 pub returns : goal.returns
 returns g c =
-    let task = task_of_files c.args.self.now.task.now in
-    c.unwrap_or.ensures
-    ∙ looked_up item_of task.objects c.args.name.now c.object_number-found.result c.object_count.result c.object_number-found.ensures c.object_count.ensures
+    let task = task_of_files c.self.inside.task.now in
+    rw (← c.self.view_is) (c.unwrap_or.ensures
+    ∙ looked_up item_of task.objects c.args.name.now c.object_number-found.result c.object_count.result c.object_number-found.ensures c.object_count.ensures)
