@@ -1,3 +1,4 @@
 pub mod Forms
 pub mod HeldSteps
+pub mod CompiledPlans
 pub mod Filled

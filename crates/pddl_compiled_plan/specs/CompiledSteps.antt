@@ -1,5 +1,6 @@
 -- Actions and plans by numbers alone: what is kept of them while a plan is judged (own).
-use Rattle.std.specs.Prelude.{◌≡◌, ℕ, Bool, ◌||◌, List, [], map, reverse, Option, Some, slice_get}
+use Rattle.std.specs.Prelude.{◌≡◌, ◌≤◌, ℕ, Bool, ◌||◌, List, [], map, reverse, Option, Some, slice_get, unwrap_or}
+use Rattle.std.specs.Option.{option_map_or}
 use Rattle.pddl_domain.specs.Actions.{ActionValue}
 use Rattle.pddl_task.specs.Tasks.{TaskValue}
 use Rattle.pddl_state.specs.Atoms.{AtomValue, atom_eq}
@@ -12,8 +13,10 @@ use Rattle.pddl_compiled.specs.TaskTables.{tables_of}
 use Rattle.pddl_compiled.specs.Views.{condition_view, change_view}
 use Rattle.pddl_compiled.specs.declared.compiled.Condition.{Condition}
 use Rattle.pddl_evaluation.specs.Reads.{tested_by}
+use Rattle.pddl_evaluation.specs.Costs.{increases_of, most_increases}
 use Rattle.pddl_evaluation.specs.Fires.{added, deleted}
 use Rattle.pddl_tables.specs.Prices.{price_at}
+use Rattle.pddl_plan_steps.specs.PlanSteps.{idle}
 use Rattle.pddl_plan_steps.specs.LinkedPlan.LinkedSteps.{LinkedStepValue, AreLinkedSteps}
 use Rattle.pddl_compiled_plan.specs.declared.action.CompiledAction.{CompiledAction}
 
@@ -60,9 +63,28 @@ abbrev pub AreHeld : {A : _} → List LinkedStepValue → List (Option (Compiled
 AreHeld steps held = (k : ℕ) (s : LinkedStepValue) → slice_get steps k ≡ Some s → IsHeld held s.action
 
 -- What is held of a linked plan with its task: the form of each action that a step has, that of the goal, and the prices.
-pub record IsHeldPlan {A : _} (task : TaskValue) (steps : List LinkedStepValue) (actions : List (Option (CompiledAction A))) (goal : Condition A) (prices : AtomValue → Option ℕ) : Type 0 where
+pub record IsPlanOf {A : _} (task : TaskValue) (steps : List LinkedStepValue) (actions : List (Option (CompiledAction A))) (goal : Condition A) (prices : AtomValue → Option ℕ) : Type 0 where
   pub linked : AreLinkedSteps task steps
   pub forms : AreForms task actions
   pub used : AreHeld steps actions
   pub goal_is : condition_view goal ≡ condition_of (tables_of task) task.goal []
   pub prices_are : (call : AtomValue) → prices call ≡ price_at task call
+
+-- ---- by numbers alone
+
+-- a price that is held, or 0
+abbrev pub held_price : (AtomValue → Option ℕ) → AtomValue → ℕ
+held_price prices call = unwrap_or (prices call) 0
+
+-- what the steps of a plan do by the forms and the prices that are held; past the last nothing is done
+abbrev pub held_steps : {A : _} → List (Option (CompiledAction A)) → (AtomValue → Option ℕ) → List LinkedStepValue → ℕ → Step AtomValue
+held_steps actions prices steps k = option_map_or (λ s. option_map_or (λ (o : Option _). option_map_or (λ c. form_step (held_price prices) (form_in c) s.objects) o idle) (slice_get actions s.action) idle) (slice_get steps k) idle
+
+-- the goal that is held is true in a state
+abbrev pub held_goal : {A : _} → Condition A → (AtomValue → Bool) → Bool
+held_goal goal s = is_true s (condition_view goal) []
+
+-- What is held for the steps of a plan: an action for each, with increases as few as a step may have.
+pub record AreHeldFor {A : _} (steps : List LinkedStepValue) (actions : List (Option (CompiledAction A))) : Type 0 where
+  pub used : AreHeld steps actions
+  pub few : (k : ℕ) (s : LinkedStepValue) (c : CompiledAction A) → slice_get steps k ≡ Some s → slice_get actions s.action ≡ Some (Some c) → increases_of (change_view c.effect) ≤ most_increases

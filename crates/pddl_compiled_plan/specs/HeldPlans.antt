@@ -1,16 +1,17 @@
--- The task and the steps of a plan that is held.
-use Rattle.std.specs.Prelude.{List}
-use Rattle.pddl_task.specs.Tasks.{TaskValue}
-use Rattle.pddl_plan_steps.specs.Link.LinkedTasks.{Files, task_of_files}
+-- What is held of a plan: its steps, what they do, and its goal.
+use Rattle.std.specs.Prelude.{ℕ, Bool, List}
+use Rattle.pddl_state.specs.Atoms.{AtomValue}
+use Rattle.pddl_happenings.specs.Steps.{Step}
+use Rattle.pddl_tables.specs.Lookups.{price_in}
 use Rattle.pddl_plan_steps.specs.LinkedPlan.LinkedSteps.{LinkedStepValue}
+use Rattle.pddl_compiled_plan.specs.CompiledSteps.{held_steps, held_goal}
+use Rattle.pddl_compiled_plan.specs.declared.plan.CompiledPlan.{CompiledPlan}
 
--- two files and the steps of a plan
-pub record HeldPlan : Type 0 where
-  pub files : Files
-  pub steps : List LinkedStepValue
+abbrev pub plan_steps : {C D : _} → CompiledPlan C D → List LinkedStepValue
+plan_steps p = p.steps.now
 
-abbrev pub plan_task : HeldPlan → TaskValue
-plan_task p = task_of_files p.files
+abbrev pub plan_course : {C D : _} → CompiledPlan C D → ℕ → Step AtomValue
+plan_course p = held_steps p.actions.items (price_in p.prices) p.steps.now
 
-abbrev pub plan_steps : HeldPlan → List LinkedStepValue
-plan_steps p = p.steps
+abbrev pub plan_goal : {C D : _} → CompiledPlan C D → (AtomValue → Bool) → Bool
+plan_goal p = held_goal p.goal

@@ -1,70 +1,35 @@
 //! Linked plans whose steps can be executed.
 
-ghost use Rattle.std.specs.Prelude.{◌≡◌, ◌<◌, ◌≤◌, ◌||◌, length, OnOk};
-ghost use Rattle.pddl_task.specs.Linked.{IsLinked};
-ghost use Rattle.pddl_plan_steps.specs.Link.LinkedTasks.{task_of_files};
+ghost use Rattle.std.specs.Prelude.{◌≡◌, ◌<◌, ◌≤◌, ◌||◌, ℕ, length, OnOk};
 ghost use Rattle.pddl_state.specs.Atoms.{AtomValue};
-ghost use Rattle.pddl_state.specs.AtomSets.{is_listed};
+ghost use Rattle.pddl_happenings.specs.Steps.{IsFramed};
 ghost use Rattle.pddl_compiled.specs.Views.{change_view, frame_view};
 ghost use Rattle.pddl_evaluation.specs.Costs.{increases_of, most_increases};
 ghost use Rattle.pddl_tables.specs.Lookups.{price_in};
-ghost use Rattle.pddl_tables.specs.Prices.{prices_of};
-ghost use Rattle.pddl_plan_steps.specs.PlanSteps.{numbered_steps};
-ghost use Rattle.pddl_compiled_plan.specs.CompiledSteps.{form_in, form_step, action_reads, IsHeldPlan};
+ghost use Rattle.pddl_compiled_plan.specs.CompiledSteps.{form_in, form_step, action_reads, held_price, held_steps, held_goal, AreHeldFor};
 
 use crate::action::{CompiledAction, UsedActions};
 use pddl_compiled::{Condition, Frame};
 use pddl_evaluation::{add_change_reads, add_fired, add_reads, is_true, spent};
 use pddl_judge::Course;
-use pddl_plan_steps::pddl_link::Task;
-use pddl_plan_steps::pddl_linked_plan::{Steps, initial_atoms};
+use pddl_plan_steps::pddl_linked_plan::Steps;
 use pddl_state::{Atom, AtomStore};
 use pddl_tables::TaskPrices;
 use std::alloc::{AllocError, Allocator};
-use std::marker::Model;
 
 /// A linked plan whose steps can be executed: a course of steps for the judge, over any store.
 ///
-/// It borrows a task and the steps of a plan that is linked to it, and holds the actions that they use and the goal by numbers, each
-/// compiled once, and the costs of functions.
+/// It borrows the steps of the plan, and holds the actions that they use and the goal by numbers, each compiled once, and the costs of functions. Of the task
+/// that these are of it keeps nothing.
 #[derive(Drop)]
-pub struct CompiledPlan<'t, 'm, 'a, 's, 'b, 'c, A, B, C, D>
-where
-    A: Allocator,
-    B: Allocator,
-    C: Allocator,
-    D: Allocator,
-{
+pub struct CompiledPlan<'s, 'b, 'c, C: Allocator, D: Allocator> {
     alloc: &'c D,
-    task: &'t Task<'m, 'a, A, B>,
     steps: &'s Steps<'b, C>,
     actions: UsedActions<'c, D>,
     goal: Condition<&'c D>,
     prices: TaskPrices<'c, D>,
-}
-
-impl<'t, 'm, 'a, 's, 'b, 'c, A, B, C, D> Model for CompiledPlan<'t, 'm, 'a, 's, 'b, 'c, A, B, C, D>
-where
-    A: Allocator,
-    B: Allocator,
-    C: Allocator,
-    D: Allocator,
-{
-    ghost use Rattle.std.specs.Coded.{codes};
-    ghost use Rattle.pddl_task.specs.Linked.{IsLinked};
-    ghost use Rattle.pddl_tables.specs.Lookups.{price_in};
-    ghost use Rattle.pddl_plan_steps.specs.Link.LinkedTasks.{task_of_files};
-    ghost use Rattle.pddl_plan_steps.specs.Link.Codes.{formula_code, effect_code};
-    ghost use Rattle.pddl_compiled_plan.specs.CompiledSteps.{IsHeldPlan};
-    ghost use Rattle.pddl_compiled_plan.specs.HeldPlans.{HeldPlan};
-
-    ghost Value = { HeldPlan };
-
-    ghost coded = { Prim.hlevel (codes, formula_code, effect_code) };
-
-    ghost view = { λ p. record { files = p.task.now; steps = p.steps.now } };
-
-    ghost invariant = { λ p. IsLinked p.task.now.domain p.task.now.problem × ∥ IsHeldPlan (task_of_files p.task.now) p.steps.now p.actions.items p.goal (price_in p.prices) ∥₁ };
+    ghost held: { ∥ AreHeldFor steps.now actions.items ∥₁ },
+    ghost framed: { (k : ℕ) → IsFramed (held_steps actions.items (price_in prices) steps.now k) },
 }
 
 /// An action by numbers, and the numbers of the objects that it is applied to.
@@ -80,22 +45,6 @@ fn blank<'c, D: Allocator>(alloc: &'c D) -> Atom<&'c D> {
         predicate: 0,
         args: Vec::new(alloc),
     }
-}
-
-/// Puts atoms into a set.
-fn add_atoms<A: Allocator, S: AtomStore<A>>(
-    store: &mut S,
-    set: &mut S::Set,
-    atoms: &[Atom<A>],
-) -> Result<(), AllocError>
-    requires { S.owns store.old set.old }
-    ensures own { S.owns store.new set.new }
-    ensures content { OnOk result ((x : AtomValue) → S.content store.new set.new x ≡ (is_listed atoms.now x || S.content store.old set.old x)) }
-{
-    for atom in atoms {
-        store.insert(set, atom)?;
-    }
-    Ok(())
 }
 
 /// Puts the atoms that an action reads with objects into a set.
@@ -116,32 +65,25 @@ fn add_action_reads<'f, A: Allocator, B: Allocator, S: AtomStore<B>>(
     add_change_reads(&action.effect, frame, atom, store, into)
 }
 
-impl<'t, 'm, 'a, 's, 'b, 'c, A, B, C, D> CompiledPlan<'t, 'm, 'a, 's, 'b, 'c, A, B, C, D>
-where
-    A: Allocator,
-    B: Allocator,
-    C: Allocator,
-    D: Allocator,
-{
-    ghost use Rattle.pddl_compiled_plan.specs.HeldPlans.{plan_task, plan_steps};
+impl<'s, 'b, 'c, C: Allocator, D: Allocator> CompiledPlan<'s, 'b, 'c, C, D> {
+    ghost use Rattle.pddl_compiled_plan.specs.HeldPlans.{plan_steps, plan_course, plan_goal};
 
-    /// The plan of a task and of steps that are linked to it, with what was compiled of them: each action that they use, the goal, and the costs of functions.
+    /// The plan of some steps with what was compiled for them: each action that they use, the goal, and the costs of functions.
     pub fn of(
         alloc: &'c D,
-        task: &'t Task<'m, 'a, A, B>,
         steps: &'s Steps<'b, C>,
         actions: UsedActions<'c, D>,
         goal: Condition<&'c D>,
         prices: TaskPrices<'c, D>,
-    ) -> CompiledPlan<'t, 'm, 'a, 's, 'b, 'c, A, B, C, D>
-        requires linked { IsLinked task.now.domain task.now.problem }
-        requires held { IsHeldPlan (task_of_files task.now) steps.now actions.items goal (price_in prices) }
-        ensures task { plan_task result ≡ task_of_files task.now }
+    ) -> CompiledPlan<'s, 'b, 'c, C, D>
+        requires held { AreHeldFor steps.now actions.items }
+        requires framed { (k : ℕ) → IsFramed (held_steps actions.items (price_in prices) steps.now k) }
         ensures steps { plan_steps result ≡ steps.now }
+        ensures course { plan_course result ≡ held_steps actions.entry.items (price_in prices.entry) steps.now }
+        ensures goal { plan_goal result ≡ held_goal goal.entry }
     {
         CompiledPlan {
             alloc,
-            task,
             steps,
             actions,
             goal,
@@ -152,7 +94,7 @@ where
     /// The action of a step, and its objects.
     fn applied(&self, step: u32) -> Applied<'_, &'c D>
         requires { step < length (plan_steps self.now) }
-        ensures step { numbered_steps (plan_task self.now) (plan_steps self.now) step ≡ form_step (prices_of (plan_task self.now)) (form_in result.action.now) result.objects.now }
+        ensures step { plan_course self.now step ≡ form_step (held_price (price_in self.now.prices)) (form_in result.action.now) result.objects.now }
         ensures few { increases_of (change_view result.action.now.effect) ≤ most_increases }
     {
         let own = self.steps.step(step as usize);
@@ -163,43 +105,21 @@ where
     }
 }
 
-/// A step's number is its place in the plan's file, from 0. What is answered of the start, of the goal and of each step is what the
-/// definitions say of them by numbers: when a step is ready, and what it reads, adds and deletes, are those of Fox and Long, PDDL2.1,
-/// JAIR 20, 2003; quantifiers, `when` and costs are own.
+/// A step's number is its place in the plan's file, from 0. What is answered of the goal and of each step is what was compiled for them.
 ///
 /// Each call fails only where memory for the sets, or for the atom that is looked up in them, is refused.
-impl<'t, 'm, 'a, 's, 'b, 'c, A, B, C, D, S> Course<&'c D, S>
-    for CompiledPlan<'t, 'm, 'a, 's, 'b, 'c, A, B, C, D>
-where
-    A: Allocator,
-    B: Allocator,
-    C: Allocator,
-    D: Allocator,
-    S: AtomStore<&'c D>,
-{
+impl<'s, 'b, 'c, C: Allocator, D: Allocator, S: AtomStore<&'c D>> Course<&'c D, S>
+    for CompiledPlan<'s, 'b, 'c, C, D> {
     ghost use Rattle.std.specs.Prelude.{length};
-    ghost use Rattle.pddl_plan_steps.proofs.Framed.{steps_framed};
-    ghost use Rattle.pddl_compiled_plan.specs.HeldPlans.{plan_task, plan_steps};
-    ghost use Rattle.pddl_plan_steps.specs.PlanSteps.{numbered_steps, numbered_start, numbered_goal};
+    ghost use Rattle.pddl_compiled_plan.specs.HeldPlans.{plan_steps, plan_course, plan_goal};
 
     ghost count_of = { λ p. length (plan_steps p) };
 
-    ghost steps_of = { λ p. numbered_steps (plan_task p) (plan_steps p) };
+    ghost steps_of = { plan_course };
 
-    ghost start_of = { λ p. numbered_start (plan_task p) };
+    ghost goal_of = { plan_goal };
 
-    ghost goal_of = { λ p. numbered_goal (plan_task p) };
-
-    ghost framed = { λ p. steps_framed (plan_task p) (plan_steps p) };
-
-    fn start(&self, store: &mut S) -> Result<S::Set, AllocError> {
-        let atoms = initial_atoms(self.alloc, self.task)?;
-        let mut set = store.empty();
-        let added = add_atoms(store, &mut set, &atoms);
-        drop(atoms);
-        added?;
-        Ok(set)
-    }
+    ghost framed = { λ p. p.framed };
 
     fn goal_holds(&self, store: &S, state: &S::Set) -> Result<bool, AllocError> {
         let mut atom = blank(self.alloc);

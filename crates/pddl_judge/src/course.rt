@@ -5,7 +5,7 @@ ghost use Rattle.pddl_happenings.specs.Steps.{Step, IsFramed};
 use pddl_state::AtomStore;
 use std::alloc::{AllocError, Allocator};
 
-/// The steps of a plan by number, from 0, the state that the plan starts in, and its goal, over any store.
+/// The steps of a plan by number, from 0, and its goal, over any store.
 ///
 /// A set handed in is one of the store handed in with it, and a set answered is so too. Whatever is answered, every set
 /// of the store stays its own and keeps its content. Calls fail only for want of memory. The laws are this project's
@@ -17,16 +17,8 @@ pub trait Course<A: Allocator, S: AtomStore<A>> {
     /// What the step of a number does.
     ghost steps_of: { Self → ℕ → Step AtomValue };
 
-    /// The state that the plan starts in.
-    ghost start_of: { Self → AtomValue → Bool };
-
     /// Whether the goal is true in a state.
     ghost goal_of: { Self → (AtomValue → Bool) → Bool };
-
-    /// A set of the atoms that hold at first.
-    fn start(&self, store: &mut S) -> Result<S::Set, AllocError>
-        ensures own { IfOk result (λ set. S.owns store.new set) }
-        ensures content { IfOk result (λ set. S.content store.new set ≡ start_of self.now) };
 
     /// Whether the goal is true in a state.
     fn goal_holds(&self, store: &S, state: &S::Set) -> Result<bool, AllocError>

@@ -11,7 +11,7 @@ use pddl_judge::Course;
 use pddl_row_driver::Lines;
 use pddl_serial_plans::pddl_link::Task;
 use pddl_serial_plans::pddl_linked_plan::Steps;
-use pddl_serial_plans::pddl_step::compile_plan;
+use pddl_serial_plans::pddl_step::{compile_plan, initial_state};
 use pddl_state::AtomStore;
 use std::alloc::{AllocError, Allocator};
 use std::fmt::Debug;
@@ -143,38 +143,36 @@ where
     add_state(task, course, store, state, lines);
 }
 
-/// Adds what each step is in the state that a plan starts in, and once more in the same set of the same store, where memory was refused.
-fn add_started<A: Allocator, C: Allocator, D: Allocator, B: Allocator, S: AtomStore<D>, P>(
+/// Adds what each step is in a state, and once more in the same set of the same store, where memory was refused.
+fn add_course_in<A: Allocator, C: Allocator, D: Allocator, B: Allocator, S: AtomStore<D>, P>(
     asked: Asked,
     count: usize,
     task: &Task<'_, '_, A, C>,
     course: &P,
     store: &mut S,
+    state: &S::Set,
     lines: &mut Lines<'_, B>,
 )
 where
     P: Course<D, S>,
-    requires { P.count_of course.now ≡ count }
+    requires count { P.count_of course.now ≡ count }
+    requires own { S.owns store.old state.now }
 {
-    let start = lines.size();
-    match course.start(store) {
-        Ok(state) => {
-            add_steps(asked, count, task, course, store, &state, lines);
-            if lines.begin_again(start) {
-                add_steps(asked, count, task, course, store, &state, lines);
-            }
-        }
-        Err(_) => lines.refuse(),
+    let begun = lines.size();
+    add_steps(asked, count, task, course, store, state, lines);
+    if lines.begin_again(begun) {
+        add_steps(asked, count, task, course, store, state, lines);
     }
 }
 
-/// Compiles linked steps, and adds what each is in the state that they start in.
+/// Compiles linked steps, and adds what each is in a state.
 fn add_compiled<'m, 'a, 'b, 'c, A, B, C, D, S>(
     alloc: &'c D,
     asked: Asked,
     task: &Task<'m, 'a, A, B>,
     steps: &Steps<'b, C>,
     store: &mut S,
+    state: &S::Set,
     lines: &mut Lines<'_, D>,
 )
 where
@@ -183,11 +181,12 @@ where
     C: Allocator,
     D: Allocator,
     S: AtomStore<&'c D>,
-    requires { AreLinkedSteps (task_of_files task.now) steps.now }
+    requires linked { AreLinkedSteps (task_of_files task.now) steps.now }
+    requires own { S.owns store.old state.now }
 {
     match compile_plan(alloc, task, steps) {
         Ok(plan) => {
-            add_started(asked, steps.len(), task, &plan, store, lines);
+            add_course_in(asked, steps.len(), task, &plan, store, state, lines);
             drop(plan);
         }
         Err(_) => lines.refuse(),
@@ -211,6 +210,9 @@ where
     S: AtomStore<&'c D>,
     requires { AreLinkedSteps (task_of_files task.now) steps.now }
 {
-    add_compiled(alloc, asked, task, steps, &mut store, lines);
+    match initial_state(alloc, task, &mut store) {
+        Ok(state) => add_compiled(alloc, asked, task, steps, &mut store, &state, lines),
+        Err(_) => lines.refuse(),
+    }
     Outcome::Good
 }

@@ -49,32 +49,33 @@ fn step_count<H: Allocator>(happenings: &[Happening<H>]) -> usize
     steps
 }
 
-/// Executes steps one after another from the state that the plan starts in.
-fn run_from_start<A: Allocator, S: AtomStore<A>, P: Course<A, S>>(
+/// Executes steps one after another from a state of a store.
+fn run_from<A: Allocator, S: AtomStore<A>, P: Course<A, S>>(
     course: &P,
     order: &[u32],
     store: &mut S,
+    state: &mut S::Set,
 ) -> Result<Replayed<A>, AllocError>
+    requires own { S.owns store.old state.old }
     requires steps { All (λ k. k < P.count_of course.now) order.now }
     requires few { length order.now ≤ 1000000 }
     ensures serial { IfOk result (λ r. OnNotASerialisation r ⊥) }
-    ensures fails { IfOk result (λ r. OnStepFails r (FailsAt (P.steps_of course.now) (P.start_of course.now) order.now)) }
-    ensures runs { IfOk result (λ r. OnEnded r (λ e. RunsSerially (P.steps_of course.now) (P.start_of course.now) order.now)) }
+    ensures fails { IfOk result (λ r. OnStepFails r (FailsAt (P.steps_of course.now) (S.content store.old state.old) order.now)) }
+    ensures runs { IfOk result (λ r. OnEnded r (λ e. RunsSerially (P.steps_of course.now) (S.content store.old state.old) order.now)) }
     ensures rising { IfOk result (λ r. OnEnded r (λ e. IsRising e.atoms.items)) }
-    ensures atoms { IfOk result (λ r. OnEnded r (λ e. is_listed e.atoms.items ≡ after_all (P.steps_of course.now) (P.start_of course.now) (singles order.now))) }
-    ensures cost { IfOk result (λ r. OnEnded r (λ e. e.cost ≡ cost_of_all (P.steps_of course.now) (P.start_of course.now) (singles order.now))) }
+    ensures atoms { IfOk result (λ r. OnEnded r (λ e. is_listed e.atoms.items ≡ after_all (P.steps_of course.now) (S.content store.old state.old) (singles order.now))) }
+    ensures cost { IfOk result (λ r. OnEnded r (λ e. e.cost ≡ cost_of_all (P.steps_of course.now) (S.content store.old state.old) (singles order.now))) }
 {
-    let mut state = course.start(store)?;
-    match run_serially(course, order, store, &mut state)? {
+    match run_serially(course, order, store, state)? {
         Err(place) => Ok(Replayed::StepFails(place)),
         Ok(cost) => {
-            let atoms = store.list(&state)?;
+            let atoms = store.list(state)?;
             Ok(Replayed::Ended(End { atoms, cost }))
         }
     }
 }
 
-/// Executes the steps of a plan one after another, each alone, in the order of a list, from the state that the plan starts in.
+/// Executes the steps of a plan one after another, each alone, in the order of a list, from a state of a store.
 /// The plan, whose happenings have each of its steps once, need not be accepted. The store is given up.
 ///
 /// `not_serial`, `serial`: NotASerialisation is answered exactly where the list is none. `fails`: StepFails names the first
@@ -87,23 +88,25 @@ pub fn replay<A: Allocator, B: Allocator, H: Allocator, S: AtomStore<A>, P: Cour
     happenings: &[Happening<H>],
     order: &[u32],
     mut store: S,
+    mut state: S::Set,
 ) -> Result<Replayed<A>, AllocError>
     requires count { P.count_of course.now ≤ 1000000 }
+    requires own { S.owns store state }
     requires each { HaveEachOnce (P.count_of course.now) (groups_of happenings.now) }
     ensures not_serial { IfOk result (λ r. OnNotASerialisation r (IsSerialOrder (groups_of happenings.now) order.now → ⊥)) }
     ensures serial { IfOk result (λ r. OnSerialisation r (IsSerialOrder (groups_of happenings.now) order.now)) }
-    ensures fails { IfOk result (λ r. OnStepFails r (FailsAt (P.steps_of course.now) (P.start_of course.now) order.now)) }
-    ensures runs { IfOk result (λ r. OnEnded r (λ e. RunsSerially (P.steps_of course.now) (P.start_of course.now) order.now)) }
+    ensures fails { IfOk result (λ r. OnStepFails r (FailsAt (P.steps_of course.now) (S.content store state) order.now)) }
+    ensures runs { IfOk result (λ r. OnEnded r (λ e. RunsSerially (P.steps_of course.now) (S.content store state) order.now)) }
     ensures rising { IfOk result (λ r. OnEnded r (λ e. IsRising e.atoms.items)) }
-    ensures atoms { IfOk result (λ r. OnEnded r (λ e. is_listed e.atoms.items ≡ after_all (P.steps_of course.now) (P.start_of course.now) (singles order.now))) }
-    ensures cost { IfOk result (λ r. OnEnded r (λ e. e.cost ≡ cost_of_all (P.steps_of course.now) (P.start_of course.now) (singles order.now))) }
+    ensures atoms { IfOk result (λ r. OnEnded r (λ e. is_listed e.atoms.items ≡ after_all (P.steps_of course.now) (S.content store state) (singles order.now))) }
+    ensures cost { IfOk result (λ r. OnEnded r (λ e. e.cost ≡ cost_of_all (P.steps_of course.now) (S.content store state) (singles order.now))) }
 {
     let steps = step_count(happenings);
     let serial = is_serialisation(alloc, happenings, steps, order)?;
     if !serial {
         return Ok(Replayed::NotASerialisation);
     }
-    run_from_start(course, order, &mut store)
+    run_from(course, order, &mut store, &mut state)
 }
 
 /// A list that runs to its end fails at no place, and one that fails does so at one place alone.

@@ -12,7 +12,7 @@ use pddl_state::AtomStore;
 use pddl_valid::happenings;
 use pddl_valid::pddl_link::Task;
 use pddl_valid::pddl_linked_plan::Steps;
-use pddl_valid::pddl_step::compile_plan;
+use pddl_valid::pddl_step::{compile_plan, initial_state};
 use std::alloc::{AllocError, Allocator};
 
 /// The end of a list that was executed, or why there is none.
@@ -42,7 +42,7 @@ pub fn replay<'m, 'a, 'b, 'c, A, B, C, D, S>(
     task: &Task<'m, 'a, A, B>,
     steps: &Steps<'b, C>,
     order: &[u32],
-    store: S,
+    mut store: S,
 ) -> Result<End<&'c D>, ReplayFault>
 where
     A: Allocator,
@@ -53,10 +53,11 @@ where
     requires { AreLinkedSteps (task_of_files task.now) steps.now }
     ensures { IsReplayed (task_of_files task.now) steps.now order.now result }
 {
-    let _linked = task.domain();
+    task.files_are_linked();
+    let start = initial_state(alloc, task, &mut store)?;
     let groups = happenings(alloc, steps)?;
     let plan = compile_plan(alloc, task, steps)?;
-    let run = pddl_serial::replay(alloc, &plan, &groups, order, store);
+    let run = pddl_serial::replay(alloc, &plan, &groups, order, store, start);
     drop(plan);
     drop(groups);
     end_of(run)

@@ -8,8 +8,9 @@ ghost use Rattle.pddl_compiled.specs.Compiler.{condition_of};
 ghost use Rattle.pddl_compiled.specs.TaskTables.{tables_of};
 ghost use Rattle.pddl_compiled.specs.Views.{condition_view};
 ghost use Rattle.pddl_plan_steps.specs.LinkedPlan.LinkedSteps.{AreLinkedSteps};
+ghost use Rattle.pddl_plan_steps.specs.PlanSteps.{numbered_steps, numbered_goal};
 ghost use Rattle.pddl_compiled_plan.specs.CompiledSteps.{AreForms, AreHeld};
-ghost use Rattle.pddl_compiled_plan.specs.HeldPlans.{plan_task, plan_steps};
+ghost use Rattle.pddl_compiled_plan.specs.HeldPlans.{plan_steps, plan_course, plan_goal};
 
 use crate::actions::used_actions;
 use pddl_build::all_made;
@@ -64,15 +65,15 @@ where
     all_made(actions, goal, prices)
 }
 
-/// The plan of a task and of steps that are linked to it, by what is looked up in the task.
+/// The plan of steps that are linked to a task, by what is looked up in the task.
 ///
 /// Fails where memory for its parts is refused.
 fn compile_by<'t, 'm, 'a, 's, 'b, 'c, A, B, C, D>(
     alloc: &'c D,
     lookups: &TaskLookups<'t, 'm, 'a, 'c, A, B, D>,
-    task: &'t Task<'m, 'a, A, B>,
+    task: &Task<'m, 'a, A, B>,
     steps: &'s Steps<'b, C>,
-) -> Result<CompiledPlan<'t, 'm, 'a, 's, 'b, 'c, A, B, C, D>, AllocError>
+) -> Result<CompiledPlan<'s, 'b, 'c, C, D>, AllocError>
 where
     A: Allocator,
     B: Allocator,
@@ -81,32 +82,34 @@ where
     requires lookups { task_of_files lookups.now ≡ task_of_files task.now }
     requires files { IsLinked task.now.domain task.now.problem }
     requires linked { AreLinkedSteps (task_of_files task.now) steps.now }
-    ensures task { IfOk result (λ plan. plan_task plan ≡ task_of_files task.now) }
     ensures steps { IfOk result (λ plan. plan_steps plan ≡ steps.now) }
+    ensures course { IfOk result (λ plan. plan_course plan ≡ numbered_steps (task_of_files task.now) steps.now) }
+    ensures goal { IfOk result (λ plan. plan_goal plan ≡ numbered_goal (task_of_files task.now)) }
 {
     let prices = task_prices(alloc, lookups);
     let (actions, goal, prices) = compile_parts(alloc, lookups, task, steps, prices)?;
-    Ok(CompiledPlan::of(alloc, task, steps, actions, goal, prices))
+    Ok(CompiledPlan::of(alloc, steps, actions, goal, prices))
 }
 
-/// The plan of a task and of steps that are linked to it, ready to be executed.
+/// The plan of steps that are linked to a task, ready to be executed. It keeps nothing of the task.
 ///
 /// An action is compiled once, however many steps use it, and one that no step uses is left out. Fails only where memory for the
 /// compiled actions, the goal or the costs is refused. What the steps mean is that of Fox and Long, PDDL2.1, JAIR 20, 2003, and of this
 /// project for quantifiers, `when` and costs; that they are compiled is own.
-pub fn compile_plan<'t, 'm, 'a, 's, 'b, 'c, A, B, C, D>(
+pub fn compile_plan<'m, 'a, 's, 'b, 'c, A, B, C, D>(
     alloc: &'c D,
-    task: &'t Task<'m, 'a, A, B>,
+    task: &Task<'m, 'a, A, B>,
     steps: &'s Steps<'b, C>,
-) -> Result<CompiledPlan<'t, 'm, 'a, 's, 'b, 'c, A, B, C, D>, AllocError>
+) -> Result<CompiledPlan<'s, 'b, 'c, C, D>, AllocError>
 where
     A: Allocator,
     B: Allocator,
     C: Allocator,
     D: Allocator,
     requires { AreLinkedSteps (task_of_files task.now) steps.now }
-    ensures task { IfOk result (λ plan. plan_task plan ≡ task_of_files task.now) }
     ensures steps { IfOk result (λ plan. plan_steps plan ≡ steps.now) }
+    ensures course { IfOk result (λ plan. plan_course plan ≡ numbered_steps (task_of_files task.now) steps.now) }
+    ensures goal { IfOk result (λ plan. plan_goal plan ≡ numbered_goal (task_of_files task.now)) }
 {
     task.files_are_linked();
     let lookups = task_lookups(alloc, task)?;

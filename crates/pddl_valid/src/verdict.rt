@@ -12,40 +12,17 @@ ghost use Rattle.pddl_step.specs.Link.LinkedTasks.{task_of_files};
 ghost use Rattle.pddl_meaning.specs.Worlds.{Atoms};
 ghost use Rattle.pddl_step.specs.LinkedPlan.LinkedSteps.{AreLinkedSteps};
 ghost use Rattle.pddl_step.specs.PlanSteps.NumberedSteps.{number_of};
-ghost use Rattle.pddl_step.specs.PlanSteps.PlanSteps.{named_steps, initial_state, goal_of};
+ghost use Rattle.pddl_step.specs.PlanSteps.PlanSteps.{numbered_start, named_steps, initial_state, goal_of};
 ghost use Rattle.pddl_valid.specs.AcceptedPlans.{AreHappeningsOf, OfHappenings, IsAcceptedPlan};
 ghost use Rattle.pddl_valid.specs.NamedClashes.{NamesLeast};
 
 use crate::moments::happenings;
-use pddl_judge::{Course, Happening, Verdict};
+use pddl_judge::{Verdict, judge};
 use pddl_state::AtomStore;
-use pddl_step::compile_plan;
+use pddl_step::{compile_plan, initial_state};
 use pddl_step::pddl_link::Task;
 use pddl_step::pddl_linked_plan::Steps;
 use std::alloc::{AllocError, Allocator};
-
-/// The verdict on the steps of a course from its start, over a store: what [`pddl_judge::judge`] says of it.
-///
-/// Fails only where memory is refused.
-fn judge<A: Allocator, B: Allocator, S: AtomStore<A>, P: Course<A, S>>(
-    course: &P,
-    happenings: Vec<Happening<B>, B>,
-    mut store: S,
-) -> Result<Verdict<A, B, S>, AllocError>
-    requires count { P.count_of course.now ≤ 1000000 }
-    requires each { HaveEachOnce (P.count_of course.now) (groups_of happenings.items) }
-    ensures end_own { IfOk result (λ v. OnAccepted v (λ a. S.owns a.store a.end)) }
-    ensures happenings { IfOk result (λ v. OnAccepted v (λ a. a.happenings ≡ happenings)) }
-    ensures accepted { IfOk result (λ v. OnAccepted v (λ a. IsAcceptedRun (P.steps_of course.now) (P.goal_of course.now) (P.start_of course.now) (groups_of happenings.items) (S.content a.store a.end) a.cost)) }
-    ensures precondition { IfOk result (λ v. OnRefused v (λ r. IfPrecondition r (λ h step. AtHappening (P.steps_of course.now) (λ s g. IsFirstUnready (P.steps_of course.now) s g step) (P.start_of course.now) (groups_of happenings.items) h))) }
-    ensures interference { IfOk result (λ v. OnRefused v (λ r. IfInterference r (λ h first second a. AtHappening (P.steps_of course.now) (λ s g. IsFirstClash (P.steps_of course.now) (IsLeast a) s g first second) (P.start_of course.now) (groups_of happenings.items) h))) }
-    ensures fine_but_goal { IfOk result (λ v. OnRefused v (λ r. IfGoal r (AllFine (P.steps_of course.now) (P.start_of course.now) (groups_of happenings.items)))) }
-    ensures goal { IfOk result (λ v. OnRefused v (λ r. IfGoal r (P.goal_of course.now (after_all (P.steps_of course.now) (P.start_of course.now) (groups_of happenings.items)) ≡ false))) }
-    ensures refused { IfOk result (λ v. OnRefused v (λ r. NotAccepted (P.steps_of course.now) (P.goal_of course.now) (P.start_of course.now) (groups_of happenings.items))) }
-{
-    let start = course.start(&mut store)?;
-    pddl_judge::judge(course, happenings, store, start)
-}
 
 /// The verdict on linked steps, over a store.
 ///
@@ -60,7 +37,7 @@ pub fn validate<'m, 'a, 'b, 'c, A, B, C, D, S>(
     alloc: &'c D,
     task: &Task<'m, 'a, A, B>,
     steps: &Steps<'b, C>,
-    store: S,
+    mut store: S,
 ) -> Result<Verdict<&'c D, &'c D, S>, AllocError>
 where
     A: Allocator,
@@ -79,10 +56,11 @@ where
     ensures goal { IfOk result (λ v. OnRefused v (λ r. IfGoal r (OfHappenings steps.now (λ gs. goal_of (task_of_files task.now) (after_all (named_steps (task_of_files task.now) steps.now) (initial_state (task_of_files task.now)) gs) ≡ false)))) }
     ensures refused { IfOk result (λ v. OnRefused v (λ r. (end : Atoms) (cost : ℕ) → IsAcceptedPlan (task_of_files task.now) steps.now end cost → ⊥)) }
 {
-    let _linked = task.domain();
+    task.files_are_linked();
+    let start = initial_state(alloc, task, &mut store)?;
     let groups = happenings(alloc, steps)?;
     let plan = compile_plan(alloc, task, steps)?;
-    let verdict = judge(&plan, groups, store);
+    let verdict = judge(&plan, groups, store, start);
     drop(plan);
     verdict
 }

@@ -1,10 +1,10 @@
-use Rattle.std.proofs.Common.{◌≡◌, ◌≤◌, length, sym, ap, ap₂, subst}
+use Rattle.std.proofs.Common.{◌≤◌, length, sym, subst}
 use Rattle.pddl_task.specs.Tasks.{TaskValue, task_of}
 use Rattle.pddl_happenings.specs.Serialisations.{Converges}
 use Rattle.pddl_judge.specs.HappeningValues.{groups_of, moments_of}
 use Rattle.pddl_step.proofs.LinkedPlan.SoundSteps.{steps_are_sound}
-use Rattle.pddl_step.specs.HeldPlans.{plan_task, plan_steps}
-use Rattle.pddl_step.specs.PlanSteps.PlanSteps.{named_steps, numbered_steps, initial_state, numbered_start, numbered_goal}
+use Rattle.pddl_step.specs.HeldPlans.{plan_course, plan_goal}
+use Rattle.pddl_step.specs.PlanSteps.PlanSteps.{named_steps, initial_state}
 use Rattle.pddl_valid.specs.AcceptedPlans.{AreHappeningsOf}
 use Rattle.pddl_valid.proofs.NamedPlans.{IsCourseOf, accepted, converges, unready, clashes, passes, off_goal, refused}
 use Rattle.pddl_valid.proofs.Verdicts.{accepted_so, accepted_both, refused_so, precondition_so, interference_so, goal_so}
@@ -13,29 +13,27 @@ use Rattle.pddl_valid.proofs.verdict.validate.Goals as goal
 pub happenings-requires : goal.happenings-requires
 happenings-requires g c =
     let files = c.args.task.now in
-    ((steps_are_sound files.domain files.problem c.domain-linked.ensures.linked c.args.steps.now).0 c.requires).short
+    ((steps_are_sound files.domain files.problem c.files_are_linked.ensures c.args.steps.now).0 c.requires).short
 
 pub judge-verdict-requires-clause-count : goal.judge-verdict-requires-clause-count
 judge-verdict-requires-clause-count g c =
     let files = c.args.task.now in
-    subst (λ l. length l ≤ 1000000) (sym c.in_ok-plan.ensures.steps) ((steps_are_sound files.domain files.problem c.domain-linked.ensures.linked c.args.steps.now).0 c.requires).short
+    subst (λ l. length l ≤ 1000000) (sym c.in_ok-plan.ensures.steps) ((steps_are_sound files.domain files.problem c.files_are_linked.ensures c.args.steps.now).0 c.requires).short
 
 pub returns : goal.returns
 returns g c =
     let files = c.args.task.now in
     let task : TaskValue = task_of files.domain files.problem in
-    let held = plan_task c.in_ok-plan.plan in
     let steps = c.args.steps.now in
     let content = g.S.AtomStore.content in
     let hs = c.in_ok-groups.groups.items in
     let r = c.judge-verdict.result in
-    let same_task : held ≡ task = c.in_ok-plan.ensures.task in
-    let run : IsCourseOf files.domain files.problem steps (numbered_steps held (plan_steps c.in_ok-plan.plan)) (numbered_goal held) (numbered_start held) (moments_of hs) (groups_of hs) = record {
-      linked = c.domain-linked.ensures.linked;
+    let run : IsCourseOf files.domain files.problem steps (plan_course c.in_ok-plan.plan) (plan_goal c.in_ok-plan.plan) (content c.initial_state.new.store c.in_ok-start.start) (moments_of hs) (groups_of hs) = record {
+      linked = c.files_are_linked.ensures;
       are = c.requires;
-      course_is = ap₂ numbered_steps same_task c.in_ok-plan.ensures.steps;
-      goal_is = ap numbered_goal same_task;
-      start_is = ap numbered_start same_task;
+      course_is = c.in_ok-plan.ensures.course;
+      goal_is = c.in_ok-plan.ensures.goal;
+      start_is = c.in_ok-start.ensures.content;
       of = c.in_ok-groups.ensures.happenings;
     } in
     record {

@@ -1,7 +1,7 @@
 use Rattle.std.proofs.Common.{◌≡◌, ◌||◌, drop}
 use Rattle.pddl_state.specs.Atoms.{AtomValue}
 use Rattle.pddl_state.specs.AtomSets.{is_listed}
-use Rattle.pddl_compiled_plan.proofs.plan.add_atoms.Given as goal
+use Rattle.pddl_step.proofs.starting.add_atoms.Given as goal
 
 -- the atoms so far are in the set
 abbrev pub invariant-loop-atom : goal.invariant-loop-atom
