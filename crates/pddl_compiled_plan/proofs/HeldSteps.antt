@@ -1,5 +1,5 @@
 -- What is held for the steps of a plan: the action of each.
-use Rattle.std.proofs.Common.{◌≡◌, ◌<◌, ◌≤◌, ℕ, Bool, true, List, [], length, get_or, sym, ap, ◌∙◌}
+use Rattle.std.proofs.Common.{◌≡◌, ◌<◌, ◌≤◌, ℕ, true, List, length, get_or, sym, ap, ◌∙◌}
 use Rattle.std.specs.Prelude.{Option, Some, slice_get}
 use Rattle.std.specs.Coded.{le_prop}
 use Rattle.std.specs.Option.{is_some, option_map_or}

@@ -12,7 +12,7 @@ use crate::action::{CompiledAction, UsedActions};
 use pddl_compiled::{Condition, Frame};
 use pddl_evaluation::{add_change_reads, add_fired, add_reads, is_true, spent};
 use pddl_judge::Course;
-use pddl_plan_steps::pddl_linked_plan::Steps;
+use pddl_linked_plan::Steps;
 use pddl_state::{Atom, AtomStore};
 use pddl_tables::TaskPrices;
 use std::alloc::{AllocError, Allocator};

@@ -10,7 +10,6 @@ mod steps;
 pub use initial::{
     atoms_in_range_name_one, initial_atoms, known_atoms_have_numbers, numbers_name_atoms,
 };
-pub use pddl_link;
 pub use step_laws::{
     linked_steps_are_known, linked_steps_are_sound, linked_steps_have_names,
     steps_in_any_order_are_linked,

@@ -14,12 +14,12 @@ use crate::lines::valid_line;
 use crate::wanted::Wanted;
 use pddl_commands::let_go_plan;
 use pddl_layout::plan_text;
-use pddl_serial_plans::pddl_link::Task;
-use pddl_serial_plans::pddl_linked_plan::Steps;
-use pddl_serial_plans::pddl_valid::Accepted;
+use pddl_link::Task;
+use pddl_linked_plan::Steps;
 use pddl_serial_plans::{serialise, split_in_groups};
 use pddl_state::AtomStore;
 use pddl_tree::Plan;
+use pddl_valid::Accepted;
 use std::alloc::{AllocError, Allocator};
 
 /// The canonical text of a plan that was made of an accepted one.

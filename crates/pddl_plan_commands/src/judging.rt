@@ -21,13 +21,13 @@ use crate::wanted::Wanted;
 use pddl_commands::{Formatted, Outcome, let_go_task, refused_link};
 use pddl_domain::Domain;
 use pddl_judge::Refusal;
+use pddl_link::{Task, link};
+use pddl_linked_plan::Steps;
 use pddl_plan_link::link_plan;
 use pddl_problem::Problem;
-use pddl_serial_plans::pddl_link::{Task, link};
-use pddl_serial_plans::pddl_linked_plan::Steps;
-use pddl_serial_plans::pddl_valid::{Verdict, validate};
 use pddl_state::{AtomStore, BitStore};
 use pddl_tree::Plan;
+use pddl_valid::{Verdict, validate};
 use std::alloc::{AllocError, Allocator};
 
 /// The line of a plan that is refused.

@@ -16,6 +16,5 @@ mod step_faults;
 mod wanted;
 
 pub use checking::{check, one_plan_outcome};
-pub use pddl_serial_plans;
-pub use pddl_serial_plans::{Order, pddl_link, pddl_linked_plan, pddl_step, pddl_valid};
+pub use pddl_serial_plans::Order;
 pub use serial_forms::{serial, serial_groups};

@@ -11,7 +11,7 @@ ghost use Rattle.pddl_task.specs.Tasks.{predicate_names, object_names};
 ghost use Rattle.pddl_plan_commands.specs.PlanLines.{valid_line, unready_line, atom_text, clash_words, clash_line, goal_line};
 
 use pddl_commands::push_number;
-use pddl_serial_plans::pddl_link::Task;
+use pddl_link::Task;
 use pddl_state::Atom;
 use std::alloc::{AllocError, Allocator};
 

@@ -21,9 +21,9 @@ use crate::fault::StepFault;
 use pddl_compiled::Frame;
 use pddl_domain::Action;
 use pddl_formula::Typed;
+use pddl_link::Task;
 use pddl_plan_tables::{Changes, PlanTables, make_change, some_costless};
 use pddl_state::Atom;
-use pddl_tables::pddl_link::Task;
 use pddl_tree::Step;
 use std::alloc::{AllocError, Allocator};
 

@@ -11,10 +11,10 @@ ghost use Rattle.pddl_plan_link.specs.StepVerdicts.{PlanVerdict};
 
 use crate::checks::check_step;
 use crate::fault::StepFault;
+use pddl_link::Task;
 use pddl_linked_plan::Steps;
 use pddl_plan_tables::{Changes, PlanTables, no_changes, plan_tables};
 use pddl_state::Atom;
-use pddl_tables::pddl_link::Task;
 use pddl_tree::Plan;
 use std::alloc::Allocator;
 

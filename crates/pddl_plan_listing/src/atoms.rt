@@ -1,9 +1,9 @@
 //! Atoms.
 
 use pddl_commands::Outcome;
+use pddl_link::Task;
+use pddl_linked_plan::initial_atoms;
 use pddl_row_driver::Lines;
-use pddl_serial_plans::pddl_link::Task;
-use pddl_serial_plans::pddl_linked_plan::initial_atoms;
 use pddl_state::{Atom, AtomStore};
 use std::alloc::Allocator;
 

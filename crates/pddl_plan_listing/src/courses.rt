@@ -8,11 +8,11 @@ use crate::atoms::add_set;
 use crate::listed::Asked;
 use pddl_commands::Outcome;
 use pddl_judge::Course;
+use pddl_link::Task;
+use pddl_linked_plan::Steps;
 use pddl_row_driver::Lines;
-use pddl_serial_plans::pddl_link::Task;
-use pddl_serial_plans::pddl_linked_plan::Steps;
-use pddl_serial_plans::pddl_step::{compile_plan, initial_state};
 use pddl_state::AtomStore;
+use pddl_step::{compile_plan, initial_state};
 use std::alloc::{AllocError, Allocator};
 use std::fmt::Debug;
 

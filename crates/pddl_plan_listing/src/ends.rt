@@ -5,11 +5,11 @@ ghost use Rattle.pddl_serial_plans.specs.LinkedPlan.LinkedSteps.{AreLinkedSteps}
 
 use crate::atoms::{add_atom, add_atoms};
 use pddl_commands::Outcome;
+use pddl_link::Task;
+use pddl_linked_plan::Steps;
 use pddl_row_driver::Lines;
-use pddl_serial_plans::pddl_link::Task;
-use pddl_serial_plans::pddl_linked_plan::Steps;
-use pddl_serial_plans::pddl_valid::{Accepted, Refusal, Verdict, validate};
 use pddl_state::{Atom, AtomStore};
+use pddl_valid::{Accepted, Refusal, Verdict, validate};
 use std::alloc::Allocator;
 
 /// Adds the atoms that hold at an end, and what the steps before it cost.

@@ -4,8 +4,8 @@ use crate::listed::Listed;
 use crate::{atoms, plan};
 use pddl_commands::{Outcome, RunFault};
 use pddl_device::Sink;
+use pddl_link::Task;
 use pddl_row_driver::{Files, Lines, Memory, OfTask, add_task, write_lines};
-use pddl_serial_plans::pddl_link::Task;
 use std::alloc::Allocator;
 
 impl OfTask for Listed {

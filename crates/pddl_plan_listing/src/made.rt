@@ -13,14 +13,14 @@ use crate::replays::add_numbers;
 use crate::steps::add_step_fault;
 use pddl_commands::{Outcome, let_go_plan};
 use pddl_layout::plan_text;
+use pddl_link::Task;
+use pddl_linked_plan::Steps;
 use pddl_plan_link::link_plan;
 use pddl_row_driver::{Lines, text_of};
-use pddl_serial_plans::pddl_link::Task;
-use pddl_serial_plans::pddl_linked_plan::Steps;
-use pddl_serial_plans::pddl_valid::{Accepted, Verdict, validate};
 use pddl_serial_plans::{Order, SplitFault, serialise, split};
 use pddl_state::{AtomStore, BitStore};
 use pddl_tree::Plan;
+use pddl_valid::{Accepted, Verdict, validate};
 use std::alloc::Allocator;
 
 /// Adds the canonical text of a plan.

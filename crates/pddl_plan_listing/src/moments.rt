@@ -1,9 +1,9 @@
 //! Happenings.
 
 use pddl_commands::Outcome;
+use pddl_linked_plan::Steps;
 use pddl_row_driver::Lines;
-use pddl_serial_plans::pddl_linked_plan::Steps;
-use pddl_serial_plans::pddl_valid::{Happening, happenings};
+use pddl_valid::{Happening, happenings};
 use std::alloc::Allocator;
 
 /// The most steps of a linked plan.

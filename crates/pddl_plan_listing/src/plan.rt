@@ -9,10 +9,10 @@ use crate::replays::add_replays;
 use crate::steps::{add_step_fault, add_steps};
 use crate::stores::add_over_both;
 use pddl_commands::{Outcome, let_go_plan};
+use pddl_link::Task;
+use pddl_linked_plan::Steps;
 use pddl_plan_link::link_plan;
 use pddl_row_driver::{Files, Lines, add_read_fault};
-use pddl_serial_plans::pddl_link::Task;
-use pddl_serial_plans::pddl_linked_plan::Steps;
 use pddl_tree::{Plan, read_plan};
 use std::alloc::Allocator;
 

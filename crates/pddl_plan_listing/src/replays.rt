@@ -5,9 +5,9 @@ ghost use Rattle.pddl_serial_plans.specs.LinkedPlan.LinkedSteps.{AreLinkedSteps}
 
 use crate::ends::add_end;
 use pddl_commands::Outcome;
+use pddl_link::Task;
+use pddl_linked_plan::Steps;
 use pddl_row_driver::{Lines, text_of};
-use pddl_serial_plans::pddl_link::Task;
-use pddl_serial_plans::pddl_linked_plan::Steps;
 use pddl_serial_plans::{ReplayFault, replay};
 use pddl_state::{AtomStore, BitStore, SortedStore};
 use std::alloc::Allocator;

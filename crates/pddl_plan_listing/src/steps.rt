@@ -1,9 +1,9 @@
 //! Steps of linked plans, and why a plan is not linked.
 
 use pddl_commands::Outcome;
+use pddl_linked_plan::{LinkedStep, Steps};
 use pddl_plan_link::StepFault;
 use pddl_row_driver::Lines;
-use pddl_serial_plans::pddl_linked_plan::{LinkedStep, Steps};
 use std::alloc::Allocator;
 
 /// Adds the numbers of a step's action and of its objects, and its moment.

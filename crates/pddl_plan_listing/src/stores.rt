@@ -8,9 +8,9 @@ use crate::ends::add_verdict;
 use crate::listed::Stored;
 use crate::made::add_made;
 use pddl_commands::Outcome;
+use pddl_link::Task;
+use pddl_linked_plan::Steps;
 use pddl_row_driver::Lines;
-use pddl_serial_plans::pddl_link::Task;
-use pddl_serial_plans::pddl_linked_plan::Steps;
 use pddl_state::{AtomStore, BitStore, SortedStore};
 use std::alloc::Allocator;
 

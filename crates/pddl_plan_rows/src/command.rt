@@ -2,10 +2,10 @@
 
 use pddl_commands::{Outcome, RunFault};
 use pddl_fakes::FakeSink;
-use pddl_plan_commands::pddl_serial_plans::Order;
 use pddl_plan_commands::{check, serial, serial_groups};
 use pddl_plan_listing::{Asked, Listed, Made, OfPlan, Stored, list};
 use pddl_row_driver::{Files, Memory, Sources};
+use pddl_serial_plans::Order;
 use std::alloc::Global;
 
 /// What a row runs.

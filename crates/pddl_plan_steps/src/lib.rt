@@ -7,5 +7,3 @@
 mod laws;
 
 pub use laws::{plans_do_as_named, plans_start_as_named, steps_do_as_named};
-pub use pddl_linked_plan;
-pub use pddl_linked_plan::pddl_link;

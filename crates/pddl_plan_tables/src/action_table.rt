@@ -11,7 +11,7 @@ ghost use Rattle.pddl_plan_tables.specs.StepTables.{named_action, named_in};
 
 use indexmap::IndexMap;
 use pddl_domain::Action;
-use pddl_tables::pddl_link::{Hashed, Task};
+use pddl_link::{Hashed, Task};
 use std::alloc::{AllocError, Allocator};
 
 /// An action with the ground size of its steps.

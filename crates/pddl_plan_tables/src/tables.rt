@@ -6,7 +6,7 @@ ghost use Rattle.pddl_plan_tables.specs.PlanTables.{AreCostTables, ArePlanTables
 
 use crate::action_table::{Actions, actions_by_name};
 use pddl_build::both_made;
-use pddl_tables::pddl_link::{SlotTops, Task};
+use pddl_link::{SlotTops, Task};
 use pddl_tables::{TaskLookups, TaskPrices, task_lookups, task_prices};
 use std::alloc::{AllocError, Allocator};
 

@@ -3,10 +3,10 @@
 use crate::faults::{add_file_fault, add_link_fault};
 use crate::lines::Lines;
 use crate::row::Files;
-use pddl_commands::pddl_link::{Task, link};
 use pddl_commands::{Outcome, let_go_domain, let_go_problem, let_go_task};
 use pddl_domain::Domain;
 use pddl_domain_reader::read_domain;
+use pddl_link::{Task, link};
 use pddl_problem::Problem;
 use pddl_problem_reader::read_problem;
 use std::alloc::Allocator;

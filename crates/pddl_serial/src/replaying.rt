@@ -2,7 +2,6 @@
 
 ghost use Rattle.std.specs.Prelude.{◌≡◌, ◌≤◌, ◌<◌, ℕ, Bool, List, All, IfOk, length};
 ghost use Rattle.std.specs.List.{concat};
-ghost use Rattle.pddl_state.specs.Atoms.{AtomValue};
 ghost use Rattle.pddl_state.specs.AtomSets.{IsRising, is_listed};
 ghost use Rattle.pddl_happenings.specs.Steps.{Step};
 ghost use Rattle.pddl_happenings.specs.Accepted.{after_all, cost_of_all};

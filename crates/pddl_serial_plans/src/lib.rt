@@ -13,8 +13,6 @@ mod split_plan;
 
 pub use fault::{ReplayFault, SplitFault};
 pub use pddl_serial::{End, Order};
-pub use pddl_valid;
-pub use pddl_valid::{pddl_link, pddl_linked_plan, pddl_step};
 pub use replaying::replay;
 pub use serial_plan::serialise;
 pub use split_plan::{split, split_in_groups};

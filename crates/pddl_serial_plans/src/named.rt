@@ -11,10 +11,10 @@ ghost use Rattle.pddl_valid.specs.LinkedPlan.LinkedLaws.{name_at, named_step, Is
 ghost use Rattle.pddl_valid.specs.LinkedPlan.StepParts.{lent_step};
 ghost use Rattle.pddl_serial_plans.specs.NewSteps.{picked, at_moments, plain_plan, timed_plan};
 
+use pddl_link::Task;
+use pddl_linked_plan::{LinkedStep, Steps};
 use pddl_token::{Fixed, Name};
 use pddl_tree::PlanBuilder;
-use pddl_valid::pddl_link::Task;
-use pddl_valid::pddl_linked_plan::{LinkedStep, Steps};
 use std::alloc::{AllocError, Allocator};
 
 /// The name of an object of the task.

@@ -7,12 +7,12 @@ ghost use Rattle.pddl_serial_plans.specs.SerialEnds.{IsReplayed, end_of};
 ghost use Rattle.pddl_serial_plans.specs.declared.fault.ReplayFault.TheVariants.{Memory};
 
 use crate::fault::ReplayFault;
+use pddl_link::Task;
+use pddl_linked_plan::Steps;
 use pddl_serial::{End, Replayed};
 use pddl_state::AtomStore;
+use pddl_step::{compile_plan, initial_state};
 use pddl_valid::happenings;
-use pddl_valid::pddl_link::Task;
-use pddl_valid::pddl_linked_plan::Steps;
-use pddl_valid::pddl_step::{compile_plan, initial_state};
 use std::alloc::{AllocError, Allocator};
 
 /// The end of a list that was executed, or why there is none.

@@ -10,12 +10,12 @@ ghost use Rattle.pddl_serial.specs.Orders.{in_order};
 ghost use Rattle.pddl_serial_plans.specs.NewPlans.{IsAcceptedOf, IsSerialPlan};
 
 use crate::named::add_steps;
+use pddl_link::Task;
+use pddl_linked_plan::Steps;
 use pddl_serial::Order;
 use pddl_state::AtomStore;
 use pddl_tree::{Plan, PlanBuilder};
 use pddl_valid::Accepted;
-use pddl_valid::pddl_link::Task;
-use pddl_valid::pddl_linked_plan::Steps;
 use std::alloc::{AllocError, Allocator};
 
 /// The plain plan of an accepted plan's happenings in turn, the steps of each in file order or reversed.

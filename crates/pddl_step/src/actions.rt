@@ -16,8 +16,8 @@ use pddl_build::both_made;
 use pddl_compiled::{Lookups, Scope, compile_change, compile_condition, parameter_slots};
 use pddl_compiled_plan::{CompiledAction, UsedActions};
 use pddl_domain::Action;
-use pddl_plan_steps::pddl_link::Task;
-use pddl_plan_steps::pddl_linked_plan::Steps;
+use pddl_link::Task;
+use pddl_linked_plan::Steps;
 use std::alloc::{AllocError, Allocator};
 
 /// An action by numbers, with what is in scope in it.

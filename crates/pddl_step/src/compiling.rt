@@ -17,8 +17,8 @@ use pddl_build::all_made;
 use pddl_compiled::{Condition, Lookups, Scope, compile_condition};
 use pddl_compiled_plan::{CompiledPlan, UsedActions};
 use pddl_formula::Formula;
-use pddl_plan_steps::pddl_link::Task;
-use pddl_plan_steps::pddl_linked_plan::Steps;
+use pddl_link::Task;
+use pddl_linked_plan::Steps;
 use pddl_tables::{TaskLookups, task_lookups, task_prices};
 use std::alloc::{AllocError, Allocator};
 

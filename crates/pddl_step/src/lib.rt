@@ -10,5 +10,4 @@ mod starting;
 
 pub use compiling::compile_plan;
 pub use pddl_compiled_plan::CompiledPlan;
-pub use pddl_plan_steps::{pddl_link, pddl_linked_plan};
 pub use starting::initial_state;

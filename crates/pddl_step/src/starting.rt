@@ -6,8 +6,8 @@ ghost use Rattle.pddl_state.specs.AtomSets.{is_listed};
 ghost use Rattle.pddl_plan_steps.specs.Link.LinkedTasks.{task_of_files};
 ghost use Rattle.pddl_plan_steps.specs.PlanSteps.{numbered_start};
 
-use pddl_plan_steps::pddl_link::Task;
-use pddl_plan_steps::pddl_linked_plan::initial_atoms;
+use pddl_link::Task;
+use pddl_linked_plan::initial_atoms;
 use pddl_state::{Atom, AtomStore};
 use std::alloc::{AllocError, Allocator};
 

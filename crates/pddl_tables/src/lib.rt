@@ -11,7 +11,6 @@ mod prices;
 mod task;
 
 pub use lookups::TaskLookups;
-pub use pddl_link;
 pub use price_laws::{prices_are_costs, tables_are_over};
 pub use prices::{TaskPrices, task_prices};
 pub use task::task_lookups;

@@ -9,6 +9,4 @@ mod verdict;
 
 pub use moments::happenings;
 pub use pddl_judge::{Accepted, Happening, Refusal, Verdict};
-pub use pddl_step;
-pub use pddl_step::{pddl_link, pddl_linked_plan};
 pub use verdict::validate;

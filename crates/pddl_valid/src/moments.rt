@@ -9,7 +9,7 @@ ghost use Rattle.pddl_step.specs.LinkedPlan.StepParts.{lent_step};
 ghost use Rattle.pddl_valid.specs.AcceptedPlans.{moments_in, AreHappeningsOf};
 
 use pddl_judge::{Happening, plain_happenings, timed_happenings};
-use pddl_step::pddl_linked_plan::{LinkedStep, Steps};
+use pddl_linked_plan::{LinkedStep, Steps};
 use std::alloc::{AllocError, Allocator};
 
 /// A step's moment in billionths, or 0 where it has none.

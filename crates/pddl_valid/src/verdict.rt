@@ -1,27 +1,26 @@
 //! The verdict.
 
-ghost use Rattle.std.specs.Prelude.{◌≡◌, ◌≤◌, ℕ, false, IfOk};
-ghost use Rattle.pddl_happenings.specs.Accepted.{AllFine, after_all, IsAcceptedRun, NotAccepted};
+ghost use Rattle.std.specs.Prelude.{◌≡◌, ℕ, false, IfOk};
+ghost use Rattle.pddl_happenings.specs.Accepted.{AllFine, after_all};
 ghost use Rattle.pddl_happenings.specs.Failures.{IsFirstUnready, IsFirstClash, AtHappening};
-ghost use Rattle.pddl_happenings.specs.Happenings.{HaveEachOnce};
 ghost use Rattle.pddl_happenings.specs.NamedSteps.{by_name};
 ghost use Rattle.pddl_happenings.specs.Serialisations.{Converges};
 ghost use Rattle.pddl_judge.specs.HappeningValues.{groups_of, moments_of};
-ghost use Rattle.pddl_judge.specs.Verdicts.{IsLeast, IfPrecondition, IfInterference, IfGoal, OnAccepted, OnRefused};
+ghost use Rattle.pddl_judge.specs.Verdicts.{IfPrecondition, IfInterference, IfGoal, OnAccepted, OnRefused};
 ghost use Rattle.pddl_step.specs.Link.LinkedTasks.{task_of_files};
 ghost use Rattle.pddl_meaning.specs.Worlds.{Atoms};
 ghost use Rattle.pddl_step.specs.LinkedPlan.LinkedSteps.{AreLinkedSteps};
 ghost use Rattle.pddl_step.specs.PlanSteps.NumberedSteps.{number_of};
-ghost use Rattle.pddl_step.specs.PlanSteps.PlanSteps.{numbered_start, named_steps, initial_state, goal_of};
+ghost use Rattle.pddl_step.specs.PlanSteps.PlanSteps.{named_steps, initial_state, goal_of};
 ghost use Rattle.pddl_valid.specs.AcceptedPlans.{AreHappeningsOf, OfHappenings, IsAcceptedPlan};
 ghost use Rattle.pddl_valid.specs.NamedClashes.{NamesLeast};
 
 use crate::moments::happenings;
 use pddl_judge::{Verdict, judge};
+use pddl_link::Task;
+use pddl_linked_plan::Steps;
 use pddl_state::AtomStore;
 use pddl_step::{compile_plan, initial_state};
-use pddl_step::pddl_link::Task;
-use pddl_step::pddl_linked_plan::Steps;
 use std::alloc::{AllocError, Allocator};
 
 /// The verdict on linked steps, over a store.

@@ -2,5 +2,5 @@ use Rattle.std.proofs.Common.{sym, ap, ◌∙◌, length}
 use Rattle.pddl_plan_listing.proofs.courses.add_compiled.Goals as goal
 
 -- the plan has as many steps as were compiled
-pub add_started-requires : goal.add_started-requires
-add_started-requires g c = ap length c.in-Ok.ensures.steps ∙ sym c.len.ensures
+pub add_course_in-requires-clause-count : goal.add_course_in-requires-clause-count
+add_course_in-requires-clause-count g c = ap length c.in-Ok.ensures.steps ∙ sym c.len.ensures

@@ -1,4 +1,4 @@
-use Rattle.std.proofs.Common.{◌≡◌, Option, ap, ◌∙◌}
+use Rattle.std.proofs.Common.{◌≡◌, ap, ◌∙◌}
 use Rattle.std.proofs.lemmas.Result.{IfOk-at_ok}
 use Rattle.pddl_state.specs.Atoms.{AtomValue}
 use Rattle.pddl_plan_steps.specs.Link.LinkedTasks.{task_of_files}
