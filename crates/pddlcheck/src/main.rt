@@ -130,6 +130,20 @@ impl Asked {
     }
 }
 
+/// Writes a plan with its happenings cut into groups of at most this size, over the readers of its files.
+fn write_groups<A: Allocator>(
+    alloc: &A,
+    order: Order,
+    size: NonZeroU32,
+    domain: &mut impl Source,
+    problem: &mut impl Source,
+    plan: &mut impl Source,
+    out: &mut impl Sink,
+) -> Result<Outcome, RunFault> {
+    let size = size.get();
+    serial_groups(alloc, domain, problem, plan, order, size, out)
+}
+
 /// Does what is asked of a plan over the readers of its files.
 fn carry_out<A: Allocator>(
     alloc: &A,
@@ -142,10 +156,7 @@ fn carry_out<A: Allocator>(
     match asked {
         Asked::Verdict => check(alloc, domain, problem, plan, out),
         Asked::Serial(order) => serial(alloc, domain, problem, plan, order, out),
-        Asked::Groups(order, size) => {
-            let size = size.get();
-            serial_groups(alloc, domain, problem, plan, order, size, out)
-        }
+        Asked::Groups(order, size) => write_groups(alloc, order, size, domain, problem, plan, out),
     }
 }
 
