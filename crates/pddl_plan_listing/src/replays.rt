@@ -4,12 +4,13 @@ ghost use Rattle.pddl_serial_plans.specs.Link.LinkedTasks.{task_of_files};
 ghost use Rattle.pddl_serial_plans.specs.LinkedPlan.LinkedSteps.{AreLinkedSteps};
 
 use crate::ends::add_end;
+use pddl_bit_store::BitStore;
 use pddl_commands::Outcome;
 use pddl_link::Task;
 use pddl_linked_plan::Steps;
 use pddl_row_driver::{Lines, text_of};
 use pddl_serial_plans::{ReplayFault, replay};
-use pddl_state::{AtomStore, BitStore, SortedStore};
+use pddl_state::{AtomStore, SortedStore};
 use std::alloc::Allocator;
 
 /// Adds the numbers that a part of a line has to others.

@@ -7,11 +7,12 @@ use crate::courses::add_course;
 use crate::ends::add_verdict;
 use crate::listed::Stored;
 use crate::made::add_made;
+use pddl_bit_store::BitStore;
 use pddl_commands::Outcome;
 use pddl_link::Task;
 use pddl_linked_plan::Steps;
 use pddl_row_driver::Lines;
-use pddl_state::{AtomStore, BitStore, SortedStore};
+use pddl_state::{AtomStore, SortedStore};
 use std::alloc::Allocator;
 
 /// Adds what is listed of linked steps over a store.

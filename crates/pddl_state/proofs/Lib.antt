@@ -1,11 +1,2 @@
 pub mod AtomOrder
-pub mod LaneWords
-pub mod LeastShared
-pub mod NumberingLaws
-pub mod RowBits
-pub mod RowLists
-pub mod SharedBits
 pub mod SortedKeys
-pub mod SparseNumbers
-pub mod MergedNumbers
-pub mod KeptNumbers

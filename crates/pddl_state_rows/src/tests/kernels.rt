@@ -1,4 +1,4 @@
-use pddl_state::{rows_disjoint, rows_subtract, rows_unite};
+use pddl_bit_rows::{rows_disjoint, rows_subtract, rows_unite};
 
 #[test]
 fn rows_of_the_table(rt: HostRuntime) {

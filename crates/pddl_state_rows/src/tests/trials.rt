@@ -4,7 +4,8 @@ use super::samples::samples;
 use super::sets::{TwoSets, empty_sets};
 use super::stores::{merges, runs_draws};
 use pddl_fakes::Refusing;
-use pddl_state::{AtomStore, BitStore, SortedStore};
+use pddl_bit_store::BitStore;
+use pddl_state::{AtomStore, SortedStore};
 use std::alloc::Allocator;
 
 /// Which store.

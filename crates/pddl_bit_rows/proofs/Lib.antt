@@ -1,0 +1,3 @@
+pub mod LaneWords
+pub mod RowBits
+pub mod SharedBits

@@ -1,0 +1,3 @@
+pub mod NumberingLaws
+pub mod LeastShared
+pub mod RowLists

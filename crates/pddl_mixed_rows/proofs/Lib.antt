@@ -1,0 +1,3 @@
+pub mod SparseNumbers
+pub mod MergedNumbers
+pub mod KeptNumbers

@@ -1,0 +1,2 @@
+pub mod SparseRows
+pub mod MixedRows

@@ -1,7 +1,0 @@
-use Rattle.std.proofs.Common.{◌≡◌, ℕ, ◌&&◌, false, take}
-use Rattle.pddl_state.specs.BitRows.{has_bit}
-use Rattle.pddl_state.specs.SparseRows.{has_number}
-use Rattle.pddl_state.proofs.sparse.share_none_with_row.Given as goal
-
-abbrev pub invariant-loop-number : goal.invariant-loop-number
-invariant-loop-number l = (i : ℕ) → (has_number (take l.number-index l.numbers) i && has_bit l.row i) ≡ false
