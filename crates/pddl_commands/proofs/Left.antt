@@ -3,7 +3,7 @@ use Rattle.std.proofs.Common.{◌≡◌, ℕ, ◌<◌, List, [], length, refl, a
 use Rattle.std.specs.Prelude.{Option, Some, None, IfSome}
 use Rattle.std.specs.Io.KnownBytes.{Consumes, Keeps}
 use Rattle.std.proofs.lemmas.List.{length-append}
-use Rattle.pddl_text.specs.declared.fault.TextFault.TheVariants as texts
+use Rattle.pddl_scan.specs.declared.fault.TextFault.TheVariants as texts
 use Rattle.pddl_tree.specs.declared.fault.ReadFault.TheVariants as plans
 use Rattle.pddl_file.specs.declared.fault.FileFault.TheVariants as files
 use Rattle.pddl_domain.specs.Domains.{DomainValue}

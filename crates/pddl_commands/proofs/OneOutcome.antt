@@ -1,7 +1,7 @@
 -- A text is formatted in one way.
 use Rattle.std.proofs.Common.{◌≡◌, ℕ, List, refl, sym, ap, ◌∙◌}
 use Rattle.std.specs.Prelude.{◌≢◌}
-use Rattle.pddl_text.specs.declared.fault.TextFault.TheVariants.{Memory}
+use Rattle.pddl_scan.specs.declared.fault.TextFault.TheVariants.{Memory}
 use Rattle.pddl_tree.specs.declared.fault.ReadFault.{ReadFault}
 use Rattle.pddl_tree.specs.declared.fault.ReadFault.TheVariants as plans
 use Rattle.pddl_tree.specs.Places.{fault_place}

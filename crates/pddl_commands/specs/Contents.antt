@@ -1,6 +1,6 @@
 -- What a command reads from a file. Own.
 use Rattle.std.specs.Prelude.{◌≡◌, ◌⊎◌, ℕ, List, [], Bool, true, Option, None}
-use Rattle.pddl_text.specs.declared.fault.TextFault.TheVariants as texts
+use Rattle.pddl_scan.specs.declared.fault.TextFault.TheVariants as texts
 use Rattle.pddl_text.specs.LineStarts.{line_starts}
 use Rattle.pddl_tree.specs.Plans.{plan_view}
 use Rattle.pddl_tree.specs.PlanTexts.{SpellsPlan}

@@ -1,6 +1,6 @@
 -- What `format` prints for a text, and how it ends. Own.
 use Rattle.std.specs.Prelude.{◌≡◌, ◌≢◌, ℕ, List, Option, Some, None}
-use Rattle.pddl_text.specs.declared.fault.TextFault.TheVariants.{Memory}
+use Rattle.pddl_scan.specs.declared.fault.TextFault.TheVariants.{Memory}
 use Rattle.pddl_tree.specs.declared.fault.ReadFault.{ReadFault}
 use Rattle.pddl_tree.specs.declared.fault.ReadFault.TheVariants as plans
 use Rattle.pddl_tree.specs.Places.{fault_place}

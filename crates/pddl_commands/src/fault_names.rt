@@ -7,7 +7,7 @@ ghost use Rattle.pddl_commands.specs.Lines.{text_fault_name, fault_name, file_fa
 
 use pddl_file::FileFault;
 use pddl_link::LinkFault;
-use pddl_text::TextFault;
+use pddl_scan::TextFault;
 use pddl_tree::ReadFault;
 
 /// The number and the name of a fault, and behind these the word or the keyword that it is about, which can be empty.

@@ -8,7 +8,8 @@ ghost use Rattle.pddl_commands.specs.Lines.{IsPosition, IsFaultLine};
 
 use crate::fault_names::FaultName;
 use itoa::Buffer;
-use pddl_text::{LONGEST, Places, Pos, position};
+use pddl_scan::LONGEST;
+use pddl_text::{Places, Pos, position};
 use std::alloc::{AllocError, Allocator};
 
 /// Adds a whole number.

@@ -15,7 +15,8 @@ use crate::line::{fault_line_at, position_in};
 use crate::outcome::{RunFault, or_memory};
 use pddl_device::{Source, SourceFault};
 use pddl_kind::Kind;
-use pddl_text::{LONGEST, Places, TextFault};
+use pddl_scan::{LONGEST, TextFault};
+use pddl_text::Places;
 use pddl_tree::{Plan, PlanReader, ReadFault};
 use std::alloc::{AllocError, Allocator};
 

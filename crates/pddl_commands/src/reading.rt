@@ -9,7 +9,7 @@ use crate::formatted::too_long;
 use crate::outcome::RunFault;
 use pddl_device::{Source, SourceFault, read_all};
 use pddl_kind::Kind;
-use pddl_text::LONGEST;
+use pddl_scan::LONGEST;
 use std::alloc::Allocator;
 
 /// What a file that was read holds.

@@ -1,7 +1,7 @@
 -- A text is at most one domain or has one fault, and reading answers it.
 use Rattle.std.proofs.Common.{◌≡◌, ℕ, List, sym, ap, ◌∙◌, subst, codes}
 use Rattle.std.specs.Prelude.{◌≢◌, []}
-use Rattle.pddl_text.specs.declared.fault.TextFault.TheVariants.{Memory}
+use Rattle.pddl_scan.specs.declared.fault.TextFault.TheVariants.{Memory}
 use Rattle.pddl_token.specs.Trees.{Placed}
 use Rattle.pddl_text.specs.Texts.{HasItems}
 use Rattle.pddl_text.proofs.TextItems.{one_items}

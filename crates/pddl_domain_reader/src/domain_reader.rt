@@ -2,7 +2,7 @@
 
 ghost use Rattle.std.specs.Prelude.{◌≡◌, ◌≢◌, ◌≤◌, ℕ, List, [], Some, length, IfOk, IfErr, MatchResult};
 ghost use Rattle.pddl_text.specs.Items.{items_view};
-ghost use Rattle.pddl_text.specs.declared.fault.TextFault.TheVariants.{Memory};
+ghost use Rattle.pddl_scan.specs.declared.fault.TextFault.TheVariants.{Memory};
 ghost use Rattle.pddl_file.specs.declared.fault.FileFault.{FileFault};
 ghost use Rattle.pddl_file.specs.declared.fault.FileFault.TheVariants.{Text};
 ghost use Rattle.pddl_file.specs.Inner.FileReading.{RefusesSections, RefusesFile};
@@ -16,8 +16,9 @@ use crate::section_reader::add_sections;
 use pddl_domain::{DeclaredTypes, Domain};
 use pddl_file::FileFault;
 use pddl_formula::TypedList;
+use pddl_scan::LONGEST;
 use pddl_sections::open_file;
-use pddl_text::{Item, LONGEST, items_of};
+use pddl_text::{Item, items_of};
 use pddl_token::Name;
 use std::alloc::Allocator;
 

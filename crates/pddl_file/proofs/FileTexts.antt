@@ -1,8 +1,8 @@
 -- A text is one file of a kind or has one fault, and reading answers it.
 use Rattle.std.proofs.Common.{◌≡◌, ℕ, List, refl, sym, ap, ◌∙◌, subst, inl, inr}
 use Rattle.std.specs.Prelude.{◌≢◌, ◌⊎◌}
-use Rattle.pddl_text.specs.declared.fault.TextFault.{TextFault}
-use Rattle.pddl_text.specs.declared.fault.TextFault.TheVariants.{Memory}
+use Rattle.pddl_scan.specs.declared.fault.TextFault.{TextFault}
+use Rattle.pddl_scan.specs.declared.fault.TextFault.TheVariants.{Memory}
 use Rattle.pddl_token.specs.Trees.{Placed}
 use Rattle.pddl_text.specs.Texts.{HasItems, TextStands}
 use Rattle.pddl_text.proofs.TextItems.{one_items}

@@ -1,6 +1,6 @@
 -- Where the faults of a domain's or a problem's file stand. Own.
 use Rattle.std.specs.Prelude.{ℕ, Option, Some, None}
-use Rattle.pddl_text.specs.Places.{text_place}
+use Rattle.pddl_scan.specs.Places.{text_place}
 use Rattle.pddl_file.specs.declared.fault.FileFault.{FileFault}
 use Rattle.pddl_file.specs.declared.fault.FileFault.TheVariants.{Text, Head, Section, Unsupported, Twice, Missing}
 

@@ -1,13 +1,13 @@
 //! Why a domain or a problem was not read.
 
 ghost use Rattle.std.specs.Prelude.{◌≡◌};
-ghost use Rattle.pddl_text.specs.declared.fault.TextFault.TheVariants.{Memory};
+ghost use Rattle.pddl_scan.specs.declared.fault.TextFault.TheVariants.{Memory};
 ghost use Rattle.pddl_file.specs.declared.fault.FileFault.TheVariants.{Text};
 ghost use Rattle.pddl_file.specs.Places.{file_place};
 
 use crate::keyword::SectionKeyword;
 use crate::mark::Mark;
-use pddl_text::TextFault;
+use pddl_scan::TextFault;
 use pddl_token::Span;
 use std::alloc::{AllocError, AllocFailed};
 use thiserror::Error;

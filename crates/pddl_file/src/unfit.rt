@@ -1,7 +1,7 @@
 //! Sections that fit no rule.
 
 ghost use Rattle.std.specs.Prelude.{◌≡◌, ◌≢◌};
-ghost use Rattle.pddl_text.specs.declared.fault.TextFault.TheVariants.{Memory};
+ghost use Rattle.pddl_scan.specs.declared.fault.TextFault.TheVariants.{Memory};
 ghost use Rattle.pddl_text.specs.Items.{item_view};
 ghost use Rattle.pddl_tree.specs.ItemTrees.{item_tree};
 ghost use Rattle.pddl_tree.specs.PlanFaults.{span_of};

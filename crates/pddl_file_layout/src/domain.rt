@@ -20,7 +20,7 @@ use crate::printing::put;
 use crate::section::{put_objects, put_requirements};
 use pddl_device::{Sink, ToWrite, WriteFault};
 use pddl_domain::{Action, DeclaredFunction, DeclaredPredicate, DeclaredType, Domain};
-use pddl_text::LONGEST;
+use pddl_scan::LONGEST;
 use std::alloc::{AllocError, Allocator};
 
 /// Writes declared types, each behind a space and with its parent.

@@ -16,7 +16,7 @@ ghost use Rattle.pddl_file_layout.specs.FormulaTrees.{formula_tree, effect_tree}
 ghost use Rattle.pddl_file_layout.specs.DomainLayout.{is_domain, domain_tree, domain_text};
 ghost use Rattle.pddl_file_layout.specs.ProblemLayout.{is_problem, problem_tree, problem_text};
 
-use pddl_text::LONGEST;
+use pddl_scan::LONGEST;
 
 /// The canonical tree of a formula spells it. The formula is any that the program can hold.
 pub fn formula_tree_spells()

@@ -18,7 +18,7 @@ use crate::printing::{put, put_number};
 use crate::section::{put_objects, put_requirements};
 use pddl_device::{Sink, ToWrite, WriteFault};
 use pddl_problem::{Direction, Fact, GroundFunction, InitItem, Metric, Problem};
-use pddl_text::LONGEST;
+use pddl_scan::LONGEST;
 use std::alloc::{AllocError, Allocator};
 
 /// Writes a predicate and its objects.

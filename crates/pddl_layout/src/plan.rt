@@ -12,7 +12,7 @@ ghost use Rattle.pddl_layout.specs.Inner.PlanLines.{moment_text, line_at};
 use crate::number::put_number;
 use crate::printing::put;
 use pddl_device::{Sink, ToWrite, WriteFault};
-use pddl_text::LONGEST;
+use pddl_scan::LONGEST;
 use pddl_token::Fixed;
 use pddl_tree::{Plan, Step};
 use std::alloc::{AllocError, Allocator};

@@ -2,7 +2,7 @@
 
 ghost use Rattle.std.specs.Prelude.{◌≡◌, ◌≢◌, ◌≤◌, ℕ, List, Some, None, IfOk, IfErr, MatchResult, length, option_map, codes};
 ghost use Rattle.pddl_text.specs.Items.{items_view};
-ghost use Rattle.pddl_text.specs.declared.fault.TextFault.TheVariants.{Memory};
+ghost use Rattle.pddl_scan.specs.declared.fault.TextFault.TheVariants.{Memory};
 ghost use Rattle.pddl_sections.specs.Inner.Answers.{first_missing, file_answer};
 ghost use Rattle.pddl_file.specs.declared.fault.FileFault.{FileFault};
 ghost use Rattle.pddl_file.specs.declared.fault.FileFault.TheVariants.{Text};
@@ -18,8 +18,9 @@ use crate::section_reader::sections_of;
 use pddl_file::FileFault;
 use pddl_formula::TypedList;
 use pddl_problem::Problem;
+use pddl_scan::LONGEST;
 use pddl_sections::open_file;
-use pddl_text::{Item, LONGEST, items_of};
+use pddl_text::{Item, items_of};
 use pddl_token::Name;
 use std::alloc::Allocator;
 

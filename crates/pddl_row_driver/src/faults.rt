@@ -4,7 +4,7 @@ use crate::lines::Lines;
 use pddl_commands::Outcome;
 use pddl_file::FileFault;
 use pddl_link::LinkFault;
-use pddl_text::TextFault;
+use pddl_scan::TextFault;
 use pddl_token::Span;
 use pddl_tree::ReadFault;
 use std::alloc::Allocator;

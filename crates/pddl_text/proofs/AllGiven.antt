@@ -5,20 +5,20 @@ use Rattle.std.specs.List.{AllPass, prefix_len}
 use Rattle.std.proofs.lemmas.Bool.{cases_lt}
 use Rattle.std.proofs.lemmas.List.{append-nil, length-append, drop-append-le, take-append-drop, drop_all}
 use Rattle.std.proofs.lemmas.List.Elements.{All-cons}
-use Rattle.pddl_text.specs.declared.parts.Progress.{Progress}
-use Rattle.pddl_text.specs.declared.parts.Progress.TheVariants as progress
+use Rattle.pddl_scan.specs.declared.parts.Progress.{Progress}
+use Rattle.pddl_scan.specs.declared.parts.Progress.TheVariants as progress
 use Rattle.pddl_token.specs.Bytes.{is_inner_byte, is_line_byte}
 use Rattle.pddl_token.specs.Spelling.{PlacedWord, Spells}
-use Rattle.pddl_text.specs.declared.fault.TextFault.{TextFault}
-use Rattle.pddl_text.specs.declared.fault.TextFault.TheVariants as faults
-use Rattle.pddl_text.specs.Faults.{IsStray, IsGlued, IsOutOfRange, IsFaulty, IsLeftmost, AreValued, Stands}
-use Rattle.pddl_text.specs.Scanning.{LexedTo}
+use Rattle.pddl_scan.specs.declared.fault.TextFault.{TextFault}
+use Rattle.pddl_scan.specs.declared.fault.TextFault.TheVariants as faults
+use Rattle.pddl_scan.specs.Faults.{IsStray, IsGlued, IsOutOfRange, IsFaulty, IsLeftmost, AreValued, Stands}
+use Rattle.pddl_scan.specs.Scanning.{LexedTo}
 use Rattle.pddl_text.specs.declared.plan_lexer.PlanLexer.{PlanLexer}
-use Rattle.pddl_text.specs.InPieces.{HasRead, EndsLine, SpellsPartly}
+use Rattle.pddl_scan.specs.InPieces.{HasRead, EndsLine, SpellsPartly}
 use Rattle.pddl_text.specs.StandsFor.{StandsFor}
 use Rattle.pddl_token.proofs.Runs.{run_le}
-use Rattle.pddl_text.proofs.Lexed.{lexed_to_end, one_spelling, no_other}
-use Rattle.pddl_text.proofs.Ended.{stops_in}
+use Rattle.pddl_scan.proofs.Lexed.{lexed_to_end, one_spelling, no_other}
+use Rattle.pddl_scan.proofs.Ended.{stops_in}
 
 -- bytes that a text's last LF ends do not all pass a test that LF fails
 no_lf_behind : (p : ℕ → Bool) (text lines rest : List ℕ) (place : ℕ) → p 10 ≡ false → text ≡ lines ++ 10 ∷ [] → place < length text → drop place text ≡ rest → AllPass p rest → ⊥

@@ -3,16 +3,16 @@ use Rattle.std.proofs.Common.{◌≡◌, ℕ, ◌≤◌, ◌<◌, List, [], ◌�
 use Rattle.std.specs.Prelude.{All, Some}
 use Rattle.std.proofs.lemmas.List.{length-append, length-drop}
 use Rattle.std.proofs.lemmas.List.Elements.{All-head, All-tail, All-nil, All-cons}
-use Rattle.pddl_text.specs.declared.fault.TextFault.{TextFault}
-use Rattle.pddl_text.specs.declared.fault.TextFault.TheVariants.{Memory, TooLong, Stray, Glued, NumberRange, Unopened, TooDeep, Unclosed, AlreadyFailed}
+use Rattle.pddl_scan.specs.declared.fault.TextFault.{TextFault}
+use Rattle.pddl_scan.specs.declared.fault.TextFault.TheVariants.{Memory, TooLong, Stray, Glued, NumberRange, Unopened, TooDeep, Unclosed, AlreadyFailed}
 use Rattle.pddl_token.specs.Spelling.{PlacedWord, Spells}
 use Rattle.pddl_text.specs.Spans.{IsSlice}
-use Rattle.pddl_text.specs.Faults.{IsLongestNumber}
-use Rattle.pddl_text.specs.Places.{text_place}
+use Rattle.pddl_scan.specs.Faults.{IsLongestNumber}
+use Rattle.pddl_scan.specs.Places.{text_place}
 use Rattle.pddl_token.specs.Trees.{Placed, placed_leaf, placed_node, PlacedList, no_placed, placed_tree, placed_of}
 use Rattle.pddl_text.specs.Lists.{AreItems, none, plain, nested, IsUnopened, IsTooDeep, IsFirstMisplaced}
 use Rattle.pddl_text.specs.Texts.{HasItems, TextStands}
-use Rattle.pddl_text.proofs.Numbers.{number_nonempty}
+use Rattle.pddl_scan.proofs.Numbers.{number_nonempty}
 use Rattle.pddl_text.proofs.WordSpans.{are_slices}
 
 -- ---- faults of words

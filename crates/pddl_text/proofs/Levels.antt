@@ -8,7 +8,7 @@ use Rattle.pddl_token.specs.Trees.{leaf, node, Trees, no_trees, tree, Placed, un
 use Rattle.pddl_text.specs.Lists.{AreItems, none, plain, nested}
 use Rattle.pddl_text.specs.Pieces.{Piece, tokens_of, pieces_text, AreWritten, opening_word, closing_word, trees_words, AreWritable, AreWithin}
 use Rattle.pddl_text.specs.Texts.{HasItems}
-use Rattle.pddl_text.proofs.Lexed.{one_spelling}
+use Rattle.pddl_scan.proofs.Lexed.{one_spelling}
 use Rattle.pddl_text.proofs.Written.{parts_of, unplaced_words, written_spells}
 
 -- the words form items in which the trees stand at the front; behind their words the closing and what follows it are the rest

@@ -1,11 +1,4 @@
-pub mod Classes
-pub mod Numbers
-pub mod FirstPart
-pub mod OneReading
-pub mod NextReads
-pub mod Lexed
 pub mod WordSpans
-pub mod WordsHeld
 pub mod Nests
 pub mod FaultsBehind
 pub mod Stacks
@@ -17,8 +10,5 @@ pub mod ListFaults
 pub mod TextFaults
 pub mod Behind
 pub mod FaultPlaces
-pub mod Ended
-pub mod PartsRead
-pub mod PiecesRead
 pub mod AllGiven
 pub mod LinesBegun

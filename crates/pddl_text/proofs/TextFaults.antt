@@ -4,14 +4,14 @@ use Rattle.std.specs.Prelude.{◌⊎◌, ◌≢◌}
 use Rattle.std.proofs.lemmas.Bool.{cases_lt}
 use Rattle.std.proofs.lemmas.List.{take-append-drop}
 use Rattle.pddl_token.specs.declared.token.TokenKind.TheVariants.{Number}
-use Rattle.pddl_text.specs.declared.fault.TextFault.{TextFault}
-use Rattle.pddl_text.specs.declared.fault.TextFault.TheVariants as faults
+use Rattle.pddl_scan.specs.declared.fault.TextFault.{TextFault}
+use Rattle.pddl_scan.specs.declared.fault.TextFault.TheVariants as faults
 use Rattle.pddl_token.specs.Spelling.{PlacedWord, Spells}
-use Rattle.pddl_text.specs.Faults.{IsStray, IsLongestNumber, IsGlued, IsOutOfRange, IsFaulty, IsLeftmost, HasFaultAt, AreValued}
+use Rattle.pddl_scan.specs.Faults.{IsStray, IsLongestNumber, IsGlued, IsOutOfRange, IsFaulty, IsLeftmost, HasFaultAt, AreValued}
 use Rattle.pddl_token.specs.Trees.{Placed}
 use Rattle.pddl_text.specs.Lists.{ListStands}
 use Rattle.pddl_text.specs.Texts.{HasItems, HasListFault, TextStands}
-use Rattle.pddl_text.proofs.Lexed.{one_spelling, no_other}
+use Rattle.pddl_scan.proofs.Lexed.{one_spelling, no_other}
 use Rattle.pddl_text.proofs.ListFaults.{same_split, one_list_fault, no_list_fault}
 use Rattle.pddl_text.proofs.TextItems.{items_form}
 

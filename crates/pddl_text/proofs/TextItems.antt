@@ -4,7 +4,7 @@ use Rattle.pddl_token.specs.Spelling.{PlacedWord, Spells}
 use Rattle.pddl_token.specs.Trees.{Tree, Placed, erased}
 use Rattle.pddl_text.specs.Lists.{AreItems}
 use Rattle.pddl_text.specs.Texts.{HasItems, ReadsAs}
-use Rattle.pddl_text.proofs.Lexed.{one_spelling}
+use Rattle.pddl_scan.proofs.Lexed.{one_spelling}
 use Rattle.pddl_text.proofs.Nests.{one_nesting}
 
 -- the items are those of any words that spell the text

@@ -6,7 +6,7 @@ use Rattle.std.proofs.lemmas.List.Elements.{All-nil, All-cons}
 use Rattle.std.proofs.lemmas.List.Kept.{AllPairs-cons}
 use Rattle.pddl_token.specs.Spelling.{Word, PlacedWord, placed, Part, gap, word, InTurn, words_from, Spells}
 use Rattle.pddl_text.specs.Spans.{IsSlice, EndsBefore}
-use Rattle.pddl_text.proofs.OneReading.{part_nonempty, text_of}
+use Rattle.pddl_scan.proofs.OneReading.{part_nonempty, text_of}
 
 -- a word behind these bytes is the slice at its place
 placed_slice : (before after : List ℕ) (w : Word) → 0 < length w.text → IsSlice (before ++ (w.text ++ after)) (placed (length before) w)

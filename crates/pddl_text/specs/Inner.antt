@@ -1,5 +1,2 @@
 -- What the code and the proofs go by: second forms of what stands beside this folder, and how values are held.
-pub mod ByteClass
-pub mod Reading
-pub mod Parts
 pub mod Nesting

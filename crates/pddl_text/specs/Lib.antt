@@ -1,9 +1,4 @@
 pub mod Spans
-pub mod Faults
-pub mod Places
-pub mod Scanning
-pub mod WordLists
-pub mod InPieces
 pub mod StandsFor
 pub mod Items
 pub mod Lists

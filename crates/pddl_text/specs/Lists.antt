@@ -3,8 +3,8 @@
 use Rattle.std.specs.Prelude.{◌≡◌, ◌≢◌, ◌≤◌, ◌⊎◌, ℕ, zero, suc, List, [], ◌∷◌, ◌++◌, length}
 use Rattle.pddl_token.specs.declared.token.TokenKind.TheVariants.{Open, Close}
 use Rattle.pddl_token.specs.declared.token.Span.{Span}
-use Rattle.pddl_text.specs.declared.fault.TextFault.{TextFault}
-use Rattle.pddl_text.specs.declared.fault.TextFault.TheVariants as faults
+use Rattle.pddl_scan.specs.declared.fault.TextFault.{TextFault}
+use Rattle.pddl_scan.specs.declared.fault.TextFault.TheVariants as faults
 use Rattle.pddl_token.specs.Spelling.{PlacedWord}
 use Rattle.pddl_token.specs.Trees.{Placed, placed_leaf, placed_node, placed_of}
 

@@ -7,7 +7,7 @@ use Rattle.pddl_token.specs.declared.token.TokenKind.TheVariants.{Open, Close}
 use Rattle.pddl_token.specs.Bytes.{is_word_byte, begins}
 use Rattle.pddl_token.specs.Words.{IsSpelling}
 use Rattle.pddl_token.specs.Spelling.{Word}
-use Rattle.pddl_text.specs.Faults.{IsValued}
+use Rattle.pddl_scan.specs.Faults.{IsValued}
 use Rattle.pddl_token.specs.Trees.{Tree, leaf, node, Trees, no_trees, tree}
 
 -- a word, or blanks

@@ -2,7 +2,7 @@
 use Rattle.std.specs.Prelude.{◌≡◌, ℕ, true, false, List, length}
 use Rattle.pddl_text.specs.declared.plan_lexer.PlanLexer.{PlanLexer}
 use Rattle.pddl_token.specs.Spelling.{PlacedWord}
-use Rattle.pddl_text.specs.InPieces.{HasRead}
+use Rattle.pddl_scan.specs.InPieces.{HasRead}
 
 -- the pieces make the text, and the words were given of it
 pub record StandsFor {A : _} (lexer : PlanLexer A) (text : List ℕ) (words : List PlacedWord) : Type 0 where

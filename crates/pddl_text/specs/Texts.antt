@@ -1,9 +1,9 @@
 -- A text and its items, and why a text has none. Own, from the words and the lists of a text.
 use Rattle.std.specs.Prelude.{◌≡◌, ◌≤◌, ℕ, List, length, map}
-use Rattle.pddl_text.specs.declared.fault.TextFault.{TextFault}
-use Rattle.pddl_text.specs.declared.fault.TextFault.TheVariants as faults
+use Rattle.pddl_scan.specs.declared.fault.TextFault.{TextFault}
+use Rattle.pddl_scan.specs.declared.fault.TextFault.TheVariants as faults
 use Rattle.pddl_token.specs.Spelling.{PlacedWord, Spells}
-use Rattle.pddl_text.specs.Faults.{AreValued, longest, Stands}
+use Rattle.pddl_scan.specs.Faults.{AreValued, longest, Stands}
 use Rattle.pddl_token.specs.Trees.{Tree, Placed, erased}
 use Rattle.pddl_text.specs.Lists.{AreItems, deepest, ListStands}
 

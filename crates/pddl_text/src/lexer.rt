@@ -1,19 +1,15 @@
 //! The words of a text.
 
 ghost use Rattle.std.specs.Prelude.{◌≡◌, ◌<◌, ◌≤◌, ◌↔◌, ℕ, List, length, map, All, AllPairs, IfOk, IfErr, MatchResult, Err};
-ghost use Rattle.pddl_text.specs.declared.fault.TextFault.TheVariants.{Memory, TooLong};
+ghost use Rattle.pddl_scan.specs.declared.fault.TextFault.TheVariants.{Memory, TooLong};
 ghost use Rattle.pddl_token.specs.Spelling.{PlacedWord, Spells, view};
 ghost use Rattle.pddl_text.specs.Spans.{IsSlice, EndsBefore};
-ghost use Rattle.pddl_text.specs.Faults.{AreValued, Stands};
-ghost use Rattle.pddl_text.specs.Inner.Reading.{Reads};
+ghost use Rattle.pddl_scan.specs.Faults.{AreValued, Stands};
+ghost use Rattle.pddl_scan.specs.Inner.Reading.{Reads};
 
-use crate::fault::TextFault;
-use crate::next::{Next, next_part};
+use pddl_scan::{LONGEST, Next, TextFault, next_part};
 use pddl_token::{Span, Token};
 use std::alloc::Allocator;
-
-/// The longest text, in bytes: 16 MiB. Own.
-pub const LONGEST: usize = 16_777_216;
 
 /// The words of a text, in order.
 ///

@@ -4,33 +4,25 @@
 //! [`position`] gives the line and column of a place. A place is a number of bytes from the beginning of the text. Of a text that comes in pieces, of
 //! which none is kept, a [`PlanLexer`] gives the words and [`Places`] the positions.
 //!
-//! Each of these calls answers exactly what the definitions give, and else the fault that stands first: those of `pddl_token` say which words spell a text, and those in
-//! `specs/` the rest: `Faults`, `Lists`, `Texts` (both together), `Positions`, and `StandsFor`, `InPieces` and `LineStarts` (texts in pieces). The functions with no body are laws
+//! Each of these calls answers exactly what the definitions give, and else the fault that stands first: those of `pddl_token` say which words spell a text, those of
+//! `pddl_scan` what its faults are and what is read of a text in pieces, and those in `specs/` the rest: `Lists`, `Texts` (both together), `Positions`, and `StandsFor` and `LineStarts` (texts in pieces). The functions with no body are laws
 //! on these definitions, for the crates above: a text has at most one reading and at most one fault, and texts that are written in canonical form read back.
 #![tactic(auto)]
 
-mod bytes;
-mod fault;
 mod item;
 mod lexer;
 mod nesting;
-mod next;
-mod parts;
 mod pieces;
-mod piecewise;
 mod place;
 mod places;
 mod plan_lexer;
 mod texts;
-mod word_list;
 
-pub use fault::TextFault;
 pub use item::Item;
-pub use lexer::{LONGEST, lex, one_spelling};
+pub use lexer::{lex, one_spelling};
 pub use nesting::{DEEPEST, list_fault_behind, lists, one_nesting};
 pub use pieces::{levels_as_read, pieces_read_back, tree_reads_back};
 pub use place::{Pos, position};
 pub use places::Places;
 pub use plan_lexer::PlanLexer;
 pub use texts::{items_of, no_fault_in_items, one_items, one_reading, one_text_fault};
-pub use word_list::WordList;

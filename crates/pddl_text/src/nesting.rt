@@ -1,16 +1,16 @@
 //! The lists of a text.
 
 ghost use Rattle.std.specs.Prelude.{◌≡◌, List, [], ◌∷◌, ◌++◌, Some, map, IfOk, IfErr, OnOk, MatchResult};
-ghost use Rattle.pddl_text.specs.declared.fault.TextFault.{TextFault};
-ghost use Rattle.pddl_text.specs.declared.fault.TextFault.TheVariants.{Memory};
+ghost use Rattle.pddl_scan.specs.declared.fault.TextFault.{TextFault};
+ghost use Rattle.pddl_scan.specs.declared.fault.TextFault.TheVariants.{Memory};
 ghost use Rattle.pddl_token.specs.Spelling.{PlacedWord, view};
 ghost use Rattle.pddl_token.specs.Trees.{Placed, placed_leaf};
 ghost use Rattle.pddl_text.specs.Items.{items_view};
 ghost use Rattle.pddl_text.specs.Lists.{AreItems, deepest, ListStands};
 ghost use Rattle.pddl_text.specs.Inner.Nesting.{nest_of, next_nest, IsRefused};
 
-use crate::fault::TextFault;
 use crate::item::{Item, OpenList};
+use pddl_scan::TextFault;
 use pddl_token::{Span, Token, TokenKind};
 use std::alloc::Allocator;
 use std::mem;

@@ -6,7 +6,7 @@ ghost use Rattle.pddl_text.specs.Lists.{deepest};
 ghost use Rattle.pddl_text.specs.Pieces.{Piece, pieces_text, tokens_of, AreWritten, trees_words, IsWritable, AreWritable, IsWithin, AreWithin, tree_text};
 ghost use Rattle.pddl_text.specs.Texts.{HasItems, ReadsAs};
 
-use crate::lexer::LONGEST;
+use pddl_scan::LONGEST;
 
 /// A text of pieces (words and blanks) that stand apart, and whose words are those of some trees, reads as these trees,
 /// if it keeps the limits of length and levels.

@@ -3,7 +3,7 @@
 ghost use Rattle.std.specs.Prelude.{◌≡◌, ◌≤◌, ◌↔◌, length, take, IfSome, IsSome};
 ghost use Rattle.pddl_text.specs.Positions.{IsBehind};
 
-use crate::lexer::LONGEST;
+use pddl_scan::LONGEST;
 
 /// A line and a column, both counted from 1. A column is a number of bytes.
 #[derive(Clone, Copy, Debug, PartialEq, Eq)]

@@ -3,13 +3,12 @@
 ghost use Rattle.std.specs.Prelude.{◌≡◌, ◌≤◌, ◌<◌, ◌+◌, ◌++◌, ◌∷◌, [], ◌⊎◌, ◌↔◌, ℕ, List, length, take, leb, slice_index_or, IfOk, IfErr, OnOk, OnErr, IfSome, IsSome, Err};
 ghost use Rattle.std.specs.List.{prefix_len};
 ghost use Rattle.std.specs.List.Sorted.{IsNonDecreasing};
-ghost use Rattle.pddl_text.specs.declared.fault.TextFault.TheVariants.{Memory, TooLong};
+ghost use Rattle.pddl_scan.specs.declared.fault.TextFault.TheVariants.{Memory, TooLong};
 ghost use Rattle.pddl_text.specs.Positions.{IsBehind};
 ghost use Rattle.pddl_text.specs.LineStarts.{starts_from, line_starts, AreStarts};
 
-use crate::fault::TextFault;
-use crate::lexer::LONGEST;
 use crate::place::Pos;
+use pddl_scan::{LONGEST, TextFault};
 use std::alloc::Allocator;
 use std::marker::Model;
 

@@ -1,16 +1,12 @@
 //! The words of a text that comes in pieces.
 
 ghost use Rattle.std.specs.Prelude.{◌≡◌, ◌≢◌, ◌≤◌, ◌<◌, ◌++◌, [], ◌⊎◌, ℕ, List, length, map, IfOk, IfErr, OnOk, OnErr, MatchResult, ◌↔◌, Err};
-ghost use Rattle.pddl_text.specs.declared.fault.TextFault.TheVariants.{Memory, TooLong, AlreadyFailed};
+ghost use Rattle.pddl_scan.specs.declared.fault.TextFault.TheVariants.{Memory, TooLong, AlreadyFailed};
 ghost use Rattle.pddl_token.specs.Spelling.{PlacedWord, Spells};
-ghost use Rattle.pddl_text.specs.Faults.{AreValued, Stands};
-ghost use Rattle.pddl_text.specs.InPieces.{SpellsPartly, EndsLine, word_view};
+ghost use Rattle.pddl_scan.specs.Faults.{AreValued, Stands};
+ghost use Rattle.pddl_scan.specs.InPieces.{SpellsPartly, EndsLine, word_view};
 
-use crate::fault::TextFault;
-use crate::lexer::LONGEST;
-use crate::parts::Progress;
-use crate::piecewise::{answer, read_last, read_piece};
-use crate::word_list::WordList;
+use pddl_scan::{LONGEST, Progress, TextFault, WordList, answer, read_last, read_piece};
 use pddl_token::Word;
 use std::alloc::Allocator;
 

@@ -1,16 +1,16 @@
 //! The items of a text.
 
 ghost use Rattle.std.specs.Prelude.{◌≡◌, ◌≢◌, List, ℕ, IfOk, IfErr, MatchResult};
-ghost use Rattle.pddl_text.specs.declared.fault.TextFault.{TextFault};
-ghost use Rattle.pddl_text.specs.declared.fault.TextFault.TheVariants.{Memory};
+ghost use Rattle.pddl_scan.specs.declared.fault.TextFault.{TextFault};
+ghost use Rattle.pddl_scan.specs.declared.fault.TextFault.TheVariants.{Memory};
 ghost use Rattle.pddl_token.specs.Trees.{Tree, Placed};
 ghost use Rattle.pddl_text.specs.Items.{items_view};
 ghost use Rattle.pddl_text.specs.Texts.{HasItems, ReadsAs, TextStands};
 
-use crate::fault::TextFault;
 use crate::item::Item;
 use crate::lexer::lex;
 use crate::nesting::lists;
+use pddl_scan::TextFault;
 use std::alloc::Allocator;
 
 /// The items of a text: its words, and the lists that they form.

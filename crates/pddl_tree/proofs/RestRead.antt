@@ -2,10 +2,10 @@
 use Rattle.std.proofs.Common.{◌≡◌, ◌≤◌, ℕ, List, [], ◌++◌, length, map, refl, sym, ap, subst, ◌∙◌, arith, inl, inr}
 use Rattle.std.specs.Prelude.{◌⊎◌, ◌<◌, Result, Ok, Err, IfOk, IfErr, OnOk, MatchResult}
 use Rattle.std.proofs.lemmas.List.{append_assoc, append-nil, length-map}
-use Rattle.pddl_text.specs.declared.fault.TextFault.{TextFault}
-use Rattle.pddl_text.specs.declared.fault.TextFault.TheVariants as text_faults
+use Rattle.pddl_scan.specs.declared.fault.TextFault.{TextFault}
+use Rattle.pddl_scan.specs.declared.fault.TextFault.TheVariants as text_faults
 use Rattle.pddl_token.specs.Spelling.{PlacedWord, Spells}
-use Rattle.pddl_text.specs.Faults.{AreValued, Stands}
+use Rattle.pddl_scan.specs.Faults.{AreValued, Stands}
 use Rattle.pddl_token.specs.Trees.{Placed, erased}
 use Rattle.pddl_text.specs.Lists.{AreItems, ListStands}
 use Rattle.pddl_text.specs.Texts.{HasItems, TextStands}

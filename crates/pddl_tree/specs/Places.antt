@@ -1,6 +1,6 @@
 -- Where the faults of a plan file stand. Own.
 use Rattle.std.specs.Prelude.{ℕ, Option, Some}
-use Rattle.pddl_text.specs.Places.{text_place}
+use Rattle.pddl_scan.specs.Places.{text_place}
 use Rattle.pddl_tree.specs.declared.fault.ReadFault.{ReadFault}
 use Rattle.pddl_tree.specs.declared.fault.ReadFault.TheVariants.{Text, Step, Mixed, Duration}
 

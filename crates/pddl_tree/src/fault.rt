@@ -1,11 +1,11 @@
 //! Why a file was not read.
 
 ghost use Rattle.std.specs.Prelude.{◌≡◌};
-ghost use Rattle.pddl_text.specs.declared.fault.TextFault.TheVariants.{Memory};
+ghost use Rattle.pddl_scan.specs.declared.fault.TextFault.TheVariants.{Memory};
 ghost use Rattle.pddl_tree.specs.declared.fault.ReadFault.TheVariants.{Text};
 ghost use Rattle.pddl_tree.specs.Places.{fault_place};
 
-use pddl_text::TextFault;
+use pddl_scan::TextFault;
 use pddl_token::Span;
 use std::alloc::{AllocError, AllocFailed};
 use thiserror::Error;

@@ -10,7 +10,8 @@ ghost use Rattle.pddl_tree.specs.Inner.PlanReading.{name_at, names_at, step_of, 
 
 use crate::fault::ReadFault;
 use crate::plan_builder::PlanBuilder;
-use pddl_text::{Item, TextFault};
+use pddl_scan::TextFault;
+use pddl_text::Item;
 use pddl_token::{Fixed, Span, TokenKind, value_of};
 use std::alloc::{AllocError, Allocator};
 

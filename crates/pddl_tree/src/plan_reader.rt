@@ -1,9 +1,9 @@
 //! Plans read from texts.
 
 ghost use Rattle.std.specs.Prelude.{◌≡◌, ◌≢◌, ◌≤◌, ◌<◌, ◌++◌, [], ◌⊎◌, ◌↔◌, Some, ℕ, false, List, length, IfOk, IfErr, OnOk, OnErr, MatchResult, Err};
-ghost use Rattle.pddl_text.specs.declared.fault.TextFault.TheVariants.{Memory, TooLong, AlreadyFailed};
+ghost use Rattle.pddl_scan.specs.declared.fault.TextFault.TheVariants.{Memory, TooLong, AlreadyFailed};
 ghost use Rattle.pddl_token.specs.Spelling.{PlacedWord, Spells};
-ghost use Rattle.pddl_text.specs.Faults.{AreValued, Stands};
+ghost use Rattle.pddl_scan.specs.Faults.{AreValued, Stands};
 ghost use Rattle.pddl_text.specs.StandsFor.{IsGoing};
 ghost use Rattle.pddl_tree.specs.declared.fault.ReadFault.{ReadFault};
 ghost use Rattle.pddl_tree.specs.declared.fault.ReadFault.TheVariants.{Text};
@@ -17,7 +17,8 @@ use crate::plan::Plan;
 use crate::plan_builder::PlanBuilder;
 use crate::plan_items::add_steps;
 use crate::plan_words::{Place, read_on};
-use pddl_text::{LONGEST, PlanLexer, TextFault, WordList, lists};
+use pddl_scan::{LONGEST, TextFault, WordList};
+use pddl_text::{PlanLexer, lists};
 use std::alloc::Allocator;
 
 /// The plan that a text spells which comes in pieces: what [`read_plan`] answers for the whole, however it is cut.

@@ -11,7 +11,7 @@ ghost use Rattle.pddl_tree.specs.declared.plan_words.Place.TheVariants as places
 ghost use Rattle.pddl_tree.specs.Inner.StepWords.{ReadsTo, ReadsOn, ReadsWords, HasMoved};
 
 use crate::plan_builder::PlanBuilder;
-use pddl_text::WordList;
+use pddl_scan::WordList;
 use pddl_token::{Fixed, Token, TokenKind, value_of};
 use std::alloc::{AllocError, Allocator};
 

@@ -2,7 +2,7 @@
 use Rattle.std.specs.Prelude.{◌≡◌, ℕ, List, [], ◌++◌, codes, Bool, true, false, Option, Some, None}
 use Rattle.std.specs.Fmt.{decimal}
 use Rattle.pddl_text.specs.declared.place.Pos.{Pos}
-use Rattle.pddl_text.specs.declared.fault.TextFault.TheVariants.{Memory}
+use Rattle.pddl_scan.specs.declared.fault.TextFault.TheVariants.{Memory}
 use Rattle.pddl_tree.specs.declared.fault.ReadFault.{ReadFault}
 use Rattle.pddl_tree.specs.declared.fault.ReadFault.TheVariants as plans
 use Rattle.pddl_file.specs.declared.fault.FileFault.{FileFault}

@@ -1,6 +1,6 @@
 -- Reading a whole file, and what the code answers of it, for the readers above. What it means stands in Faults.
 use Rattle.std.specs.Prelude.{◌≡◌}
-use Rattle.pddl_text.specs.declared.fault.TextFault.TheVariants.{Memory}
+use Rattle.pddl_scan.specs.declared.fault.TextFault.TheVariants.{Memory}
 use Rattle.pddl_sections.specs.Sections.{SectionFault, faulty, unsupported, twice}
 use Rattle.pddl_sections.specs.Files.{head, at_section, missing}
 use Rattle.pddl_sections.specs.Inner.Verdicts.{Turn, stop, Verdict, bad}

@@ -2,7 +2,7 @@
 
 use pddl_commands::{Outcome, let_go_plan};
 use pddl_row_driver::{Lines, add_read_fault};
-use pddl_text::TextFault;
+use pddl_scan::TextFault;
 use pddl_tree::{Plan, PlanReader, ReadFault, Step, read_plan};
 use std::alloc::Allocator;
 

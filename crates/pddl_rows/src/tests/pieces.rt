@@ -1,7 +1,8 @@
 //! Lexers and readers of texts that come in pieces, where no row of a text can say what they do.
 
 use pddl_fakes::Refusing;
-use pddl_text::{LONGEST, PlanLexer, TextFault};
+use pddl_scan::{LONGEST, TextFault};
+use pddl_text::PlanLexer;
 use pddl_tree::{Plan, PlanReader, ReadFault, read_plan};
 use std::alloc::{Allocator, Global};
 use std::test::Fail;

@@ -2,8 +2,8 @@
 use Rattle.std.specs.Prelude.{◌≡◌, ◌≤◌, ℕ, List, [], ◌∷◌, ◌++◌, length, Option, Some, None, nat_lt, if◌then◌else◌}
 use Rattle.pddl_token.specs.declared.token.TokenKind.{TokenKind}
 use Rattle.pddl_token.specs.declared.token.TokenKind.TheVariants.{Open, Close}
-use Rattle.pddl_text.specs.declared.fault.TextFault.{TextFault}
-use Rattle.pddl_text.specs.declared.fault.TextFault.TheVariants as faults
+use Rattle.pddl_scan.specs.declared.fault.TextFault.{TextFault}
+use Rattle.pddl_scan.specs.declared.fault.TextFault.TheVariants as faults
 use Rattle.pddl_text.specs.declared.item.OpenList.{OpenList}
 use Rattle.pddl_text.specs.declared.item.Item.{Item}
 use Rattle.pddl_token.specs.Spelling.{PlacedWord}

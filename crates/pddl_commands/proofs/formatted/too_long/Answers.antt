@@ -1,6 +1,6 @@
 use Rattle.std.proofs.Common.{[], refl}
 use Rattle.std.specs.Prelude.{None, Result, Ok, Err, IfOk}
-use Rattle.pddl_text.specs.declared.fault.TextFault.TheVariants.{TooLong}
+use Rattle.pddl_scan.specs.declared.fault.TextFault.TheVariants.{TooLong}
 use Rattle.pddl_commands.specs.Contents.{IsTooLongLine}
 use Rattle.pddl_commands.specs.Inner.Faults.{whole_name}
 use Rattle.pddl_kind.specs.Kinds.{kind_word}

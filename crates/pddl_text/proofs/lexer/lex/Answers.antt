@@ -1,10 +1,10 @@
 use Rattle.std.proofs.Common.{◌≡◌, ℕ, List, take, drop, sym, ap, ◌∙◌, subst, arith, inl, inr}
 use Rattle.std.proofs.lemmas.List.{map_push, take-append-drop}
 use Rattle.pddl_token.specs.Spelling.{PlacedWord, Spells, IsOpenComment, view}
-use Rattle.pddl_text.specs.Faults.{IsStray, IsGlued, IsOutOfRange, IsFaulty, AreValued}
-use Rattle.pddl_text.specs.Inner.Reading.{IsGapAt, IsWordAt}
-use Rattle.pddl_text.specs.Scanning.{LexedTo}
-use Rattle.pddl_text.proofs.Lexed.{gap_lexed, word_lexed, lexed_to_end, lexed_to_comment, leftmost_fault, one_spelling, no_other}
+use Rattle.pddl_scan.specs.Faults.{IsStray, IsGlued, IsOutOfRange, IsFaulty, AreValued}
+use Rattle.pddl_scan.specs.Inner.Reading.{IsGapAt, IsWordAt}
+use Rattle.pddl_scan.specs.Scanning.{LexedTo}
+use Rattle.pddl_scan.proofs.Lexed.{gap_lexed, word_lexed, lexed_to_end, lexed_to_comment, leftmost_fault, one_spelling, no_other}
 use Rattle.pddl_text.proofs.WordSpans.{are_slices, are_in_order}
 use Rattle.pddl_text.proofs.lexer.lex.Goals as goal
 

@@ -1,7 +1,7 @@
 use Rattle.std.proofs.Common.{subst, ◌++◌}
 use Rattle.std.specs.Prelude.{OnOk}
 use Rattle.pddl_token.specs.Spelling.{Spells}
-use Rattle.pddl_text.specs.Faults.{AreValued}
+use Rattle.pddl_scan.specs.Faults.{AreValued}
 use Rattle.pddl_tree.proofs.RestRead.{moved_read}
 use Rattle.pddl_tree.proofs.plan_reader.read_last.Goals as goal
 

@@ -1,8 +1,8 @@
 use Rattle.std.proofs.Common.{◌++◌, List, sym, subst, arith}
 use Rattle.pddl_token.specs.Spelling.{PlacedWord, Spells}
-use Rattle.pddl_text.specs.Faults.{AreValued}
+use Rattle.pddl_scan.specs.Faults.{AreValued}
 use Rattle.pddl_text.proofs.AllGiven.{none_since, no_fault_in_words}
-use Rattle.pddl_text.proofs.Lexed.{one_spelling}
+use Rattle.pddl_scan.proofs.Lexed.{one_spelling}
 use Rattle.pddl_text.proofs.plan_lexer.PlanLexer+ref+B.finish.Goals as goal
 
 pub returns-in-Ok-clause-words : goal.returns-in-Ok-clause-words

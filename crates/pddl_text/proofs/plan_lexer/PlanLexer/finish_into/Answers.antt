@@ -1,5 +1,5 @@
 use Rattle.std.proofs.Common.{◌++◌, sym, subst, arith}
-use Rattle.pddl_text.specs.InPieces.{HasRead}
+use Rattle.pddl_scan.specs.InPieces.{HasRead}
 use Rattle.pddl_text.proofs.AllGiven.{where_ok, where_err}
 use Rattle.pddl_text.proofs.plan_lexer.PlanLexer.finish_into.Goals as goal
 

@@ -1,0 +1,10 @@
+pub mod Classes
+pub mod Numbers
+pub mod FirstPart
+pub mod OneReading
+pub mod NextReads
+pub mod Lexed
+pub mod WordsHeld
+pub mod Ended
+pub mod PartsRead
+pub mod PiecesRead
