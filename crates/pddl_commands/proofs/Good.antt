@@ -11,7 +11,7 @@ use Rattle.pddl_faults.specs.Passes.{Verdict}
 use Rattle.pddl_file_layout.specs.DomainLayout.{domain_text}
 use Rattle.pddl_kind.specs.declared.Kind.TheVariants.{Domain, Plan}
 use Rattle.pddl_layout.specs.PlanLayout.{plan_text}
-use Rattle.pddl_tree.specs.Plans.{PlanValue}
+use Rattle.pddl_plan.specs.Plans.{PlanValue}
 use Rattle.pddl_tree.specs.PlanTexts.{SpellsPlan}
 use Rattle.pddl_commands.specs.declared.outcome.Outcome.{Outcome}
 use Rattle.pddl_commands.specs.declared.outcome.Outcome.TheVariants.{Good}

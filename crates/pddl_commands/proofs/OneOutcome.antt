@@ -6,7 +6,7 @@ use Rattle.pddl_tree.specs.declared.fault.ReadFault.{ReadFault}
 use Rattle.pddl_tree.specs.declared.fault.ReadFault.TheVariants as plans
 use Rattle.pddl_tree.specs.Places.{fault_place}
 use Rattle.pddl_tree.specs.PlanTexts.{SpellsPlan, without_near}
-use Rattle.pddl_tree.proofs.PlanTextLaws.{one_plan, one_plan_fault, no_fault_in_plan}
+use Rattle.pddl_plan_reader.proofs.PlanTextLaws.{one_plan, one_plan_fault, no_fault_in_plan}
 use Rattle.pddl_file.specs.declared.fault.FileFault.{FileFault}
 use Rattle.pddl_file.specs.declared.fault.FileFault.TheVariants as files
 use Rattle.pddl_file.specs.Places.{file_place}

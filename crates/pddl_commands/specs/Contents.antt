@@ -2,9 +2,9 @@
 use Rattle.std.specs.Prelude.{◌≡◌, ◌⊎◌, ℕ, List, [], Bool, true, Option, None}
 use Rattle.pddl_scan.specs.declared.fault.TextFault.TheVariants as texts
 use Rattle.pddl_text.specs.LineStarts.{line_starts}
-use Rattle.pddl_tree.specs.Plans.{plan_view}
+use Rattle.pddl_plan.specs.Plans.{plan_view}
 use Rattle.pddl_tree.specs.PlanTexts.{SpellsPlan}
-use Rattle.pddl_tree.specs.StandsForPlan.{StandsForPlan}
+use Rattle.pddl_plan_reader.specs.StandsForPlan.{StandsForPlan}
 use Rattle.pddl_kind.specs.declared.Kind.{Kind}
 use Rattle.pddl_kind.specs.declared.Kind.TheVariants as kinds
 use Rattle.pddl_kind.specs.Kinds.{kind_word}

@@ -5,7 +5,7 @@ ghost use Rattle.pddl_domain_reader.specs.DomainTexts.{DomainStands};
 ghost use Rattle.pddl_problem_reader.specs.ProblemTexts.{ProblemStands};
 ghost use Rattle.pddl_layout.specs.PlanLayout.{plan_text};
 ghost use Rattle.pddl_scan.specs.declared.fault.TextFault.TheVariants.{Memory};
-ghost use Rattle.pddl_tree.specs.Plans.{plan_view};
+ghost use Rattle.pddl_plan.specs.Plans.{plan_view};
 ghost use Rattle.pddl_file.specs.declared.fault.FileFault.TheVariants.{Text};
 ghost use Rattle.pddl_file.specs.Places.{file_place};
 ghost use Rattle.pddl_kind.specs.declared.Kind.{Kind};
@@ -24,10 +24,10 @@ use pddl_file::FileFault;
 use pddl_file_layout::{domain_text, problem_text};
 use pddl_kind::Kind;
 use pddl_layout::plan_text;
+use pddl_plan::Plan;
 use pddl_problem::let_go_problem;
 use pddl_problem_reader::read_problem;
 use pddl_scan::{LONGEST, TextFault};
-use pddl_tree::Plan;
 use std::alloc::{AllocError, Allocator};
 
 /// What is printed for a text, and the outcome.

@@ -15,9 +15,11 @@ use crate::line::{fault_line_at, position_in};
 use crate::outcome::{RunFault, or_memory};
 use pddl_device::{Source, SourceFault};
 use pddl_kind::Kind;
+use pddl_plan::Plan;
+use pddl_plan_reader::PlanReader;
 use pddl_scan::{LONGEST, TextFault};
 use pddl_text::Places;
-use pddl_tree::{Plan, PlanReader, ReadFault};
+use pddl_tree::ReadFault;
 use std::alloc::{AllocError, Allocator};
 
 /// How many bytes are asked for at a time.

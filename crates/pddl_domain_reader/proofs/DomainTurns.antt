@@ -10,7 +10,7 @@ use Rattle.pddl_token.specs.Trees.{Tree, Placed}
 use Rattle.pddl_token.specs.TreeWords.{list}
 use Rattle.pddl_tree.specs.ItemTrees.{item_tree, item_trees}
 use Rattle.pddl_tree.proofs.TreeLists.{list_of_trees_of}
-use Rattle.pddl_tree.proofs.Options.{map_some}
+use Rattle.pddl_token.proofs.Options.{map_some}
 use Rattle.pddl_sections.specs.Files.{IsOpened}
 use Rattle.pddl_sections.specs.Inner.Answers.{right}
 use Rattle.pddl_sections.specs.Inner.Verdicts.{Verdict, turn, verdict}

@@ -9,7 +9,7 @@ use Rattle.pddl_token.specs.Trees.{Tree, leaf, node, list_of}
 use Rattle.pddl_tree.specs.Inner.PlanReading.{moment_by}
 use Rattle.pddl_token.specs.TreeWords.{list, IsWord, SpellsNumber}
 use Rattle.pddl_tree.specs.Inner.TreeReading.{name_at, all_of}
-use Rattle.pddl_tree.proofs.Options.{map_some, bind_some, if_some, unless_some}
+use Rattle.pddl_token.proofs.Options.{map_some, bind_some, if_some, unless_some}
 use Rattle.pddl_tree.proofs.TreeLists.{list_of_trees_of, trees_of_list_of}
 use Rattle.pddl_tree.proofs.Readers.{Reads, name_reads, equal_bytes, other_bytes, word_sound, word_complete, each_sound, each_complete}
 use Rattle.pddl_formula.specs.Terms.{TermValue, IsTerm}

@@ -8,7 +8,7 @@ use Rattle.pddl_token.specs.Spelling.{Word}
 use Rattle.pddl_token.specs.Trees.{Tree, leaf, node, list_of}
 use Rattle.pddl_token.specs.Names.{folded}
 use Rattle.pddl_token.specs.TreeWords.{list, IsWord}
-use Rattle.pddl_tree.proofs.Options.{if_some, test_cases}
+use Rattle.pddl_token.proofs.Options.{if_some, test_cases}
 use Rattle.pddl_tree.proofs.TreeLists.{list_of_trees_of, trees_of_list_of}
 use Rattle.pddl_tree.proofs.Readers.{Reads, same_bytes}
 use Rattle.pddl_effect.specs.Effects.{AmountValue, IsIncrease}

@@ -9,7 +9,7 @@ use Rattle.pddl_text.specs.declared.item.Item.{Item}
 use Rattle.pddl_token.specs.Trees.{Tree}
 use Rattle.pddl_tree.specs.ItemTrees.{item_tree, item_trees}
 use Rattle.pddl_tree.specs.Inner.TreeReading.{all_of}
-use Rattle.pddl_tree.proofs.Options.{with_front, front_none}
+use Rattle.pddl_tree.proofs.Fronts.{with_front, front_none}
 use Rattle.pddl_formula_reader.proofs.Turns.{each_on, each_stop, each_end}
 
 -- the list, seen as one of X, is filled with the value of the item at this place

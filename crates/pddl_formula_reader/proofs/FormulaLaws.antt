@@ -4,7 +4,8 @@ use Rattle.std.specs.Prelude.{Option, Some, None, option_map}
 use Rattle.pddl_token.specs.Trees.{Tree, Trees, no_trees, tree, leaf, node, trees_of, list_of}
 use Rattle.pddl_token.specs.TreeWords.{list, IsWord}
 use Rattle.pddl_tree.specs.Inner.TreeReading.{all_of}
-use Rattle.pddl_tree.proofs.Options.{map_some, bind_some, both_some}
+use Rattle.pddl_token.proofs.Options.{map_some, bind_some}
+use Rattle.pddl_tree.proofs.Fronts.{both_some}
 use Rattle.pddl_tree.proofs.TreeLists.{list_of_trees_of, trees_of_list_of}
 use Rattle.pddl_tree.proofs.Readers.{Reads}
 use Rattle.pddl_formula.specs.Terms.{IsTerm}

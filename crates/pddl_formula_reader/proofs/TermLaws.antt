@@ -10,7 +10,7 @@ use Rattle.pddl_token.specs.Names.{name_of}
 use Rattle.pddl_tree.specs.Inner.PlanReading.{name_by}
 use Rattle.pddl_token.specs.TreeWords.{list, SpellsName, Each, IsNoneOf}
 use Rattle.pddl_tree.specs.Inner.TreeReading.{name_at, variable_name, variable_by, all_of}
-use Rattle.pddl_tree.proofs.Options.{map_some, bind_some, if_some}
+use Rattle.pddl_token.proofs.Options.{map_some, bind_some, if_some}
 use Rattle.pddl_tree.proofs.TreeLists.{list_of_trees_of, trees_of_list_of}
 use Rattle.pddl_tree.proofs.Readers.{Reads, name_reads, variable_reads, equal_bytes, other_bytes, each_sound, each_complete}
 use Rattle.pddl_formula.specs.Reserved.{reserved, is_none_of, predicate_of}

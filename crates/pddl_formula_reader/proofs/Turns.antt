@@ -8,7 +8,7 @@ use Rattle.pddl_token.specs.TreeWords.{list}
 use Rattle.pddl_tree.specs.ItemTrees.{item_tree, item_trees}
 use Rattle.pddl_tree.specs.Inner.PlanReading.{both}
 use Rattle.pddl_tree.specs.Inner.TreeReading.{all_of, is_word_at}
-use Rattle.pddl_tree.proofs.Options.{with_front, front_more}
+use Rattle.pddl_tree.proofs.Fronts.{with_front, front_more}
 use Rattle.pddl_tree.proofs.TreeLists.{list_of_trees_of}
 use Rattle.pddl_formula.specs.Reserved.{type_of}
 use Rattle.pddl_formula_reader.specs.Inner.Reading.{atom_at, atom_of, atom_of_list, type_at, type_name_at, either_of, variables_at, typed_variables}

@@ -5,7 +5,7 @@ use Rattle.std.specs.List.{flat_map}
 use Rattle.std.proofs.lemmas.List.{length-map}
 use Rattle.std.proofs.lemmas.Option.{slice_get-map, slice_get-get_or, get_or_from_slice_get}
 use Rattle.pddl_token.specs.NumberText.{number_text}
-use Rattle.pddl_tree.specs.Plans.{StepValue, TimedValue, PlanValue, plain, timed, steps_of, moment_at}
+use Rattle.pddl_plan.specs.Plans.{StepValue, TimedValue, PlanValue, plain, timed, steps_of, moment_at}
 use Rattle.pddl_layout.specs.PlanLayout.{plain_line, timed_line, plan_text}
 use Rattle.pddl_layout.specs.Inner.PlanLines.{moment_text, lines_of, line_at}
 

@@ -21,13 +21,13 @@ use Rattle.pddl_text.proofs.Listed.{reads_back}
 use Rattle.pddl_token.proofs.NumberTexts.{reads_as_it}
 use Rattle.pddl_token.proofs.Tests.{both_true}
 use Rattle.pddl_token.proofs.Values.{value_in_range}
-use Rattle.pddl_tree.specs.Building.{is_moment}
+use Rattle.pddl_plan.specs.Building.{is_moment}
 use Rattle.pddl_token.specs.Names.{is_first_byte, is_later_byte, is_name}
-use Rattle.pddl_tree.specs.Plans.{StepValue, TimedValue, PlanValue, plain, timed, is_step, is_timed, is_plan, IsStep, AreTimed, AreSteps}
+use Rattle.pddl_plan.specs.Plans.{StepValue, TimedValue, PlanValue, plain, timed, is_step, is_timed, is_plan, IsStep, AreTimed, AreSteps}
 use Rattle.pddl_tree.specs.PlanTexts.{SpellsPlan}
 use Rattle.pddl_token.specs.TreeWords.{SpellsName, SpellsNumber, Each}
 use Rattle.pddl_token.proofs.FoldedNames.{name_folded}
-use Rattle.pddl_tree.proofs.PlanTextLaws.{one_plan}
+use Rattle.pddl_plan_reader.proofs.PlanTextLaws.{one_plan}
 use Rattle.pddl_tree.proofs.Readers.{each_good}
 use Rattle.pddl_layout.specs.PlanLayout.{spaced, plain_line, timed_line, plan_text}
 

@@ -2,7 +2,7 @@
 use Rattle.std.specs.Prelude.{ℕ, List, ◌++◌, codes}
 use Rattle.std.specs.List.{flat_map}
 use Rattle.pddl_token.specs.NumberText.{number_text}
-use Rattle.pddl_tree.specs.Plans.{StepValue, TimedValue, PlanValue, plain, timed}
+use Rattle.pddl_plan.specs.Plans.{StepValue, TimedValue, PlanValue, plain, timed}
 
 -- a name behind a space
 abbrev pub spaced_name : List ℕ → List ℕ

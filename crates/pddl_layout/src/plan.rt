@@ -1,7 +1,7 @@
 //! The canonical text of plans.
 
 ghost use Rattle.std.specs.Prelude.{◌≡◌, ◌<◌, ◌≤◌, ◌↔◌, ℕ, List, IsTrue, IfOk, OnOk, OnErr, length, vec_len};
-ghost use Rattle.pddl_tree.specs.Plans.{PlanValue, plan_view, steps_of, is_plan};
+ghost use Rattle.pddl_plan.specs.Plans.{PlanValue, plan_view, steps_of, is_plan};
 ghost use Rattle.pddl_tree.specs.PlanTexts.{SpellsPlan};
 ghost use Rattle.std.specs.Io.KnownBytes.{Appends};
 ghost use Rattle.pddl_device.specs.Device.{AppendsBeginning, HasFailed};
@@ -12,9 +12,9 @@ ghost use Rattle.pddl_layout.specs.Inner.PlanLines.{moment_text, line_at};
 use crate::number::put_number;
 use crate::printing::put;
 use pddl_device::{Sink, ToWrite, WriteFault};
+use pddl_plan::{Plan, Step};
 use pddl_scan::LONGEST;
 use pddl_token::Fixed;
-use pddl_tree::{Plan, Step};
 use std::alloc::{AllocError, Allocator};
 
 /// Writes the names of a step's objects, each behind a space.

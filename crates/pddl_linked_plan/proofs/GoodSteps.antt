@@ -4,7 +4,7 @@ use Rattle.std.specs.Prelude.{Option, Some, None, is_some}
 use Rattle.std.specs.Option.{option_map_or}
 use Rattle.std.specs.List.{list_any, list_all}
 use Rattle.std.proofs.lemmas.Bool.Decides.{nat_tests}
-use Rattle.pddl_tree.specs.Plans.{StepValue}
+use Rattle.pddl_plan.specs.Plans.{StepValue}
 use Rattle.pddl_formula.specs.Terms.{name}
 use Rattle.pddl_domain.specs.Actions.{ActionValue}
 use Rattle.pddl_task.specs.Names.{Name, is_in}

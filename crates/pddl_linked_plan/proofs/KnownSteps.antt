@@ -1,7 +1,7 @@
 -- A step without faults speaks of known atoms.
 use Rattle.std.proofs.Common.{◌≡◌, suc, Bool, true, false, cond, List, [], ◌∷◌, arith, bytes_eq}
 use Rattle.std.specs.Prelude.{Option, Some, find, Contains}
-use Rattle.pddl_tree.specs.Plans.{StepValue}
+use Rattle.pddl_plan.specs.Plans.{StepValue}
 use Rattle.pddl_domain.specs.Domains.{DomainValue}
 use Rattle.pddl_problem.specs.Problems.{ProblemValue}
 use Rattle.pddl_task.specs.Linked.{IsLinked}

@@ -4,7 +4,7 @@ use Rattle.std.specs.Prelude.{◌↔◌, Option, Some, None, is_some, unwrap_or,
 use Rattle.std.specs.List.{list_all, IsDistinct, AllByRecursion}
 use Rattle.std.proofs.lemmas.List.{length-map}
 use Rattle.std.proofs.lemmas.Option.{slice_get_within}
-use Rattle.pddl_tree.specs.Plans.{StepValue, TimedValue, PlanValue, plain, timed}
+use Rattle.pddl_plan.specs.Plans.{StepValue, TimedValue, PlanValue, plain, timed}
 use Rattle.pddl_formula.specs.Terms.{name}
 use Rattle.pddl_domain.specs.Domains.{DomainValue}
 use Rattle.pddl_problem.specs.Problems.{ProblemValue}

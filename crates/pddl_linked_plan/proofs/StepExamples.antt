@@ -8,7 +8,7 @@ use Rattle.pddl_effect.specs.Effects as effects
 use Rattle.pddl_effect.specs.Effects.{increase, number, function, effects_of}
 use Rattle.pddl_domain.specs.Declarations.{TypeValue}
 use Rattle.pddl_domain.specs.Actions.{ActionValue}
-use Rattle.pddl_tree.specs.Plans.{StepValue, plain, timed}
+use Rattle.pddl_plan.specs.Plans.{StepValue, plain, timed}
 use Rattle.pddl_task.specs.Names.{Name}
 use Rattle.pddl_task.specs.Tasks.{TaskValue}
 use Rattle.pddl_linked_plan.specs.StepFaults.{step_faults, IsPlanFault}

@@ -3,7 +3,7 @@ use Rattle.std.proofs.Common.{◌≡◌, ◌<◌, ◌≤◌, ℕ, Bool, true, fa
 use Rattle.std.specs.Prelude.{Some, is_some}
 use Rattle.std.specs.Option.{option_map_or}
 use Rattle.std.proofs.lemmas.Bool.Decides.{nat_tests}
-use Rattle.pddl_tree.specs.Plans.{StepValue}
+use Rattle.pddl_plan.specs.Plans.{StepValue}
 use Rattle.pddl_formula.specs.Terms.{name}
 use Rattle.pddl_domain.specs.Actions.{ActionValue}
 use Rattle.pddl_task.specs.Faults.{some_misfit}

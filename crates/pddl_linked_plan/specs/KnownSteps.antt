@@ -1,6 +1,6 @@
 -- The ground atoms that a step speaks of.
 use Rattle.std.specs.Prelude.{◌≡◌, [], map, Some}
-use Rattle.pddl_tree.specs.Plans.{StepValue}
+use Rattle.pddl_plan.specs.Plans.{StepValue}
 use Rattle.pddl_domain.specs.Actions.{ActionValue}
 use Rattle.pddl_task.specs.Tasks.{TaskValue, fitting_names}
 use Rattle.pddl_task.specs.Valuations.{giving}

@@ -1,7 +1,7 @@
 -- What it is for steps by numbers to be linked to a task, without a plan that they are of (own).
 use Rattle.std.specs.Prelude.{◌≡◌, ◌≤◌, ◌<◌, ◌⊎◌, ℕ, false, List, [], map, length, get_or, slice_get, Some, None, is_some, true}
 use Rattle.std.specs.List.{AllByRecursion}
-use Rattle.pddl_tree.specs.Plans.{StepValue}
+use Rattle.pddl_plan.specs.Plans.{StepValue}
 use Rattle.pddl_domain.specs.Actions.{ActionValue}
 use Rattle.pddl_task.specs.Names.{Name}
 use Rattle.pddl_task.specs.GroundSize.{largest_size, action_size}

@@ -1,6 +1,6 @@
 -- A plan's steps by numbers: what is left of a plan once it is linked.
 use Rattle.std.specs.Prelude.{◌≡◌, ℕ, List, map, Option, Some, None}
-use Rattle.pddl_tree.specs.Plans.{StepValue, TimedValue, PlanValue, plain, timed}
+use Rattle.pddl_plan.specs.Plans.{StepValue, TimedValue, PlanValue, plain, timed}
 use Rattle.pddl_task.specs.Names.{number_in}
 use Rattle.pddl_task.specs.Tasks.{TaskValue, object_names}
 use Rattle.pddl_linked_plan.specs.StepFaults.{action_names, IsLinkedPlan}

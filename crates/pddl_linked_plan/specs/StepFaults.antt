@@ -2,7 +2,7 @@
 use Rattle.std.specs.Prelude.{◌≡◌, ◌≤◌, ◌<◌, ℕ, Bool, false, not, ◌&&◌, ◌||◌, ◌==◌, nat_lt, cond, List, [], ◌∷◌, ◌++◌, map, length, find, Option, Some, None, is_some, bytes_eq}
 use Rattle.std.specs.List.{list_any, AllByRecursion}
 use Rattle.std.specs.Option.{option_map_or}
-use Rattle.pddl_tree.specs.Plans.{StepValue, PlanValue, steps_of}
+use Rattle.pddl_plan.specs.Plans.{StepValue, PlanValue, steps_of}
 use Rattle.pddl_formula.specs.Terms.{name}
 use Rattle.pddl_formula.specs.TypedLists.{TypedValue}
 use Rattle.pddl_effect.specs.Effects as effects

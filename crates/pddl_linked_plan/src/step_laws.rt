@@ -4,7 +4,7 @@ ghost use Rattle.std.specs.Prelude.{◌≡◌, ◌↔◌, ◌≤◌, true, List,
 ghost use Rattle.std.specs.List.{list_all};
 ghost use Rattle.pddl_domain.specs.Domains.{DomainValue};
 ghost use Rattle.pddl_problem.specs.Problems.{ProblemValue};
-ghost use Rattle.pddl_tree.specs.Plans.{StepValue, plain};
+ghost use Rattle.pddl_plan.specs.Plans.{StepValue, plain};
 ghost use Rattle.pddl_task.specs.Names.{is_in};
 ghost use Rattle.pddl_task.specs.Linked.{IsLinked};
 ghost use Rattle.pddl_task.specs.Tasks.{task_of, object_names};

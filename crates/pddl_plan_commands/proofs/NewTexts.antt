@@ -3,7 +3,7 @@ use Rattle.std.proofs.Common.{◌≡◌, ℕ, List}
 use Rattle.std.specs.Prelude.{Result, Ok, Err, IfOk, IsOkAnd}
 use Rattle.std.proofs.lemmas.Result.{IfOk-weaker}
 use Rattle.pddl_layout.specs.PlanLayout.{plan_text}
-use Rattle.pddl_tree.specs.Plans.{PlanValue}
+use Rattle.pddl_plan.specs.Plans.{PlanValue}
 
 pub text_of_made : {P V E F : Type 0} (view : P → PlanValue) (items : V → List ℕ) (Is : PlanValue → Type 0) (made : Result P E) (text : Result V F)
     → IfOk text (λ t. IsOkAnd made (λ plan. items t ≡ plan_text (view plan))) → IfOk made (λ plan. Is (view plan))

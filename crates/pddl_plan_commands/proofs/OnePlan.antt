@@ -5,9 +5,9 @@ use Rattle.std.specs.List.{AllByRecursion}
 use Rattle.std.specs.Ordering.{is_le, is_eq, ordering_reverse}
 use Rattle.std.specs.declared.cmp.Ordering.{Ordering}
 use Rattle.std.specs.declared.cmp.Ordering.TheVariants.{Less, Equal, Greater}
-use Rattle.pddl_tree.specs.Plans.{PlanValue}
+use Rattle.pddl_plan.specs.Plans.{PlanValue}
 use Rattle.pddl_tree.specs.PlanTexts.{SpellsPlan}
-use Rattle.pddl_tree.proofs.PlanTextLaws.{one_plan, no_fault_in_plan}
+use Rattle.pddl_plan_reader.proofs.PlanTextLaws.{one_plan, no_fault_in_plan}
 use Rattle.pddl_domain.specs.Domains.{DomainValue}
 use Rattle.pddl_domain_reader.specs.DomainTexts.{SpellsDomain}
 use Rattle.pddl_domain_reader.proofs.DomainTextLaws.{one_domain}

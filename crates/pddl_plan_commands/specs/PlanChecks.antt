@@ -1,7 +1,7 @@
 -- What `plan` and `serial` print for the texts of their files, and how they end. Own; when a plan is accepted is Fox and Long's.
 use Rattle.std.specs.Prelude.{◌≡◌, ◌≢◌, ◌⊎◌, ℕ, true, false, List, [], codes, Option, Some, None, IfSome}
 use Rattle.std.specs.Ordering.{is_le}
-use Rattle.pddl_tree.specs.Plans.{PlanValue}
+use Rattle.pddl_plan.specs.Plans.{PlanValue}
 use Rattle.pddl_tree.specs.PlanTexts.{SpellsPlan}
 use Rattle.pddl_domain.specs.Domains.{DomainValue}
 use Rattle.pddl_problem.specs.Inits.{GroundValue}

@@ -1,6 +1,6 @@
 -- What commands print of an accepted plan. Own.
 use Rattle.std.specs.Prelude.{◌≡◌, ℕ, List, length}
-use Rattle.pddl_tree.specs.Plans.{PlanValue}
+use Rattle.pddl_plan.specs.Plans.{PlanValue}
 use Rattle.pddl_task.specs.Tasks.{TaskValue}
 use Rattle.pddl_meaning.specs.Worlds.{Atoms}
 use Rattle.pddl_serial_plans.specs.LinkedPlan.LinkedSteps.{LinkedStepValue}

@@ -7,7 +7,7 @@ ghost use Rattle.pddl_layout.specs.PlanLayout.{plan_text};
 ghost use Rattle.pddl_serial_plans.specs.Link.LinkedTasks.{task_of_files};
 ghost use Rattle.pddl_serial_plans.specs.PlanSteps.NumberedSteps.{number_of};
 ghost use Rattle.pddl_serial_plans.specs.NewPlans.{IsAcceptedOf};
-ghost use Rattle.pddl_tree.specs.Plans.{plan_view};
+ghost use Rattle.pddl_plan.specs.Plans.{plan_view};
 ghost use Rattle.pddl_plan_commands.specs.Inner.WantedPrintings.{printing_of};
 
 use crate::lines::valid_line;
@@ -16,9 +16,9 @@ use pddl_commands::let_go_plan;
 use pddl_layout::plan_text;
 use pddl_link::Task;
 use pddl_linked_plan::Steps;
+use pddl_plan::Plan;
 use pddl_serial_plans::{serialise, split_in_groups};
 use pddl_state::AtomStore;
-use pddl_tree::Plan;
 use pddl_valid::Accepted;
 use std::alloc::{AllocError, Allocator};
 

@@ -9,7 +9,7 @@ ghost use Rattle.pddl_serial_plans.specs.LinkedPlan.LinkedSteps.{AreLinkedSteps}
 ghost use Rattle.pddl_serial_plans.specs.LinkedPlan.NumberedAtoms.{IsInRange};
 ghost use Rattle.pddl_serial_plans.specs.PlanSteps.NumberedSteps.{number_of};
 ghost use Rattle.pddl_problem.specs.Problems.{problem_view};
-ghost use Rattle.pddl_tree.specs.Plans.{plan_view};
+ghost use Rattle.pddl_plan.specs.Plans.{plan_view};
 ghost use Rattle.pddl_plan_commands.specs.PlanChecks.{failure_line, AreStepsJudged, IsJudgedIn, IsPlanJudged};
 ghost use Rattle.pddl_plan_commands.specs.Inner.ShownVerdicts.{failure_of, IsShown, IsVerdictOf};
 ghost use Rattle.pddl_plan_commands.specs.Inner.WantedPrintings.{printing_of};
@@ -24,10 +24,10 @@ use pddl_domain::Domain;
 use pddl_judge::Refusal;
 use pddl_link::{Task, link};
 use pddl_linked_plan::Steps;
+use pddl_plan::Plan;
 use pddl_plan_link::link_plan;
 use pddl_problem::Problem;
 use pddl_state::AtomStore;
-use pddl_tree::Plan;
 use pddl_valid::{Verdict, validate};
 use std::alloc::{AllocError, Allocator};
 

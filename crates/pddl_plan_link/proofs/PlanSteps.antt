@@ -6,7 +6,7 @@ use Rattle.std.specs.List.{AllByRecursion}
 use Rattle.std.proofs.lemmas.Option.{slice_get-map, get_or_from_slice_get}
 use Rattle.std.proofs.lemmas.List.{map_more, take_all, length-map, length-take-le, take-append-drop, map-append}
 use Rattle.pddl_task.specs.Names.{number_in}
-use Rattle.pddl_tree.specs.Plans.{StepValue, TimedValue, PlanValue, plain, timed, steps_of, moment_at}
+use Rattle.pddl_plan.specs.Plans.{StepValue, TimedValue, PlanValue, plain, timed, steps_of, moment_at}
 use Rattle.pddl_task.specs.Tasks.{TaskValue, object_names}
 use Rattle.pddl_linked_plan.specs.StepFaults.{action_names, step_faults, IsGoodStep, most_steps, IsLinkedPlan, IsFirstFault, IsPlanFault}
 use Rattle.pddl_linked_plan.specs.LinkedSteps.{LinkedStepValue, linked_step, linked_steps}

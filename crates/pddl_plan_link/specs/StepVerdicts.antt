@@ -1,6 +1,6 @@
 -- What is answered where a plan, or a step of it, is linked.
 use Rattle.std.specs.Prelude.{◌≡◌, ℕ, List, [], ◌∷◌, Option, Some, None, Result, MatchResult, IfSome}
-use Rattle.pddl_tree.specs.Plans.{PlanValue}
+use Rattle.pddl_plan.specs.Plans.{PlanValue}
 use Rattle.pddl_task.specs.Tasks.{TaskValue}
 use Rattle.pddl_linked_plan.specs.StepFaults.{IsLinkedPlan, IsPlanFault}
 use Rattle.pddl_plan_link.specs.declared.fault.StepFault.{StepFault}

@@ -22,9 +22,9 @@ use pddl_compiled::Frame;
 use pddl_domain::Action;
 use pddl_formula::Typed;
 use pddl_link::Task;
+use pddl_plan::Step;
 use pddl_plan_tables::{Changes, PlanTables, make_change, some_costless};
 use pddl_state::Atom;
-use pddl_tree::Step;
 use std::alloc::{AllocError, Allocator};
 
 /// Puts the numbers of a step's objects in place of what is listed, and answers whether all of them are known.

@@ -1,7 +1,7 @@
 //! Links plans.
 
 ghost use Rattle.std.specs.Prelude.{◌≡◌, ◌≤◌, [], length, IfOk, OnOk};
-ghost use Rattle.pddl_tree.specs.Plans.{plan_view, steps_of};
+ghost use Rattle.pddl_plan.specs.Plans.{plan_view, steps_of};
 ghost use Rattle.pddl_tables.specs.Link.LinkedTasks.{task_of_files};
 ghost use Rattle.pddl_linked_plan.specs.StepFaults.{most_steps};
 ghost use Rattle.pddl_linked_plan.specs.LinkedSteps.{linked_steps};
@@ -13,9 +13,9 @@ use crate::checks::check_step;
 use crate::fault::StepFault;
 use pddl_link::Task;
 use pddl_linked_plan::Steps;
+use pddl_plan::Plan;
 use pddl_plan_tables::{Changes, PlanTables, no_changes, plan_tables};
 use pddl_state::Atom;
-use pddl_tree::Plan;
 use std::alloc::Allocator;
 
 /// The most steps that a plan may have.

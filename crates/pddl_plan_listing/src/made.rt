@@ -16,11 +16,11 @@ use pddl_commands::{Outcome, let_go_plan};
 use pddl_layout::plan_text;
 use pddl_link::Task;
 use pddl_linked_plan::Steps;
+use pddl_plan::Plan;
 use pddl_plan_link::link_plan;
 use pddl_row_driver::{Lines, text_of};
 use pddl_serial_plans::{Order, SplitFault, serialise, split};
 use pddl_state::AtomStore;
-use pddl_tree::Plan;
 use pddl_valid::{Accepted, Verdict, validate};
 use std::alloc::Allocator;
 

@@ -11,9 +11,10 @@ use crate::stores::add_over_both;
 use pddl_commands::{Outcome, let_go_plan};
 use pddl_link::Task;
 use pddl_linked_plan::Steps;
+use pddl_plan::Plan;
 use pddl_plan_link::link_plan;
+use pddl_plan_reader::read_plan;
 use pddl_row_driver::{Files, Lines, add_read_fault};
-use pddl_tree::{Plan, read_plan};
 use std::alloc::Allocator;
 
 /// Adds what is listed of linked steps.

@@ -7,7 +7,7 @@ use Rattle.pddl_token.specs.TreeWords.{list}
 use Rattle.pddl_tree.specs.ItemTrees.{item_tree, item_trees}
 use Rattle.pddl_text.specs.Items.{item_view}
 use Rattle.pddl_tree.proofs.TreeLists.{list_of_trees_of}
-use Rattle.pddl_tree.proofs.Options.{map_some}
+use Rattle.pddl_token.proofs.Options.{map_some}
 use Rattle.pddl_sections.specs.Inner.Verdicts.{turn}
 use Rattle.pddl_file.specs.declared.keyword.SectionKeyword.{SectionKeyword}
 use Rattle.pddl_file.specs.declared.keyword.Seen.{Seen}

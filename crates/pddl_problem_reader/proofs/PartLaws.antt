@@ -4,7 +4,7 @@ use Rattle.std.specs.Prelude.{Option, Some, None, option_map}
 use Rattle.pddl_token.specs.Trees.{Tree, leaf, node, list_of}
 use Rattle.pddl_token.specs.TreeWords.{list, SpellsName}
 use Rattle.pddl_tree.specs.Inner.TreeReading.{name_at, all_of}
-use Rattle.pddl_tree.proofs.Options.{map_some}
+use Rattle.pddl_token.proofs.Options.{map_some}
 use Rattle.pddl_tree.proofs.TreeLists.{list_of_trees_of, trees_of_list_of}
 use Rattle.pddl_tree.proofs.Readers.{Reads, name_reads, each_sound, each_complete}
 use Rattle.pddl_formula.specs.Formulas.{IsCondition}

@@ -8,7 +8,7 @@ use Rattle.pddl_text.specs.declared.item.Item.{Item}
 use Rattle.pddl_text.specs.Items.{item_view, items_view}
 use Rattle.pddl_token.specs.Trees.{Tree, Placed}
 use Rattle.pddl_tree.specs.ItemTrees.{item_tree}
-use Rattle.pddl_tree.proofs.Options.{test_cases}
+use Rattle.pddl_token.proofs.Options.{test_cases}
 use Rattle.pddl_sections.specs.Inner.Verdicts.{Verdict, verdict, go, key_turn, turn}
 use Rattle.pddl_sections.specs.Inner.Answers.{first_missing}
 use Rattle.pddl_file.specs.declared.keyword.SectionKeyword.{SectionKeyword}

@@ -5,9 +5,9 @@ use pddl_device::{Sink, Source, SourceFault, WriteFault, read_all, write_text};
 use pddl_domain_reader::read_domain;
 use pddl_file_layout::{domain_text, problem_text, write_domain, write_problem};
 use pddl_layout::{plan_text, write_plan};
+use pddl_plan_reader::read_plan;
 use pddl_problem_reader::read_problem;
 use pddl_row_driver::text_of;
-use pddl_tree::read_plan;
 use std::alloc::{AllocError, Allocator};
 
 /// How a canonical text is written.

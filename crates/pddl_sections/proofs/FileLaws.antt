@@ -11,7 +11,7 @@ use Rattle.pddl_tree.specs.PlanFaults.{span_of}
 use Rattle.pddl_tree.proofs.TreeLists.{list_of_trees_of, trees_of_list_of}
 use Rattle.pddl_tree.proofs.PlanSteps.{items_back}
 use Rattle.pddl_tree.proofs.Readers.{name_reads, word_sound, word_complete}
-use Rattle.pddl_tree.proofs.Options.{map_some, if_some}
+use Rattle.pddl_token.proofs.Options.{map_some, if_some}
 use Rattle.pddl_sections.specs.Sections.{Rules, AllOf}
 use Rattle.pddl_sections.specs.Inner.Verdicts.{Readers, Verdict, fine, bad, verdict}
 use Rattle.pddl_sections.specs.Files.{IsTitle, Opens, Begins, IsOpened, HeadFault, nothing, other, several, FileFault, head, at_section, missing, StandsIn, IsFile, HasFault}

@@ -3,8 +3,8 @@ use Rattle.std.proofs.Common.{◌≡◌, ◌<◌, ℕ, List, [], ◌∷◌, ◌+
 use Rattle.std.specs.Prelude.{Result, Ok, Err, OnOk, IfOk}
 use Rattle.std.specs.Result.{result_and}
 use Rattle.std.proofs.lemmas.List.{append-nil, length-append, length-map}
-use Rattle.pddl_tree.specs.Building.{Building, with_names}
-use Rattle.pddl_tree.specs.Plans.{StepValue, TimedValue, plain, timed, step_of_names, at_moments, plan_of, built_plan, timed_built}
+use Rattle.pddl_plan.specs.Building.{Building, with_names}
+use Rattle.pddl_plan.specs.Plans.{StepValue, TimedValue, plain, timed, step_of_names, at_moments, plan_of, built_plan, timed_built}
 use Rattle.pddl_tree.specs.Inner.StepNames.{names_of_step}
 use Rattle.pddl_task.specs.Tasks.{TaskValue}
 use Rattle.pddl_valid.specs.LinkedPlan.LinkedSteps.{LinkedStepValue}

@@ -5,7 +5,7 @@ use Rattle.std.specs.List.{concat, IsDistinct, AllByRecursion}
 use Rattle.std.proofs.lemmas.List.{length-map, nil_from_length}
 use Rattle.std.proofs.lemmas.List.Elements.{All-from_recursion}
 use Rattle.std.proofs.lemmas.List.Sorted.{IsPermutation-trans, length_permutation}
-use Rattle.pddl_tree.specs.Plans.{PlanValue}
+use Rattle.pddl_plan.specs.Plans.{PlanValue}
 use Rattle.pddl_domain.specs.Domains.{DomainValue}
 use Rattle.pddl_problem.specs.Inits.{GroundValue}
 use Rattle.pddl_problem.specs.Problems.{ProblemValue}

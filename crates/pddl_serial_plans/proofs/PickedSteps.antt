@@ -5,7 +5,7 @@ use Rattle.std.specs.List.{AllByRecursion}
 use Rattle.std.specs.Option.{option_map, option_map_or}
 use Rattle.std.proofs.lemmas.List.{length-map, length-take, map-append, take_more}
 use Rattle.std.proofs.lemmas.Option.{slice_get-map, slice_get-get_or, get_or_from_slice_get}
-use Rattle.pddl_tree.specs.Plans.{StepValue, TimedValue}
+use Rattle.pddl_plan.specs.Plans.{StepValue, TimedValue}
 use Rattle.pddl_problem.specs.Inits.{GroundValue}
 use Rattle.pddl_task.specs.Tasks.{TaskValue}
 use Rattle.pddl_happenings.specs.Splits.{AreStepsOf}

@@ -1,7 +1,7 @@
 -- The plans of serialisations and splits of accepted plans. Own.
 use Rattle.std.specs.Prelude.{◌≡◌, ℕ, ◌*◌, List, map, length, Option, Some}
 use Rattle.std.specs.List.{concat}
-use Rattle.pddl_tree.specs.Plans.{PlanValue}
+use Rattle.pddl_plan.specs.Plans.{PlanValue}
 use Rattle.pddl_task.specs.Tasks.{TaskValue}
 use Rattle.pddl_happenings.specs.Happenings.{numbers_to}
 use Rattle.pddl_happenings.specs.Splits.{numbered, split_moments}

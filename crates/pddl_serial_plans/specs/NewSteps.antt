@@ -1,7 +1,7 @@
 -- Plans that have the steps of another one, in an order of their own. Own.
 use Rattle.std.specs.Prelude.{ℕ, ◌*◌, List, [], ◌∷◌, map, None, Some, slice_index_or}
 use Rattle.std.specs.Option.{unwrap_or}
-use Rattle.pddl_tree.specs.Plans.{TimedValue, PlanValue, plain, timed}
+use Rattle.pddl_plan.specs.Plans.{TimedValue, PlanValue, plain, timed}
 use Rattle.pddl_task.specs.Tasks.{TaskValue}
 use Rattle.pddl_valid.specs.LinkedPlan.LinkedSteps.{LinkedStepValue}
 use Rattle.pddl_valid.specs.LinkedPlan.LinkedLaws.{named_step}

@@ -1,8 +1,8 @@
 //! Linked steps by their names.
 
 ghost use Rattle.std.specs.Prelude.{◌≡◌, ◌<◌, ◌≤◌, ◌*◌, All, map, length, OnOk};
-ghost use Rattle.pddl_tree.specs.Building.{nothing_built, with_names};
-ghost use Rattle.pddl_tree.specs.Plans.{built_plan};
+ghost use Rattle.pddl_plan.specs.Building.{nothing_built, with_names};
+ghost use Rattle.pddl_plan.specs.Plans.{built_plan};
 ghost use Rattle.pddl_tree.specs.Inner.StepNames.{names_of_step};
 ghost use Rattle.pddl_task.specs.Tasks.{object_names};
 ghost use Rattle.pddl_valid.specs.Link.LinkedTasks.{task_of_files};
@@ -13,8 +13,8 @@ ghost use Rattle.pddl_serial_plans.specs.NewSteps.{picked, at_moments, plain_pla
 
 use pddl_link::Task;
 use pddl_linked_plan::{LinkedStep, Steps};
+use pddl_plan::PlanBuilder;
 use pddl_token::{Fixed, Name};
-use pddl_tree::PlanBuilder;
 use std::alloc::{AllocError, Allocator};
 
 /// The name of an object of the task.

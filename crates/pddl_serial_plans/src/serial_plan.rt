@@ -1,7 +1,7 @@
 //! Serial forms of accepted plans.
 
 ghost use Rattle.std.specs.Prelude.{IfOk};
-ghost use Rattle.pddl_tree.specs.Plans.{plan_view};
+ghost use Rattle.pddl_plan.specs.Plans.{plan_view};
 ghost use Rattle.pddl_happenings.specs.NamedSteps.{by_name};
 ghost use Rattle.pddl_judge.specs.HappeningValues.{groups_of, moments_of};
 ghost use Rattle.pddl_valid.specs.Link.LinkedTasks.{task_of_files};
@@ -12,9 +12,9 @@ ghost use Rattle.pddl_serial_plans.specs.NewPlans.{IsAcceptedOf, IsSerialPlan};
 use crate::named::add_steps;
 use pddl_link::Task;
 use pddl_linked_plan::Steps;
+use pddl_plan::{Plan, PlanBuilder};
 use pddl_serial::Order;
 use pddl_state::AtomStore;
-use pddl_tree::{Plan, PlanBuilder};
 use pddl_valid::Accepted;
 use std::alloc::{AllocError, Allocator};
 

@@ -1,7 +1,7 @@
 //! Splits of accepted plans.
 
 ghost use Rattle.std.specs.Prelude.{◌≡◌, ◌<◌, ◌≤◌, All, map, length, IfOk, IsErrOf};
-ghost use Rattle.pddl_tree.specs.Plans.{plan_view};
+ghost use Rattle.pddl_plan.specs.Plans.{plan_view};
 ghost use Rattle.pddl_happenings.specs.NamedSteps.{by_name};
 ghost use Rattle.pddl_happenings.specs.Splits.{IsSplitOf};
 ghost use Rattle.pddl_judge.specs.HappeningValues.{groups_of, moments_of};
@@ -16,9 +16,9 @@ use crate::fault::{SplitFault, of_a_split, or_memory};
 use crate::named::add_timed_steps;
 use pddl_link::Task;
 use pddl_linked_plan::Steps;
+use pddl_plan::{Plan, PlanBuilder};
 use pddl_serial::{NewPlan, Order, groups_of_at_most};
 use pddl_state::AtomStore;
-use pddl_tree::{Plan, PlanBuilder};
 use pddl_valid::Accepted;
 use std::alloc::{AllocError, Allocator};
 

@@ -3,3 +3,4 @@ pub mod Tests
 pub mod Values
 pub mod NumberTexts
 pub mod FoldedNames
+pub mod Options

@@ -3,9 +3,9 @@ use Rattle.std.proofs.Common.{◌≡◌, ◌<◌, ℕ, suc, Bool, true, List, []
 use Rattle.std.specs.Prelude.{nat_lt}
 use Rattle.std.proofs.lemmas.Bool.Decides.{nat_tests}
 use Rattle.std.proofs.lemmas.List.{map_push, length-append, length-map}
-use Rattle.pddl_tree.specs.Building.{Building, ended, ended_at}
+use Rattle.pddl_plan.specs.Building.{Building, ended, ended_at}
 use Rattle.pddl_tree.specs.Inner.PlanReading.{is_behind}
-use Rattle.pddl_tree.specs.Plans.{StepValue, TimedValue, timed, step_of_names, at_moments, plan_of, steps_built, timed_built}
+use Rattle.pddl_plan.specs.Plans.{StepValue, TimedValue, timed, step_of_names, at_moments, plan_of, steps_built, timed_built}
 
 -- steps and their moments, when one is added
 pub timed_pushed : (moments : List ℕ) (steps : List StepValue) (m : ℕ) (step : StepValue) → length moments ≡ length steps

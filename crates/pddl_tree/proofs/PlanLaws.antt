@@ -13,7 +13,7 @@ use Rattle.pddl_token.proofs.Tests.{both_true}
 use Rattle.pddl_tree.specs.declared.fault.ReadFault.{ReadFault}
 use Rattle.pddl_tree.specs.declared.fault.ReadFault.TheVariants as faults
 use Rattle.pddl_token.specs.Names.{folded, is_name}
-use Rattle.pddl_tree.specs.Plans.{StepValue, TimedValue, PlanValue, plain, timed, IsStep, IsColon, IsTimed, AreTimed, AreSteps, at_moments as with_moments}
+use Rattle.pddl_plan.specs.Plans.{StepValue, TimedValue, PlanValue, plain, timed, IsStep, IsColon, IsTimed, AreTimed, AreSteps, at_moments as with_moments}
 use Rattle.pddl_tree.specs.PlanFaults.{StepKind, alone, at_moments, other_kind, span_of, Follows, NoneFollows, IsNext, IsNextBracket, IsReached, IsMixed, IsDuration, IsNoStep}
 use Rattle.pddl_tree.specs.Inner.PlanReading.{name_by, name_at, both, names_at, step_of, placed_items, step_at, moment_by, moment_at, colon_by, is_colon, timed_of, timed_by, timed_at, bracket_by, is_bracket, no_step, timed_span, plain_fault, timed_fault, is_behind, where_some, plain_from, timed_from, plan_at, plan_behind}
 use Rattle.pddl_token.specs.TreeWords.{SpellsName, SpellsNumber, Each}

@@ -13,14 +13,14 @@ use Rattle.pddl_token.specs.Spelling.{view}
 use Rattle.pddl_token.specs.Trees.{Placed, placed_leaf, placed_node, placed_of}
 use Rattle.pddl_text.specs.Items.{item_step, item_view, items_view}
 use Rattle.pddl_tree.specs.declared.fault.ReadFault.{ReadFault}
-use Rattle.pddl_tree.specs.Plans.{StepValue, TimedValue, PlanValue, plain, timed, step_of_names}
-use Rattle.pddl_tree.specs.NameLists.{AddsName}
-use Rattle.pddl_tree.specs.Building.{Building, AddsWord, AddsNames}
+use Rattle.pddl_plan.specs.Plans.{StepValue, TimedValue, PlanValue, plain, timed, step_of_names}
+use Rattle.pddl_plan.specs.NameLists.{AddsName}
+use Rattle.pddl_plan.specs.Building.{Building, AddsWord, AddsNames}
 use Rattle.pddl_tree.specs.Inner.StepNames.{names_of_step, AddsTimed}
 use Rattle.pddl_tree.specs.PlanFaults.{span_of}
 use Rattle.pddl_tree.specs.Inner.PlanReading.{moment_at, is_colon, timed_span, both, name_at, names_at, placed_items, step_of, step_at, is_bracket, no_step, timed_at, plain_fault, timed_fault, is_behind, where_some, plain_from, timed_from, Refuses}
-use Rattle.pddl_tree.proofs.Options.{with_front, front_more, front_none}
-use Rattle.pddl_tree.proofs.GotNames.{GotName}
+use Rattle.pddl_tree.proofs.Fronts.{with_front, front_more, front_none}
+use Rattle.pddl_plan.proofs.GotNames.{GotName}
 
 -- ---- items as the code holds them
 

@@ -11,12 +11,12 @@ use Rattle.pddl_text.proofs.Nests.{items_append}
 use Rattle.pddl_tree.specs.declared.plan_words.Place.{Place}
 use Rattle.pddl_tree.specs.declared.plan_words.Place.TheVariants.{Between, Moment, Colon, Inside, Lost}
 use Rattle.pddl_token.specs.Names.{name_of}
-use Rattle.pddl_tree.specs.Building.{Building, ended, ended_at}
-use Rattle.pddl_tree.specs.Plans.{StepValue, TimedValue, step_of_names, IsStep, IsTimed, AreTimed, steps_built, timed_built}
+use Rattle.pddl_plan.specs.Building.{Building, ended, ended_at}
+use Rattle.pddl_plan.specs.Plans.{StepValue, TimedValue, step_of_names, IsStep, IsTimed, AreTimed, steps_built, timed_built}
 use Rattle.pddl_token.specs.TreeWords.{SpellsName, Each}
 use Rattle.pddl_tree.specs.Inner.StepWords.{AreNames, AreBuilt, AreStepWords, ReadsTo, ReadsOn, ReadsWords, HasMoved}
 use Rattle.pddl_tree.proofs.BuiltSteps.{plain_pushed, moment_pushed, moments_pushed}
-use Rattle.pddl_tree.proofs.GotNames.{GotName}
+use Rattle.pddl_plan.proofs.GotNames.{GotName}
 use Rattle.pddl_tree.proofs.Readers.{name_of_some}
 
 -- ---- names

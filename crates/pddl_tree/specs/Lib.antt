@@ -1,12 +1,5 @@
-pub mod Cuts
-pub mod NameLists
-pub mod Building
-pub mod Plans
-pub mod Built
-pub mod StepParts
 pub mod ItemTrees
 pub mod Places
 pub mod PlanFaults
 pub mod PlanTexts
-pub mod StandsForPlan
 pub mod Inner

@@ -3,7 +3,7 @@ use Rattle.std.specs.Prelude.{◌≡◌, ◌≢◌, List, [], ◌∷◌, ◌++�
 use Rattle.pddl_token.specs.declared.token.TokenKind.TheVariants.{Bracket}
 use Rattle.pddl_token.specs.declared.token.Span.{Span}
 use Rattle.pddl_token.specs.Trees.{Placed, placed_leaf, placed_node, erased}
-use Rattle.pddl_tree.specs.Plans.{StepValue, TimedValue, IsStep, IsTimed, AreTimed}
+use Rattle.pddl_plan.specs.Plans.{StepValue, TimedValue, IsStep, IsTimed, AreTimed}
 use Rattle.pddl_token.specs.TreeWords.{Each}
 
 -- the two kinds of steps: plain ones, and timed ones

@@ -4,7 +4,7 @@ use Rattle.pddl_token.specs.Trees.{Placed, erased}
 use Rattle.pddl_text.specs.Texts.{HasItems, TextStands}
 use Rattle.pddl_tree.specs.declared.fault.ReadFault.{ReadFault}
 use Rattle.pddl_tree.specs.declared.fault.ReadFault.TheVariants as faults
-use Rattle.pddl_tree.specs.Plans.{PlanValue, AreSteps}
+use Rattle.pddl_plan.specs.Plans.{PlanValue, AreSteps}
 use Rattle.pddl_tree.specs.PlanFaults.{IsNoStep, IsMixed, IsDuration}
 
 -- A plan spells a text that keeps the limit of length: the text's items are the plan's steps in file order (VAL).

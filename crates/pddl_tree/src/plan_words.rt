@@ -6,11 +6,11 @@
 ghost use Rattle.std.specs.Prelude.{◌≡◌, ◌≢◌, ◌<◌, ◌≤◌, ◌+◌, ◌++◌, ◌∷◌, [], Some, None, List, length, IfOk, IfSome, OnOk};
 ghost use Rattle.pddl_token.specs.declared.token.TokenKind.TheVariants.{Close};
 ghost use Rattle.pddl_token.specs.Spelling.{PlacedWord, view};
-ghost use Rattle.pddl_tree.specs.Building.{Building};
+ghost use Rattle.pddl_plan.specs.Building.{Building};
 ghost use Rattle.pddl_tree.specs.declared.plan_words.Place.TheVariants as places;
 ghost use Rattle.pddl_tree.specs.Inner.StepWords.{ReadsTo, ReadsOn, ReadsWords, HasMoved};
 
-use crate::plan_builder::PlanBuilder;
+use pddl_plan::PlanBuilder;
 use pddl_scan::WordList;
 use pddl_token::{Fixed, Token, TokenKind, value_of};
 use std::alloc::{AllocError, Allocator};
@@ -194,7 +194,7 @@ fn read_words<A: Allocator>(
 }
 
 /// Reads words, and keeps those behind the last whole step beside those that stand there.
-pub(crate) fn read_on<A: Allocator>(
+pub fn read_on<A: Allocator>(
     plan: &mut PlanBuilder<A>,
     place: Place,
     words: &WordList<A>,

@@ -1,7 +1,7 @@
 -- The lines of a plan's canonical text. No public contract names these.
 use Rattle.std.specs.Prelude.{ℕ, List, [], ◌++◌, map, get_or, Option, Some, None, codes}
 use Rattle.pddl_token.specs.NumberText.{number_text}
-use Rattle.pddl_tree.specs.Plans.{PlanValue, plain, timed}
+use Rattle.pddl_plan.specs.Plans.{PlanValue, plain, timed}
 use Rattle.pddl_layout.specs.PlanLayout.{plain_line, timed_line}
 
 -- in front of a step: its number, a colon and a space, where it has a moment

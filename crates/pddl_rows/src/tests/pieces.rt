@@ -1,9 +1,11 @@
 //! Lexers and readers of texts that come in pieces, where no row of a text can say what they do.
 
 use pddl_fakes::Refusing;
+use pddl_plan::Plan;
+use pddl_plan_reader::{PlanReader, read_plan};
 use pddl_scan::{LONGEST, TextFault};
 use pddl_text::PlanLexer;
-use pddl_tree::{Plan, PlanReader, ReadFault, read_plan};
+use pddl_tree::ReadFault;
 use std::alloc::{Allocator, Global};
 use std::test::Fail;
 

@@ -9,8 +9,8 @@ use Rattle.pddl_scan.specs.declared.fault.TextFault.TheVariants.{Memory}
 use Rattle.pddl_tree.specs.declared.fault.ReadFault.{ReadFault}
 use Rattle.pddl_tree.specs.declared.fault.ReadFault.TheVariants as faults
 use Rattle.pddl_token.specs.Names.{name_of}
-use Rattle.pddl_tree.specs.Building.{Building}
-use Rattle.pddl_tree.specs.Plans.{StepValue, TimedValue, PlanValue, plain, timed, at_moments, steps_built}
+use Rattle.pddl_plan.specs.Building.{Building}
+use Rattle.pddl_plan.specs.Plans.{StepValue, TimedValue, PlanValue, plain, timed, at_moments, steps_built}
 use Rattle.pddl_tree.specs.PlanFaults.{span_of}
 
 -- the name that a word of a kind is

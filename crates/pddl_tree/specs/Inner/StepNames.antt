@@ -1,7 +1,7 @@
 -- Steps by their names. No public contract names these.
 use Rattle.std.specs.Prelude.{◌≡◌, ℕ, List, ◌∷◌, true, Option, Some, None}
-use Rattle.pddl_tree.specs.Building.{Building, AddsNames}
-use Rattle.pddl_tree.specs.Plans.{StepValue, TimedValue}
+use Rattle.pddl_plan.specs.Building.{Building, AddsNames}
+use Rattle.pddl_plan.specs.Plans.{StepValue, TimedValue}
 
 -- the names of a step, the action's first
 abbrev pub names_of_step : StepValue → List (List ℕ)

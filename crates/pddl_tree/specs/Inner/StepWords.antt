@@ -7,8 +7,8 @@ use Rattle.pddl_token.specs.Trees.{Placed, placed_leaf, erased}
 use Rattle.pddl_text.specs.Lists.{AreItems, deepest}
 use Rattle.pddl_tree.specs.declared.plan_words.Place.{Place}
 use Rattle.pddl_tree.specs.declared.plan_words.Place.TheVariants.{Between, Moment, Colon, Inside, Lost}
-use Rattle.pddl_tree.specs.Building.{Building}
-use Rattle.pddl_tree.specs.Plans.{IsStep, AreTimed, steps_built, timed_built}
+use Rattle.pddl_plan.specs.Building.{Building}
+use Rattle.pddl_plan.specs.Plans.{IsStep, AreTimed, steps_built, timed_built}
 use Rattle.pddl_token.specs.TreeWords.{SpellsName, Each}
 
 -- ---- the step that is not ended

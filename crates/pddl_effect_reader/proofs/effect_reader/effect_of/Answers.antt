@@ -1,5 +1,5 @@
 use Rattle.pddl_tree.specs.ItemTrees.{item_tree}
-use Rattle.pddl_tree.proofs.Options.{exact_result}
+use Rattle.pddl_token.proofs.Options.{exact_result}
 use Rattle.pddl_effect.specs.Effects.{effect_view, IsEffect}
 use Rattle.pddl_effect_reader.specs.Inner.EffectReading.{effect_at}
 use Rattle.pddl_effect_reader.proofs.EffectLaws.{effect_reads}

@@ -1,5 +1,5 @@
 use Rattle.pddl_tree.specs.ItemTrees.{item_tree}
-use Rattle.pddl_tree.proofs.Options.{exact_result}
+use Rattle.pddl_token.proofs.Options.{exact_result}
 use Rattle.pddl_effect.specs.Effects.{effect_view, IsWholeEffect}
 use Rattle.pddl_effect_reader.specs.Inner.EffectReading.{whole_effect_at}
 use Rattle.pddl_effect_reader.proofs.EffectLaws.{whole_effect_reads}

@@ -1,6 +1,6 @@
 use Rattle.std.proofs.Common.{◌≡◌, ℕ, List, ◌++◌, length, sym, ap, subst, ◌∙◌, arith}
 use Rattle.std.specs.Prelude.{Some}
-use Rattle.pddl_tree.specs.Plans.{plan_view}
+use Rattle.pddl_plan.specs.Plans.{plan_view}
 use Rattle.pddl_tree.specs.PlanTexts.{SpellsPlan}
 use Rattle.pddl_layout.specs.PlanLayout.{plan_text}
 use Rattle.pddl_layout.proofs.PlanPieces.{plan_reads_back}

@@ -2,7 +2,7 @@ use Rattle.std.proofs.Common.{◌<◌, ◌≤◌, ℕ, List, [], length, refl, a
 use Rattle.std.specs.List.{flat_map}
 use Rattle.std.proofs.lemmas.List.{take_all}
 use Rattle.std.proofs.lemmas.Result.{err_from_is_err_and}
-use Rattle.pddl_tree.specs.Plans.{plan_view}
+use Rattle.pddl_plan.specs.Plans.{plan_view}
 use Rattle.pddl_layout.specs.Inner.PlanLines.{lines_of}
 use Rattle.pddl_layout.proofs.PlanLines.{as_many, text_of_lines}
 use Rattle.pddl_layout.proofs.Printed.{nothing, stops_as, wrote_as, element_on, element_stops}

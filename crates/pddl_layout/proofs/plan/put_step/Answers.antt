@@ -1,5 +1,5 @@
 use Rattle.std.proofs.lemmas.Result.{err_from_is_err_and}
-use Rattle.pddl_tree.specs.Plans.{plan_view}
+use Rattle.pddl_plan.specs.Plans.{plan_view}
 use Rattle.pddl_layout.specs.PlanLayout.{plain_line}
 use Rattle.pddl_layout.specs.Inner.PlanLines.{moment_text}
 use Rattle.pddl_layout.proofs.PlanLines.{line_is, line_begins}

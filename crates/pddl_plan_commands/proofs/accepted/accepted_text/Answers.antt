@@ -10,7 +10,7 @@ use Rattle.pddl_serial_plans.specs.PlanSteps.NumberedSteps.{number_of}
 use Rattle.pddl_serial.specs.Cuts.{cut_in_order}
 use Rattle.pddl_serial.specs.Orders.{in_order}
 use Rattle.pddl_serial_plans.specs.NewPlans.{IsSerialPlan, IsSplitPlan}
-use Rattle.pddl_tree.specs.Plans.{plan_view}
+use Rattle.pddl_plan.specs.Plans.{plan_view}
 use Rattle.pddl_plan_commands.specs.PlanLines.{valid_line}
 use Rattle.pddl_plan_commands.specs.Inner.WantedPrintings.{printing_of}
 use Rattle.pddl_plan_commands.proofs.NewTexts.{text_of_made}

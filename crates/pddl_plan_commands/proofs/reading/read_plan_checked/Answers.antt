@@ -1,5 +1,5 @@
 use Rattle.std.proofs.Common.{subst, inl, inr}
-use Rattle.pddl_tree.specs.Plans.{plan_view}
+use Rattle.pddl_plan.specs.Plans.{plan_view}
 use Rattle.pddl_commands.specs.declared.outcome.RunFault.TheVariants.{ReadFailed, WriteFailed}
 use Rattle.pddl_commands.specs.Contents.{IsPlanContent}
 use Rattle.pddl_commands.proofs.Made.{if_made, only_memory, on_any}

@@ -1,4 +1,4 @@
-use Rattle.pddl_tree.specs.Plans.{plan_view}
+use Rattle.pddl_plan.specs.Plans.{plan_view}
 use Rattle.pddl_tables.specs.Link.LinkedTasks.{task_of_files}
 use Rattle.pddl_plan_tables.specs.ActionChanges.{AreChangesOf}
 use Rattle.pddl_plan_link.proofs.PlanSteps.{AreLinked, rows_of, row_step, row_link}

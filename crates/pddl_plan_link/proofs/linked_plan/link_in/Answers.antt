@@ -1,5 +1,5 @@
 use Rattle.std.proofs.Common.{subst, sym, ◌≡◌, ◌∙◌, IfOk}
-use Rattle.pddl_tree.specs.Plans.{plan_view}
+use Rattle.pddl_plan.specs.Plans.{plan_view}
 use Rattle.pddl_tables.specs.Link.LinkedTasks.{task_of_files}
 use Rattle.pddl_linked_plan.specs.LinkedSteps.{linked_steps}
 use Rattle.pddl_plan_link.specs.StepVerdicts.{PlanVerdict}

@@ -5,7 +5,7 @@ use Rattle.pddl_valid.specs.Link.LinkedTasks.{task_of_files}
 use Rattle.pddl_valid.specs.LinkedPlan.LinkedLaws.{named_step}
 use Rattle.pddl_valid.specs.LinkedPlan.StepFaults.{action_name, action_names}
 use Rattle.pddl_valid.specs.LinkedPlan.StepParts.{lent_step}
-use Rattle.pddl_tree.specs.Building.{with_names}
+use Rattle.pddl_plan.specs.Building.{with_names}
 use Rattle.pddl_serial_plans.proofs.AddedNames.{names_then}
 use Rattle.pddl_serial_plans.proofs.named.add_names.Goals as goal
 

@@ -1,7 +1,7 @@
 use Rattle.std.proofs.Common.{◌≡◌, [], ◌∷◌, ◌++◌, map, sym, ap, ◌∙◌}
 use Rattle.std.proofs.lemmas.List.{take_all}
-use Rattle.pddl_tree.specs.Building.{Building}
-use Rattle.pddl_tree.specs.Plans.{plan_of, step_of_names}
+use Rattle.pddl_plan.specs.Building.{Building}
+use Rattle.pddl_plan.specs.Plans.{plan_of, step_of_names}
 use Rattle.pddl_valid.specs.Link.LinkedTasks.{task_of_files}
 use Rattle.pddl_valid.specs.LinkedPlan.LinkedLaws.{named_step}
 use Rattle.pddl_valid.specs.LinkedPlan.StepParts.{lent_step}

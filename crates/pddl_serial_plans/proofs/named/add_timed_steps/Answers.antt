@@ -1,7 +1,7 @@
 use Rattle.std.proofs.Common.{length, map, sym, ap, ap₂, ◌∙◌, arith}
 use Rattle.std.proofs.lemmas.List.{take_all}
-use Rattle.pddl_tree.specs.Building.{Building}
-use Rattle.pddl_tree.specs.Plans.{TimedValue, step_of_names, timed_built}
+use Rattle.pddl_plan.specs.Building.{Building}
+use Rattle.pddl_plan.specs.Plans.{TimedValue, step_of_names, timed_built}
 use Rattle.pddl_tree.proofs.BuiltSteps.{moment_pushed, moments_pushed}
 use Rattle.pddl_valid.specs.Link.LinkedTasks.{task_of_files}
 use Rattle.pddl_valid.specs.LinkedPlan.LinkedLaws.{named_step}

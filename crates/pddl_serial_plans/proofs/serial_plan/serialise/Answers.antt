@@ -1,6 +1,6 @@
 use Rattle.std.proofs.Common.{◌≡◌, ◌<◌, length, sym, ap, ◌∙◌, subst}
 use Rattle.std.specs.Prelude.{All, IfOk}
-use Rattle.pddl_tree.specs.Plans.{PlanValue, plan_view}
+use Rattle.pddl_plan.specs.Plans.{PlanValue, plan_view}
 use Rattle.pddl_happenings.specs.NamedSteps.{by_name}
 use Rattle.pddl_judge.specs.HappeningValues.{groups_of}
 use Rattle.pddl_valid.specs.Link.LinkedTasks.{task_of_files}

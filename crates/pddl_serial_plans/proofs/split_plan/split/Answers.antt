@@ -2,7 +2,7 @@ use Rattle.std.proofs.Common.{◌≡◌, ◌<◌, ◌≤◌, List, ℕ, map, len
 use Rattle.std.specs.Prelude.{All, IfOk, IfSome, MatchOption}
 use Rattle.std.specs.List.{concat}
 use Rattle.std.proofs.lemmas.Result.{IfOk-weaker}
-use Rattle.pddl_tree.specs.Plans.{PlanValue, plan_view}
+use Rattle.pddl_plan.specs.Plans.{PlanValue, plan_view}
 use Rattle.pddl_happenings.specs.Happenings.{HaveEachOnce}
 use Rattle.pddl_happenings.specs.NamedSteps.{by_name}
 use Rattle.pddl_happenings.specs.Splits.{IsSplitOf, split_moments}

@@ -1,7 +1,7 @@
 use Rattle.std.proofs.Common.{◌≡◌, List, ℕ, map, sym, ap, ◌∙◌, subst}
 use Rattle.std.specs.Prelude.{IfOk}
 use Rattle.std.proofs.lemmas.Result.{IfOk-weaker}
-use Rattle.pddl_tree.specs.Plans.{plan_view}
+use Rattle.pddl_plan.specs.Plans.{plan_view}
 use Rattle.pddl_happenings.specs.NamedSteps.{by_name}
 use Rattle.pddl_happenings.specs.Splits.{IsSplitOf}
 use Rattle.pddl_judge.specs.HappeningValues.{groups_of}

@@ -1,9 +1,9 @@
 use Rattle.std.proofs.Common.{◌<◌, length, ap, subst, arith}
 use Rattle.std.proofs.lemmas.List.{drop_all}
 use Rattle.pddl_text.specs.Items.{item_view, items_view}
-use Rattle.pddl_tree.specs.Building.{AddsWord}
+use Rattle.pddl_plan.specs.Building.{AddsWord}
 use Rattle.pddl_tree.specs.Inner.PlanReading.{name_at, names_at}
-use Rattle.pddl_tree.proofs.GotNames.{got_name}
+use Rattle.pddl_plan.proofs.GotNames.{got_name}
 use Rattle.pddl_tree.proofs.PlanSteps.{no_names_added, name_added, not_added, all_names_added}
 use Rattle.pddl_tree.proofs.plan_items.add_names.Goals as goal
 

@@ -2,8 +2,8 @@ use Rattle.std.proofs.Common.{◌<◌, [], ◌∷◌, ◌++◌, length, drop, sy
 use Rattle.std.specs.Prelude.{Ok, nat_lt}
 use Rattle.std.proofs.lemmas.List.{drop_all}
 use Rattle.pddl_text.specs.Items.{item_view, items_view}
-use Rattle.pddl_tree.specs.Building.{Building}
-use Rattle.pddl_tree.specs.Plans.{plan_of, steps_built}
+use Rattle.pddl_plan.specs.Building.{Building}
+use Rattle.pddl_plan.specs.Plans.{plan_of, steps_built}
 use Rattle.pddl_tree.specs.Inner.PlanReading.{step_at, plain_fault}
 use Rattle.pddl_tree.proofs.BuiltSteps.{plain_pushed, steps_behind}
 use Rattle.pddl_tree.proofs.PlanSteps.{plain_on, plain_stop, plain_end, got_step, no_step_added, step_got, some_got}

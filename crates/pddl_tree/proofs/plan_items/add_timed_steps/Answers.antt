@@ -2,8 +2,8 @@ use Rattle.std.proofs.Common.{◌≡◌, ◌<◌, [], ◌∷◌, ◌++◌, lengt
 use Rattle.std.specs.Prelude.{Ok, nat_lt}
 use Rattle.std.proofs.lemmas.List.{drop_all, length-append, length-map}
 use Rattle.pddl_text.specs.Items.{items_view}
-use Rattle.pddl_tree.specs.Building.{Building}
-use Rattle.pddl_tree.specs.Plans.{step_of_names, steps_built, timed_built}
+use Rattle.pddl_plan.specs.Building.{Building}
+use Rattle.pddl_plan.specs.Plans.{step_of_names, steps_built, timed_built}
 use Rattle.pddl_tree.specs.Inner.PlanReading.{timed_at, timed_fault}
 use Rattle.pddl_tree.proofs.BuiltSteps.{moment_pushed, moments_pushed, timed_behind, plan_is_timed}
 use Rattle.pddl_tree.proofs.PlanSteps.{timed_on, timed_stop, timed_end, got_timed, no_timed_added, timed_kept, timed_got, some_timed_got}

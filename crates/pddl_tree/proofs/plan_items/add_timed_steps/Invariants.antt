@@ -1,7 +1,7 @@
 use Rattle.std.proofs.Common.{◌≡◌, ◌+◌, ◌-◌, ◌*◌, [], drop, length}
 use Rattle.pddl_text.specs.Items.{items_view}
 use Rattle.pddl_tree.specs.Inner.PlanReading.{timed_from}
-use Rattle.pddl_tree.specs.Plans.{timed_built}
+use Rattle.pddl_plan.specs.Plans.{timed_built}
 use Rattle.pddl_tree.proofs.plan_items.add_timed_steps.Given as goal
 
 -- the steps so far, and the items that are left, give what all items give; a step has three items

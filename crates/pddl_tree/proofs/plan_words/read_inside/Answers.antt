@@ -1,5 +1,5 @@
 use Rattle.pddl_token.specs.Spelling.{view}
-use Rattle.pddl_tree.proofs.GotNames.{got_name}
+use Rattle.pddl_plan.proofs.GotNames.{got_name}
 use Rattle.pddl_tree.proofs.StepsRead.{name_read}
 use Rattle.pddl_tree.proofs.plan_words.read_inside.Goals as goal
 

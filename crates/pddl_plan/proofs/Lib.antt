@@ -1,0 +1,5 @@
+mod CutLists
+mod NamesHeld
+mod BuiltPlans
+mod LentSteps
+pub mod GotNames

@@ -1,0 +1,2 @@
+pub mod PlanTextLaws
+pub mod RestRead

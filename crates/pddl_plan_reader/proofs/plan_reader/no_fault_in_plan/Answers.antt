@@ -1,0 +1,5 @@
+use Rattle.pddl_plan_reader.proofs.PlanTextLaws as laws
+use Rattle.pddl_plan_reader.proofs.plan_reader.no_fault_in_plan.Goals as goal
+
+pub returns : goal.returns
+returns c = laws.no_fault_in_plan

@@ -1,0 +1,5 @@
+use Rattle.pddl_plan_reader.proofs.PlanTextLaws as laws
+use Rattle.pddl_plan_reader.proofs.plan_reader.one_plan_fault.Goals as goal
+
+pub returns : goal.returns
+returns c = laws.one_plan_fault

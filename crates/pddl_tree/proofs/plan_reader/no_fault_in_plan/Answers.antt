@@ -1,5 +1,0 @@
-use Rattle.pddl_tree.proofs.PlanTextLaws as laws
-use Rattle.pddl_tree.proofs.plan_reader.no_fault_in_plan.Goals as goal
-
-pub returns : goal.returns
-returns c = laws.no_fault_in_plan

@@ -1,5 +1,0 @@
-use Rattle.pddl_tree.proofs.FaultPlaces as places
-use Rattle.pddl_tree.proofs.plan_reader.plan_fault_in_text.Goals as goal
-
-pub returns : goal.returns
-returns c = places.fault_inside
