@@ -19,7 +19,7 @@ use Rattle.pddl_task.specs.Types.{pairs, fitting}
 use Rattle.std.proofs.lemmas.Option.{slice_get_within}
 use Rattle.pddl_tables.specs.Prices.{prices_of}
 use Rattle.pddl_tables.proofs.PricedCalls.{tables_are_over}
-use Rattle.pddl_plan_steps.proofs.LinkedPlan.SoundSteps.{steps_have_names}
+use Rattle.pddl_linked_plan.proofs.SoundSteps.{steps_have_names}
 use Rattle.pddl_task.specs.Valuations.{giving}
 use Rattle.pddl_state.specs.Atoms.{AtomValue, atom_eq}
 use Rattle.pddl_meaning.specs.Worlds.{world_of}
@@ -33,8 +33,8 @@ use Rattle.pddl_compiled.specs.TaskTables.{tables_of}
 use Rattle.pddl_compiled.proofs.Parameters.{parameters_fit}
 use Rattle.pddl_compiled.proofs.Same.{truth_right, tested_right, spoken_right, changed_right, spent_right}
 use Rattle.pddl_evaluation.specs.Costs.{increases_of, increases_in, most_increases}
-use Rattle.pddl_plan_steps.specs.LinkedPlan.LinkedSteps.{LinkedStepValue, AreLinkedSteps}
-use Rattle.pddl_plan_steps.specs.LinkedPlan.LinkedLaws.{named_step, IsLinkedStep}
+use Rattle.pddl_linked_plan.specs.LinkedSteps.{LinkedStepValue, AreLinkedSteps}
+use Rattle.pddl_linked_plan.specs.LinkedLaws.{named_step, IsLinkedStep}
 use Rattle.pddl_plan_steps.specs.NumberedSteps.{numbered_step}
 use Rattle.pddl_plan_steps.specs.PlanSteps.{idle, numbered_steps, numbered_goal}
 use Rattle.pddl_compiled_plan.specs.CompiledSteps.{scope_of, form_of, form_step}

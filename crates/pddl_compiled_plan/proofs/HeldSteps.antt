@@ -10,7 +10,7 @@ use Rattle.std.proofs.lemmas.Option.{slice_get_within, get_or_from_slice_get}
 use Rattle.pddl_state.specs.Atoms.{AtomValue}
 use Rattle.pddl_compiled.specs.Views.{change_view}
 use Rattle.pddl_evaluation.specs.Costs.{increases_of, most_increases}
-use Rattle.pddl_plan_steps.specs.LinkedPlan.LinkedSteps.{LinkedStepValue}
+use Rattle.pddl_linked_plan.specs.LinkedSteps.{LinkedStepValue}
 use Rattle.pddl_plan_steps.specs.PlanSteps.{idle}
 use Rattle.pddl_compiled_plan.specs.CompiledSteps.{form_in, form_step, held_price, held_steps, AreHeldFor}
 use Rattle.pddl_compiled_plan.specs.declared.action.CompiledAction.{CompiledAction}

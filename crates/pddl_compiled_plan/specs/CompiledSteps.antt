@@ -17,7 +17,7 @@ use Rattle.pddl_evaluation.specs.Costs.{increases_of, most_increases}
 use Rattle.pddl_evaluation.specs.Fires.{added, deleted}
 use Rattle.pddl_tables.specs.Prices.{price_at}
 use Rattle.pddl_plan_steps.specs.PlanSteps.{idle}
-use Rattle.pddl_plan_steps.specs.LinkedPlan.LinkedSteps.{LinkedStepValue, AreLinkedSteps}
+use Rattle.pddl_linked_plan.specs.LinkedSteps.{LinkedStepValue, AreLinkedSteps}
 use Rattle.pddl_compiled_plan.specs.declared.action.CompiledAction.{CompiledAction}
 
 -- an action's precondition and effect by numbers

@@ -3,7 +3,7 @@ use Rattle.std.specs.Prelude.{ℕ, Bool, List}
 use Rattle.pddl_state.specs.Atoms.{AtomValue}
 use Rattle.pddl_happenings.specs.Steps.{Step}
 use Rattle.pddl_tables.specs.Lookups.{price_in}
-use Rattle.pddl_plan_steps.specs.LinkedPlan.LinkedSteps.{LinkedStepValue}
+use Rattle.pddl_linked_plan.specs.LinkedSteps.{LinkedStepValue}
 use Rattle.pddl_compiled_plan.specs.CompiledSteps.{held_steps, held_goal}
 use Rattle.pddl_compiled_plan.specs.declared.plan.CompiledPlan.{CompiledPlan}
 

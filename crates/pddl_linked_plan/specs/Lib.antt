@@ -5,4 +5,3 @@ pub mod FittingObjects
 pub mod KnownSteps
 pub mod LinkedLaws
 pub mod NumberedAtoms
-pub use Rattle.pddl_link.specs as Link

@@ -18,14 +18,14 @@ use Rattle.pddl_judge.specs.declared.verdict.Verdict.TheVariants as verdicts
 use Rattle.pddl_judge.specs.HappeningValues.{groups_of, moments_of}
 use Rattle.pddl_judge.specs.Verdicts.{IfPrecondition, IfInterference, IfGoal, OnAccepted, OnRefused}
 use Rattle.pddl_meaning.specs.Worlds.{Atoms}
-use Rattle.pddl_serial_plans.specs.LinkedPlan.LinkedSteps.{LinkedStepValue, AreLinkedSteps}
-use Rattle.pddl_serial_plans.specs.LinkedPlan.NumberedAtoms.{named_atom, IsInRange}
-use Rattle.pddl_serial_plans.proofs.LinkedPlan.InitialAtoms.{known_in_range}
-use Rattle.pddl_serial_plans.proofs.LinkedPlan.SoundSteps.{steps_are_sound}
-use Rattle.pddl_serial_plans.specs.PlanSteps.NumberedSteps.{number_of}
-use Rattle.pddl_serial_plans.specs.PlanSteps.PlanSteps.{named_steps, initial_state, goal_of}
-use Rattle.pddl_serial_plans.specs.Valid.AcceptedPlans.{AreHappeningsOf, OfHappenings, IsAcceptedPlan}
-use Rattle.pddl_serial_plans.specs.Valid.NamedClashes.{NamesLeast}
+use Rattle.pddl_linked_plan.specs.LinkedSteps.{LinkedStepValue, AreLinkedSteps}
+use Rattle.pddl_linked_plan.specs.NumberedAtoms.{named_atom, IsInRange}
+use Rattle.pddl_linked_plan.proofs.InitialAtoms.{known_in_range}
+use Rattle.pddl_linked_plan.proofs.SoundSteps.{steps_are_sound}
+use Rattle.pddl_plan_steps.specs.NumberedSteps.{number_of}
+use Rattle.pddl_plan_steps.specs.PlanSteps.{named_steps, initial_state, goal_of}
+use Rattle.pddl_valid.specs.AcceptedPlans.{AreHappeningsOf, OfHappenings, IsAcceptedPlan}
+use Rattle.pddl_valid.specs.NamedClashes.{NamesLeast}
 use Rattle.pddl_commands.specs.declared.outcome.Outcome.{Outcome}
 use Rattle.pddl_plan_commands.specs.Printings.{Printing}
 use Rattle.pddl_plan_commands.specs.PlanChecks.{IsLeastNamed, IsFirstFailure, AreStepsJudged}

@@ -21,10 +21,10 @@ use Rattle.pddl_meaning.specs.Steps.{step_of}
 use Rattle.pddl_meaning.specs.Worlds.{Atoms, no_atoms}
 use Rattle.pddl_meaning.proofs.Agreement.{one_ground}
 use Rattle.pddl_meaning.proofs.Frame.{fired_spoken}
-use Rattle.pddl_serial_plans.specs.LinkedPlan.LinkedLaws.{named_step, IsLinkedStep}
-use Rattle.pddl_serial_plans.specs.LinkedPlan.LinkedSteps.{LinkedStepValue, AreLinkedSteps}
-use Rattle.pddl_serial_plans.specs.PlanSteps.PlanSteps.{idle, named_steps}
-use Rattle.pddl_serial_plans.proofs.PlanSteps.PlanSteps.{as_many, at_place, each_linked, objects_known}
+use Rattle.pddl_linked_plan.specs.LinkedLaws.{named_step, IsLinkedStep}
+use Rattle.pddl_linked_plan.specs.LinkedSteps.{LinkedStepValue, AreLinkedSteps}
+use Rattle.pddl_plan_steps.specs.PlanSteps.{idle, named_steps}
+use Rattle.pddl_plan_steps.proofs.PlanSteps.{as_many, at_place, each_linked, objects_known}
 
 -- a known atom that passes for what is added, or for what is deleted, is the one that is asked for
 of_added : (task : TaskValue) (g : GroundValue) (x : Spoken) → tested no_atoms (same_ground g) no_atoms x ≡ true → is_known task (atom_of x) ≡ true → is_known task g ≡ true

@@ -1,5 +1,4 @@
 pub mod Left
-pub mod LinePieces
 pub mod Runs
 pub mod KnownClashes
 pub mod SomeHappenings

@@ -28,17 +28,17 @@ use Rattle.pddl_judge.proofs.Refusals.{unready_not_fine}
 use Rattle.pddl_meaning.specs.Worlds.{Atoms}
 use Rattle.pddl_plan_link.specs.declared.fault.StepFault.{StepFault}
 use Rattle.pddl_plan_link.specs.declared.fault.StepFault.TheVariants as link
-use Rattle.pddl_serial_plans.specs.LinkedPlan.LinkedLaws.{HaveAlikeMoments}
-use Rattle.pddl_serial_plans.specs.LinkedPlan.LinkedSteps.{LinkedStepValue, linked_steps, AreLinkedSteps}
-use Rattle.pddl_serial_plans.specs.LinkedPlan.NumberedAtoms.{named_atom}
-use Rattle.pddl_serial_plans.specs.LinkedPlan.StepFaults.{step_faults, IsGoodStep, IsLinkedPlan, IsPlanFault}
+use Rattle.pddl_linked_plan.specs.LinkedLaws.{HaveAlikeMoments}
+use Rattle.pddl_linked_plan.specs.LinkedSteps.{LinkedStepValue, linked_steps, AreLinkedSteps}
+use Rattle.pddl_linked_plan.specs.NumberedAtoms.{named_atom}
+use Rattle.pddl_linked_plan.specs.StepFaults.{step_faults, IsGoodStep, IsLinkedPlan, IsPlanFault}
 use Rattle.pddl_plan_link.specs.StepVerdicts.{plan_fault_of}
-use Rattle.pddl_serial_plans.proofs.LinkedPlan.InitialAtoms.{known_in_range}
-use Rattle.pddl_serial_plans.proofs.LinkedPlan.SoundSteps.{steps_are_sound}
-use Rattle.pddl_serial_plans.specs.PlanSteps.NumberedSteps.{number_of}
-use Rattle.pddl_serial_plans.specs.PlanSteps.PlanSteps.{named_steps, initial_state}
-use Rattle.pddl_serial_plans.specs.Valid.AcceptedPlans.{moments_in, AreHappeningsOf}
-use Rattle.pddl_serial_plans.proofs.Valid.OnlyHappenings.{happenings_once}
+use Rattle.pddl_linked_plan.proofs.InitialAtoms.{known_in_range}
+use Rattle.pddl_linked_plan.proofs.SoundSteps.{steps_are_sound}
+use Rattle.pddl_plan_steps.specs.NumberedSteps.{number_of}
+use Rattle.pddl_plan_steps.specs.PlanSteps.{named_steps, initial_state}
+use Rattle.pddl_valid.specs.AcceptedPlans.{moments_in, AreHappeningsOf}
+use Rattle.pddl_valid.proofs.OnlyHappenings.{happenings_once}
 use Rattle.pddl_kind.specs.declared.Kind.TheVariants.{Domain, Problem, Plan}
 use Rattle.pddl_commands.specs.declared.outcome.Outcome.{Outcome}
 use Rattle.pddl_commands.specs.declared.outcome.Outcome.TheVariants.{Good, Invalid, Refused}
@@ -47,7 +47,7 @@ use Rattle.pddl_commands.specs.Checks.{ForProblem, AreAlike}
 use Rattle.pddl_commands.proofs.FaultLines.{one_line}
 use Rattle.pddl_commands.proofs.OneCheck.{one_fault, good_or_refused, one_answer, no_domain_refused, no_problem_refused}
 use Rattle.pddl_commands.proofs.OneOutcome.{one_refused}
-use Rattle.pddl_plan_commands.specs.PlanLines.{step_fault_name}
+use Rattle.pddl_plan_lines.specs.PlanLines.{step_fault_name}
 use Rattle.pddl_plan_commands.specs.Printings.{Printing}
 use Rattle.pddl_plan_commands.specs.PlanChecks.{IsStepRefused, IsValidPlan, Failure, unready, interference, off_goal, IsLeastNamed, IsFirstFailure, failure_line, IsInvalidPlan, AreStepsJudged, IsJudgedIn, IsPlanJudged, ForPlan, EndsInOneWay}
 use Rattle.pddl_plan_commands.proofs.FirstFailures.{happening_once, not_all_fine}

@@ -2,7 +2,7 @@
 use Rattle.std.proofs.Common.{◌≡◌, ℕ, List, sym, ap, ◌∙◌}
 use Rattle.pddl_task.specs.Tasks.{TaskValue}
 use Rattle.pddl_meaning.specs.Worlds.{Atoms}
-use Rattle.pddl_serial_plans.specs.LinkedPlan.LinkedSteps.{LinkedStepValue}
+use Rattle.pddl_linked_plan.specs.LinkedSteps.{LinkedStepValue}
 use Rattle.pddl_layout.specs.PlanLayout.{plan_text}
 use Rattle.pddl_serial.specs.declared.turns.Order.{Order}
 use Rattle.pddl_plan_commands.specs.Printings.{Printing, IsVerdictLine, IsSerialText, IsSplitText}

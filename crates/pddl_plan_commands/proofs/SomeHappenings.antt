@@ -10,9 +10,9 @@ use Rattle.std.proofs.lemmas.Bool.{eqb-true}
 use Rattle.std.proofs.lemmas.Bool.Decides.{nat_tests}
 use Rattle.std.proofs.lemmas.List.Elements.{All-nil}
 use Rattle.pddl_happenings.specs.Happenings.{AreMoments, plain_happenings, steps_at}
-use Rattle.pddl_serial_plans.specs.LinkedPlan.LinkedLaws.{HaveAlikeMoments}
-use Rattle.pddl_serial_plans.specs.LinkedPlan.LinkedSteps.{LinkedStepValue}
-use Rattle.pddl_serial_plans.specs.Valid.AcceptedPlans.{moments_in, AreHappeningsOf}
+use Rattle.pddl_linked_plan.specs.LinkedLaws.{HaveAlikeMoments}
+use Rattle.pddl_linked_plan.specs.LinkedSteps.{LinkedStepValue}
+use Rattle.pddl_valid.specs.AcceptedPlans.{moments_in, AreHappeningsOf}
 
 less : (m n : ℕ) → m < n → nat_cmp m n ≡ Less
 less m n h = sym (nat_cmp_is m n Less h)

@@ -16,19 +16,19 @@ use Rattle.pddl_happenings.specs.Serialisations.{Converges}
 use Rattle.pddl_meaning.specs.Worlds.{Atoms}
 use Rattle.pddl_plan_link.specs.declared.fault.StepFault.{StepFault}
 use Rattle.pddl_plan_link.specs.declared.fault.StepFault.TheVariants as link
-use Rattle.pddl_serial_plans.specs.LinkedPlan.LinkedSteps.{LinkedStepValue, linked_steps}
-use Rattle.pddl_serial_plans.specs.LinkedPlan.StepFaults.{IsLinkedPlan, IsPlanFault}
+use Rattle.pddl_linked_plan.specs.LinkedSteps.{LinkedStepValue, linked_steps}
+use Rattle.pddl_linked_plan.specs.StepFaults.{IsLinkedPlan, IsPlanFault}
 use Rattle.pddl_plan_link.specs.StepVerdicts.{plan_fault_of}
-use Rattle.pddl_serial_plans.specs.PlanSteps.NumberedSteps.{number_of}
-use Rattle.pddl_serial_plans.specs.PlanSteps.PlanSteps.{named_steps, initial_state, goal_of}
-use Rattle.pddl_serial_plans.specs.Valid.AcceptedPlans.{AreHappeningsOf, OfHappenings, IsAcceptedPlan}
+use Rattle.pddl_plan_steps.specs.NumberedSteps.{number_of}
+use Rattle.pddl_plan_steps.specs.PlanSteps.{named_steps, initial_state, goal_of}
+use Rattle.pddl_valid.specs.AcceptedPlans.{AreHappeningsOf, OfHappenings, IsAcceptedPlan}
 use Rattle.pddl_kind.specs.declared.Kind.TheVariants.{Plan}
 use Rattle.pddl_commands.specs.declared.outcome.Outcome.{Outcome}
 use Rattle.pddl_commands.specs.declared.outcome.Outcome.TheVariants.{Good, Invalid, Refused}
 use Rattle.pddl_commands.specs.Lines.{IsFaultLine}
 use Rattle.pddl_commands.specs.Formats.{IsRefused}
 use Rattle.pddl_commands.specs.Checks.{IsLinkRefused, ForDomain, ForProblem, AreAlike}
-use Rattle.pddl_plan_commands.specs.PlanLines.{step_fault_name, unready_line, clash_line, goal_line}
+use Rattle.pddl_plan_lines.specs.PlanLines.{step_fault_name, unready_line, clash_line, goal_line}
 use Rattle.pddl_plan_commands.specs.Printings.{Printing}
 
 -- ---- a plan that does not link

@@ -3,13 +3,13 @@ use Rattle.std.specs.Prelude.{◌≡◌, ℕ, List, length}
 use Rattle.pddl_plan.specs.Plans.{PlanValue}
 use Rattle.pddl_task.specs.Tasks.{TaskValue}
 use Rattle.pddl_meaning.specs.Worlds.{Atoms}
-use Rattle.pddl_serial_plans.specs.LinkedPlan.LinkedSteps.{LinkedStepValue}
+use Rattle.pddl_linked_plan.specs.LinkedSteps.{LinkedStepValue}
 use Rattle.pddl_layout.specs.PlanLayout.{plan_text}
 use Rattle.pddl_serial.specs.declared.turns.Order.{Order}
 use Rattle.pddl_serial.specs.Orders.{in_order}
 use Rattle.pddl_serial.specs.Cuts.{cut_in_order}
 use Rattle.pddl_serial_plans.specs.NewPlans.{IsSerialPlan, IsSplitPlan}
-use Rattle.pddl_plan_commands.specs.PlanLines.{valid_line}
+use Rattle.pddl_plan_lines.specs.PlanLines.{valid_line}
 
 -- What is printed of a task and the steps of a plan, its happenings, its end and its cost.
 abbrev pub Printing : Type 1

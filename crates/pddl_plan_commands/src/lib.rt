@@ -8,11 +8,9 @@
 mod accepted;
 mod checking;
 mod judging;
-mod lines;
 mod reading;
 mod running;
 mod serial_forms;
-mod step_faults;
 mod wanted;
 
 pub use checking::{check, one_plan_outcome};

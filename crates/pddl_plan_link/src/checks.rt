@@ -8,7 +8,7 @@ ghost use Rattle.pddl_task.specs.Names.{is_in, number_in};
 ghost use Rattle.pddl_task.specs.Tasks.{object_names};
 ghost use Rattle.pddl_faults.specs.Told.{AreTold};
 ghost use Rattle.pddl_types.specs.Places.{AreTops};
-ghost use Rattle.pddl_tables.specs.Link.LinkedTasks.{task_of_files};
+ghost use Rattle.pddl_link.specs.LinkedTasks.{task_of_files};
 ghost use Rattle.pddl_tables.specs.Lookups.{price_in};
 ghost use Rattle.pddl_plan_tables.specs.ChangeCosts.{is_unpriced, some_cost};
 ghost use Rattle.pddl_plan_tables.specs.ActionChanges.{effect_of, AreChangesOf};

@@ -2,7 +2,7 @@
 
 ghost use Rattle.std.specs.Prelude.{◌≡◌, ◌≤◌, [], length, IfOk, OnOk};
 ghost use Rattle.pddl_plan.specs.Plans.{plan_view, steps_of};
-ghost use Rattle.pddl_tables.specs.Link.LinkedTasks.{task_of_files};
+ghost use Rattle.pddl_link.specs.LinkedTasks.{task_of_files};
 ghost use Rattle.pddl_linked_plan.specs.StepFaults.{most_steps};
 ghost use Rattle.pddl_linked_plan.specs.LinkedSteps.{linked_steps};
 ghost use Rattle.pddl_plan_tables.specs.ActionChanges.{AreChangesOf};

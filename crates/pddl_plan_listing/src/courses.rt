@@ -1,8 +1,8 @@
 //! What the steps of a plan and its goal are in the state that it starts in.
 
 ghost use Rattle.std.specs.Prelude.{◌≡◌, ◌<◌};
-ghost use Rattle.pddl_serial_plans.specs.Link.LinkedTasks.{task_of_files};
-ghost use Rattle.pddl_serial_plans.specs.LinkedPlan.LinkedSteps.{AreLinkedSteps};
+ghost use Rattle.pddl_link.specs.LinkedTasks.{task_of_files};
+ghost use Rattle.pddl_linked_plan.specs.LinkedSteps.{AreLinkedSteps};
 
 use crate::atoms::add_set;
 use crate::listed::Asked;

@@ -1,7 +1,7 @@
 //! Verdicts, and the ends of accepted plans.
 
-ghost use Rattle.pddl_serial_plans.specs.Link.LinkedTasks.{task_of_files};
-ghost use Rattle.pddl_serial_plans.specs.LinkedPlan.LinkedSteps.{AreLinkedSteps};
+ghost use Rattle.pddl_link.specs.LinkedTasks.{task_of_files};
+ghost use Rattle.pddl_linked_plan.specs.LinkedSteps.{AreLinkedSteps};
 
 use crate::atoms::{add_atom, add_atoms};
 use pddl_commands::Outcome;

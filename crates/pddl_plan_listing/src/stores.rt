@@ -1,7 +1,7 @@
 //! Listings over both stores of atoms.
 
-ghost use Rattle.pddl_serial_plans.specs.Link.LinkedTasks.{task_of_files};
-ghost use Rattle.pddl_serial_plans.specs.LinkedPlan.LinkedSteps.{AreLinkedSteps};
+ghost use Rattle.pddl_link.specs.LinkedTasks.{task_of_files};
+ghost use Rattle.pddl_linked_plan.specs.LinkedSteps.{AreLinkedSteps};
 
 use crate::courses::add_course;
 use crate::ends::add_verdict;

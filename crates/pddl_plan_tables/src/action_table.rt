@@ -5,7 +5,7 @@ ghost use Rattle.pddl_domain.specs.Actions.{action_view};
 ghost use Rattle.pddl_task.specs.Names.{repeated};
 ghost use Rattle.pddl_task.specs.GroundSize.{capped, action_size};
 ghost use Rattle.pddl_task.specs.Tasks.{task_count};
-ghost use Rattle.pddl_tables.specs.Link.LinkedTasks.{task_of_files};
+ghost use Rattle.pddl_link.specs.LinkedTasks.{task_of_files};
 ghost use Rattle.pddl_linked_plan.specs.StepFaults.{action_name};
 ghost use Rattle.pddl_plan_tables.specs.StepTables.{named_action, named_in};
 

@@ -1,7 +1,7 @@
 //! What a plan's steps are looked up in.
 
 ghost use Rattle.std.specs.Prelude.{◌≡◌, IfOk};
-ghost use Rattle.pddl_tables.specs.Link.LinkedTasks.{task_of_files};
+ghost use Rattle.pddl_link.specs.LinkedTasks.{task_of_files};
 ghost use Rattle.pddl_plan_tables.specs.PlanTables.{AreCostTables, ArePlanTables};
 
 use crate::action_table::{Actions, actions_by_name};

@@ -1,9 +1,8 @@
 -- The test of a list of step numbers: what it asks of each number in turn is that the list is a serialisation.
-use Rattle.std.proofs.Common.{◌≡◌, ◌↔◌, ◌≢◌, ℕ, suc, ◌≤◌, ◌<◌, Bool, true, false, ◌||◌, List, [], ◌∷◌, refl, sym, ap, ◌∙◌, arith, length, get_or, set, eqb, eq-eqb, get_or-set_same, get_or-set_other, length-set, subst, IsTrue}
+use Rattle.std.proofs.Common.{◌≡◌, ◌↔◌, ◌≢◌, ℕ, suc, ◌≤◌, ◌<◌, Bool, true, false, ◌||◌, List, [], ◌∷◌, refl, sym, ap, ◌∙◌, arith, length, get_or, set, eqb, eq-eqb, get_or-set_same, get_or-set_other, length-set, subst, IsTrue, drop, drop-cons}
 use Rattle.std.specs.List.{list_any, concat, IsDistinct, AllByRecursion}
 use Rattle.std.proofs.lemmas.Bool.{eqb-true, true≢false}
 use Rattle.std.proofs.lemmas.List.Sorted.{list_any-IsPermutation}
-use Rattle.std.proofs.Common.{drop, drop-cons}
 use Rattle.std.proofs.lemmas.List.{drop_all}
 use Rattle.pddl_happenings.proofs.Copies.{number_listed, number_within, same_numbers}
 use Rattle.pddl_happenings.proofs.ListedOnce.{is_distinct}

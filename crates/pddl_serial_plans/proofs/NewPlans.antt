@@ -24,11 +24,11 @@ use Rattle.pddl_happenings.proofs.NewPlans as plans
 use Rattle.pddl_happenings.proofs.SplitMoments.{split_timed}
 use Rattle.pddl_happenings.proofs.TurnsTaken.{all_listed}
 use Rattle.pddl_meaning.specs.Worlds.{Atoms}
-use Rattle.pddl_valid.specs.LinkedPlan.LinkedLaws.{AreSoundSteps, HaveAlikeMoments, IsLinkedStep, without_moment}
-use Rattle.pddl_valid.specs.LinkedPlan.LinkedSteps.{LinkedStepValue, linked_steps}
-use Rattle.pddl_valid.specs.LinkedPlan.StepFaults.{IsLinkedPlan, action_names, most_steps}
-use Rattle.pddl_valid.proofs.LinkedPlan.SoundSteps.{steps_are_sound, plain_linked, plain_steps, timed_linked, timed_steps}
-use Rattle.pddl_valid.specs.PlanSteps.PlanSteps.{named_steps, initial_state, goal_of}
+use Rattle.pddl_linked_plan.specs.LinkedLaws.{AreSoundSteps, HaveAlikeMoments, IsLinkedStep, without_moment}
+use Rattle.pddl_linked_plan.specs.LinkedSteps.{LinkedStepValue, linked_steps}
+use Rattle.pddl_linked_plan.specs.StepFaults.{IsLinkedPlan, action_names, most_steps}
+use Rattle.pddl_linked_plan.proofs.SoundSteps.{steps_are_sound, plain_linked, plain_steps, timed_linked, timed_steps}
+use Rattle.pddl_plan_steps.specs.PlanSteps.{named_steps, initial_state, goal_of}
 use Rattle.pddl_serial.specs.Orders.{in_order}
 use Rattle.pddl_serial.specs.Cuts.{cut_in_order}
 use Rattle.pddl_serial.specs.declared.turns.Order.{Order}

@@ -12,9 +12,9 @@ use Rattle.pddl_happenings.specs.NamedSteps.{by_name}
 use Rattle.pddl_happenings.specs.Serialisations.{IsSerialOrder, RunsSerially, FailsAt}
 use Rattle.pddl_happenings.specs.Steps.{Step}
 use Rattle.pddl_happenings.proofs.NamedRuns.{end_alike, cost_alike}
-use Rattle.pddl_valid.specs.LinkedPlan.LinkedSteps.{LinkedStepValue}
-use Rattle.pddl_valid.specs.PlanSteps.NumberedSteps.{number_of}
-use Rattle.pddl_valid.specs.PlanSteps.PlanSteps.{named_steps}
+use Rattle.pddl_linked_plan.specs.LinkedSteps.{LinkedStepValue}
+use Rattle.pddl_plan_steps.specs.NumberedSteps.{number_of}
+use Rattle.pddl_plan_steps.specs.PlanSteps.{named_steps}
 use Rattle.pddl_serial.specs.Replays.{OnNotASerialisation, OnSerialisation, OnStepFails, OnEnded}
 use Rattle.pddl_serial.specs.declared.replaying.End.{End}
 use Rattle.pddl_serial.specs.declared.replaying.Replayed.{Replayed}

@@ -6,8 +6,8 @@ use Rattle.pddl_task.specs.Tasks.{TaskValue}
 use Rattle.pddl_happenings.specs.Happenings.{numbers_to}
 use Rattle.pddl_happenings.specs.Splits.{numbered, split_moments}
 use Rattle.pddl_meaning.specs.Worlds.{Atoms}
-use Rattle.pddl_valid.specs.LinkedPlan.LinkedSteps.{LinkedStepValue, linked_steps, AreLinkedSteps}
-use Rattle.pddl_valid.specs.LinkedPlan.StepFaults.{IsLinkedPlan}
+use Rattle.pddl_linked_plan.specs.LinkedSteps.{LinkedStepValue, linked_steps, AreLinkedSteps}
+use Rattle.pddl_linked_plan.specs.StepFaults.{IsLinkedPlan}
 use Rattle.pddl_valid.specs.AcceptedPlans.{AreHappeningsOf, IsAcceptedPlan}
 use Rattle.pddl_serial_plans.specs.NewSteps.{picked, at_moments, plain_plan, timed_plan}
 

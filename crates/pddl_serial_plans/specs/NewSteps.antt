@@ -3,8 +3,8 @@ use Rattle.std.specs.Prelude.{ℕ, ◌*◌, List, [], ◌∷◌, map, None, Some
 use Rattle.std.specs.Option.{unwrap_or}
 use Rattle.pddl_plan.specs.Plans.{TimedValue, PlanValue, plain, timed}
 use Rattle.pddl_task.specs.Tasks.{TaskValue}
-use Rattle.pddl_valid.specs.LinkedPlan.LinkedSteps.{LinkedStepValue}
-use Rattle.pddl_valid.specs.LinkedPlan.LinkedLaws.{named_step}
+use Rattle.pddl_linked_plan.specs.LinkedSteps.{LinkedStepValue}
+use Rattle.pddl_linked_plan.specs.LinkedLaws.{named_step}
 
 -- what stands past the last step
 abbrev pub no_step : LinkedStepValue

@@ -7,9 +7,9 @@ use Rattle.pddl_happenings.specs.Accepted.{after_all, cost_of_all}
 use Rattle.pddl_happenings.specs.Happenings.{singles}
 use Rattle.pddl_happenings.specs.NamedSteps.{by_name}
 use Rattle.pddl_happenings.specs.Serialisations.{IsSerialOrder, RunsSerially, FailsAt}
-use Rattle.pddl_valid.specs.LinkedPlan.LinkedSteps.{LinkedStepValue}
-use Rattle.pddl_valid.specs.PlanSteps.NumberedSteps.{number_of}
-use Rattle.pddl_valid.specs.PlanSteps.PlanSteps.{named_steps, initial_state}
+use Rattle.pddl_linked_plan.specs.LinkedSteps.{LinkedStepValue}
+use Rattle.pddl_plan_steps.specs.NumberedSteps.{number_of}
+use Rattle.pddl_plan_steps.specs.PlanSteps.{named_steps, initial_state}
 use Rattle.pddl_valid.specs.AcceptedPlans.{OfHappenings}
 use Rattle.pddl_serial.specs.declared.replaying.End.{End}
 use Rattle.pddl_serial.specs.declared.replaying.Replayed.{Replayed}

@@ -1,8 +1,8 @@
 //! Runs of a plan's steps, one after another.
 
 ghost use Rattle.std.specs.Prelude.{◌≡◌, Err, MatchResult};
-ghost use Rattle.pddl_valid.specs.Link.LinkedTasks.{task_of_files};
-ghost use Rattle.pddl_valid.specs.LinkedPlan.LinkedSteps.{AreLinkedSteps};
+ghost use Rattle.pddl_link.specs.LinkedTasks.{task_of_files};
+ghost use Rattle.pddl_linked_plan.specs.LinkedSteps.{AreLinkedSteps};
 ghost use Rattle.pddl_serial_plans.specs.SerialEnds.{IsReplayed, end_of};
 ghost use Rattle.pddl_serial_plans.specs.declared.fault.ReplayFault.TheVariants.{Memory};
 

@@ -1,6 +1,6 @@
 -- Actions that are marked where steps use them (own).
 use Rattle.std.specs.Prelude.{◌≡◌, ℕ, Bool, true, List, Some, slice_get}
-use Rattle.pddl_plan_steps.specs.LinkedPlan.LinkedSteps.{LinkedStepValue}
+use Rattle.pddl_linked_plan.specs.LinkedSteps.{LinkedStepValue}
 
 -- actions are marked by their numbers: those of all steps
 abbrev pub AreMarked : List LinkedStepValue → List Bool → Type 0

@@ -2,13 +2,13 @@
 
 ghost use Rattle.std.specs.Prelude.{◌≡◌, ◌<◌, ℕ, false, true, Some, length, replicate, slice_get, IfOk, MatchOption};
 ghost use Rattle.pddl_domain.specs.Actions.{ActionValue, action_view};
-ghost use Rattle.pddl_plan_steps.specs.Link.LinkedTasks.{task_of_files};
+ghost use Rattle.pddl_link.specs.LinkedTasks.{task_of_files};
 ghost use Rattle.pddl_task.specs.Tasks.{TaskValue};
 ghost use Rattle.pddl_compiled.specs.Compiler.{condition_of, change_of};
 ghost use Rattle.pddl_compiled.specs.Scopes.{scope_view};
 ghost use Rattle.pddl_compiled.specs.TaskTables.{tables_of};
 ghost use Rattle.pddl_compiled.specs.Views.{condition_view, change_view};
-ghost use Rattle.pddl_plan_steps.specs.LinkedPlan.LinkedSteps.{LinkedStepValue};
+ghost use Rattle.pddl_linked_plan.specs.LinkedSteps.{LinkedStepValue};
 ghost use Rattle.pddl_compiled_plan.specs.CompiledSteps.{form_in, form_of, AreForms, AreHeld, IsHeld};
 ghost use Rattle.pddl_step.specs.Marks.{AreMarked};
 

@@ -3,11 +3,11 @@
 ghost use Rattle.std.specs.Prelude.{◌≡◌, [], Ok, IfOk};
 ghost use Rattle.pddl_formula.specs.Formulas.{formula_view};
 ghost use Rattle.pddl_task.specs.Linked.{IsLinked};
-ghost use Rattle.pddl_plan_steps.specs.Link.LinkedTasks.{task_of_files};
+ghost use Rattle.pddl_link.specs.LinkedTasks.{task_of_files};
 ghost use Rattle.pddl_compiled.specs.Compiler.{condition_of};
 ghost use Rattle.pddl_compiled.specs.TaskTables.{tables_of};
 ghost use Rattle.pddl_compiled.specs.Views.{condition_view};
-ghost use Rattle.pddl_plan_steps.specs.LinkedPlan.LinkedSteps.{AreLinkedSteps};
+ghost use Rattle.pddl_linked_plan.specs.LinkedSteps.{AreLinkedSteps};
 ghost use Rattle.pddl_plan_steps.specs.PlanSteps.{numbered_steps, numbered_goal};
 ghost use Rattle.pddl_compiled_plan.specs.CompiledSteps.{AreForms, AreHeld};
 ghost use Rattle.pddl_compiled_plan.specs.HeldPlans.{plan_steps, plan_course, plan_goal};

@@ -3,7 +3,7 @@
 ghost use Rattle.std.specs.Prelude.{◌≡◌, ◌||◌, IfOk, OnOk};
 ghost use Rattle.pddl_state.specs.Atoms.{AtomValue};
 ghost use Rattle.pddl_state.specs.AtomSets.{is_listed};
-ghost use Rattle.pddl_plan_steps.specs.Link.LinkedTasks.{task_of_files};
+ghost use Rattle.pddl_link.specs.LinkedTasks.{task_of_files};
 ghost use Rattle.pddl_plan_steps.specs.PlanSteps.{numbered_start};
 
 use pddl_link::Task;

@@ -1,3 +1,2 @@
 pub mod Prices
 pub mod Lookups
-pub use Rattle.pddl_link.specs as Link

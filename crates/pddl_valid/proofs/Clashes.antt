@@ -10,7 +10,7 @@ use Rattle.pddl_happenings.specs.NamedSteps.{DoAsNamed, by_name}
 use Rattle.pddl_happenings.specs.Steps.{Step, changes, clash}
 use Rattle.pddl_happenings.proofs.NamedRuns.{clash_at_named}
 use Rattle.pddl_judge.specs.Verdicts.{IsLeast}
-use Rattle.pddl_step.specs.PlanSteps.NumberedSteps.{number_of}
+use Rattle.pddl_plan_steps.specs.NumberedSteps.{number_of}
 use Rattle.pddl_valid.specs.NamedClashes.{NamesLeast}
 
 -- what follows from Q wherever it holds follows from its first place, and so for pairs and happenings

@@ -22,12 +22,12 @@ use Rattle.pddl_meaning.specs.Steps.{step_of}
 use Rattle.pddl_meaning.specs.Worlds.{Atoms}
 use Rattle.pddl_meaning.proofs.Frame.{steps_framed}
 use Rattle.pddl_judge.specs.Verdicts.{IsLeast}
-use Rattle.pddl_step.specs.LinkedPlan.LinkedLaws.{named_step}
-use Rattle.pddl_step.specs.LinkedPlan.LinkedSteps.{LinkedStepValue, AreLinkedSteps}
-use Rattle.pddl_step.proofs.LinkedPlan.SoundSteps.{steps_are_sound}
-use Rattle.pddl_step.specs.PlanSteps.NumberedSteps.{number_of}
-use Rattle.pddl_step.specs.PlanSteps.PlanSteps.{idle, named_steps, numbered_steps, initial_state, numbered_start, goal_of, numbered_goal}
-use Rattle.pddl_step.proofs.PlanSteps.PlanSteps.{plan_as_named, start_as_named}
+use Rattle.pddl_linked_plan.specs.LinkedLaws.{named_step}
+use Rattle.pddl_linked_plan.specs.LinkedSteps.{LinkedStepValue, AreLinkedSteps}
+use Rattle.pddl_linked_plan.proofs.SoundSteps.{steps_are_sound}
+use Rattle.pddl_plan_steps.specs.NumberedSteps.{number_of}
+use Rattle.pddl_plan_steps.specs.PlanSteps.{idle, named_steps, numbered_steps, initial_state, numbered_start, goal_of, numbered_goal}
+use Rattle.pddl_plan_steps.proofs.PlanSteps.{plan_as_named, start_as_named}
 use Rattle.pddl_valid.specs.AcceptedPlans.{AreHappeningsOf, OfHappenings, IsAcceptedPlan}
 use Rattle.pddl_valid.specs.NamedClashes.{NamesLeast}
 use Rattle.pddl_valid.proofs.Clashes.{least_named}

@@ -13,8 +13,8 @@ use Rattle.std.proofs.lemmas.Bool.{eqb-true, true≢false}
 use Rattle.pddl_happenings.proofs.TimedHappenings.{all_weaker, unequal}
 use Rattle.pddl_happenings.proofs.Copies.{absent}
 use Rattle.pddl_happenings.specs.Happenings.{AreOfTimed, AreOfPlain, steps_at}
-use Rattle.pddl_step.specs.LinkedPlan.LinkedSteps.{LinkedStepValue}
-use Rattle.pddl_step.specs.LinkedPlan.LinkedLaws.{HaveAlikeMoments}
+use Rattle.pddl_linked_plan.specs.LinkedSteps.{LinkedStepValue}
+use Rattle.pddl_linked_plan.specs.LinkedLaws.{HaveAlikeMoments}
 use Rattle.pddl_judge.specs.HappeningValues.{HappeningValue, groups_of, moments_of}
 use Rattle.pddl_valid.specs.AcceptedPlans.{moments_in, AreHappeningsOf, OfHappenings}
 

@@ -6,8 +6,8 @@ use Rattle.pddl_task.specs.Tasks.{TaskValue}
 use Rattle.pddl_happenings.specs.Accepted.{IsAcceptedRun}
 use Rattle.pddl_happenings.specs.Happenings.{AreOfTimed, AreOfPlain}
 use Rattle.pddl_meaning.specs.Worlds.{Atoms}
-use Rattle.pddl_step.specs.LinkedPlan.LinkedSteps.{LinkedStepValue}
-use Rattle.pddl_step.specs.PlanSteps.PlanSteps.{named_steps, initial_state, goal_of}
+use Rattle.pddl_linked_plan.specs.LinkedSteps.{LinkedStepValue}
+use Rattle.pddl_plan_steps.specs.PlanSteps.{named_steps, initial_state, goal_of}
 
 -- the moments of steps that have one each
 abbrev pub moments_in : List LinkedStepValue → List ℕ

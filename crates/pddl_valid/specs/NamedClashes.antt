@@ -5,7 +5,7 @@ use Rattle.pddl_problem.specs.Inits.{GroundValue}
 use Rattle.pddl_task.specs.Tasks.{TaskValue}
 use Rattle.pddl_state.specs.Atoms.{AtomValue, atom_cmp}
 use Rattle.pddl_meaning.specs.Worlds.{Atoms}
-use Rattle.pddl_step.specs.PlanSteps.NumberedSteps.{number_of}
+use Rattle.pddl_plan_steps.specs.NumberedSteps.{number_of}
 
 -- The numbers are those of an atom of a set, and of no atom of it do they come later, by predicate in declared order and then by arguments in the order
 -- of objects.

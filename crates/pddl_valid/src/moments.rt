@@ -4,8 +4,8 @@ ghost use Rattle.std.specs.Prelude.{◌≡◌, ◌≤◌, false, length, slice_g
 ghost use Rattle.std.specs.Option.{unwrap_or, option_map_or};
 ghost use Rattle.pddl_happenings.specs.Happenings.{HaveEachOnce};
 ghost use Rattle.pddl_judge.specs.HappeningValues.{groups_of, moments_of};
-ghost use Rattle.pddl_step.specs.LinkedPlan.StepFaults.{most_steps};
-ghost use Rattle.pddl_step.specs.LinkedPlan.StepParts.{lent_step};
+ghost use Rattle.pddl_linked_plan.specs.StepFaults.{most_steps};
+ghost use Rattle.pddl_linked_plan.specs.StepParts.{lent_step};
 ghost use Rattle.pddl_valid.specs.AcceptedPlans.{moments_in, AreHappeningsOf};
 
 use pddl_judge::{Happening, plain_happenings, timed_happenings};

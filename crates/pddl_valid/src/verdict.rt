@@ -7,11 +7,11 @@ ghost use Rattle.pddl_happenings.specs.NamedSteps.{by_name};
 ghost use Rattle.pddl_happenings.specs.Serialisations.{Converges};
 ghost use Rattle.pddl_judge.specs.HappeningValues.{groups_of, moments_of};
 ghost use Rattle.pddl_judge.specs.Verdicts.{IfPrecondition, IfInterference, IfGoal, OnAccepted, OnRefused};
-ghost use Rattle.pddl_step.specs.Link.LinkedTasks.{task_of_files};
+ghost use Rattle.pddl_link.specs.LinkedTasks.{task_of_files};
 ghost use Rattle.pddl_meaning.specs.Worlds.{Atoms};
-ghost use Rattle.pddl_step.specs.LinkedPlan.LinkedSteps.{AreLinkedSteps};
-ghost use Rattle.pddl_step.specs.PlanSteps.NumberedSteps.{number_of};
-ghost use Rattle.pddl_step.specs.PlanSteps.PlanSteps.{named_steps, initial_state, goal_of};
+ghost use Rattle.pddl_linked_plan.specs.LinkedSteps.{AreLinkedSteps};
+ghost use Rattle.pddl_plan_steps.specs.NumberedSteps.{number_of};
+ghost use Rattle.pddl_plan_steps.specs.PlanSteps.{named_steps, initial_state, goal_of};
 ghost use Rattle.pddl_valid.specs.AcceptedPlans.{AreHappeningsOf, OfHappenings, IsAcceptedPlan};
 ghost use Rattle.pddl_valid.specs.NamedClashes.{NamesLeast};
 

@@ -9,8 +9,8 @@ use Rattle.pddl_judge.specs.declared.verdict.Verdict.TheVariants as verdicts
 use Rattle.pddl_judge.specs.HappeningValues.{groups_of, moments_of}
 use Rattle.pddl_judge.specs.Verdicts.{OnAccepted}
 use Rattle.pddl_meaning.specs.Worlds.{Atoms}
-use Rattle.pddl_serial_plans.specs.LinkedPlan.LinkedSteps.{LinkedStepValue}
-use Rattle.pddl_serial_plans.specs.LinkedPlan.NumberedAtoms.{named_atom}
+use Rattle.pddl_linked_plan.specs.LinkedSteps.{LinkedStepValue}
+use Rattle.pddl_linked_plan.specs.NumberedAtoms.{named_atom}
 use Rattle.pddl_serial_plans.specs.NewPlans.{IsAcceptedOf}
 use Rattle.pddl_commands.specs.declared.outcome.Outcome.{Outcome}
 use Rattle.pddl_commands.specs.declared.outcome.Outcome.TheVariants.{Good, Invalid}

@@ -1,11 +1,8 @@
-use Rattle.std.proofs.Common.{◌≡◌, ℕ, suc, ◌+◌, ◌-◌, ◌<◌, List, [], ◌∷◌, ◌++◌, map, rules, arith, refl, sym, ap, ◌∙◌, append_assoc}
+use Rattle.std.proofs.Common.{◌≡◌, ℕ, suc, ◌+◌, ◌-◌, ◌<◌, List, [], ◌∷◌, ◌++◌, map, rules, arith, refl, sym, ap, ◌∙◌, append_assoc, subst}
 use Rattle.std.proofs.lemmas.List.{map-append}
-use Rattle.std.proofs.Common.{subst}
 use Rattle.std.specs.Prelude.{All, None}
 use Rattle.std.proofs.lemmas.List.Elements.{All-push}
-use Rattle.pddl_happenings.specs.Happenings.{singles}
-use Rattle.pddl_happenings.specs.Happenings.{numbers_to, plain_happenings}
-use Rattle.pddl_happenings.specs.Happenings.{AreOfPlain}
+use Rattle.pddl_happenings.specs.Happenings.{singles, numbers_to, plain_happenings, AreOfPlain}
 use Rattle.pddl_judge.specs.HappeningValues.{groups_of, moments_of}
 use Rattle.pddl_happenings.proofs.ListedOnce.{plain_each}
 use Rattle.pddl_judge.proofs.plan_happenings.plain_happenings.Goals as goal

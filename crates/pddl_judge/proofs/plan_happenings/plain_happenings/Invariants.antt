@@ -1,7 +1,6 @@
 use Rattle.std.proofs.Common.{◌≡◌, ◌-◌, ◌++◌}
 use Rattle.std.specs.Prelude.{All, None}
-use Rattle.pddl_happenings.specs.Happenings.{singles}
-use Rattle.pddl_happenings.specs.Happenings.{numbers_to, plain_happenings}
+use Rattle.pddl_happenings.specs.Happenings.{singles, numbers_to, plain_happenings}
 use Rattle.pddl_judge.specs.HappeningValues.{groups_of, moments_of}
 use Rattle.pddl_judge.proofs.plan_happenings.plain_happenings.Given as goal
 

@@ -5,13 +5,13 @@ use Rattle.std.specs.Prelude.{IfOk}
 use Rattle.std.specs.Int.NonZero.{non_zero_u32_get}
 use Rattle.pddl_happenings.specs.NamedSteps.{by_name}
 use Rattle.pddl_judge.specs.HappeningValues.{groups_of}
-use Rattle.pddl_serial_plans.specs.Link.LinkedTasks.{task_of_files}
-use Rattle.pddl_serial_plans.specs.PlanSteps.NumberedSteps.{number_of}
+use Rattle.pddl_link.specs.LinkedTasks.{task_of_files}
+use Rattle.pddl_plan_steps.specs.NumberedSteps.{number_of}
 use Rattle.pddl_serial.specs.Cuts.{cut_in_order}
 use Rattle.pddl_serial.specs.Orders.{in_order}
 use Rattle.pddl_serial_plans.specs.NewPlans.{IsSerialPlan, IsSplitPlan}
 use Rattle.pddl_plan.specs.Plans.{plan_view}
-use Rattle.pddl_plan_commands.specs.PlanLines.{valid_line}
+use Rattle.pddl_plan_lines.specs.PlanLines.{valid_line}
 use Rattle.pddl_plan_commands.specs.Inner.WantedPrintings.{printing_of}
 use Rattle.pddl_plan_commands.proofs.NewTexts.{text_of_made}
 use Rattle.pddl_plan_commands.proofs.accepted.accepted_text.Goals as goal

@@ -1,5 +1,4 @@
-use Rattle.std.proofs.Common.{rules, ◌≡◌, ◌<◌, ◌≤◌, ℕ, true, false, length, get_or}
-use Rattle.std.proofs.Common.{sym}
+use Rattle.std.proofs.Common.{rules, ◌≡◌, ◌<◌, ◌≤◌, ℕ, true, false, length, get_or, sym}
 use Rattle.std.proofs.lemmas.Bool.{true≢false}
 use Rattle.pddl_serial.specs.Inner.Places.{IsOrderBy}
 use Rattle.pddl_serial.proofs.Passes.{too_large, seen_before, too_late, never_seen, all_seen}

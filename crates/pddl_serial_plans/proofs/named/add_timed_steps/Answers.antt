@@ -3,10 +3,10 @@ use Rattle.std.proofs.lemmas.List.{take_all}
 use Rattle.pddl_plan.specs.Building.{Building}
 use Rattle.pddl_plan.specs.Plans.{TimedValue, step_of_names, timed_built}
 use Rattle.pddl_tree.proofs.BuiltSteps.{moment_pushed, moments_pushed}
-use Rattle.pddl_valid.specs.Link.LinkedTasks.{task_of_files}
-use Rattle.pddl_valid.specs.LinkedPlan.LinkedLaws.{named_step}
-use Rattle.pddl_valid.specs.LinkedPlan.StepParts.{lent_step}
-use Rattle.pddl_valid.proofs.PlanSteps.PlanSteps.{each_linked}
+use Rattle.pddl_link.specs.LinkedTasks.{task_of_files}
+use Rattle.pddl_linked_plan.specs.LinkedLaws.{named_step}
+use Rattle.pddl_linked_plan.specs.StepParts.{lent_step}
+use Rattle.pddl_plan_steps.proofs.PlanSteps.{each_linked}
 use Rattle.pddl_serial_plans.specs.NewSteps.{picked, at_moments, timed_step}
 use Rattle.pddl_serial_plans.proofs.PickedSteps.{timed_more}
 use Rattle.pddl_serial_plans.proofs.AddedNames.{step_added, some_names, timed_is}

@@ -2,8 +2,8 @@ use Rattle.std.proofs.Common.{◌≤◌, length, sym, subst}
 use Rattle.pddl_task.specs.Tasks.{TaskValue, task_of}
 use Rattle.pddl_happenings.specs.Happenings.{HaveEachOnce}
 use Rattle.pddl_judge.specs.HappeningValues.{groups_of, moments_of}
-use Rattle.pddl_valid.proofs.LinkedPlan.SoundSteps.{steps_are_sound}
-use Rattle.pddl_valid.specs.Step.HeldPlans.{plan_course, plan_goal}
+use Rattle.pddl_linked_plan.proofs.SoundSteps.{steps_are_sound}
+use Rattle.pddl_compiled_plan.specs.HeldPlans.{plan_course, plan_goal}
 use Rattle.pddl_valid.specs.AcceptedPlans.{AreHappeningsOf}
 use Rattle.pddl_valid.proofs.NamedPlans.{IsCourseOf}
 use Rattle.pddl_serial_plans.proofs.Replays.{run_replayed}

@@ -3,8 +3,8 @@ use Rattle.std.specs.Prelude.{All, IfOk}
 use Rattle.pddl_plan.specs.Plans.{PlanValue, plan_view}
 use Rattle.pddl_happenings.specs.NamedSteps.{by_name}
 use Rattle.pddl_judge.specs.HappeningValues.{groups_of}
-use Rattle.pddl_valid.specs.Link.LinkedTasks.{task_of_files}
-use Rattle.pddl_valid.specs.PlanSteps.NumberedSteps.{number_of}
+use Rattle.pddl_link.specs.LinkedTasks.{task_of_files}
+use Rattle.pddl_plan_steps.specs.NumberedSteps.{number_of}
 use Rattle.pddl_serial.specs.Orders.{in_order}
 use Rattle.pddl_serial_plans.specs.NewPlans.{IsSerialPlan}
 use Rattle.pddl_serial_plans.specs.NewSteps.{picked, plain_plan}

@@ -2,9 +2,9 @@ use Rattle.std.proofs.Common.{◌≤◌, length, sym, subst}
 use Rattle.pddl_task.specs.Tasks.{TaskValue, task_of}
 use Rattle.pddl_happenings.specs.Serialisations.{Converges}
 use Rattle.pddl_judge.specs.HappeningValues.{groups_of, moments_of}
-use Rattle.pddl_step.proofs.LinkedPlan.SoundSteps.{steps_are_sound}
-use Rattle.pddl_step.specs.HeldPlans.{plan_course, plan_goal}
-use Rattle.pddl_step.specs.PlanSteps.PlanSteps.{named_steps, initial_state}
+use Rattle.pddl_linked_plan.proofs.SoundSteps.{steps_are_sound}
+use Rattle.pddl_compiled_plan.specs.HeldPlans.{plan_course, plan_goal}
+use Rattle.pddl_plan_steps.specs.PlanSteps.{named_steps, initial_state}
 use Rattle.pddl_valid.specs.AcceptedPlans.{AreHappeningsOf}
 use Rattle.pddl_valid.proofs.NamedPlans.{IsCourseOf, accepted, converges, unready, clashes, passes, off_goal, refused}
 use Rattle.pddl_valid.proofs.Verdicts.{accepted_so, accepted_both, refused_so, precondition_so, interference_so, goal_so}

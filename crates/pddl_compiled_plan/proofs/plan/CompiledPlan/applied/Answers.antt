@@ -1,6 +1,6 @@
 use Rattle.std.proofs.Common.{sym, ap, ◌∙◌, arith}
 use Rattle.std.specs.Option.{option_copied}
-use Rattle.pddl_plan_steps.specs.LinkedPlan.StepParts.{lent_step}
+use Rattle.pddl_linked_plan.specs.StepParts.{lent_step}
 use Rattle.pddl_tables.specs.Lookups.{price_in}
 use Rattle.pddl_compiled_plan.proofs.HeldSteps.{action_within, action_there, action_does, action_increases}
 use Rattle.pddl_compiled_plan.proofs.plan.CompiledPlan.applied.Goals as goal

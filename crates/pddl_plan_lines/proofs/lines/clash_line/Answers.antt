@@ -1,9 +1,9 @@
 use Rattle.std.specs.Prelude.{codes}
-use Rattle.pddl_serial_plans.specs.Link.LinkedTasks.{task_of_files}
-use Rattle.pddl_serial_plans.specs.LinkedPlan.NumberedAtoms.{named_atom}
-use Rattle.pddl_plan_commands.specs.PlanLines.{atom_text, clash_words}
-use Rattle.pddl_plan_commands.proofs.LinePieces.{three_pieces}
-use Rattle.pddl_plan_commands.proofs.lines.clash_line.Goals as goal
+use Rattle.pddl_link.specs.LinkedTasks.{task_of_files}
+use Rattle.pddl_linked_plan.specs.NumberedAtoms.{named_atom}
+use Rattle.pddl_plan_lines.specs.PlanLines.{atom_text, clash_words}
+use Rattle.pddl_plan_lines.proofs.LinePieces.{three_pieces}
+use Rattle.pddl_plan_lines.proofs.lines.clash_line.Goals as goal
 
 pub returns : goal.returns
 returns g c =

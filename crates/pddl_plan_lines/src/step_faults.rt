@@ -4,7 +4,7 @@ ghost use Rattle.std.specs.Prelude.{◌≡◌, ◌≢◌, ◌+◌, ◌++◌, [],
 ghost use Rattle.std.specs.Fmt.{decimal};
 ghost use Rattle.pddl_commands.specs.Lines.{IsFaultLine};
 ghost use Rattle.pddl_plan_link.specs.declared.fault.StepFault.TheVariants as link;
-ghost use Rattle.pddl_plan_commands.specs.PlanLines.{step_fault_name};
+ghost use Rattle.pddl_plan_lines.specs.PlanLines.{step_fault_name};
 
 use itoa::Buffer;
 use pddl_commands::{FaultName, Formatted, Outcome, fault_line};

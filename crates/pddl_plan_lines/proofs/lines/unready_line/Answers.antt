@@ -1,8 +1,8 @@
 use Rattle.std.proofs.Common.{◌+◌, ◌++◌}
 use Rattle.std.specs.Prelude.{codes}
 use Rattle.std.specs.Fmt.{decimal}
-use Rattle.pddl_plan_commands.proofs.LinePieces.{three_pieces}
-use Rattle.pddl_plan_commands.proofs.lines.unready_line.Goals as goal
+use Rattle.pddl_plan_lines.proofs.LinePieces.{three_pieces}
+use Rattle.pddl_plan_lines.proofs.lines.unready_line.Goals as goal
 
 pub returns : goal.returns
 returns g c =

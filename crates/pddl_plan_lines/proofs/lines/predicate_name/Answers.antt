@@ -1,9 +1,9 @@
 use Rattle.std.proofs.Common.{◌∙◌}
 use Rattle.pddl_task.specs.Settings.{symbol_of}
 use Rattle.pddl_task.specs.Tasks.{predicate_names}
-use Rattle.pddl_serial_plans.specs.Link.LinkedTasks.{task_of_files}
-use Rattle.pddl_plan_commands.proofs.LinePieces.{named, name_found}
-use Rattle.pddl_plan_commands.proofs.lines.predicate_name.Goals as goal
+use Rattle.pddl_link.specs.LinkedTasks.{task_of_files}
+use Rattle.pddl_plan_lines.proofs.LinePieces.{named, name_found}
+use Rattle.pddl_plan_lines.proofs.lines.predicate_name.Goals as goal
 
 pub unwrap-requires : goal.unwrap-requires
 unwrap-requires g c = named symbol_of (λ name. name.now) c.predicate_name.result (task_of_files c.args.task.now).predicates c.args.number c.predicate_name.ensures c.requires

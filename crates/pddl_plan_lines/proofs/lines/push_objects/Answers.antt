@@ -2,11 +2,11 @@ use Rattle.std.proofs.Common.{ℕ, ◌<◌, ◌∙◌, ◌++◌, length, ap, map
 use Rattle.std.proofs.lemmas.List.{take_all}
 use Rattle.std.proofs.lemmas.List.Elements.{All-get_or, All-from_recursion}
 use Rattle.pddl_layout.specs.PlanLayout.{spaced}
-use Rattle.pddl_serial_plans.specs.Link.LinkedTasks.{task_of_files}
-use Rattle.pddl_serial_plans.specs.LinkedPlan.LinkedLaws.{name_at}
+use Rattle.pddl_link.specs.LinkedTasks.{task_of_files}
+use Rattle.pddl_linked_plan.specs.LinkedLaws.{name_at}
 use Rattle.pddl_task.specs.Tasks.{object_names}
-use Rattle.pddl_plan_commands.proofs.LinePieces.{spaced_more}
-use Rattle.pddl_plan_commands.proofs.lines.push_objects.Goals as goal
+use Rattle.pddl_plan_lines.proofs.LinePieces.{spaced_more}
+use Rattle.pddl_plan_lines.proofs.lines.push_objects.Goals as goal
 
 pub object_name-requires : goal.object_name-requires
 object_name-requires g c =

@@ -5,7 +5,7 @@ use Rattle.std.specs.Option.{IsSome}
 use Rattle.std.proofs.lemmas.List.{flat_map_more, length-map, map_more}
 use Rattle.std.proofs.lemmas.Option.{get_or_from_slice_get, slice_get-get_or}
 use Rattle.pddl_layout.specs.PlanLayout.{spaced, spaced_name}
-use Rattle.pddl_serial_plans.specs.LinkedPlan.LinkedLaws.{name_at}
+use Rattle.pddl_linked_plan.specs.LinkedLaws.{name_at}
 use Rattle.pddl_task.specs.Names.{Name}
 
 -- a number below how many there are has a name
