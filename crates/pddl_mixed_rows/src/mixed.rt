@@ -7,11 +7,11 @@ ghost use Rattle.pddl_bit_rows.specs.BitRows.{has_bit};
 ghost use Rattle.pddl_mixed_rows.specs.SparseRows.{has_number, AreRising};
 ghost use Rattle.pddl_mixed_rows.specs.MixedRows.{is_set, IsOrderly, IsFull};
 
-use pddl_bit_rows::{clear_bits, is_bit_set, next_shared_bit, set_bit, set_bits, share_no_bit};
 use crate::sparse::{
     clear_numbers, first_from, is_number_in, put_number, set_numbers, share_no_number,
     share_none_with_row, united_numbers,
 };
+use pddl_bit_rows::{clear_bits, is_bit_set, next_shared_bit, set_bit, set_bits, share_no_bit};
 use std::alloc::{AllocError, Allocator};
 
 /// A row of bits.
@@ -77,12 +77,7 @@ fn next_number_in<A: Allocator>(numbers: &[usize], row: &Row<A>, from: usize, en
 }
 
 /// The first place from `from` on and below `end` whose bit is set in both rows, or `end`.
-pub fn next_shared_place<A: Allocator>(
-    a: &Row<A>,
-    b: &Row<A>,
-    from: usize,
-    end: usize,
-) -> usize
+pub fn next_shared_place<A: Allocator>(a: &Row<A>, b: &Row<A>, from: usize, end: usize) -> usize
     requires a { IsOrderly a.now }
     requires b { IsOrderly b.now }
     requires range { from ≤ end }

@@ -3,8 +3,8 @@ use super::memory::{holds_nothing, runs_script};
 use super::samples::samples;
 use super::sets::{TwoSets, empty_sets};
 use super::stores::{merges, runs_draws};
-use pddl_fakes::Refusing;
 use pddl_bit_store::BitStore;
+use pddl_fakes::Refusing;
 use pddl_state::{AtomStore, SortedStore};
 use std::alloc::Allocator;
 
