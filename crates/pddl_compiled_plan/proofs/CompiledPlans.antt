@@ -1,7 +1,7 @@
 -- What is compiled of a linked plan does what the definitions say of its steps and its goal.
 use Rattle.std.proofs.Common.{◌≡◌, ℕ, List, [], refl, sym, ap, ◌∙◌, subst}
 use Rattle.std.specs.Prelude.{◌≤◌, Option, Some, None, slice_get, unwrap_or}
-use Rattle.std.specs.Option.{option_map_or}
+use Rattle.std.specs.Option.{option_map_or, option_flatten}
 use Rattle.pddl_task.specs.Linked.{IsLinked}
 use Rattle.pddl_task.specs.Tasks.{TaskValue}
 use Rattle.pddl_state.specs.Atoms.{AtomValue}
@@ -18,12 +18,12 @@ use Rattle.pddl_plan_steps.specs.NumberedSteps.{numbered_step}
 use Rattle.pddl_plan_steps.specs.PlanSteps.{idle, numbered_steps, numbered_goal}
 use Rattle.pddl_plan_steps.proofs.Framed.{steps_framed}
 use Rattle.pddl_plan_steps.proofs.PlanSteps.{each_linked}
-use Rattle.pddl_compiled_plan.specs.CompiledSteps.{form_in, form_of, form_step, held_price, held_steps, held_goal, IsPlanOf, AreHeldFor}
+use Rattle.pddl_compiled_plan.specs.CompiledSteps.{form_in, form_of, form_step, held_price, held_step, held_steps, held_goal, AreCompiledFrom, AreHeldFor}
 use Rattle.pddl_compiled_plan.specs.declared.action.CompiledAction.{CompiledAction}
 use Rattle.pddl_compiled_plan.proofs.Forms.{step_by_form, few_increases, goal_by_form}
 
 module _ {A : Type 0} (files : Files) (linked : IsLinked files.domain files.problem) {steps : List LinkedStepValue} {actions : List (Option (CompiledAction A))} {goal : Condition A}
-    {prices : AtomValue → Option ℕ} (plan : IsPlanOf (task_of_files files) steps actions goal prices) where
+    {prices : AtomValue → Option ℕ} (plan : AreCompiledFrom (task_of_files files) steps actions goal prices) where
   abbrev task : TaskValue
   task = task_of_files files
 
@@ -41,8 +41,8 @@ module _ {A : Type 0} (files : Files) (linked : IsLinked files.domain files.prob
     does : held_steps actions prices steps k ≡ numbered_steps task steps k
     does =
         let held = plan.used k s is in
-        ap (λ at. option_map_or (λ own. option_map_or (λ (a : Option (CompiledAction A)). option_map_or (λ d. form_step (held_price prices) (form_in d) own.objects) a idle) (slice_get actions own.action) idle) at idle) is
-        ∙ ap (λ at. option_map_or (λ (a : Option (CompiledAction A)). option_map_or (λ d. form_step (held_price prices) (form_in d) s.objects) a idle) at idle) held.1
+        ap (λ at. option_map_or (held_step actions prices) at idle) is
+        ∙ ap (λ (at : Option (Option (CompiledAction A))). option_map_or (λ d. form_step (held_price prices) (form_in d) s.objects) (option_flatten at) idle) held.1
         ∙ ap (λ f. form_step (held_price prices) f s.objects) (form_is held.0 held.1)
         ∙ ap (λ price. form_step price (form_of task l.action) s.objects) prices_same
         ∙ sym (step_by_form files.domain files.problem linked steps plan.linked k s is l.action l.action_is)
@@ -53,7 +53,7 @@ module _ {A : Type 0} (files : Files) (linked : IsLinked files.domain files.prob
   step_does : (k : ℕ) (o : Option LinkedStepValue) → slice_get steps k ≡ o → held_steps actions prices steps k ≡ numbered_steps task steps k
   step_does k (Some s) is = does k s is
   step_does k None is =
-      ap (λ at. option_map_or (λ own. option_map_or (λ (a : Option (CompiledAction A)). option_map_or (λ d. form_step (held_price prices) (form_in d) own.objects) a idle) (slice_get actions own.action) idle) at idle) is
+      ap (λ at. option_map_or (held_step actions prices) at idle) is
       ∙ sym (ap (λ at. option_map_or (λ s. option_map_or (λ a. numbered_step task a (named_step task s).objects) (slice_get task.actions s.action) idle) at idle) is)
 
   pub steps_do : held_steps actions prices steps ≡ numbered_steps task steps

@@ -2,7 +2,7 @@
 use Rattle.std.proofs.Common.{◌≡◌, ◌<◌, ◌≤◌, ℕ, true, List, length, get_or, sym, ap, ◌∙◌}
 use Rattle.std.specs.Prelude.{Option, Some, slice_get}
 use Rattle.std.specs.Coded.{le_prop}
-use Rattle.std.specs.Option.{is_some, option_map_or}
+use Rattle.std.specs.Option.{is_some, option_map_or, option_flatten}
 use Rattle.std.proofs.Math.Bool.{Bool-set}
 use Rattle.std.proofs.Math.Logic.{∥∥₁_elim}
 use Rattle.std.proofs.Math.Nat.{ℕ_set}
@@ -12,7 +12,7 @@ use Rattle.pddl_compiled.specs.Views.{change_view}
 use Rattle.pddl_evaluation.specs.Costs.{increases_of, most_increases}
 use Rattle.pddl_linked_plan.specs.LinkedSteps.{LinkedStepValue}
 use Rattle.pddl_plan_steps.specs.PlanSteps.{idle}
-use Rattle.pddl_compiled_plan.specs.CompiledSteps.{form_in, form_step, held_price, held_steps, AreHeldFor}
+use Rattle.pddl_compiled_plan.specs.CompiledSteps.{form_in, form_step, held_price, held_step, held_steps, AreHeldFor}
 use Rattle.pddl_compiled_plan.specs.declared.action.CompiledAction.{CompiledAction}
 
 module _ {A : Type 0} {steps : List LinkedStepValue} {actions : List (Option (CompiledAction A))} (kept : ∥ AreHeldFor steps actions ∥₁) where
@@ -33,8 +33,8 @@ module _ {A : Type 0} {steps : List LinkedStepValue} {actions : List (Option (Co
 
         pub action_does : (prices : AtomValue → Option ℕ) → held_steps actions prices steps k ≡ form_step (held_price prices) (form_in c) s.objects
         action_does prices = ∥∥₁_elim kept (hlevel (ℕ_set, Bool-set)) (λ held.
-            ap (λ at. option_map_or (λ own. option_map_or (λ (a : Option (CompiledAction A)). option_map_or (λ d. form_step (held_price prices) (form_in d) own.objects) a idle) (slice_get actions own.action) idle) at idle) (sym is)
-            ∙ ap (λ at. option_map_or (λ (a : Option (CompiledAction A)). option_map_or (λ d. form_step (held_price prices) (form_in d) s.objects) a idle) at idle) (at_place held))
+            ap (λ at. option_map_or (held_step actions prices) at idle) (sym is)
+            ∙ ap (λ (at : Option (Option (CompiledAction A))). option_map_or (λ d. form_step (held_price prices) (form_in d) s.objects) (option_flatten at) idle) (at_place held))
 
         pub action_increases : increases_of (change_view c.effect) ≤ most_increases
         action_increases = ∥∥₁_elim kept (hlevel le_prop) (λ held. held.few k s c (sym is) (at_place held))

@@ -1,6 +1,6 @@
 -- Actions and plans by numbers alone: what is kept of them while a plan is judged (own).
 use Rattle.std.specs.Prelude.{◌≡◌, ◌≤◌, ℕ, Bool, ◌||◌, List, [], map, reverse, Option, Some, slice_get, unwrap_or}
-use Rattle.std.specs.Option.{option_map_or}
+use Rattle.std.specs.Option.{option_map_or, option_flatten}
 use Rattle.pddl_domain.specs.Actions.{ActionValue}
 use Rattle.pddl_task.specs.Tasks.{TaskValue}
 use Rattle.pddl_state.specs.Atoms.{AtomValue, atom_eq}
@@ -63,7 +63,7 @@ abbrev pub AreHeld : {A : _} → List LinkedStepValue → List (Option (Compiled
 AreHeld steps held = (k : ℕ) (s : LinkedStepValue) → slice_get steps k ≡ Some s → IsHeld held s.action
 
 -- What is held of a linked plan with its task: the form of each action that a step has, that of the goal, and the prices.
-pub record IsPlanOf {A : _} (task : TaskValue) (steps : List LinkedStepValue) (actions : List (Option (CompiledAction A))) (goal : Condition A) (prices : AtomValue → Option ℕ) : Type 0 where
+pub record AreCompiledFrom {A : _} (task : TaskValue) (steps : List LinkedStepValue) (actions : List (Option (CompiledAction A))) (goal : Condition A) (prices : AtomValue → Option ℕ) : Type 0 where
   pub linked : AreLinkedSteps task steps
   pub forms : AreForms task actions
   pub used : AreHeld steps actions
@@ -76,9 +76,17 @@ pub record IsPlanOf {A : _} (task : TaskValue) (steps : List LinkedStepValue) (a
 abbrev pub held_price : (AtomValue → Option ℕ) → AtomValue → ℕ
 held_price prices call = unwrap_or (prices call) 0
 
--- what the steps of a plan do by the forms and the prices that are held; past the last nothing is done
+-- the action of a number that is held, if there is one
+abbrev pub held_action : {A : _} → List (Option (CompiledAction A)) → ℕ → Option (CompiledAction A)
+held_action actions n = option_flatten (slice_get actions n)
+
+-- what a step does by the forms and the prices that are held; where its action is not held nothing is done
+abbrev pub held_step : {A : _} → List (Option (CompiledAction A)) → (AtomValue → Option ℕ) → LinkedStepValue → Step AtomValue
+held_step actions prices s = option_map_or (λ c. form_step (held_price prices) (form_in c) s.objects) (held_action actions s.action) idle
+
+-- so do the steps of a plan; past the last nothing is done
 abbrev pub held_steps : {A : _} → List (Option (CompiledAction A)) → (AtomValue → Option ℕ) → List LinkedStepValue → ℕ → Step AtomValue
-held_steps actions prices steps k = option_map_or (λ s. option_map_or (λ (o : Option _). option_map_or (λ c. form_step (held_price prices) (form_in c) s.objects) o idle) (slice_get actions s.action) idle) (slice_get steps k) idle
+held_steps actions prices steps k = option_map_or (held_step actions prices) (slice_get steps k) idle
 
 -- the goal that is held is true in a state
 abbrev pub held_goal : {A : _} → Condition A → (AtomValue → Bool) → Bool

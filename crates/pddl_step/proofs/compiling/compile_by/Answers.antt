@@ -4,12 +4,12 @@ use Rattle.pddl_state.specs.Atoms.{AtomValue}
 use Rattle.pddl_link.specs.LinkedTasks.{task_of_files}
 use Rattle.pddl_tables.specs.Lookups.{price_in}
 use Rattle.pddl_tables.specs.Prices.{price_at}
-use Rattle.pddl_compiled_plan.specs.CompiledSteps.{IsPlanOf}
+use Rattle.pddl_compiled_plan.specs.CompiledSteps.{AreCompiledFrom}
 use Rattle.pddl_compiled_plan.proofs.CompiledPlans.{steps_do, goal_means, held_for, framed}
 use Rattle.pddl_step.proofs.compiling.compile_by.Goals as goal
 
 -- what was compiled is of the task and of the steps
-plan_of : (g : _) (c : goal.In_ok-actions g) → IsPlanOf (task_of_files c.args.task.now) c.args.steps.now c.in_ok-actions.actions.items c.in_ok-actions.goal (price_in c.in_ok-actions.prices)
+plan_of : (g : _) (c : goal.In_ok-actions g) → AreCompiledFrom (task_of_files c.args.task.now) c.args.steps.now c.in_ok-actions.actions.items c.in_ok-actions.goal (price_in c.in_ok-actions.prices)
 plan_of g c =
     let parts = c.in_ok-actions.ensures in
     record {
