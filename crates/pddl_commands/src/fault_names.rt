@@ -5,8 +5,8 @@ ghost use Rattle.pddl_faults.specs.Passes.{fault_of};
 ghost use Rattle.pddl_commands.specs.Inner.Faults.{whole_name};
 ghost use Rattle.pddl_commands.specs.Lines.{text_fault_name, fault_name, file_fault_name, link_fault_text};
 
+use pddl_faults::LinkFault;
 use pddl_file::FileFault;
-use pddl_link::LinkFault;
 use pddl_scan::TextFault;
 use pddl_tree::ReadFault;
 

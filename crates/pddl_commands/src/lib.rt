@@ -28,7 +28,7 @@ pub use line::{fault_line, push_number};
 pub use outcome::{Outcome, RunFault, or_memory, status};
 pub use pddl_domain::let_go_domain;
 pub use pddl_kind::Kind;
-pub use pddl_link::let_go_task;
+pub use pddl_linked_task::let_go_task;
 pub use pddl_problem::let_go_problem;
 pub use plan_file::{PlanContent, let_go_plan, read_plan_file};
 pub use reading::{Content, read_file};

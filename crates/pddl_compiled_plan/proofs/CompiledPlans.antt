@@ -11,7 +11,7 @@ use Rattle.pddl_compiled.specs.Views.{change_view}
 use Rattle.pddl_compiled.specs.declared.compiled.Condition.{Condition}
 use Rattle.pddl_evaluation.specs.Costs.{increases_of, most_increases}
 use Rattle.pddl_tables.specs.Prices.{prices_of}
-use Rattle.pddl_link.specs.LinkedTasks.{Files, task_of_files}
+use Rattle.pddl_linked_task.specs.LinkedTasks.{Files, task_of_files}
 use Rattle.pddl_linked_plan.specs.LinkedSteps.{LinkedStepValue}
 use Rattle.pddl_linked_plan.specs.LinkedLaws.{IsLinkedStep, named_step}
 use Rattle.pddl_plan_steps.specs.NumberedSteps.{numbered_step}

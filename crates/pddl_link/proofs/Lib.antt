@@ -1,4 +1,2 @@
-pub mod CostValues
 pub mod Settings
 pub mod Stages
-pub mod OnceNamed

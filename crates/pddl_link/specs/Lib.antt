@@ -1,3 +1,0 @@
-pub mod LinkedTasks
-pub mod TaskTables
-pub mod Codes

@@ -10,11 +10,11 @@ ghost use Rattle.pddl_types.specs.KnownNames.{object_in};
 ghost use Rattle.pddl_types.specs.Places.{IsEmpty, AreListedAt};
 ghost use Rattle.pddl_names.specs.FaultParts.{name_rules, use_rules};
 
-use crate::task::{let_go, let_go_objects};
 use pddl_domain::Domain;
 use pddl_faults::{LinkFault, lower};
-use pddl_names::{Declared, list_objects, look_at_domain, look_at_domain_uses, type_twice};
-use pddl_types::{Listed, Types};
+use pddl_linked_task::{let_go_declared, let_go_objects};
+use pddl_names::{list_objects, look_at_domain, look_at_domain_uses, type_twice};
+use pddl_types::{Declared, Listed, Types};
 use std::alloc::Allocator;
 
 /// The lowest fault of types and names in a domain, whose constants are added to no objects.
@@ -51,7 +51,7 @@ fn look_at_uses<'m, 'a, A: Allocator, B: Allocator>(
 {
     let declared = Declared::of(alloc, types, domain)?;
     let used = look_at_domain_uses(alloc, &declared.known(types, constants), domain);
-    let_go(declared);
+    let_go_declared(declared);
     used
 }
 

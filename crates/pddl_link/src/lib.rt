@@ -6,11 +6,9 @@
 
 mod check;
 mod linked;
-mod task;
 
 pub use check::check_domain;
 pub use linked::link;
-pub use pddl_faults::{Hashed, LinkFault};
+pub use pddl_faults::LinkFault;
+pub use pddl_linked_task::{Task, let_go_task};
 pub use pddl_sizes::{FittingCount, action_ground_size, effect_ground_size, ground_size};
-pub use pddl_types::{FunctionNumbers, SlotTops};
-pub use task::{Task, let_go_task};

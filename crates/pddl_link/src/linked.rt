@@ -12,21 +12,21 @@ ghost use Rattle.pddl_types.specs.ObjectCounts.{AreCountsOf};
 ghost use Rattle.pddl_types.specs.KnownNames.{signature_in, object_in};
 ghost use Rattle.pddl_types.specs.Places.{AreSlotTops, IsEmpty, AreListedAt};
 ghost use Rattle.pddl_names.specs.FaultParts.{first_rules, name_rules, use_rules};
-ghost use Rattle.pddl_link.specs.TaskTables.{HoldBehindTypes};
-ghost use Rattle.pddl_link.specs.LinkedTasks.{files};
+ghost use Rattle.pddl_linked_task.specs.TaskTables.{HoldBehindTypes};
+ghost use Rattle.pddl_linked_task.specs.LinkedTasks.{files};
 
-use crate::task::{Tables, Task, let_go, let_go_objects};
 use indexmap::IndexMap;
 use pddl_domain::Domain;
 use pddl_faults::{LinkFault, lower};
+use pddl_linked_task::{Tables, Task, let_go_declared, let_go_objects};
 use pddl_names::{
-    Declared, list_all, list_objects, look_at_domain, look_at_domain_uses, look_at_problem,
+    list_all, list_objects, look_at_domain, look_at_domain_uses, look_at_problem,
     look_at_problem_uses, type_twice,
 };
 use pddl_problem::Problem;
 use pddl_search::{Values, domain_name};
 use pddl_sizes::{ObjectCounts, ObjectOrder, goal_size};
-use pddl_types::{Listed, TypeCounts, Types};
+use pddl_types::{Declared, Listed, TypeCounts, Types};
 use std::alloc::{AllocError, Allocator};
 
 /// The lowest fault of types and names in a domain and a problem, whose constants and objects are added to none.
@@ -173,7 +173,7 @@ fn tables_behind<'m, 'a, A: Allocator, B: Allocator>(
     ) {
         Ok(()) => Ok(tables),
         Err(fault) => {
-            let_go(tables.declared);
+            let_go_declared(tables.declared);
             drop(tables.counts);
             drop(tables.order);
             Err(fault)
@@ -238,14 +238,7 @@ pub fn link<'m, 'a, A: Allocator, B: Allocator>(
     let mut listed = Listed::new(alloc);
     let mut values: Values<'m, 'a, A, B> = IndexMap::new(alloc);
     match tables_behind_types(alloc, &types, &mut listed, &mut values, domain, problem) {
-        Ok(tables) => Ok(Task {
-            domain,
-            problem,
-            types,
-            listed,
-            tables,
-            values,
-        }),
+        Ok(tables) => Ok(Task::of(domain, problem, types, listed, tables, values)),
         Err(fault) => {
             drop(types);
             let_go_objects(listed);

@@ -9,10 +9,10 @@ ghost use Rattle.pddl_task.specs.Names.{is_in, number_in};
 ghost use Rattle.pddl_task.specs.Linked.{IsLinked};
 ghost use Rattle.pddl_task.specs.Tasks.{TaskValue, task_of, predicate_names, object_names};
 ghost use Rattle.pddl_task.specs.Known.{is_known};
-ghost use Rattle.pddl_link.specs.LinkedTasks.{task_of_files};
+ghost use Rattle.pddl_linked_task.specs.LinkedTasks.{task_of_files};
 ghost use Rattle.pddl_linked_plan.specs.NumberedAtoms.{numbered, initial_atoms, named_atom, NamesAtom, IsInRange};
 
-use pddl_link::Task;
+use pddl_linked_task::Task;
 use pddl_problem::{Fact, InitItem};
 use pddl_state::Atom;
 use pddl_token::Name;

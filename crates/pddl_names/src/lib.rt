@@ -3,7 +3,6 @@
 
 mod bindings;
 mod declarations;
-mod declared;
 mod files;
 mod met_types;
 mod objects;
@@ -12,7 +11,6 @@ mod uses;
 
 pub use bindings::Bindings;
 pub use declarations::{look_at_domain, look_at_problem};
-pub use declared::Declared;
 pub use files::{look_at_domain_uses, look_at_problem_uses};
 pub use objects::{list_all, list_objects};
 pub use repeats::type_twice;

@@ -4,14 +4,14 @@ ghost use Rattle.std.specs.Prelude.{◌≡◌, ◌<◌, ◌+◌, ◌++◌, map, 
 ghost use Rattle.std.specs.Fmt.{decimal};
 ghost use Rattle.std.specs.List.{AllByRecursion};
 ghost use Rattle.pddl_layout.specs.PlanLayout.{spaced};
-ghost use Rattle.pddl_link.specs.LinkedTasks.{task_of_files};
+ghost use Rattle.pddl_linked_task.specs.LinkedTasks.{task_of_files};
 ghost use Rattle.pddl_linked_plan.specs.LinkedLaws.{name_at};
 ghost use Rattle.pddl_linked_plan.specs.NumberedAtoms.{named_atom, IsInRange};
 ghost use Rattle.pddl_task.specs.Tasks.{predicate_names, object_names};
 ghost use Rattle.pddl_plan_lines.specs.PlanLines.{valid_line, unready_line, atom_text, clash_words, clash_line, goal_line};
 
 use pddl_commands::push_number;
-use pddl_link::Task;
+use pddl_linked_task::Task;
 use pddl_state::Atom;
 use std::alloc::{AllocError, Allocator};
 

@@ -2,7 +2,7 @@
 
 ghost use Rattle.std.specs.Prelude.{◌≡◌, ◌≤◌, [], length, IfOk, OnOk};
 ghost use Rattle.pddl_plan.specs.Plans.{plan_view, steps_of};
-ghost use Rattle.pddl_link.specs.LinkedTasks.{task_of_files};
+ghost use Rattle.pddl_linked_task.specs.LinkedTasks.{task_of_files};
 ghost use Rattle.pddl_linked_plan.specs.StepFaults.{most_steps};
 ghost use Rattle.pddl_linked_plan.specs.LinkedSteps.{linked_steps};
 ghost use Rattle.pddl_plan_tables.specs.ActionChanges.{AreChangesOf};
@@ -11,8 +11,8 @@ ghost use Rattle.pddl_plan_link.specs.StepVerdicts.{PlanVerdict};
 
 use crate::checks::check_step;
 use crate::fault::StepFault;
-use pddl_link::Task;
 use pddl_linked_plan::Steps;
+use pddl_linked_task::Task;
 use pddl_plan::Plan;
 use pddl_plan_tables::{Changes, PlanTables, no_changes, plan_tables};
 use pddl_state::Atom;

@@ -1,8 +1,8 @@
 //! Atoms.
 
 use pddl_commands::Outcome;
-use pddl_link::Task;
 use pddl_linked_plan::initial_atoms;
+use pddl_linked_task::Task;
 use pddl_row_driver::Lines;
 use pddl_state::{Atom, AtomStore};
 use std::alloc::Allocator;

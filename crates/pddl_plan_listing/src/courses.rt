@@ -1,15 +1,15 @@
 //! What the steps of a plan and its goal are in the state that it starts in.
 
 ghost use Rattle.std.specs.Prelude.{◌≡◌, ◌<◌};
-ghost use Rattle.pddl_link.specs.LinkedTasks.{task_of_files};
+ghost use Rattle.pddl_linked_task.specs.LinkedTasks.{task_of_files};
 ghost use Rattle.pddl_linked_plan.specs.LinkedSteps.{AreLinkedSteps};
 
 use crate::atoms::add_set;
 use crate::listed::Asked;
 use pddl_commands::Outcome;
 use pddl_judge::Course;
-use pddl_link::Task;
 use pddl_linked_plan::Steps;
+use pddl_linked_task::Task;
 use pddl_row_driver::Lines;
 use pddl_state::AtomStore;
 use pddl_step::{compile_plan, initial_state};

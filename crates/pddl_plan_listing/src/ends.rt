@@ -1,12 +1,12 @@
 //! Verdicts, and the ends of accepted plans.
 
-ghost use Rattle.pddl_link.specs.LinkedTasks.{task_of_files};
+ghost use Rattle.pddl_linked_task.specs.LinkedTasks.{task_of_files};
 ghost use Rattle.pddl_linked_plan.specs.LinkedSteps.{AreLinkedSteps};
 
 use crate::atoms::{add_atom, add_atoms};
 use pddl_commands::Outcome;
-use pddl_link::Task;
 use pddl_linked_plan::Steps;
+use pddl_linked_task::Task;
 use pddl_row_driver::Lines;
 use pddl_state::{Atom, AtomStore};
 use pddl_valid::{Accepted, Refusal, Verdict, validate};

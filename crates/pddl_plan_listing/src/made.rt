@@ -2,7 +2,7 @@
 
 ghost use Rattle.pddl_happenings.specs.NamedSteps.{by_name};
 ghost use Rattle.pddl_judge.specs.HappeningValues.{groups_of, moments_of};
-ghost use Rattle.pddl_link.specs.LinkedTasks.{task_of_files};
+ghost use Rattle.pddl_linked_task.specs.LinkedTasks.{task_of_files};
 ghost use Rattle.pddl_linked_plan.specs.LinkedSteps.{AreLinkedSteps};
 ghost use Rattle.pddl_plan_steps.specs.NumberedSteps.{number_of};
 ghost use Rattle.pddl_serial_plans.specs.NewPlans.{IsAcceptedOf};
@@ -14,8 +14,8 @@ use crate::steps::add_step_fault;
 use pddl_bit_store::BitStore;
 use pddl_commands::{Outcome, let_go_plan};
 use pddl_layout::plan_text;
-use pddl_link::Task;
 use pddl_linked_plan::Steps;
+use pddl_linked_task::Task;
 use pddl_plan::Plan;
 use pddl_plan_link::link_plan;
 use pddl_row_driver::{Lines, text_of};

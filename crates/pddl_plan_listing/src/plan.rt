@@ -1,6 +1,6 @@
 //! Linked plans.
 
-ghost use Rattle.pddl_link.specs.LinkedTasks.{task_of_files};
+ghost use Rattle.pddl_linked_task.specs.LinkedTasks.{task_of_files};
 ghost use Rattle.pddl_linked_plan.specs.LinkedSteps.{AreLinkedSteps};
 
 use crate::listed::OfPlan;
@@ -9,8 +9,8 @@ use crate::replays::add_replays;
 use crate::steps::{add_step_fault, add_steps};
 use crate::stores::add_over_both;
 use pddl_commands::{Outcome, let_go_plan};
-use pddl_link::Task;
 use pddl_linked_plan::Steps;
+use pddl_linked_task::Task;
 use pddl_plan::Plan;
 use pddl_plan_link::link_plan;
 use pddl_plan_reader::read_plan;

@@ -1,13 +1,13 @@
 //! Runs of steps one after another.
 
-ghost use Rattle.pddl_link.specs.LinkedTasks.{task_of_files};
+ghost use Rattle.pddl_linked_task.specs.LinkedTasks.{task_of_files};
 ghost use Rattle.pddl_linked_plan.specs.LinkedSteps.{AreLinkedSteps};
 
 use crate::ends::add_end;
 use pddl_bit_store::BitStore;
 use pddl_commands::Outcome;
-use pddl_link::Task;
 use pddl_linked_plan::Steps;
+use pddl_linked_task::Task;
 use pddl_row_driver::{Lines, text_of};
 use pddl_serial_plans::{ReplayFault, replay};
 use pddl_state::{AtomStore, SortedStore};

@@ -1,6 +1,6 @@
 //! Listings over both stores of atoms.
 
-ghost use Rattle.pddl_link.specs.LinkedTasks.{task_of_files};
+ghost use Rattle.pddl_linked_task.specs.LinkedTasks.{task_of_files};
 ghost use Rattle.pddl_linked_plan.specs.LinkedSteps.{AreLinkedSteps};
 
 use crate::courses::add_course;
@@ -9,8 +9,8 @@ use crate::listed::Stored;
 use crate::made::add_made;
 use pddl_bit_store::BitStore;
 use pddl_commands::Outcome;
-use pddl_link::Task;
 use pddl_linked_plan::Steps;
+use pddl_linked_task::Task;
 use pddl_row_driver::Lines;
 use pddl_state::{AtomStore, SortedStore};
 use std::alloc::Allocator;

@@ -19,7 +19,7 @@ use Rattle.pddl_task.specs.GroundSize.{capped, action_size}
 use Rattle.pddl_task.specs.Linked.{IsLinked}
 use Rattle.pddl_task.specs.Tasks.{TaskValue, task_count}
 use Rattle.pddl_task.proofs.Lists.{nil_parts}
-use Rattle.pddl_link.specs.LinkedTasks.{Files}
+use Rattle.pddl_linked_task.specs.LinkedTasks.{Files}
 use Rattle.pddl_types.proofs.SignatureTables.{Held}
 use Rattle.pddl_faults.proofs.PutValues.{found_or}
 use Rattle.pddl_linked_plan.specs.StepFaults.{action_name, action_names, action_named}

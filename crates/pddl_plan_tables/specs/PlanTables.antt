@@ -5,7 +5,7 @@ use Rattle.pddl_task.specs.Tasks.{TaskValue}
 use Rattle.pddl_state.specs.Atoms.{AtomValue}
 use Rattle.pddl_types.specs.KnownNames.{action_signature}
 use Rattle.pddl_types.specs.Places.{AreSlotTops}
-use Rattle.pddl_link.specs.LinkedTasks.{Files, task_of_files}
+use Rattle.pddl_linked_task.specs.LinkedTasks.{Files, task_of_files}
 use Rattle.pddl_tables.specs.Lookups.{price_in}
 use Rattle.pddl_tables.specs.Prices.{price_at}
 use Rattle.pddl_plan_tables.specs.StepTables.{AreActionsOf}

@@ -5,13 +5,14 @@ ghost use Rattle.pddl_domain.specs.Actions.{action_view};
 ghost use Rattle.pddl_task.specs.Names.{repeated};
 ghost use Rattle.pddl_task.specs.GroundSize.{capped, action_size};
 ghost use Rattle.pddl_task.specs.Tasks.{task_count};
-ghost use Rattle.pddl_link.specs.LinkedTasks.{task_of_files};
+ghost use Rattle.pddl_linked_task.specs.LinkedTasks.{task_of_files};
 ghost use Rattle.pddl_linked_plan.specs.StepFaults.{action_name};
 ghost use Rattle.pddl_plan_tables.specs.StepTables.{named_action, named_in};
 
 use indexmap::IndexMap;
 use pddl_domain::Action;
-use pddl_link::{Hashed, Task};
+use pddl_faults::Hashed;
+use pddl_linked_task::Task;
 use std::alloc::{AllocError, Allocator};
 
 /// An action with the ground size of its steps.

@@ -4,7 +4,7 @@ ghost use Rattle.std.specs.Prelude.{◌≡◌, Some, None, map, replicate, slice
 ghost use Rattle.pddl_effect.specs.Effects.{effect_view, effects_of};
 ghost use Rattle.pddl_domain.specs.Actions.{action_view};
 ghost use Rattle.pddl_compiled.specs.Views.{change_view};
-ghost use Rattle.pddl_link.specs.LinkedTasks.{task_of_files};
+ghost use Rattle.pddl_linked_task.specs.LinkedTasks.{task_of_files};
 ghost use Rattle.pddl_plan_tables.specs.ChangeCosts.{HasSameCosts, has_function, some_has_function};
 ghost use Rattle.pddl_plan_tables.specs.ActionChanges.{effect_of, AreChangesOf, HasChange};
 

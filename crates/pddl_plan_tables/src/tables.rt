@@ -1,13 +1,14 @@
 //! What a plan's steps are looked up in.
 
 ghost use Rattle.std.specs.Prelude.{◌≡◌, IfOk};
-ghost use Rattle.pddl_link.specs.LinkedTasks.{task_of_files};
+ghost use Rattle.pddl_linked_task.specs.LinkedTasks.{task_of_files};
 ghost use Rattle.pddl_plan_tables.specs.PlanTables.{AreCostTables, ArePlanTables};
 
 use crate::action_table::{Actions, actions_by_name};
 use pddl_build::both_made;
-use pddl_link::{SlotTops, Task};
+use pddl_linked_task::Task;
 use pddl_tables::{TaskLookups, TaskPrices, task_lookups, task_prices};
+use pddl_types::SlotTops;
 use std::alloc::{AllocError, Allocator};
 
 /// A task with its actions by name and the tops of their parameters, its functions by name, and its costs by numbers.

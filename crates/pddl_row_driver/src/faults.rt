@@ -2,8 +2,8 @@
 
 use crate::lines::Lines;
 use pddl_commands::Outcome;
+use pddl_faults::LinkFault;
 use pddl_file::FileFault;
-use pddl_link::LinkFault;
 use pddl_scan::TextFault;
 use pddl_token::Span;
 use pddl_tree::ReadFault;

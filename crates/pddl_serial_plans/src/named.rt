@@ -5,14 +5,14 @@ ghost use Rattle.pddl_plan.specs.Building.{nothing_built, with_names};
 ghost use Rattle.pddl_plan.specs.Plans.{built_plan};
 ghost use Rattle.pddl_tree.specs.Inner.StepNames.{names_of_step};
 ghost use Rattle.pddl_task.specs.Tasks.{object_names};
-ghost use Rattle.pddl_link.specs.LinkedTasks.{task_of_files};
+ghost use Rattle.pddl_linked_task.specs.LinkedTasks.{task_of_files};
 ghost use Rattle.pddl_linked_plan.specs.LinkedSteps.{AreLinkedSteps};
 ghost use Rattle.pddl_linked_plan.specs.LinkedLaws.{name_at, named_step, IsLinkedStep};
 ghost use Rattle.pddl_linked_plan.specs.StepParts.{lent_step};
 ghost use Rattle.pddl_serial_plans.specs.NewSteps.{picked, at_moments, plain_plan, timed_plan};
 
-use pddl_link::Task;
 use pddl_linked_plan::{LinkedStep, Steps};
+use pddl_linked_task::Task;
 use pddl_plan::PlanBuilder;
 use pddl_token::{Fixed, Name};
 use std::alloc::{AllocError, Allocator};

@@ -1,14 +1,14 @@
 //! Runs of a plan's steps, one after another.
 
 ghost use Rattle.std.specs.Prelude.{◌≡◌, Err, MatchResult};
-ghost use Rattle.pddl_link.specs.LinkedTasks.{task_of_files};
+ghost use Rattle.pddl_linked_task.specs.LinkedTasks.{task_of_files};
 ghost use Rattle.pddl_linked_plan.specs.LinkedSteps.{AreLinkedSteps};
 ghost use Rattle.pddl_serial_plans.specs.SerialEnds.{IsReplayed, end_of};
 ghost use Rattle.pddl_serial_plans.specs.declared.fault.ReplayFault.TheVariants.{Memory};
 
 use crate::fault::ReplayFault;
-use pddl_link::Task;
 use pddl_linked_plan::Steps;
+use pddl_linked_task::Task;
 use pddl_serial::{End, Replayed};
 use pddl_state::AtomStore;
 use pddl_step::{compile_plan, initial_state};

@@ -4,14 +4,14 @@ ghost use Rattle.std.specs.Prelude.{IfOk};
 ghost use Rattle.pddl_plan.specs.Plans.{plan_view};
 ghost use Rattle.pddl_happenings.specs.NamedSteps.{by_name};
 ghost use Rattle.pddl_judge.specs.HappeningValues.{groups_of, moments_of};
-ghost use Rattle.pddl_link.specs.LinkedTasks.{task_of_files};
+ghost use Rattle.pddl_linked_task.specs.LinkedTasks.{task_of_files};
 ghost use Rattle.pddl_plan_steps.specs.NumberedSteps.{number_of};
 ghost use Rattle.pddl_serial.specs.Orders.{in_order};
 ghost use Rattle.pddl_serial_plans.specs.NewPlans.{IsAcceptedOf, IsSerialPlan};
 
 use crate::named::add_steps;
-use pddl_link::Task;
 use pddl_linked_plan::Steps;
+use pddl_linked_task::Task;
 use pddl_plan::{Plan, PlanBuilder};
 use pddl_serial::Order;
 use pddl_state::AtomStore;

@@ -5,7 +5,7 @@ ghost use Rattle.pddl_plan.specs.Plans.{plan_view};
 ghost use Rattle.pddl_happenings.specs.NamedSteps.{by_name};
 ghost use Rattle.pddl_happenings.specs.Splits.{IsSplitOf};
 ghost use Rattle.pddl_judge.specs.HappeningValues.{groups_of, moments_of};
-ghost use Rattle.pddl_link.specs.LinkedTasks.{task_of_files};
+ghost use Rattle.pddl_linked_task.specs.LinkedTasks.{task_of_files};
 ghost use Rattle.pddl_linked_plan.specs.LinkedSteps.{AreLinkedSteps};
 ghost use Rattle.pddl_plan_steps.specs.NumberedSteps.{number_of};
 ghost use Rattle.pddl_serial.specs.Cuts.{cut_in_order};
@@ -14,8 +14,8 @@ ghost use Rattle.pddl_serial_plans.specs.NewSteps.{picked, at_moments, timed_pla
 
 use crate::fault::{SplitFault, of_a_split, or_memory};
 use crate::named::add_timed_steps;
-use pddl_link::Task;
 use pddl_linked_plan::Steps;
+use pddl_linked_task::Task;
 use pddl_plan::{Plan, PlanBuilder};
 use pddl_serial::{NewPlan, Order, groups_of_at_most};
 use pddl_state::AtomStore;

@@ -2,7 +2,7 @@
 
 ghost use Rattle.std.specs.Prelude.{◌≡◌, ◌<◌, ℕ, false, true, Some, length, replicate, slice_get, IfOk, MatchOption};
 ghost use Rattle.pddl_domain.specs.Actions.{ActionValue, action_view};
-ghost use Rattle.pddl_link.specs.LinkedTasks.{task_of_files};
+ghost use Rattle.pddl_linked_task.specs.LinkedTasks.{task_of_files};
 ghost use Rattle.pddl_task.specs.Tasks.{TaskValue};
 ghost use Rattle.pddl_compiled.specs.Compiler.{condition_of, change_of};
 ghost use Rattle.pddl_compiled.specs.Scopes.{scope_view};
@@ -16,8 +16,8 @@ use pddl_build::both_made;
 use pddl_compiled::{Lookups, Scope, compile_change, compile_condition, parameter_slots};
 use pddl_compiled_plan::{CompiledAction, UsedActions};
 use pddl_domain::Action;
-use pddl_link::Task;
 use pddl_linked_plan::Steps;
+use pddl_linked_task::Task;
 use std::alloc::{AllocError, Allocator};
 
 /// An action by numbers, with what is in scope in it.

@@ -3,7 +3,7 @@
 ghost use Rattle.std.specs.Prelude.{◌≡◌, [], Ok, IfOk};
 ghost use Rattle.pddl_formula.specs.Formulas.{formula_view};
 ghost use Rattle.pddl_task.specs.Linked.{IsLinked};
-ghost use Rattle.pddl_link.specs.LinkedTasks.{task_of_files};
+ghost use Rattle.pddl_linked_task.specs.LinkedTasks.{task_of_files};
 ghost use Rattle.pddl_compiled.specs.Compiler.{condition_of};
 ghost use Rattle.pddl_compiled.specs.TaskTables.{tables_of};
 ghost use Rattle.pddl_compiled.specs.Views.{condition_view};
@@ -17,8 +17,8 @@ use pddl_build::all_made;
 use pddl_compiled::{Condition, Lookups, Scope, compile_condition};
 use pddl_compiled_plan::{CompiledPlan, UsedActions};
 use pddl_formula::Formula;
-use pddl_link::Task;
 use pddl_linked_plan::Steps;
+use pddl_linked_task::Task;
 use pddl_tables::{TaskLookups, task_lookups, task_prices};
 use std::alloc::{AllocError, Allocator};
 

@@ -3,11 +3,11 @@
 ghost use Rattle.std.specs.Prelude.{◌≡◌, ◌||◌, IfOk, OnOk};
 ghost use Rattle.pddl_state.specs.Atoms.{AtomValue};
 ghost use Rattle.pddl_state.specs.AtomSets.{is_listed};
-ghost use Rattle.pddl_link.specs.LinkedTasks.{task_of_files};
+ghost use Rattle.pddl_linked_task.specs.LinkedTasks.{task_of_files};
 ghost use Rattle.pddl_plan_steps.specs.PlanSteps.{numbered_start};
 
-use pddl_link::Task;
 use pddl_linked_plan::initial_atoms;
+use pddl_linked_task::Task;
 use pddl_state::{Atom, AtomStore};
 use std::alloc::{AllocError, Allocator};
 

@@ -4,12 +4,13 @@ ghost use Rattle.std.specs.Prelude.{◌≡◌, map};
 ghost use Rattle.std.specs.List.{filter_map};
 ghost use Rattle.pddl_problem.specs.Inits.{init_view};
 ghost use Rattle.pddl_task.specs.Tasks.{cost_in};
-ghost use Rattle.pddl_link.specs.LinkedTasks.{task_of_files};
+ghost use Rattle.pddl_linked_task.specs.LinkedTasks.{task_of_files};
 
 use pddl_compiled::Lookups;
 use pddl_formula::TypeNames;
-use pddl_link::{FunctionNumbers, Task};
+use pddl_linked_task::Task;
 use pddl_problem::Problem;
+use pddl_types::FunctionNumbers;
 use std::alloc::{AllocError, Allocator};
 use std::marker::Model;
 
@@ -24,8 +25,8 @@ impl<'t, 'm, 'a, 'c, A: Allocator, B: Allocator, C: Allocator> Model
     for TaskLookups<'t, 'm, 'a, 'c, A, B, C> {
     ghost use Rattle.std.specs.Prelude.{◌≡◌};
     ghost use Rattle.std.specs.Coded.{codes};
-    ghost use Rattle.pddl_link.specs.Codes.{formula_code, effect_code};
-    ghost use Rattle.pddl_link.specs.LinkedTasks.{Files, task_of_files};
+    ghost use Rattle.pddl_linked_task.specs.Codes.{formula_code, effect_code};
+    ghost use Rattle.pddl_linked_task.specs.LinkedTasks.{Files, task_of_files};
 
     ghost Value = { Files };
 
@@ -56,7 +57,7 @@ impl<'t, 'm, 'a, 'c, A: Allocator, B: Allocator, C: Allocator> TaskLookups<
 impl<'t, 'm, 'a, 'c, A: Allocator, B: Allocator, C: Allocator, D: Allocator> Lookups<A, D>
     for TaskLookups<'t, 'm, 'a, 'c, A, B, C> {
     ghost use Rattle.pddl_compiled.specs.TaskTables.{tables_of};
-    ghost use Rattle.pddl_link.specs.LinkedTasks.{task_of_files};
+    ghost use Rattle.pddl_linked_task.specs.LinkedTasks.{task_of_files};
 
     ghost tables = { λ lookups. tables_of (task_of_files lookups) };
 

@@ -8,7 +8,7 @@ ghost use Rattle.pddl_task.specs.Names.{number_in};
 ghost use Rattle.pddl_task.specs.Tasks.{cost_in};
 ghost use Rattle.pddl_state.specs.Atoms.{AtomValue, atom_eq};
 ghost use Rattle.pddl_compiled.specs.Tables.{number_atom};
-ghost use Rattle.pddl_link.specs.LinkedTasks.{task_of_files};
+ghost use Rattle.pddl_linked_task.specs.LinkedTasks.{task_of_files};
 ghost use Rattle.pddl_tables.specs.Lookups.{price_in};
 ghost use Rattle.pddl_tables.specs.Prices.{numbered_cost, price_at, price_before};
 
@@ -16,7 +16,7 @@ use crate::lookups::TaskLookups;
 use indexmap::IndexMap;
 use pddl_compiled::Lookups;
 use pddl_evaluation::Prices;
-use pddl_link::Hashed;
+use pddl_faults::Hashed;
 use pddl_problem::{GroundFunction, InitItem};
 use pddl_state::Atom;
 use pddl_token::Name;

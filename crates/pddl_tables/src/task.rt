@@ -1,10 +1,10 @@
 //! A task that is made ready for look-ups.
 
 ghost use Rattle.std.specs.Prelude.{◌≡◌, IfOk};
-ghost use Rattle.pddl_link.specs.LinkedTasks.{task_of_files};
+ghost use Rattle.pddl_linked_task.specs.LinkedTasks.{task_of_files};
 
 use crate::lookups::TaskLookups;
-use pddl_link::Task;
+use pddl_linked_task::Task;
 use std::alloc::{AllocError, Allocator};
 
 /// What formulas and effects of a task are compiled by.

@@ -3,6 +3,7 @@
 //! Types are numbered in pre-order, so that a test for a subtype is two comparisons.
 #![tactic(auto)]
 
+mod declared;
 mod declares;
 mod function_numbers;
 mod known;
@@ -14,6 +15,7 @@ mod type_counts;
 mod type_table;
 mod types;
 
+pub use declared::Declared;
 pub use declares::Declares;
 pub use function_numbers::FunctionNumbers;
 pub use known::{Known, Signatures, signatures};

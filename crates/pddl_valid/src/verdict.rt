@@ -7,7 +7,7 @@ ghost use Rattle.pddl_happenings.specs.NamedSteps.{by_name};
 ghost use Rattle.pddl_happenings.specs.Serialisations.{Converges};
 ghost use Rattle.pddl_judge.specs.HappeningValues.{groups_of, moments_of};
 ghost use Rattle.pddl_judge.specs.Verdicts.{IfPrecondition, IfInterference, IfGoal, OnAccepted, OnRefused};
-ghost use Rattle.pddl_link.specs.LinkedTasks.{task_of_files};
+ghost use Rattle.pddl_linked_task.specs.LinkedTasks.{task_of_files};
 ghost use Rattle.pddl_meaning.specs.Worlds.{Atoms};
 ghost use Rattle.pddl_linked_plan.specs.LinkedSteps.{AreLinkedSteps};
 ghost use Rattle.pddl_plan_steps.specs.NumberedSteps.{number_of};
@@ -17,8 +17,8 @@ ghost use Rattle.pddl_valid.specs.NamedClashes.{NamesLeast};
 
 use crate::moments::happenings;
 use pddl_judge::{Verdict, judge};
-use pddl_link::Task;
 use pddl_linked_plan::Steps;
+use pddl_linked_task::Task;
 use pddl_state::AtomStore;
 use pddl_step::{compile_plan, initial_state};
 use std::alloc::{AllocError, Allocator};

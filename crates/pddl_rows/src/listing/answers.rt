@@ -4,7 +4,7 @@ use super::numbers::past_objects;
 use crate::command::Asked;
 use pddl_commands::Outcome;
 use pddl_formula::{TypeName, TypeNames};
-use pddl_link::Task;
+use pddl_linked_task::Task;
 use pddl_row_driver::{Lines, text_of};
 use pddl_token::Name;
 use std::alloc::Allocator;

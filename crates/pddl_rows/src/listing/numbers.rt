@@ -1,7 +1,7 @@
 //! The numbers of what a task names.
 
 use pddl_commands::Outcome;
-use pddl_link::Task;
+use pddl_linked_task::Task;
 use pddl_row_driver::Lines;
 use std::alloc::Allocator;
 

@@ -5,7 +5,7 @@ use Rattle.pddl_names.specs.FaultParts.{name_rules, use_rules}
 use Rattle.pddl_faults.specs.declared.fault.LinkFault.{LinkFault}
 use Rattle.pddl_faults.specs.Passes.{Verdict}
 use Rattle.pddl_faults.proofs.Verdicts.{decided_after}
-use Rattle.pddl_link.proofs.OnceNamed.{no_repeats}
+use Rattle.pddl_linked_task.proofs.OnceNamed.{no_repeats}
 use Rattle.pddl_link.proofs.Stages.{stage_first}
 use Rattle.pddl_link.proofs.check.check_by_types.Goals as goal
 use Rattle.pddl_link.proofs.check.check_by_types.Goals.{in-Ok, in-Err}

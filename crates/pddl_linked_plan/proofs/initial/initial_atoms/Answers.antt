@@ -1,6 +1,6 @@
 use Rattle.std.proofs.Common.{◌+◌, ◌∙◌, map, refl, sym, ap, subst, arith}
 use Rattle.pddl_problem.specs.Inits.{fact_view, init_view}
-use Rattle.pddl_link.specs.LinkedTasks.{task_of_files}
+use Rattle.pddl_linked_task.specs.LinkedTasks.{task_of_files}
 use Rattle.pddl_linked_plan.proofs.InitialAtoms.{AreFacts, first_facts, fact_known, one_more_fact, no_fact, initial_are}
 use Rattle.pddl_linked_plan.proofs.initial.initial_atoms.Goals as goal
 use Rattle.pddl_linked_plan.proofs.initial.initial_atoms.Goals.{in-Holds+in_ok-numbered-in-Holds+in_ok-push-in-Holds, in-Fails, in-Value}

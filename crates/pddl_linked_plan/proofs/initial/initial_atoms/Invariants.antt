@@ -1,4 +1,4 @@
-use Rattle.pddl_link.specs.LinkedTasks.{task_of_files}
+use Rattle.pddl_linked_task.specs.LinkedTasks.{task_of_files}
 use Rattle.pddl_linked_plan.proofs.InitialAtoms.{AreFacts}
 use Rattle.pddl_linked_plan.proofs.initial.initial_atoms.Given as goal
 

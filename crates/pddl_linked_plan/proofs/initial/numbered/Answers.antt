@@ -3,7 +3,7 @@ use Rattle.std.specs.List.{list_all}
 use Rattle.pddl_problem.specs.Inits.{fact_view}
 use Rattle.pddl_task.specs.Names.{is_in, number_in}
 use Rattle.pddl_task.specs.Tasks.{predicate_names, object_names}
-use Rattle.pddl_link.specs.LinkedTasks.{task_of_files}
+use Rattle.pddl_linked_task.specs.LinkedTasks.{task_of_files}
 use Rattle.pddl_linked_plan.proofs.InitialAtoms.{AreNumbers, no_numbers, next_known, one_more_number, all_numbers, names_known}
 use Rattle.pddl_linked_plan.proofs.initial.numbered.Goals as goal
 

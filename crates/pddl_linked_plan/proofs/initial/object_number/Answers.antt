@@ -1,7 +1,7 @@
 use Rattle.std.proofs.Common.{◌≡◌, true, sym, subst}
 use Rattle.pddl_task.specs.Names.{is_in}
 use Rattle.pddl_task.specs.Tasks.{object_names}
-use Rattle.pddl_link.specs.LinkedTasks.{task_of_files}
+use Rattle.pddl_linked_task.specs.LinkedTasks.{task_of_files}
 use Rattle.pddl_linked_plan.proofs.InitialAtoms.{has_number}
 use Rattle.pddl_linked_plan.proofs.initial.object_number.Goals as goal
 

@@ -1,5 +1,5 @@
 use Rattle.pddl_task.specs.Tasks.{predicate_names}
-use Rattle.pddl_link.specs.LinkedTasks.{task_of_files}
+use Rattle.pddl_linked_task.specs.LinkedTasks.{task_of_files}
 use Rattle.pddl_linked_plan.proofs.InitialAtoms.{has_number}
 use Rattle.pddl_linked_plan.proofs.initial.predicate_number.Goals as goal
 

@@ -1,7 +1,7 @@
 use Rattle.std.proofs.Common.{subst, inr}
 use Rattle.std.proofs.lemmas.Result.{IfOk-weaker}
 use Rattle.pddl_plan.specs.Plans.{plan_view}
-use Rattle.pddl_link.specs.LinkedTasks.{task_of_files}
+use Rattle.pddl_linked_task.specs.LinkedTasks.{task_of_files}
 use Rattle.pddl_plan_commands.specs.PlanChecks.{IsJudgedIn}
 use Rattle.pddl_plan_commands.specs.Inner.WantedPrintings.{printing_of}
 use Rattle.pddl_plan_commands.proofs.judging.judged_plan.Goals as goal

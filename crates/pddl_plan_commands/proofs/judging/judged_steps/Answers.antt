@@ -1,5 +1,5 @@
 use Rattle.std.proofs.lemmas.Result.{IfOk-weaker}
-use Rattle.pddl_link.specs.LinkedTasks.{task_of_files}
+use Rattle.pddl_linked_task.specs.LinkedTasks.{task_of_files}
 use Rattle.pddl_plan_commands.specs.PlanChecks.{AreStepsJudged}
 use Rattle.pddl_plan_commands.specs.Inner.WantedPrintings.{printing_of}
 use Rattle.pddl_plan_commands.proofs.Judged.{shown_in_range, verdict_of, shown_judged}

@@ -1,5 +1,5 @@
 use Rattle.std.specs.Prelude.{codes}
-use Rattle.pddl_link.specs.LinkedTasks.{task_of_files}
+use Rattle.pddl_linked_task.specs.LinkedTasks.{task_of_files}
 use Rattle.pddl_linked_plan.specs.NumberedAtoms.{named_atom}
 use Rattle.pddl_plan_lines.specs.PlanLines.{atom_text, clash_words}
 use Rattle.pddl_plan_lines.proofs.LinePieces.{three_pieces}

@@ -7,7 +7,7 @@ use Rattle.pddl_faults.specs.Told.{AreTold}
 use Rattle.pddl_types.specs.KnownNames.{action_signature}
 use Rattle.pddl_types.specs.Places.{AreTops}
 use Rattle.pddl_types.proofs.TypePlaces.{seen_entry}
-use Rattle.pddl_link.specs.LinkedTasks.{task_of_files}
+use Rattle.pddl_linked_task.specs.LinkedTasks.{task_of_files}
 use Rattle.pddl_tables.specs.Lookups.{price_in}
 use Rattle.pddl_plan_tables.specs.ActionChanges.{AreChangesOf}
 use Rattle.pddl_plan_link.proofs.CheckedSteps.{action_unknown, number_is, found_there, arity_differs, object_unknown, numbers_are, type_differs, step_is_large, cost_is_undefined, step_is_good}

@@ -1,6 +1,6 @@
 use Rattle.std.proofs.Common.{◌≡◌, Bool, subst, reverse, IfOk, arith}
 use Rattle.pddl_domain.specs.Actions.{action_view}
-use Rattle.pddl_link.specs.LinkedTasks.{task_of_files}
+use Rattle.pddl_linked_task.specs.LinkedTasks.{task_of_files}
 use Rattle.pddl_tables.specs.Lookups.{price_in}
 use Rattle.pddl_plan_tables.specs.ChangeCosts.{is_unpriced}
 use Rattle.pddl_plan_tables.proofs.HeldChanges.{place_within, right_there, not_none}

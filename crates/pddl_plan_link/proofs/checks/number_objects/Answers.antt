@@ -1,7 +1,7 @@
 use Rattle.std.proofs.Common.{refl, sym, true≢false, arith}
 use Rattle.std.proofs.lemmas.Option.{get_or_from_slice_get}
 use Rattle.pddl_task.specs.Tasks.{object_names}
-use Rattle.pddl_link.specs.LinkedTasks.{task_of_files}
+use Rattle.pddl_linked_task.specs.LinkedTasks.{task_of_files}
 use Rattle.pddl_linked_plan.proofs.NumberedObjects.{none_numbered, numbered_more, unknown_found, all_known, all_numbered}
 use Rattle.pddl_plan_link.proofs.checks.number_objects.Goals as goal
 

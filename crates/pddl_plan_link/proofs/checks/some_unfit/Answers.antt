@@ -2,7 +2,7 @@ use Rattle.std.proofs.Common.{◌<◌, length, sym, subst, arith}
 use Rattle.pddl_formula.specs.TypedLists.{typed_view}
 use Rattle.pddl_faults.proofs.BoundTypes.{viewed_at}
 use Rattle.pddl_types.specs.Places.{AreTops}
-use Rattle.pddl_link.specs.LinkedTasks.{task_of_files}
+use Rattle.pddl_linked_task.specs.LinkedTasks.{task_of_files}
 use Rattle.pddl_linked_plan.proofs.NumberedObjects.{unfit_there, fits_there, all_fit}
 use Rattle.pddl_plan_link.proofs.checks.some_unfit.Goals as goal
 

@@ -1,5 +1,5 @@
 use Rattle.pddl_formula.specs.TypedLists.{typed_view}
-use Rattle.pddl_link.specs.LinkedTasks.{task_of_files}
+use Rattle.pddl_linked_task.specs.LinkedTasks.{task_of_files}
 use Rattle.pddl_linked_plan.proofs.NumberedObjects.{IsLeft}
 use Rattle.pddl_plan_link.proofs.checks.some_unfit.Given as goal
 

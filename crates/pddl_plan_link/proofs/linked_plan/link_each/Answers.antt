@@ -2,7 +2,7 @@ use Rattle.std.proofs.Common.{◌<◌, ◌≤◌, length, refl, ◌∙◌, arith
 use Rattle.std.specs.Prelude.{Ok}
 use Rattle.std.proofs.lemmas.Result.{err_from_is_err_and}
 use Rattle.pddl_plan.specs.Plans.{plan_view, moment_at}
-use Rattle.pddl_link.specs.LinkedTasks.{task_of_files}
+use Rattle.pddl_linked_task.specs.LinkedTasks.{task_of_files}
 use Rattle.pddl_linked_plan.specs.LinkedSteps.{LinkedStepValue}
 use Rattle.pddl_linked_plan.specs.StepFaults.{step_faults, most_steps}
 use Rattle.pddl_plan_link.specs.StepVerdicts.{plan_fault_of}

@@ -1,5 +1,5 @@
 use Rattle.pddl_plan.specs.Plans.{plan_view}
-use Rattle.pddl_link.specs.LinkedTasks.{task_of_files}
+use Rattle.pddl_linked_task.specs.LinkedTasks.{task_of_files}
 use Rattle.pddl_plan_tables.specs.ActionChanges.{AreChangesOf}
 use Rattle.pddl_plan_link.proofs.PlanSteps.{AreLinked, rows_of, row_step, row_link}
 use Rattle.pddl_plan_link.proofs.linked_plan.link_each.Given as goal

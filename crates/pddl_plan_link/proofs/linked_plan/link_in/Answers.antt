@@ -1,6 +1,6 @@
 use Rattle.std.proofs.Common.{subst, sym, ◌≡◌, ◌∙◌, IfOk}
 use Rattle.pddl_plan.specs.Plans.{plan_view}
-use Rattle.pddl_link.specs.LinkedTasks.{task_of_files}
+use Rattle.pddl_linked_task.specs.LinkedTasks.{task_of_files}
 use Rattle.pddl_linked_plan.specs.LinkedSteps.{linked_steps}
 use Rattle.pddl_plan_link.specs.StepVerdicts.{PlanVerdict}
 use Rattle.pddl_plan_tables.proofs.HeldChanges.{none_held}

@@ -1,7 +1,7 @@
 use Rattle.std.proofs.Common.{drop, map}
 use Rattle.pddl_domain.specs.Actions.{action_view}
 use Rattle.pddl_task.specs.Tasks.{task_count}
-use Rattle.pddl_link.specs.LinkedTasks.{task_of_files}
+use Rattle.pddl_linked_task.specs.LinkedTasks.{task_of_files}
 use Rattle.pddl_types.proofs.SignatureTables.{Held}
 use Rattle.pddl_plan_tables.specs.StepTables.{named_action, named_in}
 use Rattle.pddl_plan_tables.proofs.NamedActions.{name_in}

@@ -4,7 +4,7 @@ use Rattle.pddl_compiled.specs.Compiled.{both}
 use Rattle.pddl_compiled.specs.TaskTables.{tables_of}
 use Rattle.pddl_compiled.specs.Views.{changes_view}
 use Rattle.pddl_compiled.proofs.Rows.{view_both}
-use Rattle.pddl_link.specs.LinkedTasks.{task_of_files}
+use Rattle.pddl_linked_task.specs.LinkedTasks.{task_of_files}
 use Rattle.pddl_plan_tables.specs.ActionChanges.{scope_of}
 use Rattle.pddl_plan_tables.specs.ChangeCosts.{some_cost}
 use Rattle.pddl_plan_tables.proofs.NoCosts.{none_to_find}

@@ -6,7 +6,7 @@ use Rattle.pddl_compiled.specs.Frames.{parameter_slot}
 use Rattle.pddl_compiled.specs.Scopes.{slot_view}
 use Rattle.pddl_compiled.specs.TaskTables.{tables_of}
 use Rattle.pddl_compiled.specs.Views.{change_view}
-use Rattle.pddl_link.specs.LinkedTasks.{task_of_files}
+use Rattle.pddl_linked_task.specs.LinkedTasks.{task_of_files}
 use Rattle.pddl_plan_tables.proofs.changes.effect_of.Goals as goal
 
 pub returns : goal.returns

@@ -1,6 +1,6 @@
 use Rattle.std.proofs.Common.{arith}
 use Rattle.pddl_domain.specs.Actions.{action_view}
-use Rattle.pddl_link.specs.LinkedTasks.{task_of_files}
+use Rattle.pddl_linked_task.specs.LinkedTasks.{task_of_files}
 use Rattle.pddl_plan_tables.proofs.HeldChanges.{put_there, place_within, change_put, change_there}
 use Rattle.pddl_plan_tables.proofs.changes.make_change.Goals as goal
 

@@ -5,7 +5,7 @@ use Rattle.pddl_domain.specs.Domains.{DomainValue}
 use Rattle.pddl_task.specs.Tasks.{task_count}
 use Rattle.pddl_types.specs.KnownNames.{action_signature}
 use Rattle.pddl_types.specs.Places.{AreSlotTops}
-use Rattle.pddl_link.specs.LinkedTasks.{task_of_files}
+use Rattle.pddl_linked_task.specs.LinkedTasks.{task_of_files}
 use Rattle.pddl_plan_tables.specs.StepTables.{named_action, named_in}
 use Rattle.pddl_plan_tables.specs.PlanTables.{AreCostTables}
 use Rattle.pddl_plan_tables.proofs.NamedActions.{once_in_files}

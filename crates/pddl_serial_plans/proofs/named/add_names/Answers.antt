@@ -1,7 +1,7 @@
 use Rattle.std.specs.Prelude.{Result, Ok, Err, OnOk, option_map}
 use Rattle.std.proofs.Common.{[], ◌∷◌, ap, refl, sym, ◌∙◌}
 use Rattle.std.proofs.lemmas.Option.{get_or_from_slice_get, slice_get-map}
-use Rattle.pddl_link.specs.LinkedTasks.{task_of_files}
+use Rattle.pddl_linked_task.specs.LinkedTasks.{task_of_files}
 use Rattle.pddl_linked_plan.specs.LinkedLaws.{named_step}
 use Rattle.pddl_linked_plan.specs.StepFaults.{action_name, action_names}
 use Rattle.pddl_linked_plan.specs.StepParts.{lent_step}

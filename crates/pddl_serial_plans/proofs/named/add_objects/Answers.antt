@@ -1,7 +1,7 @@
 use Rattle.std.proofs.Common.{[], ◌∷◌, ◌++◌, map, take, refl, sym, ap, ◌∙◌}
 use Rattle.std.proofs.lemmas.List.{map_more, take_all}
 use Rattle.pddl_task.specs.Tasks.{object_names}
-use Rattle.pddl_link.specs.LinkedTasks.{task_of_files}
+use Rattle.pddl_linked_task.specs.LinkedTasks.{task_of_files}
 use Rattle.pddl_linked_plan.specs.LinkedLaws.{name_at}
 use Rattle.pddl_plan.specs.Building.{with_names}
 use Rattle.pddl_serial_plans.proofs.AddedNames.{no_names, names_then}

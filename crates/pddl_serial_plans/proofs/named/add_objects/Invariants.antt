@@ -1,6 +1,6 @@
 use Rattle.std.proofs.Common.{◌≡◌, map, take}
 use Rattle.pddl_task.specs.Tasks.{object_names}
-use Rattle.pddl_link.specs.LinkedTasks.{task_of_files}
+use Rattle.pddl_linked_task.specs.LinkedTasks.{task_of_files}
 use Rattle.pddl_linked_plan.specs.LinkedLaws.{name_at}
 use Rattle.pddl_plan.specs.Building.{with_names}
 use Rattle.pddl_serial_plans.proofs.named.add_objects.Given as goal

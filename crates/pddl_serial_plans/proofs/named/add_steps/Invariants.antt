@@ -1,6 +1,6 @@
 use Rattle.std.proofs.Common.{◌≡◌, [], map, take}
 use Rattle.pddl_plan.specs.Plans.{step_of_names}
-use Rattle.pddl_link.specs.LinkedTasks.{task_of_files}
+use Rattle.pddl_linked_task.specs.LinkedTasks.{task_of_files}
 use Rattle.pddl_linked_plan.specs.LinkedLaws.{named_step}
 use Rattle.pddl_serial_plans.specs.NewSteps.{picked}
 use Rattle.pddl_serial_plans.proofs.named.add_steps.Given as goal

@@ -1,7 +1,7 @@
 use Rattle.std.proofs.Common.{◌≡◌, [], length, map, take}
 use Rattle.pddl_plan.specs.Plans as plans
 use Rattle.pddl_plan.specs.Plans.{TimedValue, step_of_names}
-use Rattle.pddl_link.specs.LinkedTasks.{task_of_files}
+use Rattle.pddl_linked_task.specs.LinkedTasks.{task_of_files}
 use Rattle.pddl_serial_plans.specs.NewSteps.{picked, at_moments, timed_step}
 use Rattle.pddl_serial_plans.proofs.named.add_timed_steps.Given as goal
 

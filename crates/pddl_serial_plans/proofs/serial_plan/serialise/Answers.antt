@@ -3,7 +3,7 @@ use Rattle.std.specs.Prelude.{All, IfOk}
 use Rattle.pddl_plan.specs.Plans.{PlanValue, plan_view}
 use Rattle.pddl_happenings.specs.NamedSteps.{by_name}
 use Rattle.pddl_judge.specs.HappeningValues.{groups_of}
-use Rattle.pddl_link.specs.LinkedTasks.{task_of_files}
+use Rattle.pddl_linked_task.specs.LinkedTasks.{task_of_files}
 use Rattle.pddl_plan_steps.specs.NumberedSteps.{number_of}
 use Rattle.pddl_serial.specs.Orders.{in_order}
 use Rattle.pddl_serial_plans.specs.NewPlans.{IsSerialPlan}

@@ -7,7 +7,7 @@ use Rattle.pddl_happenings.specs.Happenings.{HaveEachOnce}
 use Rattle.pddl_happenings.specs.NamedSteps.{by_name}
 use Rattle.pddl_happenings.specs.Splits.{IsSplitOf, split_moments}
 use Rattle.pddl_judge.specs.HappeningValues.{groups_of}
-use Rattle.pddl_link.specs.LinkedTasks.{task_of_files}
+use Rattle.pddl_linked_task.specs.LinkedTasks.{task_of_files}
 use Rattle.pddl_plan_steps.specs.NumberedSteps.{number_of}
 use Rattle.pddl_serial_plans.specs.NewPlans.{IsSplitPlan}
 use Rattle.pddl_serial_plans.specs.NewSteps.{picked, at_moments, timed_plan}

@@ -5,7 +5,7 @@ use Rattle.pddl_plan.specs.Plans.{plan_view}
 use Rattle.pddl_happenings.specs.NamedSteps.{by_name}
 use Rattle.pddl_happenings.specs.Splits.{IsSplitOf}
 use Rattle.pddl_judge.specs.HappeningValues.{groups_of}
-use Rattle.pddl_link.specs.LinkedTasks.{task_of_files}
+use Rattle.pddl_linked_task.specs.LinkedTasks.{task_of_files}
 use Rattle.pddl_plan_steps.specs.NumberedSteps.{number_of}
 use Rattle.pddl_serial.specs.Cuts.{cut_in_order}
 use Rattle.pddl_serial_plans.specs.NewPlans.{IsSplitPlan}

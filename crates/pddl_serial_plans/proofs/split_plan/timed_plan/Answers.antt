@@ -1,7 +1,7 @@
 use Rattle.std.proofs.Common.{◌≡◌, ◌<◌, ◌≤◌, ℕ, List, length, sym, ap, ap₂, ◌∙◌, subst}
 use Rattle.std.specs.Prelude.{All, IfOk}
 use Rattle.pddl_plan.specs.Plans.{plan_view}
-use Rattle.pddl_link.specs.LinkedTasks.{task_of_files}
+use Rattle.pddl_linked_task.specs.LinkedTasks.{task_of_files}
 use Rattle.pddl_serial_plans.specs.NewSteps.{picked, at_moments, timed_plan}
 use Rattle.pddl_serial_plans.proofs.AddedNames.{if_made}
 use Rattle.pddl_serial_plans.proofs.split_plan.timed_plan.Goals as goal

@@ -1,7 +1,7 @@
 use Rattle.std.proofs.Common.{◌≡◌, ◌+◌, ◌<◌, ℕ, true, length, sym, ap, ◌∙◌, subst, arith}
 use Rattle.std.specs.Prelude.{Some, slice_get}
 use Rattle.std.proofs.lemmas.Option.{slice_get_within, slice_get-get_or}
-use Rattle.pddl_link.specs.LinkedTasks.{task_of_files}
+use Rattle.pddl_linked_task.specs.LinkedTasks.{task_of_files}
 use Rattle.pddl_compiled_plan.specs.CompiledSteps.{AreForms, IsHeld}
 use Rattle.pddl_step.proofs.Held.{form_more, held_more, one_longer}
 use Rattle.pddl_step.proofs.actions.compile_all_marked.Goals as goal

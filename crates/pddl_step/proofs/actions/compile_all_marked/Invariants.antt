@@ -1,6 +1,6 @@
 use Rattle.std.proofs.Common.{◌≡◌, ◌<◌, ℕ, true, length}
 use Rattle.std.specs.Prelude.{Some, slice_get}
-use Rattle.pddl_link.specs.LinkedTasks.{task_of_files}
+use Rattle.pddl_linked_task.specs.LinkedTasks.{task_of_files}
 use Rattle.pddl_compiled_plan.specs.CompiledSteps.{AreForms, IsHeld}
 use Rattle.pddl_step.proofs.actions.compile_all_marked.Given as goal
 

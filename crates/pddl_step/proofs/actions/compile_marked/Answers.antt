@@ -1,5 +1,5 @@
 use Rattle.std.proofs.Common.{sym, ap, ◌∙◌}
-use Rattle.pddl_link.specs.LinkedTasks.{task_of_files}
+use Rattle.pddl_linked_task.specs.LinkedTasks.{task_of_files}
 use Rattle.pddl_compiled_plan.specs.CompiledSteps.{form_of}
 use Rattle.pddl_compiled_plan.proofs.Forms.{same_some}
 use Rattle.pddl_step.proofs.actions.compile_marked.Goals as goal

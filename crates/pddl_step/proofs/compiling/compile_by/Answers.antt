@@ -1,7 +1,7 @@
 use Rattle.std.proofs.Common.{◌≡◌, ap, ◌∙◌}
 use Rattle.std.proofs.lemmas.Result.{IfOk-at_ok}
 use Rattle.pddl_state.specs.Atoms.{AtomValue}
-use Rattle.pddl_link.specs.LinkedTasks.{task_of_files}
+use Rattle.pddl_linked_task.specs.LinkedTasks.{task_of_files}
 use Rattle.pddl_tables.specs.Lookups.{price_in}
 use Rattle.pddl_tables.specs.Prices.{price_at}
 use Rattle.pddl_compiled_plan.specs.CompiledSteps.{AreCompiledFrom}

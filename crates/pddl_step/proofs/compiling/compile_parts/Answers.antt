@@ -2,7 +2,7 @@ use Rattle.std.proofs.Common.{◌≡◌, [], ap, ◌∙◌}
 use Rattle.std.specs.Prelude.{Ok}
 use Rattle.std.proofs.lemmas.Result.{IfOk-weaker, IfOk-at_ok}
 use Rattle.pddl_formula.specs.Formulas.{formula_view}
-use Rattle.pddl_link.specs.LinkedTasks.{task_of_files}
+use Rattle.pddl_linked_task.specs.LinkedTasks.{task_of_files}
 use Rattle.pddl_compiled.specs.Compiler.{condition_of}
 use Rattle.pddl_compiled.specs.TaskTables.{tables_of}
 use Rattle.pddl_compiled.specs.Views.{condition_view}

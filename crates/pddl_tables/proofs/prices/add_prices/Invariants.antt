@@ -2,7 +2,7 @@ use Rattle.std.proofs.Common.{◌≡◌, ◌≤◌, length, map, drop}
 use Rattle.std.specs.Map.{lookup}
 use Rattle.pddl_problem.specs.Inits.{init_view}
 use Rattle.pddl_state.specs.Atoms.{AtomValue, atom_eq}
-use Rattle.pddl_link.specs.LinkedTasks.{task_of_files}
+use Rattle.pddl_linked_task.specs.LinkedTasks.{task_of_files}
 use Rattle.pddl_tables.proofs.PriceTables.{given}
 use Rattle.pddl_tables.proofs.prices.add_prices.Given as goal
 

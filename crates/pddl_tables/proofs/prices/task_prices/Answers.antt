@@ -4,7 +4,7 @@ use Rattle.std.specs.Map.{lookup}
 use Rattle.pddl_problem.specs.Inits.{init_view}
 use Rattle.pddl_task.specs.Tasks.{cost_in}
 use Rattle.pddl_state.specs.Atoms.{AtomValue, atom_eq}
-use Rattle.pddl_link.specs.LinkedTasks.{task_of_files}
+use Rattle.pddl_linked_task.specs.LinkedTasks.{task_of_files}
 use Rattle.pddl_tables.specs.Lookups.{price_in}
 use Rattle.pddl_tables.specs.Prices.{numbered_cost, price_at}
 use Rattle.pddl_tables.proofs.PriceTables.{behind}

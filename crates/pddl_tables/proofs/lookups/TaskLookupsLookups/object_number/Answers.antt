@@ -1,6 +1,6 @@
 use Rattle.std.proofs.Common.{◌∙◌}
 use Rattle.pddl_task.specs.Names.{item_of}
-use Rattle.pddl_link.specs.LinkedTasks.{task_of_files}
+use Rattle.pddl_linked_task.specs.LinkedTasks.{task_of_files}
 use Rattle.pddl_tables.proofs.LookedUp.{looked_up}
 use Rattle.pddl_tables.proofs.lookups.TaskLookupsLookups.object_number.Goals as goal
 

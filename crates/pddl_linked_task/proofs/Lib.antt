@@ -1,0 +1,2 @@
+pub mod CostValues
+pub mod OnceNamed

@@ -1,0 +1,3 @@
+pub mod LinkedTasks
+pub mod TaskTables
+pub mod Codes

@@ -1,0 +1,8 @@
+//! What a domain and a problem that link say together.
+//!
+//! A `Task` answers by tables that linking has made. How files link, and which do not, is another crate's matter.
+#![tactic(auto)]
+
+mod task;
+
+pub use task::{Tables, Task, let_go_declared, let_go_objects, let_go_task};

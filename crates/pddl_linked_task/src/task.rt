@@ -1,0 +1,301 @@
+//! Linked tasks.
+
+ghost use Rattle.std.specs.Prelude.{◌≡◌, ◌<◌, false, Some, map, length, option_map, slice_get, position, bytes_eq, IfOk};
+ghost use Rattle.std.specs.Option.{option_map_or};
+ghost use Rattle.pddl_formula.specs.Formulas.{formula_view};
+ghost use Rattle.pddl_domain.specs.Actions.{action_view};
+ghost use Rattle.pddl_domain.specs.Domains.{domain_view};
+ghost use Rattle.pddl_problem.specs.Problems.{problem_view};
+ghost use Rattle.pddl_task.specs.Types.{pairs, fits, is_subtype};
+ghost use Rattle.pddl_task.specs.GroundSize.{capped, formula_size, action_size};
+ghost use Rattle.pddl_task.specs.Linked.{IsLinked};
+ghost use Rattle.pddl_task.specs.Tasks.{task_count, predicate_names, object_names, fitting_numbers, cost_of};
+ghost use Rattle.pddl_types.specs.KnownNames.{action_signature};
+ghost use Rattle.pddl_types.specs.Places.{AreTops, AreSlotTops};
+ghost use Rattle.pddl_linked_task.specs.LinkedTasks.{files, task_of_files};
+ghost use Rattle.pddl_linked_task.specs.TaskTables.{AreTablesOf};
+
+use pddl_domain::{Action, Domain};
+use pddl_formula::{Formula, TypeNames};
+use pddl_problem::Problem;
+use pddl_search::{Ground, Values};
+use pddl_sizes::{ObjectCounts, ObjectOrder, action_ground_size, fitting_objects, ground_size};
+use pddl_token::Name;
+use pddl_types::{Declared, FunctionNumbers, Listed, SlotTops, Top, TypeCounts, Types};
+use std::alloc::{AllocError, Allocator};
+use std::marker::Model;
+
+/// What a domain declares by name, how many objects fit each type, and the order of the types of objects, in tables that borrow from the files.
+#[derive(Drop)]
+pub struct Tables<'m, 'a, A: Allocator, B: Allocator> {
+    pub declared: Declared<'m, 'a, A, B>,
+    pub counts: TypeCounts<'m, 'a, B>,
+    pub order: ObjectOrder<'a, B>,
+}
+
+/// Lets go what a domain declares, table by table. (A call of `drop` with the whole has no proof today.)
+pub fn let_go_declared<'m, 'a, A: Allocator, B: Allocator>(declared: Declared<'m, 'a, A, B>) {
+    drop(declared.predicates);
+    drop(declared.functions);
+    drop(declared.tops);
+}
+
+/// Lets go objects, likewise.
+pub fn let_go_objects<'m, 'a, A: Allocator, B: Allocator>(listed: Listed<'m, 'a, A, B>) {
+    drop(listed.objects);
+    drop(listed.places);
+}
+
+/// What a domain and a problem that link say together.
+///
+/// Its objects, constants first, and its predicates, as declared, are numbered from 0. It refers to the two files, and copies
+/// nothing of them.
+#[derive(Drop)]
+pub struct Task<'m, 'a, A: Allocator, B: Allocator> {
+    domain: &'m Domain<A>,
+    problem: &'m Problem<A>,
+    types: Types<'m, 'a, A, B>,
+    listed: Listed<'m, 'a, A, B>,
+    tables: Tables<'m, 'a, A, B>,
+    /// The values that `:init` gives to functions of objects.
+    values: Values<'m, 'a, A, B>,
+}
+
+impl<'m, 'a, A: Allocator, B: Allocator> Model for Task<'m, 'a, A, B> {
+    ghost use Rattle.std.specs.Coded.{codes};
+    ghost use Rattle.pddl_domain.specs.Domains.{domain_view};
+    ghost use Rattle.pddl_problem.specs.Problems.{problem_view};
+    ghost use Rattle.pddl_linked_task.specs.LinkedTasks.{Files, files};
+    ghost use Rattle.pddl_linked_task.specs.TaskTables.{AreTablesOf};
+    ghost use Rattle.pddl_linked_task.specs.Codes.{formula_code, effect_code};
+
+    ghost Value = { Files };
+
+    ghost coded = { Prim.hlevel (codes, formula_code, effect_code) };
+
+    ghost view = { λ t. files (domain_view t.domain.now) (problem_view t.problem.now) };
+
+    ghost invariant = { λ t. AreTablesOf (domain_view t.domain.now) (problem_view t.problem.now) t.types t.tables.declared.predicates.entries t.listed t.tables.counts.entries t.values.entries };
+}
+
+impl<'m, 'a, A: Allocator, B: Allocator> Task<'m, 'a, A, B> {
+    /// The task of a domain and a problem that link, by tables that hold what they declare.
+    pub fn of(
+        domain: &'m Domain<A>,
+        problem: &'m Problem<A>,
+        types: Types<'m, 'a, A, B>,
+        listed: Listed<'m, 'a, A, B>,
+        tables: Tables<'m, 'a, A, B>,
+        values: Values<'m, 'a, A, B>,
+    ) -> Task<'m, 'a, A, B>
+        requires { AreTablesOf (domain_view domain.now) (problem_view problem.now) types tables.declared.predicates.entries listed tables.counts.entries values.entries }
+        ensures { result ≡ files (domain_view domain.now) (problem_view problem.now) }
+    {
+        Task {
+            domain,
+            problem,
+            types,
+            listed,
+            tables,
+            values,
+        }
+    }
+
+    /// The domain that it is of.
+    pub fn domain(&self) -> &'m Domain<A>
+        ensures domain { domain_view result.now ≡ self.now.domain }
+        ensures linked { IsLinked self.now.domain self.now.problem }
+    {
+        self.domain
+    }
+
+    /// The problem that it is of.
+    pub fn problem(&self) -> &'m Problem<A>
+        ensures problem { problem_view result.now ≡ self.now.problem }
+        ensures linked { IsLinked self.now.domain self.now.problem }
+    {
+        self.problem
+    }
+
+    /// Law: the two files that a task is of are linked.
+    pub fn files_are_linked(&self)
+        ensures { IsLinked self.now.domain self.now.problem }
+    {
+        let _ = &self.domain;
+    }
+
+    /// The action of a number, in the domain's order.
+    pub fn action(&self, number: usize) -> &'m Action<A>
+        requires { number < length (task_of_files self.now).actions }
+        ensures { slice_get (task_of_files self.now).actions number ≡ Some (action_view result.now) }
+    {
+        let domain = self.domain;
+        &domain.actions[number]
+    }
+
+    /// The goal.
+    pub fn goal(&self) -> &'m Formula<A>
+        ensures { formula_view result.now ≡ (task_of_files self.now).goal }
+    {
+        let problem = self.problem;
+        &problem.goal
+    }
+
+    /// How many objects there are.
+    pub fn object_count(&self) -> usize
+        ensures { result ≡ length (task_of_files self.now).objects }
+    {
+        self.listed.objects.len()
+    }
+
+    /// How many predicates there are.
+    pub fn predicate_count(&self) -> usize
+        ensures { result ≡ length (task_of_files self.now).predicates }
+    {
+        self.tables.declared.predicates.len()
+    }
+
+    /// Its functions by name, in a table that is made anew.
+    ///
+    /// Fails where memory for the table is refused.
+    pub fn functions<'c, C: Allocator>(
+        &self,
+        alloc: &'c C,
+    ) -> Result<FunctionNumbers<'m, 'c, A, C>, AllocError>
+        ensures { IfOk result (λ functions. functions ≡ (task_of_files self.now).functions) }
+    {
+        let domain = self.domain;
+        FunctionNumbers::of(alloc, &domain.functions)
+    }
+
+    /// Whether a type is a subtype of another, or that type itself; a name that is no type of the task is neither.
+    pub fn is_a<N: Allocator>(&self, sub: &Name<N>, over: &Name<N>) -> bool
+        ensures { result ≡ is_subtype (task_of_files self.now).types sub.now over.now }
+    {
+        self.types.is_a(sub.as_bytes(), over.as_bytes())
+    }
+
+    /// The tops of the parameters of its actions, by which `object_fits_by` is fast.
+    ///
+    /// Fails where memory for them is refused.
+    pub fn action_tops<'c, C: Allocator>(&self, alloc: &'c C) -> Result<SlotTops<'c, C>, AllocError>
+        ensures { IfOk result (λ tops. AreSlotTops (task_of_files self.now).types (map action_signature (task_of_files self.now).actions) tops) }
+    {
+        let domain = self.domain;
+        SlotTops::of_declared(alloc, &self.types, &domain.actions)
+    }
+
+    /// Whether the object of a number fits a type, which is found fast by tops of the type; past the last there is none that does.
+    pub fn object_fits_by<N: Allocator>(
+        &self,
+        object: usize,
+        types: &TypeNames<N>,
+        tops: &[Top],
+    ) -> bool
+        requires { AreTops (task_of_files self.now).types types.now tops.now }
+        ensures { result ≡ option_map_or (λ o. fits (pairs (task_of_files self.now).types) o.of types.now)
+            (slice_get (task_of_files self.now).objects object) false }
+    {
+        self.listed.fits(&self.types, object, types, tops)
+    }
+
+    /// Whether the object of a number fits a type; past the last there is none that does.
+    pub fn object_fits<N: Allocator>(&self, object: usize, types: &TypeNames<N>) -> bool
+        ensures { result ≡ option_map_or (λ o. fits (pairs (task_of_files self.now).types) o.of types.now)
+            (slice_get (task_of_files self.now).objects object) false }
+    {
+        self.object_fits_by(object, types, &[])
+    }
+
+    /// The numbers of the objects that fit a type, rising.
+    ///
+    /// Fails where memory for them is refused.
+    pub fn fitting<'b, N: Allocator, C: Allocator>(
+        &self,
+        alloc: &'b C,
+        types: &TypeNames<N>,
+    ) -> Result<Vec<usize, &'b C>, AllocError>
+        ensures { IfOk result (λ numbers. numbers.items ≡ fitting_numbers (task_of_files self.now) types.now) }
+    {
+        let counts = ObjectCounts {
+            types: &self.types,
+            listed: &self.listed,
+            counts: &self.tables.counts,
+        };
+        fitting_objects(alloc, &counts, &self.tables.order, types)
+    }
+
+    /// The ground size of a formula over the task's objects, or 1,000,001 where it is over 1,000,000.
+    pub fn ground_size<N: Allocator>(&self, formula: &Formula<N>) -> u32
+        ensures { result ≡ capped (formula_size (task_count (task_of_files self.now)) (formula_view formula.now)) }
+    {
+        let counts = ObjectCounts {
+            types: &self.types,
+            listed: &self.listed,
+            counts: &self.tables.counts,
+        };
+        ground_size(&counts, formula)
+    }
+
+    /// The ground size of a step of an action over the task's objects, or 1,000,001 where it is over 1,000,000.
+    pub fn action_ground_size<N: Allocator>(&self, action: &Action<N>) -> u32
+        ensures { result ≡ capped (action_size (task_count (task_of_files self.now)) (action_view action.now)) }
+    {
+        let counts = ObjectCounts {
+            types: &self.types,
+            listed: &self.listed,
+            counts: &self.tables.counts,
+        };
+        action_ground_size(&counts, action)
+    }
+
+    /// The cost that `:init` gives a function of these objects, or `None` where it gives none.
+    pub fn cost<'q>(&self, function: &'q [u8], objects: &'q [&'q [u8]]) -> Option<u64>
+        ensures { result ≡ cost_of (task_of_files self.now) (record { name = function.now; objects = map (λ o. o.now) objects.now }) }
+    {
+        let call = Ground::asked(function, objects);
+        match self.values.get(&call) {
+            Some(billionths) => Some(*billionths / 1_000_000_000),
+            None => None,
+        }
+    }
+
+    /// The name of the predicate of a number, or `None` past the last.
+    pub fn predicate_name(&self, number: usize) -> Option<&Name<A>>
+        ensures { option_map (λ name. name.now) result ≡ slice_get (predicate_names (task_of_files self.now)) number }
+    {
+        match self.domain.predicates.get(number) {
+            Some(declared) => Some(declared.predicate.as_name()),
+            None => None,
+        }
+    }
+
+    /// The name of the object of a number, or `None` past the last.
+    pub fn object_name(&self, number: usize) -> Option<&Name<A>>
+        ensures { option_map (λ name. name.now) result ≡ slice_get (object_names (task_of_files self.now)) number }
+    {
+        match self.listed.objects.get_index(number) {
+            Some((_, listed)) => Some(&listed.name),
+            None => None,
+        }
+    }
+
+    /// The number of the object of a name, or `None` where there is none.
+    pub fn object_number(&self, name: &[u8]) -> Option<usize>
+        ensures { result ≡ position (bytes_eq name.now) (object_names (task_of_files self.now)) }
+    {
+        self.listed.objects.get_index_of(name)
+    }
+
+    /// The number of the predicate of a name, or `None` where there is none.
+    pub fn predicate_number(&self, name: &[u8]) -> Option<usize>
+        ensures { result ≡ position (bytes_eq name.now) (predicate_names (task_of_files self.now)) }
+    {
+        self.tables.declared.predicates.get_index_of(name)
+    }
+}
+
+/// Lets a task go. A crate in which one ends proves how it is taken apart, with each type in it; crates that call this do not.
+pub fn let_go_task<'m, 'a, A: Allocator, B: Allocator>(task: Task<'m, 'a, A, B>) {
+    drop(task);
+}
