@@ -1,5 +1,5 @@
 -- Places that are counted by their numbers.
-use Rattle.std.proofs.Common.{◌≡◌, ◌≢◌, ℕ, zero, suc, ◌+◌, ◌-◌, ◌<◌, ◌≤◌, Bool, true, false, ◌==◌, nat_lt, cond, List, [], ◌∷◌, ◌++◌, filter, length, take, slice_set, refl, sym, ap, ◌∙◌, subst, arith, inl, inr, ◌⊎◌}
+use Rattle.std.proofs.Common.{◌≡◌, ◌≢◌, ℕ, zero, suc, ◌+◌, ◌-◌, ◌<◌, ◌≤◌, Bool, true, false, ◌==◌, nat_lt, cond, List, [], ◌∷◌, filter, length, take, slice_set, refl, sym, ap, ◌∙◌, arith, inl, inr}
 use Rattle.std.proofs.lemmas.Bool.{cases_lt}
 use Rattle.std.proofs.lemmas.List.{get_or-set_same, get_or-set_other}
 use Rattle.std.proofs.lemmas.List.Filters.{length-filter_more}
@@ -7,6 +7,7 @@ use Rattle.std.specs.Prelude.{Contains}
 use Rattle.std.specs.List.{slice_index_or}
 use Rattle.pddl_forest.specs.Forests.{number_at, IsPreorder}
 use Rattle.pddl_forest.specs.Counts.{count, AreCounts}
+use Rattle.pddl_forest.proofs.Lists.{same_or_not, any_default}
 
 one_more : {X : Type 0} (b : Bool) (x : X) (xs : List X) → length (cond b (x ∷ xs) xs) ≡ cond b 1 0 + length xs
 one_more true x xs = omega arith
@@ -36,7 +37,7 @@ count_both p q r (x ∷ xs) each =
     omega (arith, here, rest, a, b, c)
 
 -- a test of numbers, as 1 or 0
-abbrev one_if : Bool → ℕ
+abbrev pub one_if : Bool → ℕ
 one_if b = cond b 1 0
 
 lt_yes : (n k : ℕ) → n < k → one_if (nat_lt n k) ≡ 1
@@ -45,10 +46,10 @@ lt_yes n k h = let is : nat_lt n k ≡ true = grind (arith, h) in ap one_if is
 lt_no : (n k : ℕ) → k ≤ n → one_if (nat_lt n k) ≡ 0
 lt_no n k h = let is : nat_lt n k ≡ false = grind (arith, h) in ap one_if is
 
-one_same : (n k : ℕ) → n ≡ k → one_if (n == k) ≡ 1
+pub one_same : (n k : ℕ) → n ≡ k → one_if (n == k) ≡ 1
 one_same n k h = let is : (n == k) ≡ true = grind (arith, h) in ap one_if is
 
-one_other : (n k : ℕ) → n ≢ k → one_if (n == k) ≡ 0
+pub one_other : (n k : ℕ) → n ≢ k → one_if (n == k) ≡ 0
 one_other n k other =
     elim (n == k) as (λ b. (n == k) ≡ b → one_if b ≡ 0) [
       | true ↦ λ is. absurd (other (grind (arith, is)))
@@ -78,44 +79,7 @@ lt_next n k =
           ]
     ]
 
--- ---- a number that comes last
-
-last_at : (xs : List ℕ) (x k : ℕ) → length xs ≡ k → number_at (xs ++ x ∷ []) k ≡ x
-last_at [] x zero h = refl
-last_at [] x (suc k) h = absurd (omega (arith, h))
-last_at (y ∷ xs) x zero h = absurd (omega (arith, h))
-last_at (y ∷ xs) x (suc k) h = last_at xs x k (omega (arith, h))
-
-front_at : (xs : List ℕ) (x k : ℕ) → k < length xs → number_at (xs ++ x ∷ []) k ≡ number_at xs k
-front_at [] x k h = absurd (omega (arith, h))
-front_at (y ∷ xs) x zero h = refl
-front_at (y ∷ xs) x (suc k) h = front_at xs x k (omega (arith, h))
-
-pub pushed_long : (xs : List ℕ) (x n : ℕ) → length xs ≡ n → length (xs ++ x ∷ []) ≡ n + 1
-pushed_long [] x n h = omega (arith, h)
-pushed_long (y ∷ xs) x n h = let rest = pushed_long xs x (length xs) refl in omega (arith, h, rest)
-
--- what is told of each number so far is told of all with that which is pushed
-pub told_more : (P : ℕ → ℕ → Type 0) (xs : List ℕ) (x n : ℕ) → length xs ≡ n → P n x → ((k : ℕ) → k < n → P k (number_at xs k)) → (k : ℕ) → k < n + 1 → P k (number_at (xs ++ x ∷ []) k)
-told_more P xs x n long here before k low =
-    elim (cases_lt k n) as (λ _. P k (number_at (xs ++ x ∷ []) k)) [
-      | inl less ↦ subst (P k) (sym (front_at xs x k (omega (arith, less, long)))) (before k less)
-      | inr past ↦ let is : k ≡ n = omega (arith, low, past) in subst (P k) (sym (last_at xs x k (long ∙ sym is))) (subst (λ j. P j x) (sym is) here)
-    ]
-
 -- ---- places of one number
-
-same_or_not : (n k : ℕ) → (n ≡ k) ⊎ (n ≢ k)
-same_or_not n k =
-    elim (cases_lt n k) as (λ _. (n ≡ k) ⊎ (n ≢ k)) [
-      | inl less ↦ inr (λ e. omega (arith, e, less))
-      | inr past ↦ elim (cases_lt k n) as (λ _. (n ≡ k) ⊎ (n ≢ k)) [ inl more ↦ inr (λ e. omega (arith, e, more)) | inr not_more ↦ inl (omega (arith, past, not_more)) ]
-    ]
-
-pub any_default : (xs : List ℕ) (n d e : ℕ) → n < length xs → slice_index_or xs n d ≡ slice_index_or xs n e
-any_default [] n d e low = absurd (omega (arith, low))
-any_default (x ∷ xs) zero d e low = refl
-any_default (x ∷ xs) (suc n) d e low = any_default xs n d e (omega (arith, low))
 
 -- the places so far are counted
 abbrev pub Counts : List ℕ → List ℕ → ℕ → List ℕ → Type 0

@@ -1,32 +1,27 @@
--- Numbers that were looked at one place after another are those of a preorder.
+-- Numbers by which what is under a place comes behind its parent, and apart from what is under other places of that, are those of a preorder.
 use Rattle.std.proofs.Common.{◌≡◌, ◌≢◌, ℕ, zero, suc, ◌+◌, ◌<◌, ◌≤◌, List, length, refl, sym, ap, ◌∙◌, subst, arith, inl, inr, ◌⊎◌}
 use Rattle.std.proofs.lemmas.Bool.{cases_lt}
 use Rattle.std.specs.Prelude.{Result, Ok, Err, IfOk}
-use Rattle.std.proofs.lemmas.List.{get_or_past}
 use Rattle.pddl_forest.specs.Forests.{parent_of, up, IsUnder, number_at, IsPreorder}
-use Rattle.pddl_forest.specs.Inner.Checks.{IsPlaced, AreApart, ArePassed, Passes}
+use Rattle.pddl_forest.specs.Inner.Orders.{IsOrder}
+use Rattle.pddl_forest.specs.Inner.Sizes.{IsFrom, AreSized, AreNumbered, AreLast}
+use Rattle.pddl_forest.proofs.Lists.{same_or_not}
 
 pub if_ok : {A E : Type 0} (P Q : A → Type 0) (r : Result A E) → ((a : A) → P a → Q a) → IfOk r P → IfOk r Q
 if_ok P Q (Ok a) on h = on a h
 if_ok P Q (Err e) on h = h
 
--- what holds below a number and at it holds below the next
-pub next_too : (P : ℕ → Type 0) (n : ℕ) → ((i : ℕ) → i < n → P i) → P n → (i : ℕ) → i < n + 1 → P i
-next_too P n below here i low =
-    elim (cases_lt i n) as (λ _. P i) [ inl before ↦ below i before | inr past ↦ let is : i ≡ n = omega (arith, low, past) in subst P (sym is) here ]
-
--- What is looked at: each place's number is its own; a place comes behind its parent, and what is below it within what is below
--- that; and of two places with one parent the second comes behind all that is below the first.
+-- A place comes behind its parent, and what is below it within what is below that; and of two places with one parent the second comes behind all that is
+-- below the first.
 pub record IsNested (ps first last : List ℕ) : Type 0 where
   pub top : parent_of ps 0 ≡ 0
   pub in_range : (i : ℕ) → i < length ps → parent_of ps i < length ps
   pub start : number_at first 0 ≡ 0
-  pub one : (i j : ℕ) → i < length ps → j < length ps → number_at first i ≡ number_at first j → i ≡ j
   pub own : (i : ℕ) → i < length ps → number_at first i ≤ number_at last i
   pub low : (i : ℕ) → i < length ps → number_at last i < length ps
   pub behind : (i : ℕ) → i < length ps → i ≢ 0 → number_at first (parent_of ps i) < number_at first i
   pub inside : (i : ℕ) → i < length ps → i ≢ 0 → number_at last i ≤ number_at last (parent_of ps i)
-  pub apart : (i k : ℕ) → i < length ps → k < length ps → i ≢ 0 → k ≢ 0 → parent_of ps k ≡ parent_of ps i → number_at first k < number_at first i → number_at last k < number_at first i
+  pub apart : (i k : ℕ) → i < length ps → k < length ps → i ≢ 0 → k ≢ 0 → k ≢ i → parent_of ps k ≡ parent_of ps i → number_at first k ≤ number_at first i → number_at last k < number_at first i
 
 module _ (ps first last : List ℕ) (h : IsNested ps first last) where
   at : ℕ → ℕ
@@ -72,36 +67,55 @@ module _ (ps first last : List ℕ) (h : IsNested ps first last) where
         | inr more ↦ inr (more.0, more.1, more.2, more.3, (suc more.4.0, more.4.1))
       ]
 
+  -- what is under a place and has no larger number is that place
+  same : (i g : ℕ) → i < length ps → IsUnder ps g i → g < length ps → number_at first g ≤ number_at first i → g ≡ i
+  same i g low (n, is) also from =
+      elim (by_child n g i also is) as (λ _. g ≡ i) [
+        | inl here ↦ here
+        | inr child ↦
+            let k = child.0 in
+            let behind = h.behind k child.1 child.2 in
+            let e = ap (number_at first) child.3 in
+            let in_child = (nested child.4.0 g k also child.4.1).0 in
+            absurd (omega (arith, behind, e, in_child, from))
+      ]
+
   -- what is numbered from a place's number to that of the last below it is under it
-  under_by : (b i g : ℕ) → i < length ps → g < length ps → number_at first i < b → number_at first g ≤ number_at first i → number_at first i ≤ number_at last g → IsUnder ps i g
+  under_by : (b i g : ℕ) → i < length ps → g < length ps → number_at first i + number_at first g < b → number_at first g ≤ number_at first i → number_at first i ≤ number_at last g → IsUnder ps i g
   under_by zero i g low also less from to = absurd (omega (arith, less))
   under_by (suc b) i g low also less from to =
-      elim (cases_lt (number_at first g) (number_at first i)) as (λ _. IsUnder ps i g) [
-        | inr not_less ↦ (0, h.one i g low also (omega (arith, from, not_less)))
-        | inl behind ↦ elim (is_zero i) as (λ _. IsUnder ps i g) [
-          | inl zeroth ↦ let none : number_at first i ≡ 0 = ap (number_at first) zeroth ∙ h.start in absurd (omega (arith, none, behind))
-          | inr other ↦
-              let p = parent_of ps i in
-              let in_range : p < length ps = h.in_range i low in
-              let up_one = h.behind i low other in
-              elim (cases_lt (number_at first p) (number_at first g)) as (λ _. IsUnder ps i g) [
-                | inr here ↦ let rest = under_by b p g in_range also (omega (arith, up_one, less)) (omega (arith, here)) (omega (arith, up_one, to)) in (suc rest.0, rest.1)
-                | inl between ↦
-                    let own = h.own i low in
-                    let inside = h.inside i low other in
-                    let above = under_by b g p also in_range (omega (arith, behind, less)) (omega (arith, between)) (omega (arith, behind, own, inside)) in
-                    elim (by_child above.0 g p also above.1) as (λ _. IsUnder ps i g) [
-                      | inl same ↦ let e : number_at first g ≡ number_at first p = ap (number_at first) same in absurd (omega (arith, e, between))
-                      | inr child ↦
-                          let k = child.0 in
-                          let in_child = nested child.4.0 g k also child.4.1 in
-                          let c0 = in_child.0 in
-                          let c1 = in_child.1 in
-                          let past = h.apart i k low child.1 other child.2 child.3 (omega (arith, c0, behind)) in
-                          absurd (omega (arith, past, c1, to))
-                    ]
-              ]
-        ]
+      elim (is_zero i) as (λ _. IsUnder ps i g) [
+        | inl zeroth ↦
+            let none : number_at first i ≡ 0 = ap (number_at first) zeroth ∙ h.start in
+            elim (is_zero g) as (λ _. IsUnder ps i g) [
+              | inl is ↦ (0, zeroth ∙ sym is)
+              | inr other ↦ let behind = h.behind g also other in absurd (omega (arith, none, behind, from))
+            ]
+        | inr other ↦
+            let p = parent_of ps i in
+            let in_range : p < length ps = h.in_range i low in
+            let up_one = h.behind i low other in
+            elim (cases_lt (number_at first p) (number_at first g)) as (λ _. IsUnder ps i g) [
+              | inr here ↦ let rest = under_by b p g in_range also (omega (arith, up_one, less)) (omega (arith, here)) (omega (arith, up_one, to)) in (suc rest.0, rest.1)
+              | inl between ↦
+                  let own = h.own i low in
+                  let inside = h.inside i low other in
+                  let above = under_by b g p also in_range (omega (arith, up_one, less)) (omega (arith, between)) (omega (arith, from, own, inside)) in
+                  elim (by_child above.0 g p also above.1) as (λ _. IsUnder ps i g) [
+                    | inl is ↦ let e : number_at first g ≡ number_at first p = ap (number_at first) is in absurd (omega (arith, e, between))
+                    | inr child ↦
+                        let k = child.0 in
+                        let in_child = nested child.4.0 g k also child.4.1 in
+                        let c0 = in_child.0 in
+                        let c1 = in_child.1 in
+                        elim (same_or_not k i) as (λ _. IsUnder ps i g) [
+                          | inl is ↦ (0, sym (same i g low (subst (IsUnder ps g) is child.4) also from))
+                          | inr differ ↦
+                              let past = h.apart i k low child.1 other child.2 differ child.3 (omega (arith, c0, from)) in
+                              absurd (omega (arith, past, c1, to))
+                        ]
+                  ]
+            ]
       ]
 
   -- what is below a place is below 0
@@ -122,62 +136,44 @@ module _ (ps first last : List ℕ) (h : IsNested ps first last) where
       let own = h.own i low in
       let within = within_top (number_at first i + 1) i low (omega (arith)) in
       let start = h.start in
-      under_by (number_at first i + 1) i 0 low (omega (arith, low)) (omega (arith)) (omega (arith, start)) (omega (arith, own, within))
+      under_by (number_at first i + number_at first 0 + 1) i 0 low (omega (arith, low)) (omega (arith)) (omega (arith, start)) (omega (arith, own, within))
 
   pub preorder : IsPreorder ps first last
   preorder = record {
     forest = record { top = h.top; below = under_top };
     low = h.low;
     within = λ i g low also (n, is). let b = nested n i g low is in let own = h.own i low in let b0 = b.0 in let b1 = b.1 in (b0, omega (arith, own, b1));
-    under = λ i g low also in_it. let i0 = in_it.0 in let i1 = in_it.1 in under_by (number_at first i + 1) i g low also (omega (arith)) i0 i1;
+    under = λ i g low also in_it. let i0 = in_it.0 in let i1 = in_it.1 in under_by (number_at first i + number_at first g + 1) i g low also (omega (arith)) i0 i1;
   }
 
-module _ (ps order first last : List ℕ) (placed : (i : ℕ) → i < length ps → IsPlaced ps order first last i) where
-  -- the place of a number is the one that has it
-  place_of : (i j : ℕ) → i < length ps → number_at first i ≡ j → i ≡ number_at order j
-  place_of i j low is = sym (placed i low).ordered ∙ ap (number_at order) is
+-- a place other than 0 has a turn from 1 on
+some_turn : {ps order : List ℕ} → IsOrder ps order → (i : ℕ) → i < length ps → i ≢ 0 → IsFrom order 1 i
+some_turn {ps} {order} o i low other =
+    let at = o.all i low in
+    let later : at.0 ≢ 0 = λ e. other (sym at.2 ∙ ap (number_at order) e ∙ o.listed.start) in
+    (at.0, omega (arith, later), at.1, at.2)
 
-  module _ (old new : List ℕ) (j : ℕ) (long : length old ≡ length ps) (passes : Passes ps last old new (number_at order j) j) where
-    pub next_passed : ArePassed ps first last old j → ArePassed ps first last new (j + 1)
-    next_passed before k low other less =
-        elim (cases_lt (number_at first k) j) as (λ _. number_at last k ≤ number_at new (parent_of ps k)) [
-          | inl earlier ↦ let was = before k low other earlier in let kept = passes.kept (parent_of ps k) in omega (arith, was, kept)
-          | inr here ↦
-              let is : k ≡ number_at order j = place_of k j low (omega (arith, less, here)) in
-              let in_range = (placed k low).in_range in
-              subst (λ i. number_at last i ≤ number_at new (parent_of ps i)) (sym is)
-              (passes.raised (λ e. other (is ∙ e)) (subst (λ n. parent_of ps (number_at order j) < n) (sym long) (subst (λ i. parent_of ps i < length ps) is in_range)))
-        ]
-
-    pub next_apart : ArePassed ps first last old j → AreApart ps first last j → AreApart ps first last (j + 1)
-    next_apart before apart i k low also some other same less within =
-        elim (cases_lt (number_at first i) j) as (λ _. number_at last k < number_at first i) [
-          | inl earlier ↦ apart i k low also some other same less earlier
-          | inr here ↦
-              let at_j : number_at first i ≡ j = omega (arith, within, here) in
-              let is : i ≡ number_at order j = place_of i j low at_j in
-              let was = before k also other (omega (arith, less, within)) in
-              let behind : number_at old (parent_of ps i) < j = subst (λ x. number_at old (parent_of ps x) < j) (sym is) (passes.behind (λ e. some (is ∙ e))) in
-              let along : number_at old (parent_of ps k) ≡ number_at old (parent_of ps i) = ap (number_at old) same in
-              omega (arith, was, along, behind, at_j)
-        ]
-
-  in_order : (i : ℕ) → i < length ps → i ≢ 0 → number_at first i < length order
-  in_order i low some =
-      elim (cases_lt (number_at first i) (length order)) as (λ _. number_at first i < length order) [
-        | inl inside ↦ inside
-        | inr past ↦ absurd (some (sym (placed i low).ordered ∙ get_or_past order (number_at first i) 0 past))
-      ]
-
-  pub nested_of : parent_of ps 0 ≡ 0 → number_at first 0 ≡ 0 → AreApart ps first last (length order) → IsPreorder ps first last
-  nested_of top start apart = preorder ps first last (record {
-    top = top;
-    in_range = λ i low. (placed i low).in_range;
-    start = start;
-    one = λ i j low also same. place_of i (number_at first j) low same ∙ (placed j also).ordered;
-    own = λ i low. (placed i low).own;
-    low = λ i low. (placed i low).low;
-    behind = λ i low. (placed i low).behind;
-    inside = λ i low. (placed i low).inside;
-    apart = λ i k low also some other same less. apart i k low also some other same less (in_order i low some);
+-- the numbers that the sizes give
+module _ {ps order sizes offsets first last : List ℕ} (o : IsOrder ps order) (s : AreSized ps order sizes offsets 1) (f : AreNumbered ps order sizes offsets first (length order)) (l : AreLast ps sizes first last) where
+  pub are_preorder : IsPreorder ps first last
+  are_preorder = preorder ps first last (record {
+    top = o.listed.top o.some;
+    in_range = o.within;
+    start = f.start;
+    own = λ i low. let end = l i low in let some = s.some i low in omega (arith, end, some);
+    low = λ i low. let end = l i low in let fits = f.fits i (o.all i low) in omega (arith, end, fits);
+    behind = λ i low other. let next = f.next i (o.all i low) other in let behind = s.behind i (some_turn o i low other) in omega (arith, next, behind);
+    inside = λ i low other.
+        let end = l i low in
+        let over = l (parent_of ps i) (o.within i low) in
+        let next = f.next i (o.all i low) other in
+        let inside = s.inside i (some_turn o i low other) in
+        omega (arith, end, over, next, inside);
+    apart = λ i k low also other some differ same before.
+        let next = f.next i (o.all i low) other in
+        let next' = f.next k (o.all k also) some in
+        let e = ap (number_at first) same in
+        let apart = s.apart i k (some_turn o i low other) (some_turn o k also some) differ same (omega (arith, before, next, next', e)) in
+        let end = l k also in
+        omega (arith, next, next', e, apart, end);
   })

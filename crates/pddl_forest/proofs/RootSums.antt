@@ -2,23 +2,17 @@
 use Rattle.std.proofs.Common.{◌≡◌, ℕ, zero, suc, ◌+◌, ◌<◌, ◌≤◌, Bool, true, false, ◌||◌, ◌&&◌, nat_le, cond, List, [], ◌∷◌, ◌++◌, length, refl, sym, ap, ◌∙◌, subst, arith, inl, inr}
 use Rattle.std.specs.Prelude.{◌↔◌, IsTrue, Contains, Option, Some, None, IfSome, Result, Ok, Err, IfOk}
 use Rattle.std.proofs.lemmas.List.Elements.{Contains-append_cases}
-use Rattle.pddl_forest.specs.Forests.{parent_of, up, IsUnder, number_at, IsWithin, IsPreorder}
+use Rattle.pddl_forest.specs.Forests.{up, IsUnder, number_at, IsWithin, IsPreorder}
 use Rattle.pddl_forest.specs.Counts.{count, sum_of, AreTopsOf}
 use Rattle.pddl_forest.specs.Inner.Roots.{chain_end, IsChain, AreRoots, HasRoot}
-use Rattle.pddl_forest.proofs.PlaceCounts.{any_default, count_both}
+use Rattle.pddl_forest.proofs.Lists.{listed_at, only_one}
+use Rattle.pddl_forest.proofs.Climbs.{up_more}
+use Rattle.pddl_forest.proofs.PlaceCounts.{count_both}
 
 pub both_found : {V E : Type 0} (P Q R : V → Type 0) (r : Result (Option V) E) → ((v : V) → P v → Q v → R v) → IfOk r (λ o. IfSome o P) → IfOk r (λ o. IfSome o Q) → IfOk r (λ o. IfSome o R)
 both_found P Q R (Ok (Some v)) on p q = on v p q
 both_found P Q R (Ok None) on p q = p
 both_found P Q R (Err e) on p q = p
-
--- ---- places of a list
-
-pub listed_at : (xs : List ℕ) (k : ℕ) → k < length xs → Contains xs (number_at xs k)
-listed_at xs k low = (k, low, any_default xs k (number_at xs k) 0 low)
-
-pub each_listed : (P : ℕ → Type 0) (xs : List ℕ) → ((k : ℕ) → k < length xs → P (number_at xs k)) → (g : ℕ) → Contains xs g → P g
-each_listed P xs each g (k, low, is) = subst P (any_default xs k 0 g low ∙ is) (each k low)
 
 -- ---- one root more
 
@@ -30,10 +24,6 @@ chain_pushed first last places low (q ∷ steps) s chain behind = (chain.0, chai
 pub end_pushed : (first last places : List ℕ) (low : ℕ) (steps : List ℕ) (s : ℕ) → chain_end first last places low (steps ++ s ∷ []) ≡ number_at last (number_at places s) + 1
 end_pushed first last places low [] s = refl
 end_pushed first last places low (q ∷ steps) s = end_pushed first last places (number_at last (number_at places q) + 1) steps s
-
-only_one : (r x : ℕ) → Contains (r ∷ []) x → r ≡ x
-only_one r x (zero, low, is) = is
-only_one r x (suc k, low, is) = absurd (omega (arith, low))
 
 pub root_pushed : (first last places steps : List ℕ) (s : ℕ) → AreRoots first last places steps → chain_end first last places 0 steps ≤ number_at first (number_at places s) → s < length places → AreRoots first last places (steps ++ s ∷ [])
 root_pushed first last places steps s are behind low = record {
@@ -155,10 +145,6 @@ module _ (ps first last places : List ℕ) (h : IsPreorder ps first last) (in_ra
       omega (arith, either, one)) in
       omega (arith, rest, both)
 
-  up_more : (m n i : ℕ) → up ps m (up ps n i) ≡ up ps (n + m) i
-  up_more m zero i = let e : m ≡ zero + m = omega arith in ap (λ k. up ps k i) e
-  up_more m (suc n) i = let e : suc (n + m) ≡ suc n + m = omega arith in up_more m n (parent_of ps i) ∙ ap (λ k. up ps k i) e
-
   pub roots_are_tops : (steps : List ℕ) → AreRoots first last places steps → ((g : ℕ) → Contains places g → HasRoot first last places steps g) → AreTopsOf ps places steps
   roots_are_tops steps are rooted = record {
     each = are.each;
@@ -174,7 +160,7 @@ module _ (ps first last places : List ℕ) (h : IsPreorder ps first last) (in_ra
         let r = number_at places root.0 in
         let above = h.under g r (in_range g found.1) (low root.0 root.1) root.2 in
         let below = found.2 in
-        some_yes first last places steps i root.0 root.1 (h.within i r less (low root.0 root.1) (below.0 + above.0, sym (up_more above.0 below.0 i) ∙ ap (up ps above.0) below.1 ∙ above.1)))
+        some_yes first last places steps i root.0 root.1 (h.within i r less (low root.0 root.1) (below.0 + above.0, sym (up_more ps above.0 below.0 i) ∙ ap (up ps above.0) below.1 ∙ above.1)))
         (λ yes. let has = some_is first last places steps i yes in (any_tells i less).1 (number_at places has.0, listed_at places has.0 (are.each has.0 has.1), h.under i (number_at places has.0) less (low has.0 has.1) has.2)) in
         count_same any (some_within first last places steps) listed same ∙ sym (sum_counted listed inside under tells steps 0 are.each are.chain);
   }

@@ -1,11 +1,16 @@
 -- Ways from parent to parent that go round. Own.
-use Rattle.std.specs.Prelude.{◌≡◌, ◌≢◌, ℕ, suc, List}
-use Rattle.pddl_forest.specs.Forests.{up, number_at}
+use Rattle.std.specs.Prelude.{◌≡◌, ◌≢◌, ◌<◌, ℕ, suc, List, length}
+use Rattle.pddl_forest.specs.Forests.{up, parent_of, number_at}
 
 -- a place is come to again from its parent
 abbrev pub GoesRound : List ℕ → ℕ → Type 0
 GoesRound ps i = (n : ℕ) × (up ps (suc n) i ≡ i)
 
--- where a place has a number other than 0, no way goes round through it
+-- some place is come to again from its parent, other than place 0 as its own parent
+abbrev pub HasRound : List ℕ → Type 0
+HasRound ps = (i : ℕ) × (i < length ps) × GoesRound ps i × (i ≡ 0 → parent_of ps 0 ≢ 0)
+
+-- a place has the number 0 where it is come to again from its parent, and only there
 pub record AreOffRounds (ps numbers : List ℕ) : Type 0 where
   pub off : (i : ℕ) → number_at numbers i ≢ 0 → GoesRound ps i → ⊥
+  pub on : (i : ℕ) → i < length ps → number_at numbers i ≡ 0 → GoesRound ps i

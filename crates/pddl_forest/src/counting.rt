@@ -4,7 +4,7 @@ ghost use Rattle.std.specs.Prelude.{◌≡◌, ◌+◌, ◌<◌, ◌≤◌, ◌=
 ghost use Rattle.pddl_forest.specs.Forests.{number_at};
 ghost use Rattle.pddl_forest.specs.Counts.{count};
 
-use crate::checking::number_at;
+use crate::places::number_at;
 use std::alloc::{AllocError, Allocator};
 
 /// How many of some places have each number, up to so many numbers.

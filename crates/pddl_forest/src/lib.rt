@@ -1,9 +1,11 @@
 //! Numbers of places in a forest, by which a test of what is under what is two comparisons; and places that lie on no way round, where it is no forest.
 #![tactic(auto)]
 
-mod checking;
+mod climbing;
 mod counting;
 mod numbering;
+mod ordering;
+mod places;
 mod preorder;
 mod roots;
 mod rounds;

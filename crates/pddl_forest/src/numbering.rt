@@ -1,146 +1,103 @@
 //! Numbers for the places of a forest: each place behind its parent, and what is below a place directly behind it.
-//!
-//! Nothing is promised here of the numbers. Whoever wants them looks whether they are those of a preorder.
 
-ghost use Rattle.std.specs.Prelude.{◌≡◌, ◌<◌, length, OnOk, IfOk};
+ghost use Rattle.std.specs.Prelude.{◌≡◌, ◌+◌, ◌≤◌, ◌<◌, ℕ, length, IfOk};
+ghost use Rattle.pddl_forest.specs.Forests.{number_at, IsPreorder};
+ghost use Rattle.pddl_forest.specs.Inner.Orders.{IsOrder};
+ghost use Rattle.pddl_forest.specs.Inner.Sizes.{AreSized, AreNumbered, AreLast};
 
-use crate::checking::{number_at, parent_of, raise};
+use crate::places::{number_at, parent_of, put};
 use std::alloc::{AllocError, Allocator};
 
-/// Sets the number at a place, where there is one.
-pub fn put<'a, B: Allocator>(numbers: &mut Vec<usize, &'a B>, place: usize, number: usize)
-    ensures { length numbers.new.items ≡ length numbers.old.items }
-{
-    if place < numbers.len() {
-        numbers[place] = number;
-    }
-}
-
-/// Whether a place stands in the list that goes from each place to the next: it has a next one, or is the last.
-fn is_listed(next: &[usize], place: usize) -> bool {
-    number_at(next, place) <= next.len()
-}
-
-/// Puts the places from this one up to the first that is listed on a path, this one first.
-///
-/// Fails where memory for the path is refused.
-fn climb<'a, B: Allocator>(
-    parents: &[usize],
-    next: &[usize],
-    path: &mut Vec<usize, &'a B>,
-    from: usize,
-) -> Result<(), AllocError> {
-    let mut place = from;
-    for _step in 0..parents.len() {
-        if is_listed(next, place) {
-            return Ok(());
-        }
-        path.push(place)?;
-        place = parent_of(parents, place);
-    }
-    Ok(())
-}
-
-/// Lists the places of a path, from its end, each directly behind its parent.
-fn list_path<'a, B: Allocator>(
-    parents: &[usize],
-    next: &mut Vec<usize, &'a B>,
-    path: &mut Vec<usize, &'a B>,
-) {
-    for step in (0..path.len()).rev() {
-        let place = path[step];
-        let parent = parent_of(parents, place);
-        let behind = number_at(next, parent);
-        put(next, place, behind);
-        put(next, parent, place);
-    }
-    path.clear();
-}
-
-/// The list of the places, as the next one of each; that of the last is as large as there are places, and that of a place which is not come to, from
-/// which 0 is not come to, larger.
-///
-/// Fails where memory for it is refused.
-fn listed<'a, B: Allocator>(
-    alloc: &'a B,
-    parents: &[usize],
-) -> Result<Vec<usize, &'a B>, AllocError> {
-    let mut next = vec![in alloc; usize::MAX; parents.len()]?;
-    put(&mut next, 0, parents.len());
-    let mut path = Vec::new(alloc);
-    for from in 0..parents.len() {
-        climb(parents, &next, &mut path, from)?;
-        list_path(parents, &mut next, &mut path);
-    }
-    Ok(next)
-}
-
-/// The places in the order of their list, from 0, as many as there are places, if it has so many.
+/// How many places are under each. `offsets` gets how far each comes behind its parent: behind what is below the places of that parent which come later in
+/// the order.
 ///
 /// Fails where memory for them is refused.
-fn in_order<'a, B: Allocator>(
+fn sizes_of<'a, B: Allocator>(
     alloc: &'a B,
-    next: &[usize],
-) -> Result<Vec<usize, &'a B>, AllocError> {
-    let mut order = Vec::with_capacity(alloc, next.len())?;
-    let mut place = 0;
-    for _number in 0..next.len() {
-        order.push(place)?;
-        place = number_at(next, place);
+    parents: &[usize],
+    order: &[usize],
+    offsets: &mut Vec<usize, &'a B>,
+) -> Result<Vec<usize, &'a B>, AllocError>
+    requires order { IsOrder parents.now order.now }
+    requires long { length offsets.old.items ≡ length parents.now }
+    ensures { IfOk result (λ sizes. AreSized parents.now order.now sizes.items offsets.new.items 1) }
+{
+    let mut sizes = vec![in alloc; 1; parents.len()]?;
+    for turn in (1..order.len()).rev() {
+        let place = order[turn];
+        let parent = parent_of(parents, place);
+        let offset = number_at(&sizes, parent);
+        let size = offset + number_at(&sizes, place);
+        put(offsets, place, offset);
+        put(&mut sizes, parent, size);
     }
-    Ok(order)
+    Ok(sizes)
 }
 
-/// The number of each place in an order.
+/// The number of each place.
 ///
 /// Fails where memory for them is refused.
 fn first_numbers<'a, B: Allocator>(
     alloc: &'a B,
+    parents: &[usize],
     order: &[usize],
-) -> Result<Vec<usize, &'a B>, AllocError> {
-    let mut first = vec![in alloc; 0; order.len()]?;
-    for number in 0..order.len() {
-        put(&mut first, order[number], number);
+    sizes: &[usize],
+    offsets: &[usize],
+) -> Result<Vec<usize, &'a B>, AllocError>
+    requires order { IsOrder parents.now order.now }
+    requires sizes { AreSized parents.now order.now sizes.now offsets.now 1 }
+    ensures { IfOk result (λ first. AreNumbered parents.now order.now sizes.now offsets.now first.items (length order.now)) }
+{
+    let mut first = vec![in alloc; 0; parents.len()]?;
+    for turn in 1..order.len() {
+        let place = order[turn];
+        let number = number_at(&first, parent_of(parents, place)) + number_at(offsets, place);
+        put(&mut first, place, number);
     }
     Ok(first)
 }
 
-/// The largest number below each place: its own, or one below a place whose parent it is.
+/// The largest number of the places under each.
 ///
 /// Fails where memory for them is refused.
 fn last_numbers<'a, B: Allocator>(
     alloc: &'a B,
     parents: &[usize],
-    order: &[usize],
+    sizes: &[usize],
     first: &[usize],
-) -> Result<Vec<usize, &'a B>, AllocError> {
-    let mut last = first.to_vec(alloc)?;
-    for number in (0..order.len()).rev() {
-        let place = order[number];
-        let below = number_at(&last, place);
-        raise(&mut last, parent_of(parents, place), below);
+) -> Result<Vec<usize, &'a B>, AllocError>
+    requires some { (i : ℕ) → i < length parents.now → 0 < number_at sizes.now i }
+    requires fits { (i : ℕ) → i < length parents.now → number_at first.now i + number_at sizes.now i ≤ length parents.now }
+    ensures { IfOk result (λ last. AreLast parents.now sizes.now first.now last.items) }
+{
+    let mut last = Vec::new(alloc);
+    for place in 0..parents.len() {
+        last.push(number_at(first, place) + number_at(sizes, place) - 1)?;
     }
     Ok(last)
 }
 
-/// Numbers for the places: the place of each number, the number of each place, and the largest number below each.
+/// The number of each place, and the largest of the places under it.
 #[derive(Drop)]
 pub struct Numbers<'a, B: Allocator> {
-    pub order: Vec<usize, &'a B>,
     pub first: Vec<usize, &'a B>,
     pub last: Vec<usize, &'a B>,
 }
 
-/// Numbers for the places of a forest with these parents.
+/// Numbers for the places of a forest, which are given in an order in which each comes behind its parent.
 ///
 /// Fails where memory for them is refused.
 pub fn numbered<'a, B: Allocator>(
     alloc: &'a B,
     parents: &[usize],
-) -> Result<Numbers<'a, B>, AllocError> {
-    let next = listed(alloc, parents)?;
-    let order = in_order(alloc, &next)?;
-    let first = first_numbers(alloc, &order)?;
-    let last = last_numbers(alloc, parents, &order, &first)?;
-    Ok(Numbers { order, first, last })
+    order: &[usize],
+) -> Result<Numbers<'a, B>, AllocError>
+    requires { IsOrder parents.now order.now }
+    ensures { IfOk result (λ numbers. IsPreorder parents.now numbers.first.items numbers.last.items) }
+{
+    let mut offsets = vec![in alloc; 0; parents.len()]?;
+    let sizes = sizes_of(alloc, parents, order, &mut offsets)?;
+    let first = first_numbers(alloc, parents, order, &sizes, &offsets)?;
+    let last = last_numbers(alloc, parents, &sizes, &first)?;
+    Ok(Numbers { first, last })
 }

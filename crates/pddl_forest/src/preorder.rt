@@ -1,12 +1,14 @@
 //! Numbers of the places of a forest, by which whether one is under another is two comparisons.
 
 ghost use Rattle.std.specs.Prelude.{◌≡◌, ◌<◌, ◌↔◌, ℕ, Contains, IsTrue, IfOk, IfSome, length};
-ghost use Rattle.pddl_forest.specs.Forests.{IsUnder, IsForest};
+ghost use Rattle.pddl_forest.specs.Forests.{parent_of, IsUnder, IsForest};
+ghost use Rattle.pddl_forest.specs.Rounds.{HasRound};
 ghost use Rattle.pddl_forest.specs.Counts.{AreCounts, AreTopsOf};
 
-use crate::checking::{is_preorder, number_at};
 use crate::counting::counts;
 use crate::numbering::{Numbers, numbered};
+use crate::ordering::ordered;
+use crate::places::number_at;
 use crate::roots::roots;
 use std::alloc::{AllocError, Allocator};
 use std::marker::Model;
@@ -35,26 +37,30 @@ impl<'a, B: Allocator> Model for Preorder<'a, B> {
 }
 
 impl<'a, B: Allocator> Preorder<'a, B> {
-    /// The numbers of the places whose parents stand at these places, or `None` where no numbers were found, as in a forest in which place 0 is not come to
-    /// from each place, or has another parent than itself.
+    /// The numbers of the places whose parents stand at these places, or `None` where a way from parent to parent goes round, other than from place 0
+    /// to itself.
     ///
     /// Fails where memory for them is refused.
     pub fn of(
         alloc: &'a B,
         parents: Vec<usize, &'a B>,
     ) -> Result<Option<Preorder<'a, B>>, AllocError>
+        requires some { 0 < length parents.items }
+        requires within { (i : ℕ) → i < length parents.items → parent_of parents.items i < length parents.items }
         ensures parents { IfOk result (λ found. IfSome found (λ t. t ≡ parents.entry.items)) }
         ensures forest { IfOk result (λ found. IfSome found (λ t. IsForest t)) }
+        ensures none { IfOk result (λ found. found ≡ None → HasRound parents.entry.items) }
     {
-        let Numbers { order, first, last } = numbered(alloc, &parents)?;
-        if is_preorder(alloc, &parents, &order, &first, &last)? {
-            Ok(Some(Preorder {
-                parents,
-                first,
-                last,
-            }))
-        } else {
-            Ok(None)
+        match ordered(alloc, &parents)? {
+            Some(order) => {
+                let Numbers { first, last } = numbered(alloc, &parents, &order)?;
+                Ok(Some(Preorder {
+                    parents,
+                    first,
+                    last,
+                }))
+            }
+            None => Ok(None),
         }
     }
 

@@ -4,7 +4,7 @@ ghost use Rattle.std.specs.Prelude.{◌≡◌, ◌<◌, ℕ, true, Contains, IfO
 ghost use Rattle.pddl_forest.specs.Forests.{number_at};
 ghost use Rattle.pddl_forest.specs.Inner.Roots.{AreRoots, HasRoot};
 
-use crate::checking::number_at;
+use crate::places::number_at;
 use std::alloc::{AllocError, Allocator};
 
 /// The steps of a list of places, in the order of the places' numbers. Nothing is promised of them.

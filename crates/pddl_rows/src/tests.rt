@@ -1,7 +1,6 @@
 //! Each text of rows holds, and has as many rows as here.
 
 mod devices;
-mod forests;
 mod pieces;
 
 use crate::command::Command;

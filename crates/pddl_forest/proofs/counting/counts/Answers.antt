@@ -1,7 +1,8 @@
 use Rattle.std.proofs.Common.{◌≡◌, ◌+◌, nat_lt, length, ap, ◌∙◌}
 use Rattle.pddl_forest.specs.Forests.{number_at}
 use Rattle.pddl_forest.specs.Counts.{count}
-use Rattle.pddl_forest.proofs.PlaceCounts.{told_more, range_count, pushed_long}
+use Rattle.pddl_forest.proofs.Lists.{told_more, pushed_long}
+use Rattle.pddl_forest.proofs.PlaceCounts.{range_count}
 use Rattle.pddl_forest.proofs.counting.counts.Goals as goal
 
 pub overflow_sub-up_to : goal.overflow_sub-up_to

@@ -1,7 +1,8 @@
 use Rattle.std.proofs.Common.{◌≡◌, ◌+◌, nat_lt, length, sym, ap, ◌∙◌, arith}
 use Rattle.pddl_forest.specs.Forests.{number_at}
 use Rattle.pddl_forest.specs.Counts.{count}
-use Rattle.pddl_forest.proofs.PlaceCounts.{count_low, told_more, smaller_next, none_smaller, pushed_long}
+use Rattle.pddl_forest.proofs.Lists.{told_more, pushed_long}
+use Rattle.pddl_forest.proofs.PlaceCounts.{count_low, smaller_next, none_smaller}
 use Rattle.pddl_forest.proofs.counting.of_smaller_numbers.Goals as goal
 
 pub loop-number-init : goal.loop-number-init

@@ -1,8 +1,7 @@
 use Rattle.std.proofs.Common.{arith}
 use Rattle.pddl_forest.specs.Forests.{number_at}
 use Rattle.pddl_forest.specs.Inner.Roots.{HasRoot}
-use Rattle.pddl_forest.proofs.Ranges.{next_too}
-use Rattle.pddl_forest.proofs.RootSums.{each_listed}
+use Rattle.pddl_forest.proofs.Lists.{next_too, each_listed}
 use Rattle.pddl_forest.proofs.roots.all_have_roots.Goals as goal
 
 pub loop-step-preserved : goal.loop-step-preserved

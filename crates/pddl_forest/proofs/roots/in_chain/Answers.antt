@@ -1,7 +1,8 @@
 use Rattle.std.proofs.Common.{◌∙◌, sym, ap, subst, arith}
 use Rattle.pddl_forest.specs.Forests.{number_at}
 use Rattle.pddl_forest.specs.Inner.Roots.{AreRoots, chain_end}
-use Rattle.pddl_forest.proofs.RootSums.{listed_at, root_pushed, end_pushed}
+use Rattle.pddl_forest.proofs.Lists.{listed_at}
+use Rattle.pddl_forest.proofs.RootSums.{root_pushed, end_pushed}
 use Rattle.pddl_forest.proofs.roots.in_chain.Goals.{then-step-places+then-passed-number_at+in_ok-push, then-step-places+else-passed-number_at, else-step-places}
 use Rattle.pddl_forest.proofs.roots.in_chain.Goals as goal
 

@@ -1,0 +1,254 @@
+-- How many places are under each, found in an order in which each comes behind its parent.
+use Rattle.std.proofs.Common.{◌≡◌, ◌≢◌, ℕ, zero, suc, ◌+◌, ◌<◌, ◌≤◌, List, length, replicate, slice_set, refl, sym, ap, ◌∙◌, subst, arith, inl, inr, ◌⊎◌}
+use Rattle.std.proofs.lemmas.Bool.{cases_lt}
+use Rattle.std.proofs.lemmas.List.{get_or-set_same, get_or-set_other, get_or-replicate, length-set, length-replicate}
+use Rattle.pddl_forest.specs.Forests.{parent_of, number_at}
+use Rattle.pddl_forest.specs.Inner.Orders.{IsOrder}
+use Rattle.pddl_forest.specs.Inner.Sizes.{IsFrom, IsUpTo, total, AreSized, AreNumbered}
+use Rattle.pddl_forest.proofs.Lists.{same_or_not}
+
+-- ---- sums of so many numbers
+
+total_same : (f g : ℕ → ℕ) (m : ℕ) → ((u : ℕ) → u < m → g u ≡ f u) → total g m ≡ total f m
+total_same f g zero same = refl
+total_same f g (suc m) same = let rest = total_same f g m (λ u low. same u (omega (arith, low))) in let here = same m (omega arith) in omega (arith, rest, here)
+
+-- one of them is raised
+total_raised : (f g : ℕ → ℕ) (m q d : ℕ) → q < m → g q ≡ f q + d → ((u : ℕ) → u < m → u ≢ q → g u ≡ f u) → total g m ≡ total f m + d
+total_raised f g zero q d low raised same = absurd (omega (arith, low))
+total_raised f g (suc m) q d low raised same =
+    elim (same_or_not m q) as (λ _. total g (suc m) ≡ total f (suc m) + d) [
+      | inl is ↦
+          let rest = total_same f g m (λ u less. same u (omega (arith, less)) (λ e. omega (arith, e, is, less))) in
+          let here : g m ≡ f m + d = subst (λ k. g k ≡ f k + d) (sym is) raised in
+          omega (arith, rest, here)
+      | inr other ↦
+          let rest = total_raised f g m q d (let apart : q ≢ m = λ e. other (sym e) in omega (arith, low, apart)) raised (λ u less. same u (omega (arith, less))) in
+          let here = same m (omega arith) other in
+          omega (arith, rest, here)
+    ]
+
+total_low : (f : ℕ → ℕ) (m q : ℕ) → q < m → f q ≤ total f m
+total_low f zero q low = absurd (omega (arith, low))
+total_low f (suc m) q low =
+    elim (same_or_not m q) as (λ _. f q ≤ total f (suc m)) [
+      | inl is ↦ let e = ap f is in omega (arith, e)
+      | inr other ↦ let rest = total_low f m q (let apart : q ≢ m = λ e. other (sym e) in omega (arith, low, apart)) in omega (arith, rest)
+    ]
+
+total_ones : (f : ℕ → ℕ) (m : ℕ) → ((u : ℕ) → u < m → f u ≡ 1) → total f m ≡ m
+total_ones f zero ones = refl
+total_ones f (suc m) ones = let rest = total_ones f m (λ u low. ones u (omega (arith, low))) in let here = ones m (omega arith) in omega (arith, rest, here)
+
+-- ---- sizes, from the end of the order
+
+pub none_sized : {ps order : List ℕ} → IsOrder ps order → (offsets : List ℕ) → length offsets ≡ length ps → AreSized ps order (replicate (length ps) 1) offsets (length order)
+none_sized {ps} {order} o offsets long = record {
+  long = length-replicate (length ps) 1;
+  offsets_long = long;
+  some = λ i low. let one : number_at (replicate (length ps) 1) i ≡ 1 = get_or-replicate (length ps) i 1 0 low in omega (arith, one);
+  whole = total_ones (λ u. number_at (replicate (length ps) 1) (number_at order u)) (length order) (λ u low. get_or-replicate (length ps) (number_at order u) 1 0 (o.listed.in_range u low));
+  behind = λ i (u, past, low, is). absurd (omega (arith, past, low));
+  inside = λ i (u, past, low, is). absurd (omega (arith, past, low));
+  apart = λ i k (u, past, low, is). absurd (omega (arith, past, low));
+}
+
+-- the place of a turn, and its parent
+module _ {ps order : List ℕ} (o : IsOrder ps order) (turn : ℕ) (low : turn < length order) (later : turn ≢ 0) where
+  abbrev place : ℕ
+  place = number_at order turn
+
+  abbrev parent : ℕ
+  parent = parent_of ps place
+
+  apart_at : (u w : ℕ) → u < length order → w < length order → u ≢ w → number_at order u ≢ number_at order w
+  apart_at u w u_low w_low other same =
+      elim (cases_lt u w) as (λ _. ⊥) [ inl less ↦ o.listed.once u w less w_low same | inr past ↦ o.listed.once w u (omega (arith, past, other)) u_low (sym same) ]
+
+  -- the parent comes before
+  over : IsUpTo order turn parent
+  over = o.listed.behind turn low later
+
+  over_low : over.0 < length order
+  over_low = let before = over.1 in omega (arith, before, low)
+
+  place_low : place < length ps
+  place_low = o.listed.in_range turn low
+
+  parent_low : parent < length ps
+  parent_low = o.within place place_low
+
+  place_other : place ≢ 0
+  place_other is = apart_at turn 0 low o.some later (is ∙ sym o.listed.start)
+
+  before_place : (i : ℕ) → IsUpTo order turn i → i ≢ place
+  before_place i (u, before, at) is = o.listed.once u turn before low (at ∙ is)
+
+  past_place : (i : ℕ) → IsFrom order (suc turn) i → i ≢ place
+  past_place i (u, past, inside, at) is = o.listed.once turn u (omega (arith, past)) inside (sym is ∙ sym at)
+
+  past_parent : (i : ℕ) → IsFrom order (suc turn) i → i ≢ parent
+  past_parent i (u, past, inside, at) is = o.listed.once over.0 u (let before = over.1 in omega (arith, past, before)) inside (over.2 ∙ sym is ∙ sym at)
+
+  here_or_past : (i : ℕ) → IsFrom order turn i → (place ≡ i) ⊎ IsFrom order (suc turn) i
+  here_or_past i (u, from, inside, at) = elim (same_or_not turn u) as (λ _. (place ≡ i) ⊎ IsFrom order (suc turn) i) [
+    | inl is ↦ inl (ap (number_at order) is ∙ at)
+    | inr other ↦ inr (u, omega (arith, from, other), inside, at)
+  ]
+
+  here_or_before : (i : ℕ) → IsUpTo order (turn + 1) i → (place ≡ i) ⊎ IsUpTo order turn i
+  here_or_before i (u, up_to, at) = elim (same_or_not turn u) as (λ _. (place ≡ i) ⊎ IsUpTo order turn i) [
+    | inl is ↦ inl (ap (number_at order) is ∙ at)
+    | inr other ↦ inr (u, omega (arith, up_to, other), at)
+  ]
+
+  module _ {sizes offsets : List ℕ} (h : AreSized ps order sizes offsets (suc turn)) where
+    -- the two sizes are among those that add up to the number of all
+    pub sizes_fit : number_at sizes parent + number_at sizes place ≤ length ps
+    sizes_fit =
+        let f : ℕ → ℕ = λ u. number_at sizes (number_at order u) in
+        let other = total_low f turn over.0 over.1 in
+        let a : f over.0 ≡ number_at sizes parent = ap (number_at sizes) over.2 in
+        let whole = h.whole in
+        let few = o.few in
+        omega (arith, other, a, whole, few)
+
+    module _ (offset size : ℕ) (offset_is : offset ≡ number_at sizes parent) (size_is : size ≡ offset + number_at sizes place) where
+      abbrev size_of : ℕ → ℕ
+      size_of = number_at (slice_set sizes parent size)
+
+      abbrev offset_of : ℕ → ℕ
+      offset_of = number_at (slice_set offsets place offset)
+
+      raised : size_of parent ≡ number_at sizes parent + number_at sizes place
+      raised = get_or-set_same sizes parent size 0 (let long = h.long in let inside = parent_low in omega (arith, long, inside)) ∙ size_is ∙ ap (λ n. n + number_at sizes place) offset_is
+
+      kept : (i : ℕ) → i ≢ parent → size_of i ≡ number_at sizes i
+      kept i other = get_or-set_other sizes parent i size 0 other
+
+      grown : (i : ℕ) → number_at sizes i ≤ size_of i
+      grown i = elim (same_or_not i parent) as (λ _. number_at sizes i ≤ size_of i) [
+        | inl is ↦ let now = ap size_of is ∙ raised in let was = ap (number_at sizes) is in omega (arith, now, was)
+        | inr other ↦ let same = kept i other in omega (arith, same)
+      ]
+
+      -- the place begins where its parent ended, and its size is final
+      put_here : offset_of place ≡ number_at sizes parent
+      put_here = get_or-set_same offsets place offset 0 (let long = h.offsets_long in let inside = place_low in omega (arith, long, inside)) ∙ offset_is
+
+      kept_here : size_of place ≡ number_at sizes place
+      kept_here = kept place (λ e. before_place parent over (sym e))
+
+      offset_past : (i : ℕ) → IsFrom order (suc turn) i → offset_of i ≡ number_at offsets i
+      offset_past i past = get_or-set_other offsets place i offset 0 (past_place i past)
+
+      size_past : (i : ℕ) → IsFrom order (suc turn) i → size_of i ≡ number_at sizes i
+      size_past i past = kept i (past_parent i past)
+
+      -- a place that was done and has the same parent ends where this one begins
+      ends_before : (k : ℕ) → IsFrom order (suc turn) k → parent_of ps k ≡ parent → number_at offsets k + number_at sizes k ≤ number_at sizes parent
+      ends_before k past same = let within = h.inside k past in let e = ap (number_at sizes) same in omega (arith, within, e)
+
+      apart_here : (i k : ℕ) → IsFrom order turn i → IsFrom order turn k → k ≢ i → parent_of ps k ≡ parent_of ps i → offset_of k ≤ offset_of i → offset_of k + size_of k ≤ offset_of i
+      apart_here i k from also differ same before =
+          elim (here_or_past i from) as (λ _. offset_of k + size_of k ≤ offset_of i) [
+            | inl is ↦ elim (here_or_past k also) as (λ _. offset_of k + size_of k ≤ offset_of i) [
+              | inl too ↦ absurd (differ (sym too ∙ is))
+              | inr past ↦
+                  let a = ap offset_of (sym is) ∙ put_here in
+                  let b = offset_past k past in
+                  let c = size_past k past in
+                  let d = ends_before k past (same ∙ ap (parent_of ps) (sym is)) in
+                  omega (arith, a, b, c, d)
+            ]
+            | inr done ↦ elim (here_or_past k also) as (λ _. offset_of k + size_of k ≤ offset_of i) [
+              | inl is ↦
+                  let a = ap offset_of (sym is) ∙ put_here in
+                  let b = offset_past i done in
+                  let d = ends_before i done (sym same ∙ ap (parent_of ps) (sym is)) in
+                  let some = h.some i (subst (λ j. j < length ps) done.3 (o.listed.in_range done.0 done.2)) in
+                  absurd (omega (arith, a, b, d, some, before))
+              | inr past ↦
+                  let a = offset_past i done in
+                  let b = offset_past k past in
+                  let c = size_past k past in
+                  let was = h.apart i k done past differ same (omega (arith, before, a, b)) in
+                  omega (arith, a, b, c, was)
+            ]
+          ]
+
+      pub sized : AreSized ps order (slice_set sizes parent size) (slice_set offsets place offset) turn
+      sized = record {
+        long = length-set sizes parent size ∙ h.long;
+        offsets_long = length-set offsets place offset ∙ h.offsets_long;
+        some = λ i i_low. let was = h.some i i_low in let more = grown i in omega (arith, was, more);
+        whole =
+            let f : ℕ → ℕ = λ u. number_at sizes (number_at order u) in
+            let g : ℕ → ℕ = λ u. size_of (number_at order u) in
+            let more : g over.0 ≡ f over.0 + number_at sizes place = ap size_of over.2 ∙ raised ∙ ap (λ n. n + number_at sizes place) (ap (number_at sizes) (sym over.2)) in
+            let sum : total g turn ≡ total f turn + number_at sizes place = total_raised f g turn over.0 (number_at sizes place) over.1 more
+            (λ u before other. kept (number_at order u) (λ e. apart_at u over.0 (omega (arith, before, low)) over_low other (e ∙ sym over.2))) in
+            let whole = h.whole in
+            omega (arith, sum, whole);
+        behind = λ i from. elim (here_or_past i from) as (λ _. 0 < offset_of i) [
+          | inl is ↦ let now = ap offset_of (sym is) ∙ put_here in let some = h.some parent parent_low in omega (arith, now, some)
+          | inr past ↦ let now = offset_past i past in let was = h.behind i past in omega (arith, now, was)
+        ];
+        inside = λ i from. elim (here_or_past i from) as (λ _. offset_of i + size_of i ≤ size_of (parent_of ps i)) [
+          | inl is ↦
+              let a = ap offset_of (sym is) ∙ put_here in
+              let b = ap size_of (sym is) ∙ kept_here in
+              let c = ap size_of (ap (parent_of ps) (sym is)) ∙ raised in
+              omega (arith, a, b, c)
+          | inr past ↦
+              let a = offset_past i past in
+              let b = size_past i past in
+              let was = h.inside i past in
+              let more = grown (parent_of ps i) in
+              omega (arith, a, b, was, more)
+        ];
+        apart = apart_here;
+      }
+
+  -- ---- first numbers, from the beginning of the order
+
+  module _ {sizes offsets first : List ℕ} (s : AreSized ps order sizes offsets 1) (h : AreNumbered ps order sizes offsets first turn) where
+    -- what is under the place has numbers within those of what is under its parent
+    pub number_fits : number_at first parent + number_at offsets place + number_at sizes place ≤ length ps
+    number_fits =
+        let fits = h.fits parent over in
+        let within = s.inside place (turn, omega (arith, later), low, refl) in
+        omega (arith, fits, within)
+
+    module _ (number : ℕ) (number_is : number ≡ number_at first parent + number_at offsets place) where
+      abbrev first_of : ℕ → ℕ
+      first_of = number_at (slice_set first place number)
+
+      set_here : first_of place ≡ number
+      set_here = get_or-set_same first place number 0 (let long = h.long in let inside = place_low in omega (arith, long, inside))
+
+      set_before : (i : ℕ) → IsUpTo order turn i → first_of i ≡ number_at first i
+      set_before i before = get_or-set_other first place i number 0 (before_place i before)
+
+      pub numbered : AreNumbered ps order sizes offsets (slice_set first place number) (turn + 1)
+      numbered = record {
+        long = length-set first place number ∙ h.long;
+        start = get_or-set_other first place 0 number 0 (λ e. place_other (sym e)) ∙ h.start;
+        next = λ i up_to other. elim (here_or_before i up_to) as (λ _. first_of i ≡ first_of (parent_of ps i) + number_at offsets i) [
+          | inl is ↦
+              let a = ap first_of (sym is) ∙ set_here in
+              let b = ap first_of (ap (parent_of ps) (sym is)) ∙ set_before parent over in
+              let c = ap (number_at offsets) (sym is) in
+              omega (arith, a, b, c, number_is)
+          | inr before ↦
+              let v = o.listed.behind before.0 (let early = before.1 in omega (arith, early, low)) (λ e. other (sym before.2 ∙ ap (number_at order) e ∙ o.listed.start)) in
+              let a = set_before i before in
+              let b = set_before (parent_of ps i) (v.0, let u = before.1 in let w = v.1 in omega (arith, u, w), v.2 ∙ ap (parent_of ps) before.2) in
+              let was = h.next i before other in
+              omega (arith, a, b, was)
+        ];
+        fits = λ i up_to. elim (here_or_before i up_to) as (λ _. first_of i + number_at sizes i ≤ length ps) [
+          | inl is ↦ let a = ap first_of (sym is) ∙ set_here in let b = ap (number_at sizes) (sym is) in let fits = number_fits in omega (arith, a, b, fits, number_is)
+          | inr before ↦ let a = set_before i before in let was = h.fits i before in omega (arith, a, was)
+        ];
+      }

@@ -1,0 +1,46 @@
+use Rattle.std.proofs.Common.{◌≡◌, ◌+◌, ◌-◌, suc, length, ap, ◌∙◌, subst, arith}
+use Rattle.pddl_forest.specs.Forests.{parent_of, number_at}
+use Rattle.pddl_forest.specs.Inner.Sizes.{AreSized}
+use Rattle.pddl_forest.proofs.Sizes.{none_sized, sizes_fit, sized}
+use Rattle.pddl_forest.proofs.numbering.sizes_of.Goals as goal
+
+pub loop-turn-init : goal.loop-turn-init
+loop-turn-init g c = record {
+  from = omega (arith, c.requires.order.some);
+  sized = rw (c.in_ok-sizes.ensures.items_if_clones_equal (λ _ same. same)) (none_sized c.requires.order c.args.offsets.now.items c.requires.long);
+}
+
+pub overflow_add-size : goal.overflow_add-size
+overflow_add-size g c =
+    let order = c.args.order.now in
+    let turn = c.loop-turn.turn - 1 in
+    let sizes = c.loop-turn.sizes.items in
+    let is : c.loop-turn.turn ≡ suc turn = omega (arith, c.loop-turn-test.true) in
+    let offset : c.number_at-offset.result ≡ number_at sizes (parent_of c.args.parents.now (number_at order turn)) =
+    c.number_at-offset.ensures ∙ ap (λ ns. number_at ns c.parent_of-parent.result) c.deref.ensures.value ∙ ap (number_at sizes) c.parent_of-parent.ensures in
+    let size : c.number_at.result ≡ number_at sizes (number_at order turn) = c.number_at.ensures ∙ ap (λ ns. number_at ns (number_at order turn)) c.deref-in-loop-turn.ensures.value in
+    let fits = sizes_fit c.requires.order turn (omega (arith, is, c.loop-turn.auto.turn)) (omega (arith, is, c.loop-turn-test.true))
+    (subst (AreSized c.args.parents.now order sizes c.loop-turn.offsets.items) is c.loop-turn.invariant.sized) in
+    let long = ap length c.deref.ensures.value ∙ c.loop-turn.invariant.sized.long in
+    let small = c.deref.type_inv.0 in
+    omega (arith, offset, size, fits, long, small)
+
+pub loop-turn-preserved : goal.loop-turn-preserved
+loop-turn-preserved g c =
+    let order = c.args.order.now in
+    let turn = c.loop-turn.turn - 1 in
+    let sizes = c.loop-turn.sizes.items in
+    let is : c.loop-turn.turn ≡ suc turn = omega (arith, c.loop-turn-test.true) in
+    record {
+      from = omega (arith, c.loop-turn-test.true);
+      sized = rw (c.put-in-loop-turn.ensures, c.put.ensures, c.parent_of-parent.ensures)
+          (sized c.requires.order turn (omega (arith, is, c.loop-turn.auto.turn)) (omega (arith, is, c.loop-turn-test.true))
+          (subst (AreSized c.args.parents.now order sizes c.loop-turn.offsets.items) is c.loop-turn.invariant.sized) c.number_at-offset.result (c.number_at-offset.result + c.number_at.result)
+          (c.number_at-offset.ensures ∙ ap (λ ns. number_at ns c.parent_of-parent.result) c.deref.ensures.value ∙ ap (number_at sizes) c.parent_of-parent.ensures)
+          (ap (λ n. c.number_at-offset.result + n) (c.number_at.ensures ∙ ap (λ ns. number_at ns (number_at order turn)) c.deref-in-loop-turn.ensures.value)));
+    }
+
+pub returns : goal.returns
+returns g c =
+    let is : c.loop-turn.turn ≡ 1 = omega (arith, c.loop-turn-test.false, c.loop-turn.invariant.from) in
+    subst (AreSized c.args.parents.now c.args.order.now c.loop-turn.sizes.items c.loop-turn.offsets.items) is c.loop-turn.invariant.sized
