@@ -17,7 +17,7 @@ use pddl_names::{list_objects, look_at_domain, look_at_domain_uses, type_twice};
 use pddl_types::{Declared, Listed, Types};
 use std::alloc::Allocator;
 
-/// The lowest fault of types and names in a domain, whose constants are added to no objects.
+/// The lowest fault of names in a domain, whose constants are added to no objects.
 fn look_at_names<'m, 'a, A: Allocator, B: Allocator>(
     alloc: &'a B,
     types: &Types<'m, 'a, A, B>,
@@ -30,9 +30,8 @@ fn look_at_names<'m, 'a, A: Allocator, B: Allocator>(
     ensures places { OnOk result (AreListedAt types.now constants.new) }
     ensures verdict { Verdict (map (domain_fault (domain_view domain.now)) name_rules) result }
 {
-    let above = types.cycle();
     let listed = list_objects(alloc, types, constants, &domain.constants);
-    lower(above, lower(listed, look_at_domain(alloc, types, domain)))
+    lower(listed, look_at_domain(alloc, types, domain))
 }
 
 /// The lowest fault of what a domain uses, in which no predicate and no function stands twice.
@@ -55,14 +54,14 @@ fn look_at_uses<'m, 'a, A: Allocator, B: Allocator>(
     used
 }
 
-/// Checks a domain behind a table of its types, each declared once.
+/// Checks a domain behind its types.
 fn check_by_types<'m, 'a, A: Allocator, B: Allocator>(
     alloc: &'a B,
     types: &Types<'m, 'a, A, B>,
     domain: &'m Domain<A>,
 ) -> Result<(), LinkFault<'m>>
     requires { types.now ≡ (domain_view domain.now).types }
-    ensures { Verdict (map (domain_fault (domain_view domain.now)) (drop 2 rules)) result }
+    ensures { Verdict (map (domain_fault (domain_view domain.now)) (drop 3 rules)) result }
 {
     let mut constants = Listed::new(alloc);
     let checked = match look_at_names(alloc, types, &mut constants, domain) {

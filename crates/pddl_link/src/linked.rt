@@ -29,7 +29,7 @@ use pddl_sizes::{ObjectCounts, ObjectOrder, goal_size};
 use pddl_types::{Declared, Listed, TypeCounts, Types};
 use std::alloc::{AllocError, Allocator};
 
-/// The lowest fault of types and names in a domain and a problem, whose constants and objects are added to none.
+/// The lowest fault of names in a domain and a problem, whose constants and objects are added to none.
 fn look_at_both<'m, 'a, A: Allocator, B: Allocator>(
     alloc: &'a B,
     types: &Types<'m, 'a, A, B>,
@@ -47,12 +47,11 @@ fn look_at_both<'m, 'a, A: Allocator, B: Allocator>(
     ensures objects_at { OnOk result (AreListedAt types.now listed.new) }
     ensures verdict { Verdict (map (fault_in (domain_view domain.now) (problem_view problem.now)) name_rules) result }
 {
-    let above = types.cycle();
     let inner = list_objects(alloc, types, constants, &domain.constants);
     let declared = look_at_domain(alloc, types, domain);
     let all = list_all(alloc, types, listed, domain, problem);
     let bound = look_at_problem(alloc, types, problem);
-    lower(above, lower(inner, lower(declared, lower(all, bound))))
+    lower(inner, lower(declared, lower(all, bound)))
 }
 
 /// The lowest fault of what a domain and a problem use; the values of functions of objects are added to none.
@@ -181,8 +180,8 @@ fn tables_behind<'m, 'a, A: Allocator, B: Allocator>(
     }
 }
 
-/// The tables of a domain and a problem behind their types, each declared once, where no fault from 22 on stands. Objects and the values of functions of
-/// objects are added to none.
+/// The tables of a domain and a problem behind their types, where no fault from 23 on stands. Objects and the values of functions of objects are added to
+/// none.
 fn tables_behind_types<'m, 'a, A: Allocator, B: Allocator>(
     alloc: &'a B,
     types: &Types<'m, 'a, A, B>,
@@ -195,7 +194,7 @@ fn tables_behind_types<'m, 'a, A: Allocator, B: Allocator>(
     requires no_objects { IsEmpty listed.old }
     requires no_values { values.old.entries ≡ [] }
     ensures tables { IfOk result (λ tables. HoldBehindTypes (domain_view domain.now) (problem_view problem.now) types.now tables.declared.predicates.entries listed.new tables.counts.entries values.new.entries) }
-    ensures verdict { Verdict (map (fault_in (domain_view domain.now) (problem_view problem.now)) (drop 2 rules)) result }
+    ensures verdict { Verdict (map (fault_in (domain_view domain.now) (problem_view problem.now)) (drop 3 rules)) result }
 {
     let mut constants = Listed::new(alloc);
     let made = match look_at_both(alloc, types, &mut constants, listed, domain, problem) {
@@ -206,7 +205,7 @@ fn tables_behind_types<'m, 'a, A: Allocator, B: Allocator>(
     made
 }
 
-/// The types of a domain, where its name is the problem's and no type stands twice.
+/// The types of a domain, where its name is the problem's, no type stands twice and none is above itself.
 fn types_of<'m, 'a, A: Allocator, B: Allocator>(
     alloc: &'a B,
     domain: &'m Domain<A>,
@@ -216,7 +215,7 @@ fn types_of<'m, 'a, A: Allocator, B: Allocator>(
     ensures verdict { Verdict (map (fault_in (domain_view domain.now) (problem_view problem.now)) first_rules) result }
 {
     lower(domain_name(domain, problem), type_twice(alloc, domain))?;
-    Ok(Types::of(alloc, &domain.types)?)
+    Types::of(alloc, &domain.types)
 }
 
 /// Links a domain and a problem: the task that they make.

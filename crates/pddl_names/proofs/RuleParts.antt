@@ -177,37 +177,41 @@ use_same s (pl ∷ pls) =
 -- ---- the rules, in the parts of a domain and a problem
 
 -- those that are looked at first
-pub first_stand : (d : DomainValue) (p : ProblemValue) → Same (numbered 20 (domain_names d p) ++ numbered 21 (types_twice d)) (standing (map (fault_in d p) first_rules))
+pub first_stand : (d : DomainValue) (p : ProblemValue) → Same (numbered 20 (domain_names d p) ++ numbered 21 (types_twice d)) (standing (map (fault_in d p) (take 2 first_rules)))
 first_stand d p = same_found (domain_names d p ∷ types_twice d ∷ []) (alone 20 0 ⊕ alone 21 1) (the (20, none ⊕ the 0) ⊕ the (21, the 1 ⊕ none) ⊕ none) refl refl
 
--- words of types and names of a domain
+-- that which is found when types are made
+pub cycle_stands : (d : DomainValue) (p : ProblemValue) → Same (numbered 22 (type_cycles d)) (standing (map (fault_in d p) (drop 2 first_rules)))
+cycle_stands d p = same_found (type_cycles d ∷ []) (alone 22 0) (the (22, the 0 ⊕ none) ⊕ none) refl refl
+
+-- words of names of a domain
 abbrev names_of : DomainValue → List (List Name)
 names_of d =
-    type_cycles d ∷ retyped [] d.constants ∷ unknown_among d.types d.constants ∷ unknown_among d.types (flat_map parameters_of d.predicates) ∷ unknown_among d.types (flat_map parameters_of (function_signatures d))
+    retyped [] d.constants ∷ unknown_among d.types d.constants ∷ unknown_among d.types (flat_map parameters_of d.predicates) ∷ unknown_among d.types (flat_map parameters_of (function_signatures d))
     ∷ unknown_in d.types (domain_places d) ∷ repeated [] (map symbol_of d.predicates) ∷ repeated [] (map symbol_of (function_signatures d)) ∷ repeated_in_actions [] d.actions ∷ object_types d.constants ∷ []
 
 -- these, as they are looked for, before others
 abbrev names_before : Joint → Joint
-names_before s = alone 22 0 ⊕ alone 24 1 ⊕ alone 23 2 ⊕ alone 23 3 ⊕ alone 23 4 ⊕ alone 24 6 ⊕ alone 24 7 ⊕ (alone 23 5 ⊕ alone 24 8) ⊕ alone 25 9 ⊕ s
+names_before s = alone 24 0 ⊕ alone 23 1 ⊕ alone 23 2 ⊕ alone 23 3 ⊕ alone 24 5 ⊕ alone 24 6 ⊕ (alone 23 4 ⊕ alone 24 7) ⊕ alone 25 8 ⊕ s
 
--- types and names of a domain
-pub domain_names_stand : (d : DomainValue) → Same (joined (numbered 22 (type_cycles d) ∷ (numbered 24 (retyped [] d.constants) ∷ domain_parts d.types d))) (standing (map (domain_fault d) name_rules))
+-- names of a domain
+pub domain_names_stand : (d : DomainValue) → Same (joined (numbered 24 (retyped [] d.constants) ∷ domain_parts d.types d)) (standing (map (domain_fault d) name_rules))
 domain_names_stand d =
-    let parts = numbered 22 (type_cycles d) ∷ (numbered 24 (retyped [] d.constants) ∷ domain_parts d.types d) in
+    let parts = numbered 24 (retyped [] d.constants) ∷ domain_parts d.types d in
     rw (unknown-domain d.types d)
-    (same_then (same_behind (take 7 parts) (same_both (action_same d.types [] d.actions) (same_self (joined (drop 8 parts)))))
+    (same_then (same_behind (take 6 parts) (same_both (action_same d.types [] d.actions) (same_self (joined (drop 7 parts)))))
     (same_found (names_of d) (names_before none)
-    (alone 22 0 ⊕ the (23, the 2 ⊕ the 3 ⊕ the 4 ⊕ the 5) ⊕ the (24, ((the 1 ⊕ the 6) ⊕ the 7) ⊕ the 8) ⊕ alone 25 9 ⊕ none) refl refl))
+    (the (23, the 1 ⊕ the 2 ⊕ the 3 ⊕ the 4) ⊕ the (24, ((the 0 ⊕ the 5) ⊕ the 6) ⊕ the 7) ⊕ alone 25 8 ⊕ none) refl refl))
 
--- types and names of a domain and a problem
-pub names_stand : (d : DomainValue) (p : ProblemValue) → Same (joined (numbered 22 (type_cycles d) ∷ (numbered 24 (retyped [] d.constants) ∷ (domain_parts d.types d ++ (numbered 24 (retyped [] d.constants ++ retyped d.constants p.objects) ∷ problem_parts d.types p))))) (standing (map (fault_in d p) name_rules))
+-- names of a domain and a problem
+pub names_stand : (d : DomainValue) (p : ProblemValue) → Same (joined (numbered 24 (retyped [] d.constants) ∷ (domain_parts d.types d ++ (numbered 24 (retyped [] d.constants ++ retyped d.constants p.objects) ∷ problem_parts d.types p)))) (standing (map (fault_in d p) name_rules))
 names_stand d p =
-    let parts = numbered 22 (type_cycles d) ∷ (numbered 24 (retyped [] d.constants) ∷ (domain_parts d.types d ++ (numbered 24 (retyped [] d.constants ++ retyped d.constants p.objects) ∷ problem_parts d.types p))) in
+    let parts = numbered 24 (retyped [] d.constants) ∷ (domain_parts d.types d ++ (numbered 24 (retyped [] d.constants ++ retyped d.constants p.objects) ∷ problem_parts d.types p)) in
     rw (unknown-domain d.types d, unknown-problem d.types p)
-    (same_then (same_behind (take 7 parts) (same_both (action_same d.types [] d.actions) (same_behind (take 3 (drop 8 parts)) (same_both (binding_same d.types (problem_places p)) (same_self (joined (drop 12 parts)))))))
+    (same_then (same_behind (take 6 parts) (same_both (action_same d.types [] d.actions) (same_behind (take 3 (drop 7 parts)) (same_both (binding_same d.types (problem_places p)) (same_self (joined (drop 11 parts)))))))
     (same_found (names_of d ++ (retyped d.constants p.objects ∷ unknown_among d.types p.objects ∷ unknown_in d.types (problem_places p) ∷ flat_map repeated_at (problem_places p) ∷ object_types p.objects ∷ []))
-    (names_before (the (24, the 1 ⊕ the 10) ⊕ alone 23 11 ⊕ (alone 23 12 ⊕ alone 24 13) ⊕ alone 25 14 ⊕ none))
-    (the (22, the 0 ⊕ none) ⊕ the (23, (the 2 ⊕ the 3 ⊕ the 4 ⊕ the 5) ⊕ (the 11 ⊕ the 12)) ⊕ the (24, (((the 1 ⊕ the 6) ⊕ the 7) ⊕ the 8) ⊕ (the 10 ⊕ the 13)) ⊕ the (25, the 9 ⊕ the 14) ⊕ none) refl refl))
+    (names_before (the (24, the 0 ⊕ the 9) ⊕ alone 23 10 ⊕ (alone 23 11 ⊕ alone 24 12) ⊕ alone 25 13 ⊕ none))
+    (the (23, (the 1 ⊕ the 2 ⊕ the 3 ⊕ the 4) ⊕ (the 10 ⊕ the 11)) ⊕ the (24, (((the 0 ⊕ the 5) ⊕ the 6) ⊕ the 7) ⊕ (the 9 ⊕ the 12)) ⊕ the (25, the 8 ⊕ the 13) ⊕ none) refl refl))
 
 -- what a domain uses
 pub domain_uses_stand : (d : DomainValue) → Same (joined (domain_uses d)) (standing (map (domain_fault d) use_rules))

@@ -67,13 +67,13 @@ problem_uses d p =
 
 -- ---- the rules of linking, in the order in which they are looked at
 
--- those that are looked at first, 20 and 21
+-- those that are looked at before there are types, 20 to 22
 abbrev pub first_rules : List FaultRule
-first_rules = take 2 rules
+first_rules = take 3 rules
 
--- those of types and names, 22 to 25
+-- those of names, 23 to 25
 abbrev pub name_rules : List FaultRule
-name_rules = take 4 (drop 2 rules)
+name_rules = take 3 (drop 3 rules)
 
 -- those of what is used, 26 to 35
 abbrev pub use_rules : List FaultRule

@@ -13,7 +13,7 @@ use pddl_formula::TypeNames;
 use pddl_types::{Listed, Objects, TypeCounts, Types, single};
 use std::alloc::Allocator;
 
-/// Counts the objects that fit a type: by a table, and one by one where types have a cycle, where an object has not one type, or where memory is refused.
+/// Counts the objects that fit a type: by a table, and one by one where an object has not one type, or where memory is refused.
 #[derive(Drop)]
 pub struct ObjectCounts<'t, 'm, 'a, A: Allocator, B: Allocator> {
     pub types: &'t Types<'m, 'a, A, B>,

@@ -1,10 +1,9 @@
 -- Objects that are counted one by one.
-use Rattle.std.proofs.Common.{◌≡◌, ℕ, zero, suc, ◌+◌, ◌≤◌, Bool, true, false, cond, List, [], ◌∷◌, map, length, drop, sym, ap, ◌∙◌, arith}
+use Rattle.std.proofs.Common.{◌≡◌, ℕ, ◌+◌, Bool, true, false, cond, List, ◌∷◌, map, length, drop, sym, ap, ◌∙◌, arith}
 use Rattle.std.specs.Prelude.{Some, None}
 use Rattle.std.specs.Borrow.{Bor}
 use Rattle.std.specs.List.{slice_get}
 use Rattle.std.proofs.lemmas.List.{drop_all}
-use Rattle.std.proofs.lemmas.Option.{slice_get_within, get_or_from_slice_get}
 use Rattle.pddl_formula.specs.TypedLists.{TypedValue}
 use Rattle.pddl_formula.specs.declared.type_names.Typed.{Typed}
 use Rattle.pddl_domain.specs.Declarations.{TypeValue}
@@ -12,18 +11,15 @@ use Rattle.pddl_task.specs.Names.{Name}
 use Rattle.pddl_task.specs.Types.{fits, fitting}
 use Rattle.pddl_task.specs.GroundSize.{fitting_count}
 use Rattle.pddl_types.specs.KnownNames.{object_in}
-use Rattle.pddl_faults.proofs.ListTurns.{rest_is}
+use Rattle.pddl_types.proofs.Entries.{entry_left, past_end}
 
 abbrev pub Object : Type 0 → Type 0
 Object A = Bor (List ℕ) × Bor (Typed A)
 
 module _ {A : Type 0} (ps : List TypeValue) (slot : List Name) (es : List (Object A)) (i count whole : ℕ) (e : Object A) where
-  left : Some e ≡ slice_get es i → drop i es ≡ e ∷ drop (i + 1) es
-  left at = rest_is es i e (slice_get_within es i e (sym at)) (sym (get_or_from_slice_get es i e e (sym at)))
-
   counted : (b : Bool) → fits ps e.1.now.types slot ≡ b → Some e ≡ slice_get es i
       → fitting_count ps (map object_in (drop i es)) slot ≡ cond b 1 0 + fitting_count ps (map object_in (drop (i + 1) es)) slot
-  counted b is at = ap (λ xs. fitting_count ps (map object_in xs) slot) (left at) ∙ one b is
+  counted b is at = ap (λ xs. fitting_count ps (map object_in xs) slot) (entry_left es i e at) ∙ one b is
     where
       rest : List TypedValue
       rest = fitting ps (map object_in (drop (i + 1) es)) slot
@@ -45,8 +41,3 @@ pub none_there : {A : Type 0} (ps : List TypeValue) (slot : List Name) (es : Lis
 none_there ps slot es i count whole at so_far =
     let past = past_end es i (sym at) in
     ap (λ xs. count + fitting_count ps (map object_in xs) slot) (drop_all (i + 1) es (omega (arith, past)) ∙ sym (drop_all i es past)) ∙ so_far
-  where
-    past_end : {A : Type 0} (es : List (Object A)) (i : ℕ) → slice_get es i ≡ None → length es ≤ i
-    past_end [] i h = omega arith
-    past_end (e ∷ es) zero h = cc
-    past_end (e ∷ es) (suc i) h = omega (arith, past_end es i h)

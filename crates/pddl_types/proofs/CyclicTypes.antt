@@ -1,59 +1,190 @@
--- Declared types that are above themselves.
-use Rattle.std.proofs.Common.{◌≡◌, Bool, true, false, not, ◌&&◌, List, [], ◌∷◌, map, filter, refl, sym, ap, ◌∙◌, subst, bytes_eq, inl, inr}
-use Rattle.std.specs.Prelude.{Contains}
-use Rattle.std.specs.List.{IsDistinct}
+-- Declared types that are above themselves, and ways that go round in their table.
+use Rattle.std.proofs.Common.{◌≡◌, ◌≢◌, ℕ, zero, suc, ◌+◌, ◌<◌, Bool, true, false, not, ◌&&◌, cond, List, [], ◌∷◌, map, filter, length, get_or, drop, refl, sym, ap, ◌∙◌, subst, arith, bytes_eq, inl, inr}
+use Rattle.std.specs.Prelude.{◌↔◌, IsTrue, Contains, Some, None}
+use Rattle.std.specs.Borrow.{Bor}
+use Rattle.std.specs.List.{position}
+use Rattle.std.specs.Map.{keys_of}
+use Rattle.std.proofs.lemmas.List.{length-map, at_drop_more}
 use Rattle.std.proofs.lemmas.List.Elements.{Contains-append_left, Contains-append_cases}
 use Rattle.std.proofs.lemmas.Bool.{not-true}
+use Rattle.pddl_forest.specs.Forests.{parent_of, up, IsForest}
+use Rattle.pddl_forest.specs.Rounds.{GoesRound, HasRound}
 use Rattle.pddl_domain.specs.Declarations.{TypeValue}
-use Rattle.pddl_task.specs.Names.{is_in, repeated, item_of}
-use Rattle.pddl_task.specs.Types.{root, parent_of, says_nothing, under_root, only_parents, pairs, is_under, is_cyclic}
-use Rattle.pddl_task.proofs.Lists.{and_left, and_right, and_both, any_found, found_any, none_left, bytes_same, same_bytes, kept_is, is_kept, mapped_is}
-use Rattle.pddl_types.specs.TypeTables.{parent_in}
-use Rattle.pddl_types.proofs.TypeClimbs.{same_tests, once_declared, parent_declared, pair_is}
+use Rattle.pddl_task.specs.Names.{Name, is_in, item_of}
+use Rattle.pddl_task.specs.Types as types
+use Rattle.pddl_task.specs.Types.{root, types_of, says_nothing, under_root, only_parents, pairs, Under, is_cyclic}
+use Rattle.pddl_task.specs.Faults.{first_alone}
+use Rattle.pddl_task.proofs.Lists.{and_left, and_right, and_both, none_left, bytes_same, same_bytes, has_none, kept_is, is_kept, mapped_is, is_mapped}
+use Rattle.pddl_task.proofs.Subtypes.{is_cyclic_decides}
+use Rattle.pddl_types.specs.TypeTables.{Row, name_at, parent_in, IsTypeTable, IsOnRound, cycle_in}
+use Rattle.pddl_types.proofs.TypeParents.{in_has, type_declared, parent_declared, parent_undeclared, once_declared, pair_is, same_tests}
+use Rattle.pddl_types.proofs.TypeLookups.{found_place, no_type}
+use Rattle.pddl_types.proofs.TypeForests.{parents_in, place_in, same_place, parent_at, come_to, goes_to}
 
-pub pair_says : (declared : List TypeValue) (e : TypeValue) → Contains (pairs declared) e → says_nothing e ≡ false
+-- ---- ways from parent to parent
+
+up_last : (ps : List ℕ) (n i : ℕ) → up ps (suc n) i ≡ parent_of ps (up ps n i)
+up_last ps zero i = refl
+up_last ps (suc n) i = up_last ps n (parent_of ps i)
+
+-- a way round through a place goes round through its parent's too
+round_on : (ps : List ℕ) (i : ℕ) → GoesRound ps i → GoesRound ps (parent_of ps i)
+round_on ps i (n, is) = (n, up_last ps n (parent_of ps i) ∙ ap (parent_of ps) is)
+
+-- from place 0, where it is its own parent, no other is come to
+stays : (ps : List ℕ) (n : ℕ) → parent_of ps 0 ≡ 0 → up ps n 0 ≡ 0
+stays ps zero top = refl
+stays ps (suc n) top = ap (up ps n) top ∙ stays ps n top
+
+-- so no way goes round through a place below it
+round_is_top : (ps : List ℕ) (n i : ℕ) → parent_of ps 0 ≡ 0 → up ps n i ≡ 0 → GoesRound ps i → i ≡ 0
+round_is_top ps zero i top below round = below
+round_is_top ps (suc n) i top below (m, is) =
+    let above : parent_of ps i ≡ 0 = round_is_top ps n (parent_of ps i) top below (round_on ps i (m, is)) in
+    sym is ∙ ap (up ps m) above ∙ stays ps m top
+
+none_in_forest : (ps : List ℕ) (i : ℕ) → IsForest ps → i < length ps → IsOnRound ps i → ⊥
+none_in_forest ps i forest low round = let way = forest.below i low in round.1 (round_is_top ps way.0 i forest.top way.1 round.0) forest.top
+
+-- ---- types with a parent
+
+pair_says : (declared : List TypeValue) (e : TypeValue) → Contains (pairs declared) e → says_nothing e ≡ false
 pair_says declared e has =
     elim (Contains-append_cases (filter (λ d. not (says_nothing d)) declared) (map under_root (only_parents declared)) e has) as (λ _. says_nothing e ≡ false) [
       | inl kept ↦ not-true (says_nothing e) (kept_is (λ d. not (says_nothing d)) declared e kept).1
       | inr added ↦
           let from = mapped_is under_root (only_parents declared) e added in
-          let new = kept_is (λ t. not (is_in (root ∷ map item_of declared) t)) (map parent_of declared) from.0 from.1 in
+          let new = kept_is (λ t. not (is_in (root ∷ map item_of declared) t)) (map types.parent_of declared) from.0 from.1 in
           let other = none_left (bytes_eq from.0 root) (is_in (map item_of declared) from.0) (not-true (is_in (root ∷ map item_of declared) from.0) new.1) in
           subst (λ d. says_nothing d ≡ false) from.2 (ap (λ b. b && bytes_eq root root) other)
     ]
 
-cyclic_up : (declared : List TypeValue) (d : TypeValue) → IsDistinct bytes_eq (map item_of declared) → Contains declared d → is_cyclic (pairs declared) d.item ≡ true
-    → not (says_nothing d) && is_under (pairs declared) d.of d.item ≡ true
-cyclic_up declared d once has h =
-    let ps = pairs declared in
-    let f = any_found (λ e. bytes_eq d.item e.item && is_under ps e.of d.item) ps h in
-    let named : d.item ≡ f.0.item = bytes_same d.item f.0.item (and_left (bytes_eq d.item f.0.item) (is_under ps f.0.of d.item) f.2) in
-    let of : d.of ≡ f.0.of = sym (parent_declared declared d once has) ∙ ap (parent_in declared) named ∙ (pair_is declared f.0 once f.1).2 in
-    and_both (not (says_nothing d)) (is_under ps d.of d.item)
-    (ap not (ap (λ n. bytes_eq n root && bytes_eq d.of root) named ∙ ap (λ n. bytes_eq f.0.item root && bytes_eq n root) of ∙ pair_says declared f.0 f.1))
-    (ap (λ n. is_under ps n d.item) of ∙ and_right (bytes_eq d.item f.0.item) (is_under ps f.0.of d.item) f.2)
+says_root : (e : TypeValue) → e.item ≡ root → e.of ≡ root → says_nothing e ≡ true
+says_root e item of = and_both (bytes_eq e.item root) (bytes_eq e.of root) (same_bytes e.item root item) (same_bytes e.of root of)
 
-cyclic_down : (declared : List TypeValue) (d : TypeValue) → Contains declared d → not (says_nothing d) && is_under (pairs declared) d.of d.item ≡ true → is_cyclic (pairs declared) d.item ≡ true
-cyclic_down declared d has h =
-    let ps = pairs declared in
-    let told = and_left (not (says_nothing d)) (is_under ps d.of d.item) h in
-    found_any (λ e. bytes_eq d.item e.item && is_under ps e.of d.item) ps d
-    (Contains-append_left (filter (λ e. not (says_nothing e)) declared) (map under_root (only_parents declared)) d (is_kept (λ e. not (says_nothing e)) declared d has told))
-    (and_both (bytes_eq d.item d.item) (is_under ps d.of d.item) (same_bytes d.item d.item refl) (and_right (not (says_nothing d)) (is_under ps d.of d.item) h))
+none_kept : (q : Name → Bool) (ns : List Name) → ((n : Name) → q n ≡ true → ⊥) → filter q ns ≡ []
+none_kept q [] h = refl
+none_kept q (n ∷ ns) h =
+    elim (q n) as (λ b. q n ≡ b → cond b (n ∷ filter q ns) (filter q ns) ≡ []) [ true ↦ λ on. absurd (h n on) | false ↦ λ _. none_kept q ns h ] refl
 
--- a declared type is above itself where its parent is under it, and it is not `object` under `object`
-pub cyclic_is : (declared : List TypeValue) (d : TypeValue) → repeated [] (map item_of declared) ≡ [] → Contains declared d
-    → not (says_nothing d) && is_under (pairs declared) d.of d.item ≡ is_cyclic (pairs declared) d.item
-cyclic_is declared d once has =
-    same_tests (not (says_nothing d) && is_under (pairs declared) d.of d.item) (is_cyclic (pairs declared) d.item)
-    (cyclic_down declared d has) (cyclic_up declared d (once_declared declared once) has)
+module _ (declared : List TypeValue) (rows : List Row) (h : IsTypeTable declared rows) where
+  abbrev ps : List ℕ
+  ps = parents_in rows
 
-pub cyclic_then : (declared : List TypeValue) (d : TypeValue) (says up : Bool) → repeated [] (map item_of declared) ≡ [] → Contains declared d
-    → says ≡ says_nothing d → says ≡ false → up ≡ is_under (pairs declared) d.of d.item → up ≡ is_cyclic (pairs declared) d.item
-cyclic_then declared d says up once has is told under =
-    under ∙ sym (ap (λ b. b && is_under (pairs declared) d.of d.item) (ap not (sym is ∙ told))) ∙ cyclic_is declared d once has
+  -- the place of `object`
+  is_first : (i : ℕ) → i < length rows → name_at rows i ≡ root → i ≡ 0
+  is_first i low at = same_place declared rows h i 0 low h.table.some (at ∙ sym h.table.first)
 
-pub cyclic_else : (declared : List TypeValue) (d : TypeValue) (says : Bool) → repeated [] (map item_of declared) ≡ [] → Contains declared d
-    → says ≡ says_nothing d → says ≡ true → not says ≡ is_cyclic (pairs declared) d.item
-cyclic_else declared d says once has is on =
-    ap not on ∙ sym (ap (λ b. b && is_under (pairs declared) d.of d.item) (ap not (sym is ∙ on))) ∙ cyclic_is declared d once has
+  -- ---- what is above itself lies on a way round
+
+  cyclic_round : (t : Name) (i : ℕ) → i < length rows → name_at rows i ≡ t → is_cyclic (pairs declared) t ≡ true → IsOnRound ps i
+  cyclic_round t i low at cyclic =
+      let (e, has, named, under) = (is_cyclic_decides (pairs declared) t).0 cyclic in
+      let p = parent_at declared rows h i low in
+      let of : name_at rows (parent_of ps i) ≡ e.of = p.1 ∙ ap (parent_in declared) (at ∙ named) ∙ (pair_is declared e (once_declared declared h.declared_once) has).2 in (
+        goes_to declared rows h e.of t (parent_of ps i) i p.0 low of at under,
+        λ top own.
+            let says : says_nothing e ≡ true = says_root e (sym named ∙ sym at ∙ ap (name_at rows) top ∙ h.table.first) (sym of ∙ ap (name_at rows) (ap (parent_of ps) top ∙ own) ∙ h.table.first) in
+            let not_so : says_nothing e ≡ false = pair_says declared e has in cc,
+      )
+
+  -- where all places are below that of `object`, none is
+  pub no_cycle : IsForest ps → cycle_in declared ≡ []
+  no_cycle forest =
+      ap first_alone (none_kept (is_cyclic (pairs declared)) (map item_of declared) (λ t cyclic.
+      let (e, has, named, under) = (is_cyclic_decides (pairs declared) t).0 cyclic in
+      let at = place_in declared rows h t (ap (is_in (types_of declared)) named ∙ (pair_is declared e (once_declared declared h.declared_once) has).0) in
+      none_in_forest ps at.0 forest (omega (arith, at.1, length-map rows (λ (r : Row). r.1))) (cyclic_round t at.0 at.1 at.2 cyclic)))
+
+  -- ---- and what is declared and lies on one is above itself
+
+  round_cyclic : (d : TypeValue) (i : ℕ) → Contains declared d → i < length rows → name_at rows i ≡ d.item → IsOnRound ps i → is_cyclic (pairs declared) d.item ≡ true
+  round_cyclic d i has low at round =
+      let p = parent_at declared rows h i low in
+      let of : name_at rows (parent_of ps i) ≡ d.of = p.1 ∙ ap (parent_in declared) at ∙ parent_declared declared d (once_declared declared h.declared_once) has in
+      elim (says_nothing d) as (λ b. says_nothing d ≡ b → is_cyclic (pairs declared) d.item ≡ true) [
+        | true ↦ λ nothing.
+            let top : i ≡ 0 = is_first i low (at ∙ bytes_same d.item root (and_left (bytes_eq d.item root) (bytes_eq d.of root) nothing)) in
+            absurd (round.1 top (ap (parent_of ps) (sym top) ∙ is_first (parent_of ps i) p.0 (of ∙ bytes_same d.of root (and_right (bytes_eq d.item root) (bytes_eq d.of root) nothing))))
+        | false ↦ λ something. (is_cyclic_decides (pairs declared) d.item).1 (
+          d,
+          Contains-append_left (filter (λ e. not (says_nothing e)) declared) (map under_root (only_parents declared)) d (is_kept (λ e. not (says_nothing e)) declared d has (ap not something)),
+          refl,
+          subst (λ n. Under (pairs declared) n d.item) of (subst (Under (pairs declared) (name_at rows (parent_of ps i))) at (come_to declared rows h round.0.0 (parent_of ps i) i p.0 round.0.1)),
+        )
+      ] refl
+
+  told_cyclic : (d : TypeValue) (i : ℕ) (told : Bool) → Contains declared d → i < length rows → name_at rows i ≡ d.item → IsTrue told ↔ IsOnRound ps i → is_cyclic (pairs declared) d.item ≡ told
+  told_cyclic d i told has low at tells =
+      same_tests (is_cyclic (pairs declared) d.item) told (λ cyclic. tells.1 (cyclic_round d.item i low at cyclic)) (λ yes. round_cyclic d i has low at (tells.0 yes))
+
+  -- ---- on each way round lies a declared type
+
+  abbrev HasCyclic : Type 0
+  HasCyclic = (t : Name) × Contains (map item_of declared) t × (is_cyclic (pairs declared) t ≡ true)
+
+  declared_round : (i : ℕ) → i < length rows → IsOnRound ps i → is_in (map item_of declared) (name_at rows i) ≡ true → HasCyclic
+  declared_round i low round there =
+      let d = mapped_is item_of declared (name_at rows i) (in_has (map item_of declared) (name_at rows i) there) in
+      (d.0.item, is_mapped item_of declared d.0 d.1, round_cyclic d.0 i d.1 low (sym d.2) round)
+
+  -- what only stands as a parent is under `object`
+  undeclared_up : (i : ℕ) → i < length rows → is_in (map item_of declared) (name_at rows i) ≡ false → parent_of ps i ≡ 0
+  undeclared_up i low off =
+      let p = parent_at declared rows h i low in
+      is_first (parent_of ps i) p.0 (p.1 ∙ parent_undeclared declared (name_at rows i) off)
+
+  some_cyclic : HasRound ps → HasCyclic
+  some_cyclic (i, less, round, other) =
+      let low : i < length rows = omega (arith, less, length-map rows (λ (r : Row). r.1)) in
+      elim (is_in (map item_of declared) (name_at rows i)) as (λ b. is_in (map item_of declared) (name_at rows i) ≡ b → HasCyclic) [
+        | true ↦ declared_round i low (round, other)
+        | false ↦ λ off.
+            let up_to : parent_of ps i ≡ 0 = undeclared_up i low off in
+            let not_own : parent_of ps 0 ≢ 0 = λ own. other (round_is_top ps 1 i own up_to round) own in
+            elim (is_in (map item_of declared) (name_at rows 0)) as (λ b. is_in (map item_of declared) (name_at rows 0) ≡ b → HasCyclic) [
+              | true ↦ declared_round 0 h.table.some (subst (GoesRound ps) up_to (round_on ps i round), λ _. not_own)
+              | false ↦ λ none. absurd (not_own (undeclared_up 0 h.table.some none))
+            ] refl
+      ] refl
+
+  pub not_none : HasRound ps → filter (is_cyclic (pairs declared)) (map item_of declared) ≢ []
+  not_none round none =
+      let t = some_cyclic round in
+      has_none t.0 (subst (λ ns. Contains ns t.0) none (is_kept (is_cyclic (pairs declared)) (map item_of declared) t.0 t.1 t.2))
+
+-- ---- declared types one by one
+
+module _ {X : Type 0} (view : X → TypeValue) (xs : List X) (rows : List Row) (h : IsTypeTable (map view xs) rows) (i : ℕ) (x : X) (low : i < length xs) (is : x ≡ get_or xs i x) (q : Bor (List ℕ)) (named : q.now ≡ (view x).item) where
+  declares : Contains (map view xs) (view x)
+  declares = is_mapped view xs x (i, low, sym is)
+
+  -- a declared type stands in the table
+  pub stands : position (λ k. bytes_eq q.now k.now) (keys_of rows) ≡ None → ⊥
+  stands none =
+      let off : is_in (types_of (map view xs)) (view x).item ≡ false = ap (is_in (types_of (map view xs))) (sym named) ∙ no_type (map view xs) rows q h none in
+      let on : is_in (types_of (map view xs)) (view x).item ≡ true = type_declared (map view xs) (view x).item (is_mapped item_of (map view xs) (view x) declares) in
+      cc
+
+  -- and is above itself where its place lies on a way round
+  pub told_at : (qs : List ℕ) (place : ℕ) (told : Bool) → qs ≡ parents_in rows → position (λ k. bytes_eq q.now k.now) (keys_of rows) ≡ Some place → IsTrue told ↔ IsOnRound qs place → is_cyclic (pairs (map view xs)) (view x).item ≡ told
+  told_at qs place told same at tells =
+      let found = found_place rows q place at in
+      told_cyclic (map view xs) rows h (view x) place told declares found.0 (found.1 ∙ named) (subst (λ rs. IsTrue told ↔ IsOnRound rs place) same tells)
+
+-- those that pass a test, of what is left of a list
+left_is : {X : Type 0} (view : X → TypeValue) (q : Name → Bool) (xs : List X) (i : ℕ) (x : X) (b : Bool) → i < length xs → x ≡ get_or xs i x → q (view x).item ≡ b
+    → filter q (map item_of (map view (drop i xs))) ≡ cond b ((view x).item ∷ filter q (map item_of (map view (drop (i + 1) xs)))) (filter q (map item_of (map view (drop (i + 1) xs))))
+left_is view q xs i x b low is test =
+    let rest = map item_of (map view (drop (i + 1) xs)) in
+    at_drop_more (λ ys. filter q (map item_of (map view ys))) xs i x low ∙ ap (λ y. filter q ((view y).item ∷ rest)) (sym is)
+    ∙ ap (λ t. cond t ((view x).item ∷ filter q rest) (filter q rest)) test
+
+pub first_left : {X : Type 0} (view : X → TypeValue) (q : Name → Bool) (xs : List X) (i : ℕ) (x : X) (ns : List Name) → i < length xs → x ≡ get_or xs i x
+    → q (view x).item ≡ true → filter q (map item_of (map view (drop i xs))) ≡ ns → Contains (first_alone ns) (view x).item
+first_left view q xs i x ns low is on left =
+    subst (λ ws. Contains (first_alone ws) (view x).item) (sym (left_is view q xs i x true low is on) ∙ left) (0, omega arith, refl)
+
+pub next_left : {X : Type 0} (view : X → TypeValue) (q : Name → Bool) (xs : List X) (i : ℕ) (x : X) (ns : List Name) → i < length xs → x ≡ get_or xs i x
+    → q (view x).item ≡ false → filter q (map item_of (map view (drop i xs))) ≡ ns → filter q (map item_of (map view (drop (i + 1) xs))) ≡ ns
+next_left view q xs i x ns low is off left = sym (left_is view q xs i x false low is off) ∙ left

@@ -1,11 +1,10 @@
 mod ListTests
-pub mod BelowRoot
 pub mod CyclicTypes
 pub mod SharedTypes
 pub mod Lookups
 pub mod CountedObjects
 pub mod SignatureTables
-pub mod TypeClimbs
+pub mod TypeParents
 pub mod TypeForests
 pub mod TypeLookups
 pub mod TypePlaces

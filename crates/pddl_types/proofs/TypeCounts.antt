@@ -1,5 +1,5 @@
 -- Objects that are counted by the places of their types.
-use Rattle.std.proofs.Common.{◌≡◌, slice_index_or, ℕ, zero, suc, ◌+◌, ◌<◌, Bool, true, false, ◌||◌, ◌&&◌, cond, List, [], ◌∷◌, ◌++◌, map, filter, length, Some, refl, sym, ap, ◌∙◌, subst, bytes_eq, arith}
+use Rattle.std.proofs.Common.{◌≡◌, slice_index_or, ℕ, zero, suc, ◌<◌, Bool, true, false, ◌||◌, ◌&&◌, cond, List, [], ◌∷◌, map, filter, length, Some, refl, sym, ap, ◌∙◌, subst, bytes_eq, arith}
 use Rattle.std.specs.Prelude.{slice_get, Contains}
 use Rattle.std.specs.Borrow.{Bor}
 use Rattle.std.specs.Map.{lookup}
@@ -10,17 +10,15 @@ use Rattle.pddl_forest.specs.Counts.{count, AreCounts}
 use Rattle.pddl_formula.specs.TypedLists.{TypedValue}
 use Rattle.pddl_domain.specs.Declarations.{TypeValue}
 use Rattle.pddl_task.specs.Names.{Name}
-use Rattle.pddl_task.specs.Types.{types_of, pairs, fits, is_under}
+use Rattle.pddl_task.specs.Types.{pairs, fits, is_under}
 use Rattle.pddl_task.specs.Faults.{primitives_of}
 use Rattle.pddl_task.specs.GroundSize.{fitting_count}
-use Rattle.pddl_types.specs.TypeTables.{Row, names_in, name_at, IsTypeTable}
+use Rattle.pddl_types.specs.TypeTables.{Row, name_at, IsTypeTable}
 use Rattle.pddl_types.specs.ObjectCounts.{is_single, AreSingle, AreCountsOf, AreNamedCounts}
 use Rattle.pddl_types.specs.Places.{AreObjectsAt}
 use Rattle.pddl_task.proofs.Lists.{bytes_same}
-use Rattle.pddl_types.proofs.TypeTables.{table_has}
 use Rattle.pddl_faults.proofs.PutValues.{lookup_put}
-use Rattle.pddl_types.proofs.TypeClimbs.{name_has, has_in}
-use Rattle.pddl_types.proofs.TypeForests.{parents_in, under_numbered}
+use Rattle.pddl_types.proofs.TypeForests.{parents_in, type_there, under_numbered}
 use Rattle.pddl_types.proofs.TypePlaces.{same_at, as_long}
 
 -- ---- names at places
@@ -36,10 +34,6 @@ named_place (r ∷ rows) (suc n) k p at = let rest = named_place rows n k p at i
 pub record ArePlacesOf (rows : List Row) (objects : List TypedValue) (places : List ℕ) : Type 0 where
   pub names : map (λ p. name_at rows p ∷ []) places ≡ map primitives_of objects
   pub in_range : (p : ℕ) → Contains places p → p < length rows
-
-pub pushed_length : (xs : List ℕ) (x n : ℕ) → length xs ≡ n → length (xs ++ x ∷ []) ≡ n + 1
-pushed_length [] x n h = omega (arith, h)
-pushed_length (y ∷ xs) x n h = let rest = pushed_length xs x (length xs) refl in omega (arith, h, rest)
 
 -- each of some numbers is low
 pub low_all : (places : List ℕ) (size : ℕ) → ((k : ℕ) → k < length places → slice_index_or places k 0 < size) → (p : ℕ) → Contains places p → p < size
@@ -63,9 +57,6 @@ placed declared rows objects places table are low = record { names = all objects
         ∙ ap (λ ns. x.of ∷ ns) (all objects places rest (λ q in_it. low q (suc in_it.0, omega (arith, in_it.1), in_it.2)))
 
 -- ---- counts by names
-
-pub none_named : (rows : List Row) (counts : List ℕ) → AreNamedCounts rows counts []
-none_named rows counts n c found = absurd (cc)
 
 pub more_named : (rows : List Row) (counts : List ℕ) (named : List Row) (k : Bor (List ℕ)) (place : ℕ) → place < length rows → name_at rows place ≡ k.now → AreNamedCounts rows counts named
     → AreNamedCounts rows counts (insert_entry (λ a b. bytes_eq a.now b.now) named k (number_at counts place))
@@ -98,7 +89,7 @@ single_places declared rows (x ∷ objects) [] table names low o there = absurd 
 single_places declared rows (x ∷ objects) (p ∷ places) table names low o (zero, less, is) =
     let here : name_at rows p ∷ [] ≡ x.of = cc names in
     subst (λ (y : TypedValue). is_single declared y.of ≡ true) is
-    (subst (λ ts. is_single declared ts ≡ true) here (sym (table_has (types_of declared) declared rows table.table (name_at rows p)) ∙ has_in (names_in rows) (name_at rows p) (name_has rows p (low p (0, omega arith, refl)))))
+    (subst (λ ts. is_single declared ts ≡ true) here (type_there declared rows table p (low p (0, omega arith, refl))))
 single_places declared rows (x ∷ objects) (p ∷ places) table names low o (suc k, less, is) =
     let rest : map (λ p. name_at rows p ∷ []) places ≡ map primitives_of objects = cc names in
     single_places declared rows objects places table rest (λ q there. low q (suc there.0, omega (arith, there.1), there.2)) o (k, omega (arith, less), is)
@@ -113,7 +104,7 @@ counts_are declared rows ps objects places counts named table same placed counte
       sym at.3
           ∙ counted g (subst (λ m. g < m) (sym long) at.1) (λ p. fit (name_at rows p ∷ []))
           (λ i low.
-          let under = under_numbered declared rows ps i g table (subst (λ m. i < m) long low) at.1 same in
+          let under = under_numbered declared rows table ps i g same (subst (λ m. i < m) long low) at.1 in
           let one = one_alone (is_under (pairs declared) (name_at rows i) (name_at rows g)) in
           (λ yes. under.0 (sym one ∙ yes), λ way. one ∙ under.1 way))
           ∙ sym (count_map (λ p. name_at rows p ∷ []) fit places) ∙ ap (count fit) placed.names ∙ count_map primitives_of fit objects

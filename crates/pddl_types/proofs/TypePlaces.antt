@@ -1,29 +1,27 @@
 -- Types by their places in a table.
-use Rattle.std.proofs.Common.{◌≡◌, ℕ, zero, suc, ◌+◌, ◌<◌, ◌==◌, Bool, true, false, true≢false, not, cond, List, [], ◌∷◌, ◌++◌, map, length, take, drop, refl, sym, ap, ◌∙◌, subst, arith, bytes_eq, ◌⊎◌, inl, inr}
-use Rattle.std.specs.Prelude.{Option, Some, None, IfSome, Result, Ok, Err, OnOk, Contains, slice_get, option_map}
+use Rattle.std.proofs.Common.{◌≡◌, ℕ, zero, suc, ◌+◌, ◌<◌, Bool, true, false, not, cond, List, [], ◌∷◌, ◌++◌, map, length, take, drop, refl, sym, ap, ◌∙◌, subst, arith, bytes_eq, ◌⊎◌, inl, inr}
+use Rattle.std.specs.Prelude.{◌↔◌, IsTrue, Option, Some, None, IfSome, Contains, slice_get, option_map}
 use Rattle.std.specs.Borrow.{Bor}
-use Rattle.std.specs.Cmp.Lexicographic.{bytes_decides, pointwise_decides}
-use Rattle.std.specs.List.{list_any, position, position_or_len, slice_index_or, IsDistinct}
+use Rattle.std.specs.List.{list_any, position, position_or_len, slice_index_or}
 use Rattle.std.specs.Map.{lookup, keys_of}
-use Rattle.std.proofs.lemmas.Bool.{eqb-true, eq-eqb}
 use Rattle.std.proofs.lemmas.List.{length-map, length-append}
 use Rattle.std.proofs.lemmas.List.Elements.{Contains-append_cases}
-use Rattle.std.proofs.lemmas.Map.Keys.{IsDistinct-head, IsDistinct-tail}
 use Rattle.std.proofs.lemmas.Option.{slice_get-map, slice_get_within}
+use Rattle.pddl_forest.specs.Forests.{IsUnder}
 use Rattle.pddl_formula.specs.TypedLists.{TypedValue}
 use Rattle.pddl_formula.specs.declared.type_names.Typed.{Typed}
 use Rattle.pddl_domain.specs.Declarations.{TypeValue}
-use Rattle.pddl_task.specs.Names.{Name, is_in, same_names}
-use Rattle.pddl_task.specs.Types.{root, types_of, pairs, is_under}
-use Rattle.pddl_types.specs.TypeTables.{Row, names_in, name_at, type_names, climbs, IsTypeTable}
+use Rattle.pddl_task.specs.Names.{Name, is_in}
+use Rattle.pddl_task.specs.Types.{root, pairs, is_under}
+use Rattle.pddl_types.specs.TypeTables.{Row, name_at, type_names, IsTypeTable}
 use Rattle.pddl_types.specs.KnownNames.{AreNamed, object_in}
 use Rattle.pddl_types.specs.Places.{type_at, IsToldAt, AreToldAt, AreTops, IsOnlyAt, HaveNumbers, AreObjectsAt, IsEmpty, AreListedAt}
 use Rattle.pddl_types.specs.declared.listed.Listed.{Listed}
 use Rattle.pddl_types.specs.declared.top.Top.{Top}
-use Rattle.pddl_task.proofs.Lists.{bytes_same, any_found, found_any, has_cases, has_later, has_none}
-use Rattle.pddl_types.proofs.TypeTables.{table_once, apart}
-use Rattle.pddl_types.proofs.TypeClimbs.{has_in, climbs_decide}
-use Rattle.pddl_types.proofs.TypeLookups.{found_place, no_place, under_same, no_subtype, no_supertype}
+use Rattle.pddl_task.proofs.Lists.{bytes_same, any_found, found_any, has_cases, has_none}
+use Rattle.pddl_types.proofs.TypeParents.{has_in, same_tests, alone}
+use Rattle.pddl_types.proofs.TypeForests.{parents_in, under_numbered}
+use Rattle.pddl_types.proofs.TypeLookups.{found_place, no_type}
 
 module _ (declared : List TypeValue) (rows : List Row) (h : IsTypeTable declared rows) where
   pub as_long : length (type_names declared) ≡ length rows
@@ -35,9 +33,12 @@ module _ (declared : List TypeValue) (rows : List Row) (h : IsTypeTable declared
   pub low_there : (i : ℕ) → i < length (type_names declared) → i < length rows
   low_there i low = omega (arith, low, as_long)
 
-  pub under_at : (i g : ℕ) → i < length (type_names declared) → g < length (type_names declared) → climbs rows (length rows) i g ≡ is_under (pairs declared) (type_at declared i) (type_at declared g)
-  under_at i g low also =
-      climbs_decide declared rows i g h (low_there i low) (low_there g also)
+  -- what is told of two places by their numbers
+  pub under_at : (ps : List ℕ) (i g : ℕ) (told : Bool) → ps ≡ parents_in rows → i < length (type_names declared) → g < length (type_names declared) → IsTrue told ↔ IsUnder ps i g
+      → told ≡ is_under (pairs declared) (type_at declared i) (type_at declared g)
+  under_at ps i g told same low also tells =
+      let under = under_numbered declared rows h ps i g same (low_there i low) (low_there g also) in
+      same_tests told (is_under (pairs declared) (name_at rows i) (name_at rows g)) (λ yes. under.1 (tells.0 yes)) (λ yes. tells.1 (under.0 yes))
       ∙ ap (λ n. is_under (pairs declared) n (name_at rows g)) (same_at i) ∙ ap (is_under (pairs declared) (type_at declared i)) (same_at g)
 
   -- ---- a place that is looked up
@@ -52,9 +53,7 @@ module _ (declared : List TypeValue) (rows : List Row) (h : IsTypeTable declared
 
   pub place_alone : (q : Bor (List ℕ)) (o : Option ℕ) → o ≡ position (λ k. bytes_eq q.now k.now) (keys_of rows) → o ≡ None
       → (n : Name) → (is_under (pairs declared) q.now n ≡ bytes_eq q.now n) × (is_under (pairs declared) n q.now ≡ bytes_eq n q.now)
-  place_alone q o at none n =
-      let missing = no_place rows q (sym at ∙ none) in
-      (sym (under_same declared rows q.now n h (no_subtype declared rows q.now n h missing)), sym (under_same declared rows n q.now h (no_supertype declared rows n q.now h missing)))
+  place_alone q o at none = alone declared q.now h.declared_once (no_type declared rows q h (sym at ∙ none))
 
   pub place_told : (q : Bor (List ℕ)) (i : ℕ) → position (λ k. bytes_eq q.now k.now) (keys_of rows) ≡ Some i → IsToldAt declared q.now i
   place_told q i at low = sym (same_at i) ∙ (found_place rows q i at).1
@@ -118,10 +117,6 @@ module _ (declared : List TypeValue) (names : List Name) where
           some_same h = cc
 
 -- ---- tops, one by one
-
-pub on_ok : {T E P Q : Type 0} (r : Result T E) → (P → Q) → OnOk r P → OnOk r Q
-on_ok (Ok x) f h = f h
-on_ok (Err e) f h = tt
 
 pub no_tops : (declared : List TypeValue) (names : List Name) → AreTops declared names []
 no_tops declared names t there = absurd (has_none t there)

@@ -14,10 +14,8 @@ use Rattle.pddl_task.specs.Faults.{primitives_of}
 use Rattle.pddl_task.specs.GroundSize.{fitting_count}
 use Rattle.pddl_types.specs.TypeTables.{Row, name_at, IsTypeTable}
 use Rattle.pddl_types.specs.ObjectCounts.{is_single, AreSingle, AreNamesAt, primitive_at, AddUp, IsCountAt, IsSumOf}
-use Rattle.pddl_types.proofs.TypeTables.{table_has}
-use Rattle.pddl_types.proofs.TypeClimbs.{has_row, place_of}
 use Rattle.pddl_types.proofs.TypeCounts.{ArePlacesOf, count_map, one_alone}
-use Rattle.pddl_types.proofs.TypeForests.{parents_in, under_numbered}
+use Rattle.pddl_types.proofs.TypeForests.{parents_in, place_in, under_numbered}
 
 pub if_some : {A : Type 0} (P Q : A → Type 0) (o : Option A) → ((a : A) → P a → Q a) → IfSome o P → IfSome o Q
 if_some P Q None on h = h
@@ -35,11 +33,10 @@ objects_placed declared rows [] table single = ([], record { names = refl; in_ra
 objects_placed declared rows (o ∷ objects) table single =
     let rest = objects_placed declared rows objects table (λ x there. single x (suc there.0, omega (arith, there.1), there.2)) in
     let one = single_is declared o.of (single o (0, omega arith, refl)) in
-    let row = has_row rows one.0 (table_has (types_of declared) declared rows table.table one.0 ∙ one.2) in
-    let place = place_of rows row.0 row.1 in (
+    let place = place_in declared rows table one.0 one.2 in (
       place.0 ∷ rest.0,
       record {
-        names = ap (λ ns. ns ∷ map (λ p. name_at rows p ∷ []) rest.0) (ap (λ n. n ∷ []) (place.2 ∙ row.2) ∙ sym one.1) ∙ ap (λ l. o.of ∷ l) rest.1.names;
+        names = ap (λ ns. ns ∷ map (λ p. name_at rows p ∷ []) rest.0) (ap (λ n. n ∷ []) place.2 ∙ sym one.1) ∙ ap (λ l. o.of ∷ l) rest.1.names;
         in_range = first_or_rest (λ p. p < length rows) place.0 rest.0 place.1 rest.1.in_range;
       },
     )
@@ -100,7 +97,7 @@ module _ (declared : List TypeValue) (rows : List Row) (ps : List ℕ) (table : 
   under_some i (g ∷ places) low in_range h =
       elim (is_under (pairs declared) (name_at rows i) (name_at rows g)) as (λ b. is_under (pairs declared) (name_at rows i) (name_at rows g) ≡ b
       → b || list_any (is_under (pairs declared) (name_at rows i)) (map (name_at rows) places) ≡ true → IsUnderSome ps i (g ∷ places)) [
-        | true ↦ λ e _. (g, (0, omega arith, refl), (under_numbered declared rows ps i g table low (in_range g (0, omega arith, refl)) same).0 e)
+        | true ↦ λ e _. (g, (0, omega arith, refl), (under_numbered declared rows table ps i g same low (in_range g (0, omega arith, refl))).0 e)
         | false ↦ λ _ more.
             let rest = under_some i places low (λ p there. in_range p (suc there.0, omega (arith, there.1), there.2)) more in
             (rest.0, (suc rest.1.0, omega (arith, rest.1.1), rest.1.2), rest.2)
@@ -110,7 +107,7 @@ module _ (declared : List TypeValue) (rows : List Row) (ps : List ℕ) (table : 
       → list_any (is_under (pairs declared) (name_at rows i)) (map (name_at rows) places) ≡ true
   some_under i [] low in_range (g, (k, less, is), under) = absurd (omega (arith, less))
   some_under i (q ∷ places) low in_range (g, (zero, less, is), under) =
-      let here = (under_numbered declared rows ps i q table low (in_range q (0, omega arith, refl)) same).1 (subst (IsUnder ps i) (sym is) under) in
+      let here = (under_numbered declared rows table ps i q same low (in_range q (0, omega arith, refl))).1 (subst (IsUnder ps i) (sym is) under) in
       ap (λ b. b || list_any (is_under (pairs declared) (name_at rows i)) (map (name_at rows) places)) here
   some_under i (q ∷ places) low in_range (g, (suc k, less, is), under) =
       or_right (is_under (pairs declared) (name_at rows i) (name_at rows q)) (list_any (is_under (pairs declared) (name_at rows i)) (map (name_at rows) places))
@@ -145,7 +142,7 @@ module _ (declared : List TypeValue) (rows : List Row) (ps : List ℕ) (table : 
         let whole = count_fits objects listed types placed.1 in
         let total = tops.sum listed (λ i there. subst (λ n. i < n) (sym long) (placed.1.in_range i there)) (λ g i. fits (pairs declared) (name_at rows i ∷ []) (name_at rows g ∷ []))
         (λ g i g_low i_low.
-        let under = under_numbered declared rows ps i g table (subst (λ n. i < n) long i_low) (subst (λ n. g < n) long g_low) same in
+        let under = under_numbered declared rows table ps i g same (subst (λ n. i < n) long i_low) (subst (λ n. g < n) long g_low) in
         let one = one_alone (is_under (pairs declared) (name_at rows i) (name_at rows g)) in
         (λ yes. under.0 (sym one ∙ yes), λ way. one ∙ under.1 way))
         (λ i. fits (pairs declared) (name_at rows i ∷ []) types)

@@ -12,7 +12,8 @@ use Rattle.pddl_task.specs.Types.{root, parent_of}
 use Rattle.pddl_types.specs.TypeTables.{Row, names_in, name_at, with_name, each_behind, IsTableOf}
 use Rattle.pddl_task.proofs.Lists.{append-none, or_right, none_left, none_right, is_mapped}
 use Rattle.pddl_types.proofs.TypeTables.{put, apart, table_has, table_again, longer, place_put, put_under_root, put_under}
-use Rattle.pddl_types.proofs.TypeClimbs.{has_in, name_has, parent_undeclared, once_declared}
+use Rattle.pddl_types.proofs.TypeParents.{has_in, parent_undeclared, once_declared}
+use Rattle.pddl_types.proofs.TypeForests.{name_has}
 use Rattle.pddl_types.proofs.Views.{map-map}
 
 -- ---- names so far

@@ -1,13 +1,14 @@
 -- How the types of a domain are held for look-ups by name.
-use Rattle.std.specs.Prelude.{◌≡◌, ℕ, zero, suc, Bool, ◌||◌, ◌==◌, ◌<◌, List, [], ◌∷◌, ◌++◌, map, length, cond, bytes_eq, Contains, slice_get, Option, IfSome}
-use Rattle.std.specs.Option.{option_map_or}
+use Rattle.std.specs.Prelude.{◌≡◌, ◌≢◌, ℕ, ◌<◌, List, [], ◌∷◌, ◌++◌, map, filter, length, cond, bytes_eq, Contains}
 use Rattle.indexmap.specs.IndexMap.{insert_entry}
 use Rattle.std.specs.List.{slice_index_or}
 use Rattle.std.specs.Borrow.{Bor}
-use Rattle.pddl_forest.specs.Forests.{IsForest}
+use Rattle.pddl_forest.specs.Forests.{parent_of}
+use Rattle.pddl_forest.specs.Rounds.{GoesRound}
 use Rattle.pddl_domain.specs.Declarations.{TypeValue}
 use Rattle.pddl_task.specs.Names.{Name, is_in, repeated, item_of}
-use Rattle.pddl_task.specs.Types.{root, types_of}
+use Rattle.pddl_task.specs.Types.{root, types_of, pairs, is_cyclic}
+use Rattle.pddl_task.specs.Faults.{first_alone}
 
 -- ---- names
 
@@ -59,17 +60,12 @@ pub record IsTypeTable (declared : List TypeValue) (rows : List Row) : Type 0 wh
 abbrev pub with_name : List Row → Bor (List ℕ) → List Row
 with_name rows k = cond (is_in (names_in rows) k.now) rows (insert_entry (λ x y. bytes_eq x.now y.now) rows k 0)
 
--- ---- climbs
+-- ---- cycles
 
--- the place of a type's parent
-abbrev pub parent_place : List Row → ℕ → ℕ
-parent_place rows i = option_map_or (λ r. r.1) (slice_get rows i) i
+-- a place is come to again from its parent, other than place 0 as its own parent
+abbrev pub IsOnRound : List ℕ → ℕ → Type 0
+IsOnRound ps i = GoesRound ps i × (i ≡ 0 → parent_of ps 0 ≢ 0)
 
--- a place is come to by at most so many steps
-abbrev pub climbs : List Row → ℕ → ℕ → ℕ → Bool
-climbs rows zero i g = i == g
-climbs rows (suc n) i g = (i == g) || climbs rows n (parent_place rows i) g
-
--- where the places are numbered, they are those of a forest, each with its parent's
-abbrev pub AreNumbered : List Row → Option (List ℕ) → Type 0
-AreNumbered rows order = IfSome order (λ ps. (ps ≡ map (λ r. r.1) rows) × IsForest ps)
+-- the first declared type that is above itself, if there is one
+abbrev pub cycle_in : List TypeValue → List Name
+cycle_in declared = first_alone (filter (is_cyclic (pairs declared)) (map item_of declared))

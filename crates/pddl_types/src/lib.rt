@@ -3,14 +3,15 @@
 //! Types are numbered in pre-order, so that a test for a subtype is two comparisons.
 #![tactic(auto)]
 
+mod cycles;
 mod declared;
 mod declares;
 mod function_numbers;
 mod known;
 mod listed;
+mod primitive_places;
 mod slot_tops;
 mod top;
-mod tops;
 mod type_counts;
 mod type_table;
 mod types;

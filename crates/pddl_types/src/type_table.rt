@@ -1,26 +1,18 @@
-//! The table of the types of a domain, each with the place of its parent, and what is told of the places.
+//! The table of the types of a domain, each with the place of its parent, and its places in pre-order.
 
 ghost use Rattle.std.specs.Prelude.{◌≡◌, ◌<◌, [], ◌∷◌, map, length, IfOk, OnOk};
 ghost use Rattle.pddl_domain.specs.Declarations.{type_view};
 ghost use Rattle.pddl_task.specs.Names.{repeated, item_of};
 ghost use Rattle.pddl_task.specs.Types.{root};
-ghost use Rattle.pddl_forest.specs.Rounds.{AreOffRounds};
-ghost use Rattle.pddl_types.specs.TypeTables.{IsTableOf, IsTypeTable, AreNumbered, with_name, name_at, parent_place, climbs};
+ghost use Rattle.pddl_faults.specs.Passes.{Passes};
+ghost use Rattle.pddl_types.specs.TypeTables.{IsTableOf, IsTypeTable, with_name, name_at, cycle_in};
 
+use crate::cycles::first_cycle;
 use indexmap::IndexMap;
 use pddl_domain::{DeclaredType, DeclaredTypes};
-use pddl_faults::Hashed;
-use pddl_forest::{Preorder, off_rounds};
+use pddl_faults::{Hashed, LinkFault};
+use pddl_forest::Preorder;
 use std::alloc::{AllocError, Allocator};
-
-/// What is told of the places of a table by their parents.
-#[derive(Drop)]
-pub(crate) struct Places<'a, B: Allocator> {
-    /// The places in pre-order, where all are below `object`.
-    pub(crate) order: Option<Preorder<'a, B>>,
-    /// Else a number for each place, other than 0 only where no way from parent to parent leads back to it.
-    pub(crate) off_rounds: Vec<usize, &'a B>,
-}
 
 /// The place of a type in the table; it is put there under `object` where it does not stand yet.
 fn place_of<'m, 'a, B: Allocator>(
@@ -91,103 +83,31 @@ pub(crate) fn parent_table<'m, 'a, A: Allocator, B: Allocator>(
     Ok(parents)
 }
 
-/// The place of the parent of the type at a place.
-fn parent_of<'m, 'a, B: Allocator>(
-    parents: &IndexMap<&'m [u8], usize, Hashed, &'a B>,
-    place: usize,
-) -> usize
-    ensures { result ≡ parent_place parents.now.entries place }
-{
-    match parents.get_index(place) {
-        Some((_, parent)) => *parent,
-        None => place,
-    }
-}
-
 /// The places of the parents, in the table's order.
 ///
 /// Fails where memory for them is refused.
-fn parent_places<'m, 'a, B: Allocator>(
+pub(crate) fn parent_places<'m, 'a, B: Allocator>(
     alloc: &'a B,
     parents: &IndexMap<&'m [u8], usize, Hashed, &'a B>,
 ) -> Result<Vec<usize, &'a B>, AllocError>
     ensures { IfOk result (λ places. places.items ≡ map (λ r. r.1) parents.now.entries) }
 {
-    let mut places = Vec::with_capacity(alloc, parents.len())?;
-    for place in 0..parents.len() {
-        places.push(parent_of(parents, place))?;
-    }
-    Ok(places)
+    parents.values().copied().collect(alloc)
 }
 
-/// The places of a table, numbered where all are below `object`.
-///
-/// Fails where memory for the numbers is refused.
-fn numbered<'m, 'a, B: Allocator>(
+/// The places of a table in pre-order, or the first type that is above itself.
+pub(crate) fn in_order<'m, 'a, A: Allocator, B: Allocator>(
     alloc: &'a B,
     parents: &IndexMap<&'m [u8], usize, Hashed, &'a B>,
-) -> Result<Option<Preorder<'a, B>>, AllocError>
-    ensures { IfOk result (λ order. AreNumbered parents.now.entries order) }
+    declared: &'m [DeclaredType<A>],
+) -> Result<Preorder<'a, B>, LinkFault<'m>>
+    requires { IsTypeTable (map type_view declared.now) parents.now.entries }
+    ensures order { IfOk result (λ order. order ≡ map (λ r. r.1) parents.now.entries) }
+    ensures cycle { Passes 22 (cycle_in (map type_view declared.now)) result }
 {
     let places = parent_places(alloc, parents)?;
-    Preorder::of(alloc, places)
-}
-
-/// Numbers for the places of a table that is not numbered, other than 0 only where no way from parent to parent leads back to the place; none where it
-/// is numbered.
-///
-/// Fails where memory for them is refused.
-fn places_off_rounds<'m, 'a, B: Allocator>(
-    alloc: &'a B,
-    parents: &IndexMap<&'m [u8], usize, Hashed, &'a B>,
-    is_numbered: bool,
-) -> Result<Vec<usize, &'a B>, AllocError>
-    ensures { IfOk result (λ numbers. AreOffRounds (map (λ r. r.1) parents.now.entries) numbers.items) }
-{
-    if is_numbered {
-        return Ok(Vec::new(alloc));
+    match Preorder::of(alloc, places)? {
+        Some(order) => Ok(order),
+        None => Err(LinkFault::TypeCycle(first_cycle(alloc, parents, declared)?)),
     }
-    let places = parent_places(alloc, parents)?;
-    off_rounds(alloc, &places)
-}
-
-/// What is told of the places of a table.
-///
-/// Fails where memory for it is refused.
-pub(crate) fn places_of_parents<'m, 'a, B: Allocator>(
-    alloc: &'a B,
-    parents: &IndexMap<&'m [u8], usize, Hashed, &'a B>,
-) -> Result<Places<'a, B>, AllocError>
-    ensures order { IfOk result (λ places. AreNumbered parents.now.entries places.order) }
-    ensures off_rounds { IfOk result (λ places. AreOffRounds (map (λ r. r.1) parents.now.entries) places.off_rounds.items) }
-{
-    let order = numbered(alloc, parents)?;
-    let off_rounds = places_off_rounds(alloc, parents, order.is_some())?;
-    Ok(Places { order, off_rounds })
-}
-
-/// Whether one place is come to from another, from parent to parent.
-pub(crate) fn climbs<'m, 'a, B: Allocator>(
-    parents: &IndexMap<&'m [u8], usize, Hashed, &'a B>,
-    from: usize,
-    to: usize,
-) -> bool
-    ensures { result ≡ climbs parents.now.entries (length parents.now.entries) from to }
-{
-    let mut place = from;
-    for _step in 0..parents.len() {
-        if place == to {
-            return true;
-        }
-        match parents.get_index(place) {
-            Some((_, parent)) => {
-                if *parent == place {
-                    return false;
-                }
-                place = *parent;
-            }
-            None => return false,
-        }
-    }
-    place == to
 }

@@ -5,77 +5,70 @@ ghost use Rattle.std.specs.List.{flat_map, list_any};
 ghost use Rattle.pddl_formula.specs.TypedLists.{TypedValue, typed_view};
 ghost use Rattle.pddl_domain.specs.Declarations.{type_view};
 ghost use Rattle.pddl_task.specs.Names.{is_in, repeated, item_of};
-ghost use Rattle.pddl_task.specs.Types.{says_nothing, types_of, pairs, is_under, is_subtype, is_cyclic, fits};
-ghost use Rattle.pddl_task.specs.Faults.{primitives_of, first_alone};
+ghost use Rattle.pddl_task.specs.Types.{types_of, pairs, is_under, is_subtype, fits};
+ghost use Rattle.pddl_task.specs.Faults.{primitives_of};
 ghost use Rattle.pddl_faults.specs.Passes.{Passes};
 ghost use Rattle.pddl_types.specs.KnownNames.{object_in};
 ghost use Rattle.pddl_types.specs.ObjectCounts.{AreCountsOf, AddUp};
-ghost use Rattle.pddl_types.specs.TypeTables.{type_names};
+ghost use Rattle.pddl_types.specs.TypeTables.{type_names, cycle_in};
 ghost use Rattle.pddl_types.specs.Places.{type_at, IsToldAt, AreToldAt, AreTops, IsOnlyAt, AreListedAt};
 
 use crate::listed::Listed;
+use crate::primitive_places::primitive_places;
 use crate::top::Top;
-use crate::tops::tops;
-use crate::type_counts::{TypeCounts, single, type_counts};
-use crate::type_table::{Places, climbs, parent_table, places_of_parents};
+use crate::type_counts::{TypeCounts, are_within, by_name, single};
+use crate::type_table::{in_order, parent_table};
 use indexmap::IndexMap;
 use pddl_domain::{DeclaredType, DeclaredTypes};
 use pddl_faults::{Hashed, LinkFault, Runs, Tells};
+use pddl_forest::Preorder;
 use pddl_formula::{TypeName, TypeNames, TypedList};
 use std::alloc::{AllocError, Allocator};
 use std::marker::Model;
 
-/// The types of a domain, each with the place of its parent in the table; `object` is at place 0, and is its own parent where no
-/// other is declared. Where all are below `object`, as in each domain without a cycle, their places are numbered in pre-order, and what is under what
-/// is told by two comparisons.
+/// The types of a domain without a cycle, each with the place of its parent in the table; `object` is at place 0, and is its own parent. All are below it:
+/// their places are numbered in pre-order, and what is under what is told by two comparisons.
 ///
 /// Contracts see it as the list of the declared types.
 #[derive(Drop)]
 pub struct Types<'m, 'a, A: Allocator, B: Allocator> {
     declared: &'m [DeclaredType<A>],
     parents: IndexMap<&'m [u8], usize, Hashed, &'a B>,
-    places: Places<'a, B>,
+    order: Preorder<'a, B>,
 }
 
 impl<'m, 'a, A: Allocator, B: Allocator> Model for Types<'m, 'a, A, B> {
-    ghost use Rattle.std.specs.Prelude.{List, map};
-    ghost use Rattle.pddl_forest.specs.Rounds.{AreOffRounds};
+    ghost use Rattle.std.specs.Prelude.{◌≡◌, List, map};
     ghost use Rattle.pddl_domain.specs.Declarations.{TypeValue, type_view};
-    ghost use Rattle.pddl_types.specs.TypeTables.{IsTypeTable, AreNumbered};
+    ghost use Rattle.pddl_types.specs.TypeTables.{IsTypeTable};
 
     ghost Value = { List TypeValue };
 
     ghost view = { λ t. map type_view t.declared.now };
 
-    ghost invariant = { λ t. IsTypeTable (map type_view t.declared.now) t.parents.entries × AreNumbered t.parents.entries t.places.order
-        × AreOffRounds (map (λ r. r.1) t.parents.entries) t.places.off_rounds.items };
-}
-
-/// Whether what is declared is `object` under `object`.
-fn says_nothing<A: Allocator>(declared: &DeclaredType<A>) -> bool
-    ensures { result ≡ says_nothing (type_view declared.now) }
-{
-    declared.name.as_bytes() == b"object".as_slice()
-        && declared.parent.as_bytes() == b"object".as_slice()
+    ghost invariant = { λ t. IsTypeTable (map type_view t.declared.now) t.parents.entries × (t.order ≡ map (λ r. r.1) t.parents.entries) };
 }
 
 impl<'m, 'a, A: Allocator, B: Allocator> Types<'m, 'a, A, B> {
-    /// The table of these types, each declared once.
+    /// The types that are declared, each once, or a fault where one is above itself: the first in their order that is.
     ///
-    /// Fails where memory for the table is refused.
+    /// # Errors
+    ///
+    /// `LinkFault::TypeCycle`; `Memory` where memory for the table is refused.
     pub fn of(
         alloc: &'a B,
         declared: &'m DeclaredTypes<A>,
-    ) -> Result<Types<'m, 'a, A, B>, AllocError>
+    ) -> Result<Types<'m, 'a, A, B>, LinkFault<'m>>
         requires { repeated [] (map item_of (map type_view declared.now.items)) ≡ [] }
-        ensures { IfOk result (λ types. types ≡ map type_view declared.now.items) }
+        ensures types { IfOk result (λ types. types ≡ map type_view declared.now.items) }
+        ensures cycle { Passes 22 (cycle_in (map type_view declared.now.items)) result }
     {
         let parents = parent_table(alloc, declared)?;
-        let places = places_of_parents(alloc, &parents)?;
+        let order = in_order(alloc, &parents, declared)?;
         Ok(Types {
             declared: declared.as_slice(),
             parents,
-            places,
+            order,
         })
     }
 
@@ -92,10 +85,7 @@ impl<'m, 'a, A: Allocator, B: Allocator> Types<'m, 'a, A, B> {
         requires over { over < length (type_names self.now) }
         ensures { result ≡ is_under (pairs self.now) (type_at self.now place) (type_at self.now over) }
     {
-        match &self.places.order {
-            Some(order) => order.is_under(place, over),
-            None => climbs(&self.parents, place, over),
-        }
+        self.order.is_under(place, over)
     }
 
     /// The place of a type, where there is one.
@@ -143,20 +133,9 @@ impl<'m, 'a, A: Allocator, B: Allocator> Types<'m, 'a, A, B> {
         false
     }
 
-    /// The number of the type at a place in pre-order, or 0 where it has none. Nothing is promised of it.
+    /// The number of the type at a place in pre-order. Nothing is promised of it.
     pub fn number_at(&self, place: usize) -> usize {
-        match &self.places.order {
-            Some(order) => order.number(place),
-            None => 0,
-        }
-    }
-
-    /// The largest number of the types under that at a place, or 0 where it has none. Nothing is promised of it.
-    fn last_at(&self, place: usize) -> usize {
-        match &self.places.order {
-            Some(order) => order.last(place),
-            None => 0,
-        }
+        self.order.number(place)
     }
 
     /// The top that the type at a place is under, if it is under one: the last that does not come behind it. What is promised is that it is one of them.
@@ -286,7 +265,7 @@ impl<'m, 'a, A: Allocator, B: Allocator> Types<'m, 'a, A, B> {
         }
     }
 
-    /// How many of some objects fit each type, by its name. A name that is missing is not counted.
+    /// How many of some objects fit each type, by its name; nothing where some object has not one type of these. A name that is missing is not counted.
     ///
     /// Fails where memory for the counts is refused.
     pub fn counts(
@@ -297,10 +276,11 @@ impl<'m, 'a, A: Allocator, B: Allocator> Types<'m, 'a, A, B> {
         requires { AreListedAt self.now listed.now }
         ensures { IfOk result (λ counts. AreCountsOf self.now (map object_in listed.now.objects.entries) counts.entries) }
     {
-        match &self.places.order {
-            Some(order) => type_counts(alloc, &self.parents, order, &listed.places),
-            None => Ok(IndexMap::new(alloc)),
+        if !are_within(&listed.places, self.parents.len()) {
+            return Ok(IndexMap::new(alloc));
         }
+        let counts = self.order.counts(alloc, &listed.places)?;
+        by_name(alloc, &self.parents, &counts)
     }
 
     /// The steps of some of a type's primitives, so that each object of one type which fits the type fits one of them, and one alone; `None` where they
@@ -308,12 +288,10 @@ impl<'m, 'a, A: Allocator, B: Allocator> Types<'m, 'a, A, B> {
     pub fn tops<N: Allocator>(&self, types: &TypeNames<N>) -> Option<Vec<usize, &'a B>>
         ensures { IfSome result (λ steps. AddUp self.now types.now steps.items) }
     {
-        match &self.places.order {
-            Some(order) => match tops(&self.parents, order, types) {
-                Ok(found) => found,
-                Err(_) => None,
-            },
-            None => None,
+        let places = primitive_places(self.order.allocator(), &self.parents, types)?;
+        match self.order.roots(&places) {
+            Ok(found) => found,
+            Err(_) => None,
         }
     }
 
@@ -334,7 +312,7 @@ impl<'m, 'a, A: Allocator, B: Allocator> Types<'m, 'a, A, B> {
             Some(place) => tops.push(Top {
                 place,
                 number: self.number_at(place),
-                last: self.last_at(place),
+                last: self.order.last(place),
             }),
             None => Ok(()),
         }
@@ -356,55 +334,6 @@ impl<'m, 'a, A: Allocator, B: Allocator> Types<'m, 'a, A, B> {
             let step = steps[i];
             if step < primitives.len() {
                 self.add_top(primitives, step, tops)?;
-            }
-        }
-        Ok(())
-    }
-
-    /// Whether a type was found not to be above itself, which is told of each such type where places are not numbered.
-    fn is_off_rounds(&self, name: &[u8]) -> bool
-        ensures { result ≡ true → is_cyclic (pairs self.now) name.now ≡ false }
-    {
-        match self.parents.get_index_of(name) {
-            Some(place) => place < self.places.off_rounds.len()
-                && self.places.off_rounds[place] != 0,
-            None => false,
-        }
-    }
-
-    /// Whether a declared type is come to again from its parent, which is looked at by a climb.
-    fn goes_round(&self, declared: &DeclaredType<A>) -> bool
-        requires once { repeated [] (map item_of self.now) ≡ [] }
-        requires listed { Contains self.now (type_view declared.now) }
-        ensures { result ≡ is_cyclic (pairs self.now) declared.now.name }
-    {
-        !says_nothing(declared)
-            && self.is_under(declared.parent.as_bytes(), declared.name.as_bytes())
-    }
-
-    /// Whether a declared type is above itself.
-    fn is_cyclic(&self, declared: &DeclaredType<A>) -> bool
-        requires once { repeated [] (map item_of self.now) ≡ [] }
-        requires listed { Contains self.now (type_view declared.now) }
-        ensures { result ≡ is_cyclic (pairs self.now) declared.now.name }
-    {
-        if self.is_off_rounds(declared.name.as_bytes()) {
-            return false;
-        }
-        self.goes_round(declared)
-    }
-
-    /// No declared type is above itself. In a domain without a cycle all places are numbered, which shows it; else one climb finds the first that is, since
-    /// those that are not are told.
-    pub fn cycle(&self) -> Result<(), LinkFault<'m>>
-        ensures { Passes 22 (first_alone (filter (is_cyclic (pairs self.now)) (map item_of self.now))) result }
-    {
-        if self.places.order.is_some() {
-            return Ok(());
-        }
-        for declared in self.declared {
-            if self.is_cyclic(declared) {
-                return Err(LinkFault::TypeCycle(declared.name.as_bytes()));
             }
         }
         Ok(())

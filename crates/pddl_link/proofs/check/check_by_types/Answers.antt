@@ -11,15 +11,15 @@ use Rattle.pddl_link.proofs.check.check_by_types.Goals as goal
 use Rattle.pddl_link.proofs.check.check_by_types.Goals.{in-Ok, in-Err}
 
 pub look_at_uses-checked-requires-clause-predicates : goal.look_at_uses-checked-requires-clause-predicates
-look_at_uses-checked-requires-clause-predicates g c = (no_repeats (domain_view c.args.domain.now) c.in-Ok.ensures.verdict.1.1.0).0
+look_at_uses-checked-requires-clause-predicates g c = (no_repeats (domain_view c.args.domain.now) c.in-Ok.ensures.verdict.1.0).0
 
 pub look_at_uses-checked-requires-clause-functions : goal.look_at_uses-checked-requires-clause-functions
-look_at_uses-checked-requires-clause-functions g c = (no_repeats (domain_view c.args.domain.now) c.in-Ok.ensures.verdict.1.1.0).1
+look_at_uses-checked-requires-clause-functions g c = (no_repeats (domain_view c.args.domain.now) c.in-Ok.ensures.verdict.1.0).1
 
 pub returns : goal.returns
 returns g c =
     let d = domain_view c.args.domain.now in
-    let Found : Result (Unit {0}) LinkFault → Type 0 = λ r. Verdict (map (domain_fault d) (drop 2 rules)) r in
+    let Found : Result (Unit {0}) LinkFault → Type 0 = λ r. Verdict (map (domain_fault d) (drop 3 rules)) r in
     elim c.match-look_at_names.branch as (λ _. Found c.match-look_at_names.checked) [
       | in-Ok w ↦ subst Found (sym w.checked-is) (decided_after (map (domain_fault d) name_rules) (map (domain_fault d) use_rules) w.look_at_uses-checked.result w.in-Ok.ensures.verdict w.look_at_uses-checked.ensures)
       | in-Err w ↦ subst Found (sym w.checked-is) (stage_first 25 (map (domain_fault d) name_rules) (map (domain_fault d) use_rules) w.in-Err.fault refl refl w.in-Err.ensures.verdict)

@@ -1,15 +1,13 @@
-use Rattle.std.proofs.Common.{◌≡◌, List, [], ◌∷◌, map, filter, refl, subst}
-use Rattle.pddl_domain.specs.Declarations.{TypeValue}
+use Rattle.std.proofs.Common.{◌≡◌, [], ◌∷◌, map, refl, subst}
 use Rattle.pddl_domain.specs.Domains.{domain_view}
-use Rattle.pddl_task.specs.Names.{firsts, item_of}
-use Rattle.pddl_task.specs.Types.{pairs, is_cyclic}
-use Rattle.pddl_task.specs.Faults.{first_alone, retyped}
+use Rattle.pddl_task.specs.Names.{firsts}
+use Rattle.pddl_task.specs.Faults.{retyped}
 use Rattle.pddl_task.specs.Linked.{domain_fault}
 use Rattle.pddl_faults.specs.Found.{IsFound, numbered}
 use Rattle.pddl_types.specs.KnownNames.{object_in}
 use Rattle.pddl_types.specs.Places.{AreListedAt}
 use Rattle.pddl_names.specs.FaultParts.{joined, domain_parts, name_rules}
-use Rattle.pddl_names.proofs.FoundParts.{found_parts, passed_part, first_kept, second_kept}
+use Rattle.pddl_names.proofs.FoundParts.{found_parts, passed_part, first_kept}
 use Rattle.pddl_names.proofs.RuleParts.{domain_names_stand}
 use Rattle.pddl_link.proofs.Stages.{verdict_of}
 use Rattle.pddl_link.proofs.check.look_at_names.Goals as goal
@@ -17,26 +15,19 @@ use Rattle.pddl_link.proofs.check.look_at_names.Goals as goal
 pub returns-clause-constants : goal.returns-clause-constants
 returns-clause-constants g c =
     let listed = map object_in c.list_objects-listed.new.listed.objects.entries ≡ firsts (domain_view c.args.domain.now).constants in
-    second_kept c.cycle-above.result c.lower.result c.lower-2.result listed c.lower-2.ensures.both
-    (first_kept c.list_objects-listed.result c.look_at_domain.result c.lower.result listed c.lower.ensures.both
-    c.list_objects-listed.ensures.lists)
+    first_kept c.list_objects-listed.result c.look_at_domain.result c.lower.result listed c.lower.ensures.both c.list_objects-listed.ensures.lists
 
 pub returns-clause-places : goal.returns-clause-places
 returns-clause-places g c =
     let at = AreListedAt c.args.types.now c.list_objects-listed.new.listed in
-    second_kept c.cycle-above.result c.lower.result c.lower-2.result at c.lower-2.ensures.both
-    (first_kept c.list_objects-listed.result c.look_at_domain.result c.lower.result at c.lower.ensures.both
-    c.list_objects-listed.ensures.places)
+    first_kept c.list_objects-listed.result c.look_at_domain.result c.lower.result at c.lower.ensures.both c.list_objects-listed.ensures.places
 
 pub returns-clause-verdict : goal.returns-clause-verdict
 returns-clause-verdict g c =
     let d = domain_view c.args.domain.now in
-    let above = λ (ts : List TypeValue). numbered 22 (first_alone (filter (is_cyclic (pairs ts)) (map item_of ts))) in
     let listed = numbered 24 (retyped [] d.constants) in
-    verdict_of (joined (above d.types ∷ (listed ∷ domain_parts d.types d))) (map (domain_fault d) name_rules) c.lower-2.result (domain_names_stand d)
-    (subst (λ ts. IsFound (joined (above ts ∷ (listed ∷ domain_parts ts d))) c.lower-2.result) c.requires.types
-    (found_parts (above c.args.types.now ∷ []) (listed ∷ domain_parts c.args.types.now d) c.cycle-above.result c.lower.result c.lower-2.result c.lower-2.ensures.found
-    (passed_part 22 c.cycle-above.result refl c.cycle-above.ensures)
+    verdict_of (joined (listed ∷ domain_parts d.types d)) (map (domain_fault d) name_rules) c.lower.result (domain_names_stand d)
+    (subst (λ ts. IsFound (joined (listed ∷ domain_parts ts d)) c.lower.result) c.requires.types
     (found_parts (listed ∷ []) (domain_parts c.args.types.now d) c.list_objects-listed.result c.look_at_domain.result c.lower.result c.lower.ensures.found
     (passed_part 24 c.list_objects-listed.result refl c.list_objects-listed.ensures.passes)
-    c.look_at_domain.ensures)))
+    c.look_at_domain.ensures))

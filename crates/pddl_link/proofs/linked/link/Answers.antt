@@ -13,14 +13,14 @@ returns-in_err-types-clause-verdict g c =
     let d = domain_view c.args.domain.now in
     let q = problem_view c.args.problem.now in
     let p = err_from_is_err_and c.from_residual.result c.from_residual.ensures.1 in
-    rw (p.1, p.2) (stage_first 21 (map (fault_in d q) first_rules) (map (fault_in d q) (drop 2 rules)) c.in_err-types.field-0.0 refl refl c.in_err-types.ensures.verdict)
+    rw (p.1, p.2) (stage_first 22 (map (fault_in d q) first_rules) (map (fault_in d q) (drop 3 rules)) c.in_err-types.field-0.0 refl refl c.in_err-types.ensures.verdict)
 
-pub invariant_of-result : goal.invariant_of-result
-invariant_of-result g c =
+pub of-requires : goal.of-requires
+of-requires g c =
     let d = domain_view c.args.domain.now in
     let q = problem_view c.args.problem.now in
     record {
-      linked = none_behind (map (fault_in d q) first_rules) (map (fault_in d q) (drop 2 rules)) c.in_ok-types.ensures.verdict c.in-Ok.ensures.verdict;
+      linked = none_behind (map (fault_in d q) first_rules) (map (fault_in d q) (drop 3 rules)) c.in_ok-types.ensures.verdict c.in-Ok.ensures.verdict;
       types_are = c.in_ok-types.ensures.types;
       behind = c.in-Ok.ensures.tables;
     }
@@ -29,4 +29,4 @@ pub returns-clause-verdict : goal.returns-clause-verdict
 returns-clause-verdict g c =
     let d = domain_view c.args.domain.now in
     let q = problem_view c.args.problem.now in
-    decided_after {T = Unit {0}} (map (fault_in d q) first_rules) (map (fault_in d q) (drop 2 rules)) (Err c.in-Err.fault) c.in_ok-types.ensures.verdict c.in-Err.ensures.verdict
+    decided_after {T = Unit {0}} (map (fault_in d q) first_rules) (map (fault_in d q) (drop 3 rules)) (Err c.in-Err.fault) c.in_ok-types.ensures.verdict c.in-Err.ensures.verdict

@@ -1,11 +1,9 @@
-use Rattle.std.proofs.Common.{◌≡◌, List, [], ◌∷◌, ◌++◌, map, filter, refl, subst}
-use Rattle.pddl_domain.specs.Declarations.{TypeValue}
+use Rattle.std.proofs.Common.{◌≡◌, [], ◌∷◌, ◌++◌, map, refl, subst}
 use Rattle.pddl_domain.specs.Domains.{domain_view}
 use Rattle.pddl_problem.specs.Problems.{problem_view}
-use Rattle.pddl_task.specs.Names.{firsts, item_of}
-use Rattle.pddl_task.specs.Types.{pairs, is_cyclic}
+use Rattle.pddl_task.specs.Names.{firsts}
 use Rattle.pddl_task.specs.Settings.{objects_of}
-use Rattle.pddl_task.specs.Faults.{first_alone, retyped}
+use Rattle.pddl_task.specs.Faults.{retyped}
 use Rattle.pddl_task.specs.Linked.{fault_in}
 use Rattle.pddl_faults.specs.Found.{IsFound, numbered}
 use Rattle.pddl_types.specs.KnownNames.{object_in}
@@ -19,47 +17,38 @@ use Rattle.pddl_link.proofs.linked.look_at_both.Goals as goal
 pub returns-clause-constants : goal.returns-clause-constants
 returns-clause-constants g c =
     let listed = map object_in c.list_objects-inner.new.listed.objects.entries ≡ firsts (domain_view c.args.domain.now).constants in
-    second_kept c.cycle-above.result c.lower-3.result c.lower-4.result listed c.lower-4.ensures.both
-    (first_kept c.list_objects-inner.result c.lower-2.result c.lower-3.result listed c.lower-3.ensures.both
-    c.list_objects-inner.ensures.lists)
+    first_kept c.list_objects-inner.result c.lower-2.result c.lower-3.result listed c.lower-3.ensures.both c.list_objects-inner.ensures.lists
 
 pub returns-clause-objects : goal.returns-clause-objects
 returns-clause-objects g c =
     let listed = map object_in c.list_all-all.new.listed.objects.entries ≡ objects_of (domain_view c.args.domain.now) (problem_view c.args.problem.now) in
-    second_kept c.cycle-above.result c.lower-3.result c.lower-4.result listed c.lower-4.ensures.both
-    (second_kept c.list_objects-inner.result c.lower-2.result c.lower-3.result listed c.lower-3.ensures.both
+    second_kept c.list_objects-inner.result c.lower-2.result c.lower-3.result listed c.lower-3.ensures.both
     (second_kept c.look_at_domain-declared.result c.lower.result c.lower-2.result listed c.lower-2.ensures.both
-    (first_kept c.list_all-all.result c.look_at_problem-bound.result c.lower.result listed c.lower.ensures.both c.list_all-all.ensures.objects)))
+    (first_kept c.list_all-all.result c.look_at_problem-bound.result c.lower.result listed c.lower.ensures.both c.list_all-all.ensures.objects))
 
 pub returns-clause-constants_at : goal.returns-clause-constants_at
 returns-clause-constants_at g c =
     let at = AreListedAt c.args.types.now c.list_objects-inner.new.listed in
-    second_kept c.cycle-above.result c.lower-3.result c.lower-4.result at c.lower-4.ensures.both
-    (first_kept c.list_objects-inner.result c.lower-2.result c.lower-3.result at c.lower-3.ensures.both
-    c.list_objects-inner.ensures.places)
+    first_kept c.list_objects-inner.result c.lower-2.result c.lower-3.result at c.lower-3.ensures.both c.list_objects-inner.ensures.places
 
 pub returns-clause-objects_at : goal.returns-clause-objects_at
 returns-clause-objects_at g c =
     let at = AreListedAt c.args.types.now c.list_all-all.new.listed in
-    second_kept c.cycle-above.result c.lower-3.result c.lower-4.result at c.lower-4.ensures.both
-    (second_kept c.list_objects-inner.result c.lower-2.result c.lower-3.result at c.lower-3.ensures.both
+    second_kept c.list_objects-inner.result c.lower-2.result c.lower-3.result at c.lower-3.ensures.both
     (second_kept c.look_at_domain-declared.result c.lower.result c.lower-2.result at c.lower-2.ensures.both
-    (first_kept c.list_all-all.result c.look_at_problem-bound.result c.lower.result at c.lower.ensures.both c.list_all-all.ensures.places)))
+    (first_kept c.list_all-all.result c.look_at_problem-bound.result c.lower.result at c.lower.ensures.both c.list_all-all.ensures.places))
 
 pub returns-clause-verdict : goal.returns-clause-verdict
 returns-clause-verdict g c =
     let d = domain_view c.args.domain.now in
     let p = problem_view c.args.problem.now in
     let ts = c.args.types.now in
-    let above = λ (us : List TypeValue). numbered 22 (first_alone (filter (is_cyclic (pairs us)) (map item_of us))) in
     let listed = numbered 24 (retyped [] d.constants) in
     let all = numbered 24 (retyped [] d.constants ++ retyped d.constants p.objects) in
-    verdict_of (joined (above d.types ∷ (listed ∷ (domain_parts d.types d ++ (all ∷ problem_parts d.types p))))) (map (fault_in d p) name_rules) c.lower-4.result (names_stand d p)
-    (subst (λ us. IsFound (joined (above us ∷ (listed ∷ (domain_parts us d ++ (all ∷ problem_parts us p))))) c.lower-4.result) c.requires.types
-    (found_parts (above ts ∷ []) (listed ∷ (domain_parts ts d ++ (all ∷ problem_parts ts p))) c.cycle-above.result c.lower-3.result c.lower-4.result c.lower-4.ensures.found
-    (passed_part 22 c.cycle-above.result refl c.cycle-above.ensures)
+    verdict_of (joined (listed ∷ (domain_parts d.types d ++ (all ∷ problem_parts d.types p)))) (map (fault_in d p) name_rules) c.lower-3.result (names_stand d p)
+    (subst (λ us. IsFound (joined (listed ∷ (domain_parts us d ++ (all ∷ problem_parts us p)))) c.lower-3.result) c.requires.types
     (found_parts (listed ∷ []) (domain_parts ts d ++ (all ∷ problem_parts ts p)) c.list_objects-inner.result c.lower-2.result c.lower-3.result c.lower-3.ensures.found
     (passed_part 24 c.list_objects-inner.result refl c.list_objects-inner.ensures.passes)
     (found_parts (domain_parts ts d) (all ∷ problem_parts ts p) c.look_at_domain-declared.result c.lower.result c.lower-2.result c.lower-2.ensures.found c.look_at_domain-declared.ensures
     (found_parts (all ∷ []) (problem_parts ts p) c.list_all-all.result c.look_at_problem-bound.result c.lower.result c.lower.ensures.found
-    (passed_part 24 c.list_all-all.result refl c.list_all-all.ensures.passes) c.look_at_problem-bound.ensures)))))
+    (passed_part 24 c.list_all-all.result refl c.list_all-all.ensures.passes) c.look_at_problem-bound.ensures))))

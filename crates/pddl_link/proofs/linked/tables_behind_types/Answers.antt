@@ -16,18 +16,18 @@ use Rattle.pddl_link.proofs.linked.tables_behind_types.Goals.{in-Ok, in-Err}
 pub tables_behind-made-requires-clause-predicates : goal.tables_behind-made-requires-clause-predicates
 tables_behind-made-requires-clause-predicates g c =
     let d = domain_view c.args.domain.now in
-    (no_repeats d (nil_parts (domain_repeats d) (problem_repeats d (problem_view c.args.problem.now)) c.in-Ok.ensures.verdict.1.1.0).0).0
+    (no_repeats d (nil_parts (domain_repeats d) (problem_repeats d (problem_view c.args.problem.now)) c.in-Ok.ensures.verdict.1.0).0).0
 
 pub tables_behind-made-requires-clause-functions : goal.tables_behind-made-requires-clause-functions
 tables_behind-made-requires-clause-functions g c =
     let d = domain_view c.args.domain.now in
-    (no_repeats d (nil_parts (domain_repeats d) (problem_repeats d (problem_view c.args.problem.now)) c.in-Ok.ensures.verdict.1.1.0).0).1
+    (no_repeats d (nil_parts (domain_repeats d) (problem_repeats d (problem_view c.args.problem.now)) c.in-Ok.ensures.verdict.1.0).0).1
 
 pub returns-clause-verdict : goal.returns-clause-verdict
 returns-clause-verdict g c =
     let d = domain_view c.args.domain.now in
     let q = problem_view c.args.problem.now in
-    let Found : Result _ LinkFault → Type 0 = λ r. Verdict (map (fault_in d q) (drop 2 rules)) r in
+    let Found : Result _ LinkFault → Type 0 = λ r. Verdict (map (fault_in d q) (drop 3 rules)) r in
     elim c.match-look_at_both.branch as (λ _. Found c.match-look_at_both.made) [
       | in-Ok w ↦ subst Found (sym w.made-is) (decided_after (map (fault_in d q) name_rules) (map (fault_in d q) use_rules) w.tables_behind-made.result w.in-Ok.ensures.verdict w.tables_behind-made.ensures.verdict)
       | in-Err w ↦ subst Found (sym w.made-is) (stage_first 25 (map (fault_in d q) name_rules) (map (fault_in d q) use_rules) w.in-Err.fault refl refl w.in-Err.ensures.verdict)

@@ -1,11 +1,11 @@
 use Rattle.std.proofs.Common.{◌≡◌, drop, subst, arith}
-use Rattle.pddl_forest.proofs.RootSums.{listed_at}
+use Rattle.std.proofs.lemmas.List.Elements.{Contains-get_or}
 use Rattle.pddl_types.specs.ObjectCounts.{IsSumOf}
 use Rattle.pddl_types.proofs.TypeTops.{sum_next}
 use Rattle.pddl_sizes.proofs.object_counts.sum_of_counts.Goals as goal
 
 pub count_at-requires : goal.count_at-requires
-count_at-requires g c = c.requires _ (listed_at c.args.steps.now _ (omega (arith, c.loop-number.auto.number, c.loop-number-test.true)))
+count_at-requires g c = c.requires _ (Contains-get_or c.args.steps.now _ 0 (omega (arith, c.loop-number.auto.number, c.loop-number-test.true)))
 
 pub loop-number-preserved : goal.loop-number-preserved
 loop-number-preserved g c = λ declared objects told.

@@ -1,15 +1,31 @@
-use Rattle.std.proofs.Common.{map, sym, subst}
-use Rattle.pddl_forest.proofs.Ranges.{if_ok}
-use Rattle.pddl_domain.specs.Declarations.{type_view}
+use Rattle.std.proofs.Common.{◌<◌, ℕ, map, length, ap, sym, subst, ◌∙◌, arith}
+use Rattle.std.specs.Prelude.{Contains}
+use Rattle.std.proofs.lemmas.List.{length-map}
+use Rattle.std.proofs.lemmas.Result.{IfOk-weaker}
 use Rattle.pddl_types.specs.KnownNames.{object_in}
-use Rattle.pddl_types.specs.ObjectCounts.{AreCountsOf}
+use Rattle.pddl_types.specs.ObjectCounts.{AreNamedCounts}
 use Rattle.pddl_types.specs.Places.{AreObjectsAt}
+use Rattle.pddl_types.specs.TypeTables.{IsTypeTable}
+use Rattle.pddl_types.proofs.TypeCounts.{placed, counts_are}
 use Rattle.pddl_types.proofs.types.Types.counts.Goals as goal
 
-pub returns-in-Some : goal.returns-in-Some
-returns-in-Some g c =
-    if_ok _ _ c.type_counts.result
-    (λ counts told. subst (λ ts. AreCountsOf ts (map object_in c.args.listed.now.objects.entries) counts.entries) c.self.view_is
-    (told (map type_view c.self.inside.declared.now) (map object_in c.args.listed.now.objects.entries) c.self.invariant.0
-    (subst (λ ts. AreObjectsAt ts (map object_in c.args.listed.now.objects.entries) c.deref.result.now) (sym c.self.view_is) (subst (AreObjectsAt c.args.self.now (map object_in c.args.listed.now.objects.entries)) (sym c.deref.ensures.value) c.requires.at))))
-    c.type_counts.ensures
+pub counts-requires : goal.counts-requires
+counts-requires g c = λ i there.
+    let within = c.are_within.ensures c.if-not-are_within.false i (subst (λ ps. Contains ps i) (c.deref-2.ensures.value ∙ sym c.deref.ensures.value) there) in
+    omega (arith, within, c.len.ensures.len, ap length c.self.invariant.1, length-map c.self.inside.parents.entries (λ r. r.1))
+
+pub returns : goal.returns
+returns g c =
+    let declared = c.args.self.now in
+    let rows = c.self.inside.parents.entries in
+    let table = subst (λ ds. IsTypeTable ds rows) c.self.view_is c.self.invariant.0 in
+    let objects = map object_in c.args.listed.now.objects.entries in
+    let places = c.deref-2.result.now in
+    let low : (p : ℕ) → Contains places p → p < length rows = λ p there.
+    let within = c.are_within.ensures c.if-not-are_within.false p (subst (λ ps. Contains ps p) (c.deref-2.ensures.value ∙ sym c.deref.ensures.value) there) in omega (arith, within, c.len.ensures.len)
+    in
+    IfOk-weaker c.by_name.result _ _
+    (λ named names. counts_are declared rows c.self.inside.order objects places c.in_ok-counts.counts.items named.entries table c.self.invariant.1
+    (placed declared rows objects places table (subst (AreObjectsAt declared objects) (sym c.deref-2.ensures.value) c.requires.at) low)
+    c.in_ok-counts.ensures (subst (λ cs. AreNamedCounts rows cs named.entries) c.deref-3.ensures.value names))
+    c.by_name.ensures

@@ -1,0 +1,133 @@
+-- Types with their parents, as they are declared.
+use Rattle.std.proofs.Common.{◌≡◌, Bool, true, false, not, cond, List, [], ◌∷◌, ◌++◌, map, filter, refl, sym, ap, ◌∙◌, subst, bytes_eq, ◌⊎◌, inl, inr}
+use Rattle.std.specs.Prelude.{Contains}
+use Rattle.std.specs.List.{IsDistinct}
+use Rattle.std.proofs.lemmas.Cmp.{nat_list_eq_equiv}
+use Rattle.std.proofs.lemmas.List.Elements.{Contains-append_left, Contains-append_right, Contains-append_cases}
+use Rattle.std.proofs.lemmas.Map.Keys.{IsDistinct-head, IsDistinct-tail}
+use Rattle.std.proofs.lemmas.Bool.{not-true}
+use Rattle.pddl_domain.specs.Declarations.{TypeValue}
+use Rattle.pddl_task.specs.Names.{Name, is_in, repeated, item_of}
+use Rattle.pddl_task.specs.Types.{root, parent_of, types_of, says_nothing, under_root, only_parents, pairs, Under, itself, climb, is_under}
+use Rattle.pddl_types.specs.TypeTables.{parent_in}
+use Rattle.pddl_task.proofs.Lists.{or_none, any_found, found_any, has_cases, has_later, has_none, bytes_same, same_bytes, or_left, none_left, none_right, kept_is, is_kept, mapped_is, is_mapped}
+use Rattle.pddl_task.proofs.DistinctNames.{no_repetition}
+use Rattle.pddl_task.proofs.Subtypes.{under_found, is_under_decides}
+use Rattle.pddl_task.proofs.TypeCycles.{parent_above}
+use Rattle.pddl_types.proofs.TypeTables.{apart}
+
+-- ---- names that are in a list
+
+pub in_has : (ns : List Name) (t : Name) → is_in ns t ≡ true → Contains ns t
+in_has ns t h = let f = any_found (bytes_eq t) ns h in subst (Contains ns) (sym (bytes_same t f.0 f.2)) f.1
+
+pub has_in : (ns : List Name) (t : Name) → Contains ns t → is_in ns t ≡ true
+has_in ns t c = found_any (bytes_eq t) ns t c (same_bytes t t refl)
+
+-- ---- declared parents
+
+pub parent_declared : (declared : List TypeValue) (e : TypeValue) → IsDistinct bytes_eq (map item_of declared) → Contains declared e → parent_in declared e.item ≡ e.of
+parent_declared [] e once c = absurd (has_none e c)
+parent_declared (d ∷ ds) e once c =
+    elim (has_cases d ds e c) as (λ _. cond (bytes_eq e.item d.item) d.of (parent_in ds e.item) ≡ e.of) [
+      | inl is ↦ ap (λ b. cond b d.of (parent_in ds e.item)) (same_bytes e.item d.item (sym (ap item_of is))) ∙ ap parent_of is
+      | inr later ↦
+          ap (λ b. cond b d.of (parent_in ds e.item)) (nat_list_eq_equiv.symm e.item d.item ∙ apart d.item (map item_of ds) e.item (IsDistinct-head bytes_eq d.item (map item_of ds) once) (is_mapped item_of ds e later))
+          ∙ parent_declared ds e (IsDistinct-tail bytes_eq d.item (map item_of ds) once) later
+    ]
+
+pub parent_undeclared : (declared : List TypeValue) (t : Name) → is_in (map item_of declared) t ≡ false → parent_in declared t ≡ root
+parent_undeclared [] t h = refl
+parent_undeclared (d ∷ ds) t h =
+    ap (λ b. cond b d.of (parent_in ds t)) (none_left (bytes_eq t d.item) (is_in (map item_of ds) t) h) ∙ parent_undeclared ds t (none_right (bytes_eq t d.item) (is_in (map item_of ds) t) h)
+
+pub once_declared : (declared : List TypeValue) → repeated [] (map item_of declared) ≡ [] → IsDistinct bytes_eq (map item_of declared)
+unfolding IsDistinct
+once_declared declared h = no_repetition [] (map item_of declared) tt h
+
+-- ---- the pairs, as the table has them
+
+pub type_declared : (declared : List TypeValue) (t : Name) → Contains (map item_of declared) t → is_in (types_of declared) t ≡ true
+type_declared declared t c = has_in (types_of declared) t (has_later root (map item_of declared ++ map parent_of declared) t (Contains-append_left (map item_of declared) (map parent_of declared) t c))
+
+type_above : (declared : List TypeValue) (t : Name) → Contains (map parent_of declared) t → is_in (types_of declared) t ≡ true
+type_above declared t c = has_in (types_of declared) t (has_later root (map item_of declared ++ map parent_of declared) t (Contains-append_right (map item_of declared) (map parent_of declared) t c))
+
+-- each pair is of a type with its parent
+pub pair_is : (declared : List TypeValue) (e : TypeValue) → IsDistinct bytes_eq (map item_of declared) → Contains (pairs declared) e
+    → (is_in (types_of declared) e.item ≡ true) × (is_in (types_of declared) e.of ≡ true) × (parent_in declared e.item ≡ e.of)
+pair_is declared e once has =
+    elim (Contains-append_cases (filter (λ d. not (says_nothing d)) declared) (map under_root (only_parents declared)) e has) as (λ _. (is_in (types_of declared) e.item ≡ true) × (is_in (types_of declared) e.of ≡ true) × (parent_in declared e.item ≡ e.of)) [
+      | inl kept ↦
+          let c = (kept_is (λ d. not (says_nothing d)) declared e kept).0 in
+          (type_declared declared e.item (is_mapped item_of declared e c), type_above declared e.of (is_mapped parent_of declared e c), parent_declared declared e once c)
+      | inr added ↦
+          let from = mapped_is under_root (only_parents declared) e added in
+          let new = kept_is (λ t. not (is_in (root ∷ map item_of declared) t)) (map parent_of declared) from.0 from.1 in
+          let other = none_right (bytes_eq from.0 root) (is_in (map item_of declared) from.0) (not-true (is_in (root ∷ map item_of declared) from.0) new.1) in
+          let item : from.0 ≡ e.item = ap item_of from.2 in
+          let of : root ≡ e.of = ap parent_of from.2 in (
+            type_above declared e.item (subst (Contains (map parent_of declared)) item new.0),
+            subst (λ t. is_in (types_of declared) t ≡ true) of (or_left (bytes_eq root root) (is_in (map item_of declared ++ map parent_of declared) root) (same_bytes root root refl)),
+            ap (parent_in declared) (sym item) ∙ parent_undeclared declared from.0 other ∙ of,
+          )
+    ]
+
+-- a type is under its parent
+pub under_parent : (declared : List TypeValue) (t : Name) → IsDistinct bytes_eq (map item_of declared) → is_in (types_of declared) t ≡ true → Under (pairs declared) t (parent_in declared t)
+under_parent declared t once type =
+    elim (is_in (map item_of declared) t) as (λ b. is_in (map item_of declared) t ≡ b → Under (pairs declared) t (parent_in declared t)) [
+      | true ↦ λ h.
+          let from = mapped_is item_of declared t (in_has (map item_of declared) t h) in
+          subst (λ n. Under (pairs declared) n (parent_in declared n)) from.2
+          (subst (Under (pairs declared) from.0.item) (sym (parent_declared declared from.0 once from.1)) (parent_above declared from.0 from.1))
+      | false ↦ λ h. subst (Under (pairs declared) t) (sym (parent_undeclared declared t h)) (only declared t h type)
+    ] refl
+  where
+    only : (declared : List TypeValue) (t : Name) → is_in (map item_of declared) t ≡ false → is_in (types_of declared) t ≡ true → Under (pairs declared) t root
+    only declared t h type =
+        elim (has_cases root (map item_of declared ++ map parent_of declared) t (in_has (types_of declared) t type)) as (λ _. Under (pairs declared) t root) [
+          | inl is ↦ itself (sym is)
+          | inr later ↦ elim (Contains-append_cases (map item_of declared) (map parent_of declared) t later) as (λ _. Under (pairs declared) t root) [
+            | inl there ↦ let on : is_in (map item_of declared) t ≡ true = has_in (map item_of declared) t there in cc
+            | inr above ↦ elim (bytes_eq t root) as (λ b. bytes_eq t root ≡ b → Under (pairs declared) t root) [
+              | true ↦ λ is. itself (bytes_same t root is)
+              | false ↦ λ other.
+                  let kept = is_kept (λ n. not (is_in (root ∷ map item_of declared) n)) (map parent_of declared) t above (ap not (or_none (bytes_eq t root) (is_in (map item_of declared) t) other h)) in
+                  climb (under_root t) (Contains-append_right (filter (λ d. not (says_nothing d)) declared) (map under_root (only_parents declared)) (under_root t) (is_mapped under_root (only_parents declared) t kept)) refl (itself refl)
+            ] refl
+          ]
+        ]
+
+-- ---- what is under what
+
+pub same_tests : (a b : Bool) → (a ≡ true → b ≡ true) → (b ≡ true → a ≡ true) → a ≡ b
+same_tests true b h k = sym (h refl)
+same_tests false true h k = k refl
+same_tests false false h k = refl
+
+-- what is under another is that, or both are types
+under_is : (declared : List TypeValue) (t u : Name) → IsDistinct bytes_eq (map item_of declared) → Under (pairs declared) t u
+    → (t ≡ u) ⊎ ((is_in (types_of declared) t ≡ true) × (is_in (types_of declared) u ≡ true))
+under_is declared t u once (itself same) = inl same
+under_is declared t u once (climb e has named rest) =
+    let p = pair_is declared e once has in
+    let type : is_in (types_of declared) t ≡ true = ap (is_in (types_of declared)) named ∙ p.0 in
+    elim (under_is declared e.of u once rest) as (λ _. (t ≡ u) ⊎ ((is_in (types_of declared) t ≡ true) × (is_in (types_of declared) u ≡ true))) [
+      | inl same ↦ inr (type, ap (is_in (types_of declared)) (sym same) ∙ p.1)
+      | inr both ↦ inr (type, both.1)
+    ]
+
+-- what is no type is under itself alone, and nothing else is under it
+pub alone : (declared : List TypeValue) (t : Name) → repeated [] (map item_of declared) ≡ [] → is_in (types_of declared) t ≡ false
+    → (n : Name) → (is_under (pairs declared) t n ≡ bytes_eq t n) × (is_under (pairs declared) n t ≡ bytes_eq n t)
+alone declared t declared_once missing n = (only t n (λ both. let is : is_in (types_of declared) t ≡ true = both.0 in cc), only n t (λ both. let is : is_in (types_of declared) t ≡ true = both.1 in cc))
+  where
+    only : (a b : Name) → ((is_in (types_of declared) a ≡ true) × (is_in (types_of declared) b ≡ true) → ⊥) → is_under (pairs declared) a b ≡ bytes_eq a b
+    only a b not_both =
+        same_tests (is_under (pairs declared) a b) (bytes_eq a b)
+        (λ up. elim (under_is declared a b (once_declared declared declared_once) ((is_under_decides (pairs declared) a b).0 up)) as (λ _. bytes_eq a b ≡ true) [
+          | inl same ↦ same_bytes a b same
+          | inr both ↦ absurd (not_both both)
+        ])
+        (λ same. under_found (pairs declared) a b (itself (bytes_same a b same)))

@@ -1,0 +1,67 @@
+//! The first type that is above itself, where the places of a table go round.
+
+ghost use Rattle.std.specs.Prelude.{◌≡◌, ◌<◌, ◌↔◌, IsTrue, map, length, IfOk, Contains};
+ghost use Rattle.pddl_domain.specs.Declarations.{type_view};
+ghost use Rattle.pddl_forest.specs.Rounds.{HasRound, AreOffRounds};
+ghost use Rattle.pddl_types.specs.TypeTables.{IsTypeTable, IsOnRound, cycle_in};
+
+use crate::type_table::parent_places;
+use indexmap::IndexMap;
+use pddl_domain::DeclaredType;
+use pddl_faults::Hashed;
+use pddl_forest::off_rounds;
+use std::alloc::{AllocError, Allocator};
+
+/// Whether a way goes round through a place, other than that of place 0 to itself.
+fn is_on_round(parents: &[usize], numbers: &[usize], place: usize) -> bool
+    requires within { place < length parents.now }
+    requires numbers { AreOffRounds parents.now numbers.now }
+    ensures { IsTrue result ↔ IsOnRound parents.now place }
+{
+    if place < numbers.len() && numbers[place] != 0 {
+        return false;
+    }
+    place != 0 || parents[place] != 0
+}
+
+/// The first declared type through whose place a way goes round, where one goes round.
+fn first_on_round<'m, 'a, A: Allocator, B: Allocator>(
+    table: &IndexMap<&'m [u8], usize, Hashed, &'a B>,
+    parents: &[usize],
+    numbers: &[usize],
+    declared: &'m [DeclaredType<A>],
+) -> &'m [u8]
+    requires table { IsTypeTable (map type_view declared.now) table.now.entries }
+    requires parents { parents.now ≡ map (λ r. r.1) table.now.entries }
+    requires numbers { AreOffRounds parents.now numbers.now }
+    requires round { HasRound parents.now }
+    ensures { Contains (cycle_in (map type_view declared.now)) result.now }
+{
+    for declared_type in declared {
+        let name = declared_type.name.as_bytes();
+        let Some(place) = table.get_index_of(name) else {
+            unreachable!()
+        };
+        if is_on_round(parents, numbers, place) {
+            return name;
+        }
+    }
+    unreachable!()
+}
+
+/// The first declared type that is above itself, where a way goes round from parent to parent.
+///
+/// Fails where memory for the work is refused.
+pub(crate) fn first_cycle<'m, 'a, A: Allocator, B: Allocator>(
+    alloc: &'a B,
+    table: &IndexMap<&'m [u8], usize, Hashed, &'a B>,
+    declared: &'m [DeclaredType<A>],
+) -> Result<&'m [u8], AllocError>
+    requires table { IsTypeTable (map type_view declared.now) table.now.entries }
+    requires round { HasRound (map (λ r. r.1) table.now.entries) }
+    ensures { IfOk result (λ name. Contains (cycle_in (map type_view declared.now)) name.now) }
+{
+    let parents = parent_places(alloc, table)?;
+    let numbers = off_rounds(alloc, &parents)?;
+    Ok(first_on_round(table, &parents, &numbers, declared))
+}
