@@ -4,7 +4,7 @@
 # memory of `format` on plans of many short steps and of many long ones, beside those of plain Rust; of `domain` and `problem` on
 # files that link, beside those of `format`, which reads and prints them; of `plan` on valid plans, beside those of the same work
 # in plain Rust; and of `plan` alone on actions that quantify over very many variables, and of `serial` beside `plan`. Among
-# those that link are files with an `either` of all of many types, and a variable of it that is spoken of often; types below one with a long name; slots and variables before an `either` of many types; types above themselves, on a long chain, are refused. Each figure is that of the best of five runs. Wants GNU time,
+# those that link are files with an `either` of all of many types, and a variable of it that is spoken of often; types below one with a long name; slots and variables before an `either` of many types; types above themselves, on a long chain or in pairs, are refused. Each figure is that of the best of five runs. Wants GNU time,
 # Python 3 and rustc.
 here=$(cd "$(dirname "$0")" && pwd) || exit 1
 "$here/../pddlcheck" --help >/dev/null || exit 1
@@ -121,10 +121,12 @@ for count in 25000 100000; do
 done
 
 for count in 25000 100000; do
-    python3 "$here/files.py" ring "$count" >"$folder/domain" || exit 1
-    # its types are above themselves, which is status 2
-    printf '%-24s %8d  %s   %s\n' "domain, ring on $count types" "$(wc -c <"$folder/domain")" \
-        "$(seconds "$program" format domain "$folder/domain")" "$(seconds sh -c '"$@" || [ $? -eq 2 ]' refused "$program" domain "$folder/domain")"
+    for case in ring rings; do
+        python3 "$here/files.py" "$case" "$count" >"$folder/domain" || exit 1
+        # its types are above themselves, which is status 2
+        printf '%-24s %8d  %s   %s\n' "domain, $case on $count types" "$(wc -c <"$folder/domain")" \
+            "$(seconds "$program" format domain "$folder/domain")" "$(seconds sh -c '"$@" || [ $? -eq 2 ]' refused "$program" domain "$folder/domain")"
+    done
 done
 
 printf '\n%-24s %8s   %-17s   %-17s\n' '' '' 'plan' 'plain Rust'

@@ -5,14 +5,14 @@ A plan has steps with three objects each: plain, timed, or with a comment before
 actions; a problem has many objects and a long `:init`.
 
 Usage: files.py plain|timed|comments|domain|problem MIB
-       files.py actions|items|parameters|variables|eithers|facts|spoken|seen|ring|below|slots|named|named-facts|named-constants|named-objects|short|long N
+       files.py actions|items|parameters|variables|eithers|facts|spoken|seen|ring|rings|below|slots|named|named-facts|named-constants|named-objects|short|long N
 
 The second form makes a domain with so many actions, or a problem of it with so many items in `:init` and two objects for each five of them: these link.
 So do a domain with an action of so many parameters, and a problem of it whose goal quantifies over so many variables of a type with one object, beside
 twice as many others; each variable is spoken of once. So do a domain of so many types with a slot and a parameter of an `either` of them all, a problem of it with an object
 of each and three facts for each, one whose goal speaks thirty times as often of a variable of that `either`, and a valid plan of a step for each. So do so many types below one whose name has five letters for each of them, and
 so many types with a predicate of as many slots, and a quantifier of as many variables, each list before one `either` of them all. So do an action that speaks so many times of a parameter whose type has a name of as many letters,
-and a problem of it with so many facts of an object of that type; and a domain with so many constants of such a type, and a problem of it that lists them again. So many types in a chain, the last two of which are above themselves, do not. Or it makes a plan of so many steps, each with two objects of few letters, or with eight of many.
+and a problem of it with so many facts of an object of that type; and a domain with so many constants of such a type, and a problem of it that lists them again. So many types in a chain, the last two of which are above themselves, do not, nor do so many in pairs, each the parent of the other. Or it makes a plan of so many steps, each with two objects of few letters, or with eight of many.
 """
 import itertools
 import random
@@ -154,6 +154,11 @@ def ring_of_types(count):
     return f"(define (domain ring)\n  (:types\n{chain}    t{count} - t{count - 1}))\n"
 
 
+def rings_of_types(count):
+    pairs = "".join(f"    t{number} - t{number ^ 1}\n" for number in range(count // 2 * 2))
+    return f"(define (domain rings)\n  (:types\n{pairs}  ))\n"
+
+
 def types_below(count):
     return f"(define (domain below)\n  (:types {numbered('t#', count)} - {'p' * (5 * count)}))\n"
 
@@ -200,6 +205,7 @@ COUNTED = {
     "spoken": much_spoken,
     "seen": many_seen,
     "ring": ring_of_types,
+    "rings": rings_of_types,
     "below": types_below,
     "slots": slots_of_types,
     "named": long_type,
