@@ -8,16 +8,12 @@ use pddl_state::{Atom, AtomStore};
 use std::alloc::Allocator;
 
 /// Adds the numbers of each atom.
-fn add_numbered<A: Allocator, B: Allocator>(
-    atoms: &[Atom<A>],
-    lines: &mut Lines<'_, B>,
-) -> Outcome {
+fn add_numbered<A: Allocator, B: Allocator>(atoms: &[Atom<A>], lines: &mut Lines<'_, B>) {
     for atom in atoms {
         lines.number(atom.predicate as u64);
         lines.numbers(&atom.args);
         lines.end();
     }
-    Outcome::Good
 }
 
 /// Adds the numbers of the atoms that hold at first.
@@ -28,11 +24,9 @@ pub fn add_first<A: Allocator, C: Allocator, B: Allocator>(
 ) -> Outcome {
     match initial_atoms(alloc, task) {
         Ok(atoms) => add_numbered(&atoms, lines),
-        Err(_) => {
-            lines.refuse();
-            Outcome::Refused
-        }
+        Err(_) => lines.refuse(),
     }
+    Outcome::Good
 }
 
 /// Adds the names of objects.

@@ -102,26 +102,7 @@ where
     lines.end();
 }
 
-/// Adds a state, and whether the goal is true in it.
-fn add_state<A: Allocator, C: Allocator, D: Allocator, B: Allocator, S: AtomStore<D>, P>(
-    task: &Task<'_, '_, A, C>,
-    course: &P,
-    store: &S,
-    state: &S::Set,
-    lines: &mut Lines<'_, B>,
-)
-where
-    P: Course<D, S>,
-    requires { S.owns store.now state.now }
-{
-    lines.word(b"in");
-    add_set(task, store, state, lines);
-    lines.word(b"goal");
-    add_answer(course.goal_holds(store, state), lines);
-    lines.end();
-}
-
-/// Adds what each step is in a state, and then the state, which has not changed.
+/// Adds what each step is in a state, and then the state, which has not changed, and whether the goal is true in it.
 fn add_steps<A: Allocator, C: Allocator, D: Allocator, B: Allocator, S: AtomStore<D>, P>(
     asked: Asked,
     count: usize,
@@ -140,7 +121,11 @@ where
     for step in 0..count {
         add_step(asked, step, task, course, store, state, lines);
     }
-    add_state(task, course, store, state, lines);
+    lines.word(b"in");
+    add_set(task, store, state, lines);
+    lines.word(b"goal");
+    add_answer(course.goal_holds(store, state), lines);
+    lines.end();
 }
 
 /// Adds what each step is in a state, and once more in the same set of the same store, where memory was refused.

@@ -25,6 +25,12 @@ pub fn add_end<A: Allocator, C: Allocator, D: Allocator, B: Allocator>(
     lines.end();
 }
 
+/// Adds words, and behind them a number from 0 as it is shown, and a mark.
+fn add_counted<B: Allocator>(words: &[u8], number: usize, mark: &str, lines: &mut Lines<'_, B>) {
+    lines.word(words);
+    lines.counted(number, mark);
+}
+
 /// Adds the line of a plan that is not accepted.
 pub fn add_refusal<A: Allocator, C: Allocator, D: Allocator, B: Allocator>(
     task: &Task<'_, '_, A, C>,
@@ -33,10 +39,8 @@ pub fn add_refusal<A: Allocator, C: Allocator, D: Allocator, B: Allocator>(
 ) -> Outcome {
     match refusal {
         Refusal::Precondition { happening, step } => {
-            lines.word(b"invalid: happening");
-            lines.counted(*happening, ",");
-            lines.word(b"step");
-            lines.counted(*step as usize, ":");
+            add_counted(b"invalid: happening", *happening, ",", lines);
+            add_counted(b"step", *step as usize, ":", lines);
             lines.word(b"precondition is false");
         }
         Refusal::Interference {
@@ -45,12 +49,9 @@ pub fn add_refusal<A: Allocator, C: Allocator, D: Allocator, B: Allocator>(
             second,
             atom,
         } => {
-            lines.word(b"invalid: happening");
-            lines.counted(*happening, ",");
-            lines.word(b"steps");
-            lines.counted(*first as usize, "");
-            lines.word(b"and");
-            lines.counted(*second as usize, "");
+            add_counted(b"invalid: happening", *happening, ",", lines);
+            add_counted(b"steps", *first as usize, "", lines);
+            add_counted(b"and", *second as usize, "", lines);
             lines.word(b"interfere on");
             add_atom(task, atom, lines);
         }

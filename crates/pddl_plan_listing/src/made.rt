@@ -46,37 +46,16 @@ fn add_plan<A: Allocator, B: Allocator, C: Allocator, D: Allocator>(
     }
 }
 
-/// Adds the serial form of an accepted plan.
-fn add_serial<'m, 'a, 'b, A, B, C, D, E, F, S>(
+/// The same, and lets the plan go.
+fn add_new<A: Allocator, B: Allocator, C: Allocator, D: Allocator>(
     alloc: &D,
-    order: Order,
-    task: &Task<'m, 'a, A, B>,
-    steps: &Steps<'b, C>,
-    accepted: &Accepted<E, F, S>,
+    task: &Task<'_, '_, A, B>,
+    plan: Plan<C>,
     lines: &mut Lines<'_, D>,
-) -> Outcome
-where
-    A: Allocator,
-    B: Allocator,
-    C: Allocator,
-    D: Allocator,
-    E: Allocator,
-    F: Allocator,
-    S: AtomStore<E>,
-    requires { IsAcceptedOf (task_of_files task.now) steps.now (moments_of accepted.now.happenings.items) (groups_of accepted.now.happenings.items)
-        (by_name (number_of (task_of_files task.now)) (S.content accepted.now.store accepted.now.end)) accepted.now.cost }
-{
-    match serialise(alloc, task, steps, accepted, order) {
-        Ok(plan) => {
-            let outcome = add_plan(alloc, task, &plan, lines);
-            let_go_plan(plan);
-            outcome
-        }
-        Err(_) => {
-            lines.refuse();
-            Outcome::Refused
-        }
-    }
+) -> Outcome {
+    let outcome = add_plan(alloc, task, &plan, lines);
+    let_go_plan(plan);
+    outcome
 }
 
 /// Adds the groups of a line, between which strokes stand, to others. An empty line has no groups.
@@ -120,41 +99,14 @@ where
     add_groups(alloc, line, &mut groups, lines);
     match split(alloc, task, steps, accepted, &groups) {
         Ok(plan) => {
-            let _ = add_plan(alloc, task, &plan, lines);
-            let_go_plan(plan);
+            let _ = add_new(alloc, task, plan, lines);
         }
         Err(SplitFault::NotASplit) => lines.lines(b"61 NotASplit\n"),
         Err(SplitFault::Memory) => lines.refuse(),
     }
 }
 
-/// Adds the split of an accepted plan by the groups of each line of a text.
-fn add_splits<'m, 'a, 'b, A, B, C, D, E, F, S>(
-    alloc: &D,
-    text: &[u8],
-    task: &Task<'m, 'a, A, B>,
-    steps: &Steps<'b, C>,
-    accepted: &Accepted<E, F, S>,
-    lines: &mut Lines<'_, D>,
-) -> Outcome
-where
-    A: Allocator,
-    B: Allocator,
-    C: Allocator,
-    D: Allocator,
-    E: Allocator,
-    F: Allocator,
-    S: AtomStore<E>,
-    requires { IsAcceptedOf (task_of_files task.now) steps.now (moments_of accepted.now.happenings.items) (groups_of accepted.now.happenings.items)
-        (by_name (number_of (task_of_files task.now)) (S.content accepted.now.store accepted.now.end)) accepted.now.cost }
-{
-    for line in text_of(text).lines() {
-        add_split(alloc, line, task, steps, accepted, lines);
-    }
-    Outcome::Good
-}
-
-/// Adds the plans that are made of an accepted one.
+/// Adds the plans that are made of an accepted one: its serial form, or its split by the groups of each line of a text.
 fn add_of_accepted<'m, 'a, 'b, A, B, C, D, E, F, S>(
     alloc: &D,
     made: Made,
@@ -176,9 +128,17 @@ where
         (by_name (number_of (task_of_files task.now)) (S.content accepted.now.store accepted.now.end)) accepted.now.cost }
 {
     match made {
-        Made::Serial(order) => add_serial(alloc, order, task, steps, accepted, lines),
-        Made::Splits => add_splits(alloc, fourth, task, steps, accepted, lines),
+        Made::Serial(order) => match serialise(alloc, task, steps, accepted, order) {
+            Ok(plan) => return add_new(alloc, task, plan, lines),
+            Err(_) => lines.refuse(),
+        },
+        Made::Splits => {
+            for line in text_of(fourth).lines() {
+                add_split(alloc, line, task, steps, accepted, lines);
+            }
+        }
     }
+    Outcome::Good
 }
 
 /// Adds the plans that are made of linked steps, or why these are not accepted.

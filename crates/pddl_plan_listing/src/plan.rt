@@ -5,9 +5,8 @@ ghost use Rattle.pddl_linked_plan.specs.LinkedSteps.{AreLinkedSteps};
 
 use crate::listed::OfPlan;
 use crate::moments::add_happenings;
-use crate::replays::add_replays;
 use crate::steps::{add_step_fault, add_steps};
-use crate::stores::add_over_both;
+use crate::stores::{Over, add_over_both, add_replays};
 use pddl_commands::{Outcome, let_go_plan};
 use pddl_linked_plan::Steps;
 use pddl_linked_task::Task;
@@ -32,7 +31,9 @@ fn add_listed<'m, 'a, 'b, A: Allocator, B: Allocator, C: Allocator, D: Allocator
         OfPlan::Steps => add_steps(steps, lines),
         OfPlan::Happenings => add_happenings(alloc, steps, lines),
         OfPlan::Replays => add_replays(alloc, task, steps, fourth, lines),
-        OfPlan::Stored(stored) => add_over_both(alloc, stored, task, steps, fourth, lines),
+        OfPlan::Stored(stored) => {
+            add_over_both(alloc, Over::Stored(stored), task, steps, fourth, lines)
+        }
     }
 }
 
