@@ -1,17 +1,19 @@
 -- Variables that are bound, the innermost first, and their numbers by name.
-use Rattle.std.proofs.Common.{◌≡◌, ℕ, ◌+◌, ◌-◌, ◌<◌, ◌≤◌, Bool, true, false, ◌||◌, cond, List, [], ◌∷◌, ◌++◌, map, length, get_or, take, Option, Some, None, refl, ap, sym, ◌∙◌, bytes_eq, arith}
-use Rattle.std.specs.Prelude.{is_some, find, option_map, slice_get}
+use Rattle.std.proofs.Common.{◌≡◌, ℕ, ◌+◌, ◌-◌, ◌<◌, ◌≤◌, Bool, true, false, ◌||◌, cond, List, [], ◌∷◌, ◌++◌, map, length, get_or, take, Option, Some, None, refl, ap, sym, ◌∙◌, bytes_eq, arith, subst, inl, inr}
+use Rattle.std.specs.Prelude.{is_some, find, option_map, slice_get, MatchOption}
 use Rattle.std.specs.Borrow.{Bor}
 use Rattle.std.specs.Map.{lookup}
-use Rattle.std.specs.Option.{option_or, option_copied, option_and_then}
+use Rattle.std.specs.Option.{option_or, option_and_then}
 use Rattle.std.proofs.lemmas.List.{take_more, map-append}
 use Rattle.std.proofs.lemmas.Option.{slice_get-map, slice_get_read}
 use Rattle.pddl_formula.specs.TypedLists.{TypedValue}
 use Rattle.pddl_task.specs.Names.{Name, is_in, is_named, item_of}
 use Rattle.pddl_task.specs.Places.{binding}
-use Rattle.pddl_task.specs.Faults.{primitives_of}
+use Rattle.pddl_forest.specs.declared.spans.Span.{Span}
+use Rattle.pddl_faults.specs.Scopes.{bound_of, IsInScope}
+use Rattle.pddl_faults.specs.Bound.{BoundValue, IsBound, AreLastNumbers}
+use Rattle.pddl_faults.specs.declared.scope.Scope.{Scope, Inside'}
 use Rattle.indexmap.specs.IndexMap.{insert_entry}
-use Rattle.pddl_faults.specs.Bound.{AreLastNumbers}
 use Rattle.pddl_faults.proofs.PutValues.{lookup_put}
 
 either : (b : Bool) (x : TypedValue) (o p : Option TypedValue) → option_or o (cond b (Some x) p) ≡ option_or (option_or o (cond b (Some x) None)) p
@@ -26,14 +28,6 @@ find_bound [] bound n = refl
 find_bound (x ∷ xs) bound n =
     find_bound xs (x ∷ bound) n ∙ either (is_named n x) x (find (is_named n) (binding xs [])) (find (is_named n) bound)
     ∙ ap (λ o. option_or o (find (is_named n) bound)) (sym (find_bound xs (x ∷ []) n))
-
-types_or : (o p : Option TypedValue) → option_map primitives_of (option_or o p) ≡ option_or (option_map primitives_of o) (option_map primitives_of p)
-types_or None p = refl
-types_or (Some x) p = refl
-
-pub type_bound : (xs bound : List TypedValue) (n : Name)
-    → option_map primitives_of (find (is_named n) (binding xs bound)) ≡ option_or (option_map primitives_of (find (is_named n) (binding xs []))) (option_map primitives_of (find (is_named n) bound))
-type_bound xs bound n = ap (option_map primitives_of) (find_bound xs bound n) ∙ types_or (find (is_named n) (binding xs [])) (find (is_named n) bound)
 
 -- ---- a walk over a list from its end
 
@@ -97,34 +91,33 @@ last_before view n xs i x some h is other inv = sym (last_at view n xs i x false
 
 -- ---- a scope
 
--- its own list has a variable of the name
-pub found_inside : (all xs bound : List TypedValue) (n : Name) (o : Option (Bor (List Name))) (t : Bor (List Name))
-    → all ≡ binding xs bound → option_copied o ≡ option_map primitives_of (find (is_named n) (binding xs [])) → o ≡ Some t → Some t.now ≡ option_map primitives_of (find (is_named n) all)
-found_inside all xs bound n o t is found some =
-    let at : Some t.now ≡ option_map primitives_of (find (is_named n) (binding xs [])) = sym (ap option_copied some) ∙ found in
-    ap (λ p. option_or p (option_map primitives_of (find (is_named n) bound))) at ∙ sym (type_bound xs bound n) ∙ ap (λ ys. option_map primitives_of (find (is_named n) ys)) (sym is)
+module _ {A B : Type 0} (scope : Scope A B) (xs : Bor BoundValue) (p : _) (outer : Scope A B) (n : Name) where
+  -- its own list has a variable of the name
+  pub found_inside : (told : List Span) → scope ≡ Inside' xs p outer → IsBound xs.now (find (is_named n) (binding xs.now.list [])) told → IsInScope scope (find (is_named n) (bound_of scope)) told
+  found_inside told is found =
+      subst (λ s. IsInScope s (find (is_named n) (bound_of s)) told) (sym is)
+      (inl (found.0, found.1, found.2, find_bound xs.now.list (bound_of outer) n ∙ ap (λ o. option_or o (find (is_named n) (bound_of outer))) found.3, found.4))
 
--- or it is looked for further out
-pub found_outside : (all xs bound : List TypedValue) (n : Name) (o : Option (Bor (List Name))) (r : Option (List Name))
-    → all ≡ binding xs bound → option_copied o ≡ option_map primitives_of (find (is_named n) (binding xs [])) → o ≡ None
-    → r ≡ option_map primitives_of (find (is_named n) bound) → r ≡ option_map primitives_of (find (is_named n) all)
-found_outside all xs bound n o r is found none outer =
-    let at : None ≡ option_map primitives_of (find (is_named n) (binding xs [])) = sym (ap option_copied none) ∙ found in
-    outer ∙ ap (λ p. option_or p (option_map primitives_of (find (is_named n) bound))) at ∙ sym (type_bound xs bound n) ∙ ap (λ ys. option_map primitives_of (find (is_named n) ys)) (sym is)
+  -- or it is looked for further out
+  pub found_outside : (r : Option (Bor (List Span))) → scope ≡ Inside' xs p outer → find (is_named n) (binding xs.now.list []) ≡ None
+      → MatchOption r (find (is_named n) (bound_of outer) ≡ None) (λ told. IsInScope outer (find (is_named n) (bound_of outer)) told.now)
+      → MatchOption r (find (is_named n) (bound_of scope) ≡ None) (λ told. IsInScope scope (find (is_named n) (bound_of scope)) told.now)
+  found_outside r is none further = subst (λ s. MatchOption r (find (is_named n) (bound_of s) ≡ None) (λ told. IsInScope s (find (is_named n) (bound_of s)) told.now)) (sym is) (by_result r further)
+    where
+      same : find (is_named n) (binding xs.now.list (bound_of outer)) ≡ find (is_named n) (bound_of outer)
+      same = find_bound xs.now.list (bound_of outer) n ∙ ap (λ o. option_or o (find (is_named n) (bound_of outer))) none
+
+      by_result : (r : Option (Bor (List Span))) → MatchOption r (find (is_named n) (bound_of outer) ≡ None) (λ told. IsInScope outer (find (is_named n) (bound_of outer)) told.now)
+          → MatchOption r (find (is_named n) (binding xs.now.list (bound_of outer)) ≡ None) (λ told. IsInScope (Inside' xs p outer) (find (is_named n) (binding xs.now.list (bound_of outer))) told.now)
+      by_result None h = same ∙ h
+      by_result (Some told) h = inr (subst (λ o. IsInScope outer o told.now) (sym same) h)
 
 -- ---- whether a variable is bound
 
-found_or : (b c : Bool) (x : TypedValue) (o : Option TypedValue) → is_some (option_map primitives_of o) ≡ c → is_some (option_map primitives_of (cond b (Some x) o)) ≡ b || c
+found_or : (b c : Bool) (x : TypedValue) (o : Option TypedValue) → is_some o ≡ c → is_some (cond b (Some x) o) ≡ b || c
 found_or true c x o h = refl
 found_or false c x o h = h
 
-some_bound : (xs : List TypedValue) (n : Name) → is_some (option_map primitives_of (find (is_named n) xs)) ≡ is_in (map item_of xs) n
-some_bound [] n = refl
-some_bound (x ∷ xs) n = found_or (is_named n x) (is_in (map item_of xs) n) x (find (is_named n) xs) (some_bound xs n)
-
-some_lent : (o : Option (Bor (List Name))) → is_some o ≡ is_some (option_copied o)
-some_lent None = refl
-some_lent (Some x) = refl
-
-pub is_bound : (o : Option (Bor (List Name))) (xs : List TypedValue) (n : Name) → option_copied o ≡ option_map primitives_of (find (is_named n) xs) → is_some o ≡ is_in (map item_of xs) n
-is_bound o xs n is = some_lent o ∙ ap is_some is ∙ some_bound xs n
+pub is_bound : (xs : List TypedValue) (n : Name) → is_some (find (is_named n) xs) ≡ is_in (map item_of xs) n
+is_bound [] n = refl
+is_bound (x ∷ xs) n = found_or (is_named n x) (is_in (map item_of xs) n) x (find (is_named n) xs) (is_bound xs n)

@@ -1,11 +1,12 @@
 -- What is told of types, item by item.
-use Rattle.std.proofs.Common.{◌≡◌, ℕ, ◌+◌, ◌-◌, ◌<◌, ◌≤◌, List, [], ◌∷◌, ◌++◌, map, length, get_or, Some, option_map, refl, sym, ap, ◌∙◌, subst, arith, ◌⊎◌, inl, inr}
+use Rattle.std.proofs.Common.{◌≡◌, ℕ, ◌+◌, ◌-◌, ◌<◌, ◌≤◌, List, [], ◌∷◌, ◌++◌, map, length, get_or, Option, Some, option_map, refl, sym, ap, ◌∙◌, subst, arith, ◌⊎◌, inl, inr}
 use Rattle.std.specs.Prelude.{slice_get}
 use Rattle.std.specs.List.{slice_index_or}
 use Rattle.std.proofs.lemmas.Bool.{cases_lt}
 use Rattle.std.proofs.lemmas.List.{append_assoc, append-nil, length-append, get_or_append_left, get_or-append-add, get_or_at}
 use Rattle.std.proofs.lemmas.Option.{slice_get-map, slice_get_read, slice_get_within}
 use Rattle.pddl_formula.specs.TypedLists.{TypedValue, typed_view}
+use Rattle.pddl_forest.specs.declared.spans.Span.{Span}
 use Rattle.pddl_formula.specs.Groups.{HaveOneType}
 use Rattle.pddl_formula.specs.declared.type_names.Typed.{Typed}
 use Rattle.pddl_task.specs.Names.{Name}
@@ -80,8 +81,13 @@ module _ {T : Type 0} (is_told : List Name → List T → Type 0) (list : List T
       (so_far.0, (so_far.1.0, so_far.1.1, omega (arith, so_far.1.2.many, past, within), λ i x at. so_far.1.2.each i x (omega (arith, slice_get_within list i x at, past)) at))
 
 -- what was told of a type in a scope
-pub told_in_scope : {A B : Type 0} (is_told : List Name → List ℕ → Type 0) (scope : Scope A B) (types : List Name) (places : List ℕ) → AllTold is_told scope → IsInScope scope types places → is_told types places
-told_in_scope is_told Empty types places all in_it = absurd in_it
-told_in_scope is_told (Inside' xs p outer) types places all (inl one) =
-    subst (λ ts. is_told ts places) one.3 (subst (is_told one.1.of) one.4 (all.0 one.0 one.1 one.2))
-told_in_scope is_told (Inside' xs p outer) types places all (inr further) = told_in_scope is_told outer types places all.1 further
+pub told_in_scope : {A B : Type 0} (is_told : List Name → List Span → Type 0) (scope : Scope A B) (found : Option TypedValue) (x : TypedValue) (told : List Span)
+    → AllTold is_told scope → IsInScope scope found told → found ≡ Some x → is_told x.of told
+told_in_scope is_told Empty found x told all in_it is = absurd in_it
+told_in_scope is_told (Inside' xs p outer) found x told all (inl one) is =
+    let same : one.1 ≡ x = some_same (sym one.3 ∙ is) in
+    subst (λ (y : TypedValue). is_told y.of told) same (subst (is_told one.1.of) one.4 (all.0 one.0 one.1 one.2))
+  where
+    some_same : {x y : TypedValue} → Some x ≡ Some y → x ≡ y
+    some_same h = cc
+told_in_scope is_told (Inside' xs p outer) found x told all (inr further) is = told_in_scope is_told outer found x told all.1 further is

@@ -18,6 +18,6 @@ pub use hashed::Hashed;
 pub use lowest::lower;
 pub use part::{LentTerm, Part, Terms};
 pub use runs::Runs;
-pub use scope::{Scope, Search, Within, bound_type};
+pub use scope::{Scope, Search, Within, bound_told};
 pub use tells::{Tells, tell_all};
 pub use variables::Variables;

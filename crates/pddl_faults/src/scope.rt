@@ -1,10 +1,8 @@
 //! The variables in scope at a place, and what a search for faults promises there.
 
-ghost use Rattle.std.specs.Prelude.{◌≡◌, List, ℕ, find, option_map, IfSome};
-ghost use Rattle.std.specs.Option.{option_copied};
+ghost use Rattle.std.specs.Prelude.{◌≡◌, List, ℕ, find, MatchOption};
 ghost use Rattle.pddl_task.specs.Names.{is_named};
 ghost use Rattle.pddl_task.specs.Places.{at};
-ghost use Rattle.pddl_task.specs.Faults.{primitives_of};
 ghost use Rattle.pddl_faults.specs.Found.{FindsMore};
 ghost use Rattle.pddl_faults.specs.Parts.{part_in};
 ghost use Rattle.pddl_faults.specs.Scopes.{bound_of, AllTold, IsInScope};
@@ -13,7 +11,7 @@ use crate::fault::LinkFault;
 use crate::part::Part;
 use crate::tells::Tells;
 use crate::variables::Variables;
-use pddl_formula::TypeNames;
+use pddl_forest::Span;
 use std::alloc::Allocator;
 
 /// The variables in scope, a list for each quantifier, the innermost first.
@@ -23,29 +21,27 @@ pub enum Scope<'s, 'd, 'a, A: Allocator, B: Allocator> {
     Inside(&'s Variables<'d, 'a, A, B>, &'s Scope<'s, 'd, 'a, A, B>),
 }
 
-/// The type of the innermost variable of this name, and what the search told of it.
-pub fn bound_type<'s, 'd, 'a, A: Allocator, B: Allocator>(
+/// What the search told of the type of the innermost variable of this name.
+pub fn bound_told<'s, 'd, 'a, A: Allocator, B: Allocator>(
     scope: &Scope<'s, 'd, 'a, A, B>,
     name: &[u8],
-) -> (Option<&'d TypeNames<A>>, &'s [usize])
-    ensures types { option_copied result.0 ≡ option_map primitives_of (find (is_named name.now) (bound_of scope.now)) }
-    ensures told { IfSome result.0 (λ types. IsInScope scope.now types.now result.1.now) }
+) -> Option<&'s [Span]>
+    ensures { MatchOption result (find (is_named name.now) (bound_of scope.now) ≡ None) (λ told. IsInScope scope.now (find (is_named name.now) (bound_of scope.now)) told.now) }
 {
     match scope {
-        Scope::Empty => (None, &[]),
+        Scope::Empty => None,
         Scope::Inside(variables, outer) => {
             let variables = *variables;
-            let (found, places) = variables.type_of(name);
-            match found {
-                Some(types) => (Some(types), places),
-                None => bound_type(*outer, name),
+            match variables.told_of(name) {
+                Some(told) => Some(told),
+                None => bound_told(*outer, name),
             }
         }
     }
 }
 
-/// A search for faults, place by place, which tells places of the types of variables. Tables of variables take their memory from `B`.
-pub trait Search<A: Allocator, B: Allocator>: Tells<A, B, usize> {
+/// A search for faults, place by place, which tells spans of the types of variables. Tables of variables take their memory from `B`.
+pub trait Search<A: Allocator, B: Allocator>: Tells<A, B> {
     ghost use Rattle.pddl_task.specs.Places.{Place};
 
     ghost found: { Self → Place → List (ℕ × List ℕ) };

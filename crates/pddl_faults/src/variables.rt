@@ -1,11 +1,10 @@
 //! The variables of one list, looked up by name.
 
-ghost use Rattle.std.specs.Prelude.{◌≡◌, ◌<◌, [], map, find, slice_get, option_map, IfOk, IfSome};
-ghost use Rattle.std.specs.Option.{option_copied, option_and_then};
+ghost use Rattle.std.specs.Prelude.{◌≡◌, [], map, find, slice_get, IfOk, IfSome, MatchOption};
+ghost use Rattle.std.specs.Option.{option_and_then};
 ghost use Rattle.pddl_formula.specs.TypedLists.{typed_view};
 ghost use Rattle.pddl_task.specs.Names.{is_named};
 ghost use Rattle.pddl_task.specs.Places.{binding};
-ghost use Rattle.pddl_task.specs.Faults.{primitives_of};
 ghost use Rattle.pddl_faults.specs.Told.{AreTold};
 ghost use Rattle.pddl_faults.specs.Bound.{IsBound, AreLastNumbers};
 
@@ -13,7 +12,8 @@ use crate::hashed::Hashed;
 use crate::runs::Runs;
 use crate::tells::{Tells, tell_all};
 use indexmap::IndexMap;
-use pddl_formula::{TypeNames, Typed, TypedList};
+use pddl_forest::Span;
+use pddl_formula::{Typed, TypedList};
 use std::alloc::{AllocError, Allocator};
 use std::marker::Model;
 
@@ -26,7 +26,7 @@ type LastNumbers<'s, 'a, B> = IndexMap<&'s [u8], usize, Hashed, &'a B>;
 #[derive(Drop)]
 pub struct Variables<'s, 'a, A: Allocator, B: Allocator> {
     list: &'s [Typed<A>],
-    told: Runs<'a, usize, B>,
+    told: Runs<'a, Span, B>,
     table: Option<LastNumbers<'s, 'a, B>>,
 }
 
@@ -94,7 +94,7 @@ impl<'s, 'a, A: Allocator, B: Allocator> Variables<'s, 'a, A, B> {
     /// The variables of a list.
     ///
     /// Fails where memory for a table, or for what is told of their types, is refused.
-    pub fn of<S: Tells<A, B, usize>>(
+    pub fn of<S: Tells<A, B>>(
         alloc: &'a B,
         teller: &S,
         list: &'s TypedList<A>,
@@ -121,17 +121,14 @@ impl<'s, 'a, A: Allocator, B: Allocator> Variables<'s, 'a, A, B> {
         }
     }
 
-    /// The type of the variable of this name, the last where there are two, and what was told of it.
-    pub fn type_of(&self, name: &[u8]) -> (Option<&'s TypeNames<A>>, &[usize])
-        ensures types { option_copied result.0 ≡ option_map primitives_of (find (is_named name.now) (binding self.now.list [])) }
-        ensures told { IfSome result.0 (λ types. IsBound self.now types.now result.1.now) }
+    /// What was told of the type of the variable of this name, the last where there are two.
+    pub fn told_of(&self, name: &[u8]) -> Option<&[Span]>
+        ensures { MatchOption result (find (is_named name.now) (binding self.now.list []) ≡ None) (λ told. IsBound self.now (find (is_named name.now) (binding self.now.list [])) told.now) }
     {
-        let Some(number) = self.number_of(name) else {
-            return (None, &[]);
-        };
+        let number = self.number_of(name)?;
         match self.list.get(number) {
-            Some(variable) => (Some(&variable.types), self.told.at(number)),
-            None => (None, &[]),
+            Some(_) => Some(self.told.at(number)),
+            None => None,
         }
     }
 }

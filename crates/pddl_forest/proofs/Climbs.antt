@@ -1,14 +1,14 @@
 -- Ways from a place to its parent, and so on.
 use Rattle.std.proofs.Common.{◌≡◌, ◌≢◌, ℕ, zero, suc, ◌+◌, ◌<◌, ◌≤◌, ◌==◌, cond, List, [], ◌∷◌, ◌++◌, length, slice_set, refl, sym, ap, ◌∙◌, subst, arith, inl, inr, ◌⊎◌}
-use Rattle.std.proofs.lemmas.List.{get_or-set_same, get_or-set_other, length-set}
-use Rattle.std.proofs.lemmas.List.Elements.{Contains-append_left}
+use Rattle.std.proofs.lemmas.Bool.{cases_eq, eq-eqb, ne_eqb, cond-true, cond-false}
+use Rattle.std.proofs.lemmas.List.{get_or-set_same, get_or-set_other, length_push, length-set}
+use Rattle.std.proofs.lemmas.List.Elements.{Contains-append_left, Contains-push, Contains-push_cases}
 use Rattle.std.proofs.lemmas.List.Sums.{sum_by-set}
 use Rattle.std.specs.Prelude.{Contains}
 use Rattle.pddl_forest.specs.Forests.{parent_of, up, IsUnder, number_at}
 use Rattle.pddl_forest.specs.Rounds.{GoesRound}
 use Rattle.pddl_forest.specs.Inner.Climbs.{IsWay, IsOnce, new_count, IsClimb, IsBefore}
-use Rattle.pddl_forest.proofs.Lists.{same_or_not, nowhere, in_front, in_rest, in_cases, at_end, end_cases, stands, pushed_long}
-use Rattle.pddl_forest.proofs.PlaceCounts.{one_same, one_other}
+use Rattle.pddl_forest.proofs.Lists.{nowhere, in_front, in_rest, in_cases, stands}
 
 -- so many steps, and so many more
 pub up_more : (ps : List ℕ) (m n i : ℕ) → up ps m (up ps n i) ≡ up ps (n + m) i
@@ -24,7 +24,7 @@ way_on ps (i ∷ path) from end (is, rest) = (is, way_on ps path (parent_of ps i
 once_on : (path : List ℕ) (x : ℕ) → IsOnce path → (Contains path x → ⊥) → IsOnce (path ++ x ∷ [])
 once_on [] x once new = (nowhere x, tt)
 once_on (i ∷ path) x (out, once) new =
-    (λ there. elim (end_cases path x i there) as (λ _. ⊥) [ inl before ↦ out before | inr here ↦ new (0, omega arith, sym here) ], once_on path x once (λ there. new (in_rest i path x there)))
+    (λ there. elim (Contains-push_cases path x i there) as (λ _. ⊥) [ inl before ↦ out before | inr here ↦ new (0, omega arith, sym here) ], once_on path x once (λ there. new (in_rest i path x there)))
 
 pub way_low : (ps : List ℕ) → ((i : ℕ) → i < length ps → parent_of ps i < length ps) → (path : List ℕ) (from end : ℕ) → from < length ps → IsWay ps from path end → end < length ps
 way_low ps within [] from end low is = subst (λ i. i < length ps) is low
@@ -53,10 +53,10 @@ leads_to ps (j ∷ path) from end i (is, rest) there =
     ]
 
 -- where a path comes to its end before a place on it, or there, the way from this goes round
-goes_round : (ps path : List ℕ) (from end i : ℕ) → IsWay ps from path end → Contains path i → (IsBefore path end i → ⊥) → GoesRound ps i
+pub goes_round : (ps path : List ℕ) (from end i : ℕ) → IsWay ps from path end → Contains path i → (IsBefore path end i → ⊥) → GoesRound ps i
 goes_round ps [] from end i way there late = absurd (nowhere i there)
 goes_round ps (j ∷ path) from end i (is, rest) there late =
-    elim (same_or_not j end) as (λ _. GoesRound ps i) [
+    elim (cases_eq j end) as (λ _. GoesRound ps i) [
       | inl ends ↦
           let to = comes_to ps (j ∷ path) from end i (is, rest) there in
           let back = leads_to ps (j ∷ path) from end i (is, rest) there in
@@ -72,10 +72,6 @@ goes_round ps (j ∷ path) from end i (is, rest) there late =
         ))
       ]
     ]
-
-pub way_first : (ps path : List ℕ) (from end i : ℕ) → IsWay ps from path end → Contains path i → Contains path from
-way_first ps [] from end i way there = absurd (nowhere i there)
-way_first ps (j ∷ path) from end i (is, rest) there = (0, omega arith, sym is)
 
 pub way_head : (ps path : List ℕ) (from end : ℕ) → IsWay ps from path end → Contains path from ⊎ (from ≡ end)
 way_head ps [] from end is = inr is
@@ -100,13 +96,13 @@ module _ (ps new : List ℕ) (from place : ℕ) (low : from < length ps) (unseen
   pub counts_down : new_count ps (slice_set new place from) + 1 ≡ new_count ps new
   counts_down =
       let moved = sum_by-set (λ start. cond (start == length ps) 1 0) new place from 0 inside in
-      let one = one_same (number_at new place) (length ps) unseen in
-      let none = one_other from (length ps) (λ e. omega (arith, e, low)) in
+      let one = cond-true {A = ℕ} (number_at new place == length ps) 1 0 (eq-eqb (number_at new place) (length ps) unseen) in
+      let none = cond-false {A = ℕ} (from == length ps) 1 0 (ne_eqb from (length ps) (λ e. omega (arith, e, low))) in
       omega (arith, moved, one, none)
 
   module _ (old path : List ℕ) (h : IsClimb ps old new path from place) where
     was : number_at old place ≡ length ps
-    was = elim (same_or_not (number_at old place) (length ps)) as (λ _. number_at old place ≡ length ps) [ inl is ↦ is | inr other ↦ absurd (other (sym (h.kept place other) ∙ unseen)) ]
+    was = elim (cases_eq (number_at old place) (length ps)) as (λ _. number_at old place ≡ length ps) [ inl is ↦ is | inr other ↦ absurd (other (sym (h.kept place other) ∙ unseen)) ]
 
     not_on : Contains path place → ⊥
     not_on there = let come = h.seen place there in omega (arith, come, unseen, low)
@@ -122,17 +118,17 @@ module _ (ps new : List ℕ) (from place : ℕ) (low : from < length ps) (unseen
       long = length-set new place from ∙ h.long;
       way = way_on ps path from place h.way;
       once = once_on path place h.once not_on;
-      unseen = λ i there. elim (end_cases path place i there) as (λ _. number_at old i ≡ length ps) [ inl before ↦ h.unseen i before | inr here ↦ subst (λ j. number_at old j ≡ length ps) here was ];
-      seen = λ i there. elim (end_cases path place i there) as (λ _. number_at (slice_set new place from) i ≡ from) [
+      unseen = λ i there. elim (Contains-push_cases path place i there) as (λ _. number_at old i ≡ length ps) [ inl before ↦ h.unseen i before | inr here ↦ subst (λ j. number_at old j ≡ length ps) here was ];
+      seen = λ i there. elim (Contains-push_cases path place i there) as (λ _. number_at (slice_set new place from) i ≡ from) [
         | inl before ↦ others i (λ e. not_on (subst (Contains path) e before)) ∙ h.seen i before
         | inr here ↦ subst (λ j. number_at (slice_set new place from) j ≡ from) here same
       ];
       kept = λ i other. others i (λ e. other (ap (number_at old) e ∙ was)) ∙ h.kept i other;
-      found = λ i old_is new_is. elim (same_or_not i place) as (λ _. Contains (path ++ place ∷ []) i) [
-        | inl is ↦ subst (Contains (path ++ place ∷ [])) (sym is) (at_end path place)
+      found = λ i old_is new_is. elim (cases_eq i place) as (λ _. Contains (path ++ place ∷ []) i) [
+        | inl is ↦ subst (Contains (path ++ place ∷ [])) (sym is) (Contains-push path place)
         | inr other ↦ Contains-append_left path (place ∷ []) i (h.found i old_is (λ e. new_is (others i other ∙ e)))
       ];
-      fewer = let longer = pushed_long path place (length path) refl in let down = counts_down in let before = h.fewer in omega (arith, longer, down, before);
+      fewer = let longer = length_push path place in let down = counts_down in let before = h.fewer in omega (arith, longer, down, before);
     }
 
 -- the places of a path are among all places
@@ -143,7 +139,7 @@ path_low {ps} {old} {new} {path} {from} {end} h long low i there = let is = h.un
 
 -- a place more has a number
 pub numbered_more : (numbers : List ℕ) (place i : ℕ) → number_at (slice_set numbers place 1) i ≢ 0 → (place ≡ i) ⊎ (number_at numbers i ≢ 0)
-numbered_more numbers place i some = elim (same_or_not i place) as (λ _. (place ≡ i) ⊎ (number_at numbers i ≢ 0)) [
+numbered_more numbers place i some = elim (cases_eq i place) as (λ _. (place ≡ i) ⊎ (number_at numbers i ≢ 0)) [
   | inl is ↦ inl (sym is)
   | inr other ↦ inr (λ none. some (get_or-set_other numbers place i 1 0 other ∙ none))
 ]
@@ -153,7 +149,7 @@ module _ (numbers : List ℕ) (place : ℕ) (low : place < length numbers) where
   numbered_here none = let one = get_or-set_same numbers place 1 0 low in omega (arith, one, none)
 
   pub numbered_still : (i : ℕ) → number_at numbers i ≢ 0 → number_at (slice_set numbers place 1) i ≢ 0
-  numbered_still i was = elim (same_or_not i place) as (λ _. number_at (slice_set numbers place 1) i ≢ 0) [
+  numbered_still i was = elim (cases_eq i place) as (λ _. number_at (slice_set numbers place 1) i ≢ 0) [
     | inl is ↦ subst (λ j. number_at (slice_set numbers place 1) j ≢ 0) (sym is) numbered_here
     | inr other ↦ λ none. was (sym (get_or-set_other numbers place i 1 0 other) ∙ none)
   ]
@@ -188,10 +184,6 @@ module _ (ps old : List ℕ) (closed : (i : ℕ) → number_at old i ≢ length 
         | suc v ↦ λ less here before. off_path path (parent_of ps j) end rest once (λ k there. unseen k (in_rest j path k there)) on i (v, omega (arith, less), here, λ w le. before (suc w) (omega (arith, le)))
       ] low is none
 
--- what comes at the end of a climb or behind it is on a round
-pub round_climb : {ps old new path : List ℕ} {from end : ℕ} → IsClimb ps old new path from end → (i : ℕ) → Contains path i → (IsBefore path end i → ⊥) → GoesRound ps i
-round_climb {ps} {old} {new} {path} {from} {end} h i = goes_round ps path from end i h.way
-
 module _ {ps old new path : List ℕ} {from end : ℕ} (h : IsClimb ps old new path from end) (low : from < length ps) (ends : number_at new end ≢ length ps) where
   pub path_seen : (i : ℕ) → Contains path i → number_at new i ≢ length ps
   path_seen i there is = let come = h.seen i there in omega (arith, come, is, low)
@@ -202,7 +194,7 @@ module _ {ps old new path : List ℕ} {from end : ℕ} (h : IsClimb ps old new p
   module _ (closed : (i : ℕ) → number_at old i ≢ length ps → number_at old (parent_of ps i) ≢ length ps) where
     pub still_closed : (i : ℕ) → number_at new i ≢ length ps → number_at new (parent_of ps i) ≢ length ps
     still_closed i seen =
-        elim (same_or_not (number_at old i) (length ps)) as (λ _. number_at new (parent_of ps i) ≢ length ps) [
+        elim (cases_eq (number_at old i) (length ps)) as (λ _. number_at new (parent_of ps i) ≢ length ps) [
           | inl unseen ↦ elim (way_next ps path from end i h.way (h.found i unseen seen)) as (λ _. number_at new (parent_of ps i) ≢ length ps) [
             | inl on ↦ path_seen (parent_of ps i) on
             | inr is ↦ subst (λ j. number_at new j ≢ length ps) (sym is) ends
@@ -213,4 +205,4 @@ module _ {ps old new path : List ℕ} {from end : ℕ} (h : IsClimb ps old new p
     -- what comes sooner is on none
     pub off_climb : (i : ℕ) → IsBefore path end i → GoesRound ps i → ⊥
     off_climb = off_path ps old closed path from end h.way h.once h.unseen
-        (elim (same_or_not (number_at old end) (length ps)) as (λ _. Contains path end ⊎ (number_at old end ≢ length ps)) [ inl unseen ↦ inl (h.found end unseen ends) | inr was ↦ inr was ])
+        (elim (cases_eq (number_at old end) (length ps)) as (λ _. Contains path end ⊎ (number_at old end ≢ length ps)) [ inl unseen ↦ inl (h.found end unseen ends) | inr was ↦ inr was ])

@@ -1,51 +1,36 @@
 -- Places that are listed each behind its parent.
-use Rattle.std.proofs.Common.{◌≡◌, ◌≢◌, ℕ, ◌+◌, ◌<◌, List, [], ◌∷◌, ◌++◌, length, slice_set, refl, sym, ap, ◌∙◌, subst, arith, inl, inr, ◌⊎◌}
-use Rattle.std.proofs.lemmas.Bool.{cases_lt}
-use Rattle.std.proofs.lemmas.List.{get_or-set_same, get_or-set_other, length-set}
-use Rattle.std.proofs.lemmas.List.Elements.{Contains-append_left}
+use Rattle.std.proofs.Common.{◌≡◌, ◌≢◌, ℕ, zero, suc, ◌+◌, ◌<◌, List, [], ◌∷◌, ◌++◌, reverse, length, slice_set, refl, sym, ap, ◌∙◌, subst, arith, inl, inr}
+use Rattle.std.proofs.lemmas.Bool.{cases_eq, cases_lt}
+use Rattle.std.proofs.lemmas.List.{append-nil, append_assoc, reverse-append, length-append, length-reverse, get_or_append_left, get_or_push, get_or-set_same, get_or-set_other, length_push, length-set}
+use Rattle.std.proofs.lemmas.List.Elements.{Contains-get_or, Contains-append_left, Contains-append_right, Contains-append_cases}
+use Rattle.std.proofs.lemmas.List.Sorted.{Contains-permutation, IsPermutation-reverse, IsPermutation-sym}
 use Rattle.std.specs.Prelude.{Contains}
-use Rattle.pddl_forest.specs.Forests.{parent_of, number_at}
+use Rattle.pddl_forest.specs.Forests.{parent_of, up, number_at, IsUnder, IsForest}
 use Rattle.pddl_forest.specs.Rounds.{HasRound}
-use Rattle.pddl_forest.specs.Inner.Climbs.{IsWay, IsOnce, IsClimb, AreNew, with_path}
+use Rattle.pddl_forest.specs.Inner.Climbs.{IsWay, IsOnce, IsClimb, AreNew}
 use Rattle.pddl_forest.specs.Inner.Orders.{IsListed, IsOrder, IsListing}
-use Rattle.pddl_forest.proofs.Lists.{same_or_not, nowhere, in_front, in_rest, in_cases, at_end, end_cases, only_one, place_in, listed_at, front_at, last_at, pushed_long, told_more}
-use Rattle.pddl_forest.proofs.Climbs.{way_low, way_head, way_first, comes_to, counts_down, path_low, path_seen}
+use Rattle.pddl_forest.proofs.Lists.{next_too, in_front, in_rest, only_one, place_in}
+use Rattle.pddl_forest.proofs.Climbs.{way_low, way_head, comes_to, counts_down, path_low, path_seen, from_seen}
 
 -- ---- a path behind others
 
-with_left : (order path : List ℕ) (i : ℕ) → Contains order i → Contains (with_path order path) i
-with_left order [] i there = there
-with_left order (j ∷ path) i there = Contains-append_left (with_path order path) (j ∷ []) i (with_left order path i there)
+in_reverse : (path : List ℕ) (i : ℕ) → Contains path i → Contains (reverse path) i
+in_reverse path i = Contains-permutation path (reverse path) i (IsPermutation-reverse path)
 
-with_right : (order path : List ℕ) (i : ℕ) → Contains path i → Contains (with_path order path) i
-with_right order [] i there = absurd (nowhere i there)
-with_right order (j ∷ path) i there =
-    elim (in_cases j path i there) as (λ _. Contains (with_path order (j ∷ path)) i) [
-      | inl here ↦ subst (Contains (with_path order (j ∷ path))) here (at_end (with_path order path) j)
-      | inr more ↦ Contains-append_left (with_path order path) (j ∷ []) i (with_right order path i more)
-    ]
-
-with_cases : (order path : List ℕ) (i : ℕ) → Contains (with_path order path) i → Contains order i ⊎ Contains path i
-with_cases order [] i there = inl there
-with_cases order (j ∷ path) i there =
-    elim (end_cases (with_path order path) j i there) as (λ _. Contains order i ⊎ Contains (j ∷ path) i) [
-      | inl before ↦ elim (with_cases order path i before) as (λ _. Contains order i ⊎ Contains (j ∷ path) i) [ inl old ↦ inl old | inr on ↦ inr (in_rest j path i on) ]
-      | inr here ↦ inr (0, omega arith, here)
-    ]
-
-with_long : (order path : List ℕ) → length (with_path order path) ≡ length order + length path
-with_long order [] = omega arith
-with_long order (j ∷ path) = let rest = with_long order path in let more = pushed_long (with_path order path) j (length (with_path order path)) refl in omega (arith, rest, more)
-
-pub with_end : (order path : List ℕ) (i : ℕ) → with_path order (path ++ i ∷ []) ≡ with_path (order ++ i ∷ []) path
-with_end order [] i = refl
-with_end order (j ∷ path) i = ap (λ xs. xs ++ j ∷ []) (with_end order path i)
+from_reverse : (path : List ℕ) (i : ℕ) → Contains (reverse path) i → Contains path i
+from_reverse path i = Contains-permutation (reverse path) path i (IsPermutation-sym path (reverse path) (IsPermutation-reverse path))
 
 -- ---- one place more
 
 module _ {ps order : List ℕ} (h : IsListed ps order) (x : ℕ) (low : x < length ps) (new : Contains order x → ⊥) (above : Contains order (parent_of ps x)) where
   long : length (order ++ x ∷ []) ≡ length order + 1
-  long = pushed_long order x (length order) refl
+  long = length_push order x
+
+  front : (v : ℕ) → v < length order → number_at (order ++ x ∷ []) v ≡ number_at order v
+  front = get_or_append_left order (x ∷ []) 0
+
+  last : (v : ℕ) → length order ≡ v → number_at (order ++ x ∷ []) v ≡ x
+  last = get_or_push order x 0
 
   parent : (v : ℕ) × (v < length order) × (number_at order v ≡ parent_of ps x)
   parent = place_in order (parent_of ps x) above
@@ -56,37 +41,39 @@ module _ {ps order : List ℕ} (h : IsListed ps order) (x : ℕ) (low : x < leng
   listed_on : IsListed ps (order ++ x ∷ [])
   listed_on = record {
     top = λ _. h.top some;
-    start = front_at order x 0 some ∙ h.start;
-    in_range = λ u less. told_more (λ _ i. i < length ps) order x (length order) refl low h.in_range u (omega (arith, less, long));
+    start = front 0 some ∙ h.start;
+    in_range = λ u less. next_too (λ v. number_at (order ++ x ∷ []) v < length ps) (length order)
+        (λ v before. subst (λ i. i < length ps) (sym (front v before)) (h.in_range v before)) (subst (λ i. i < length ps) (sym (last (length order) refl)) low) u (omega (arith, less, long));
     once = λ u v less inside same. elim (cases_lt v (length order)) as (λ _. ⊥) [
-      | inl before ↦ h.once u v less before (sym (front_at order x u (omega (arith, less, before))) ∙ same ∙ front_at order x v before)
+      | inl before ↦ h.once u v less before (sym (front u (omega (arith, less, before))) ∙ same ∙ front v before)
       | inr past ↦
           let u_low : u < length order = omega (arith, less, inside, long) in
           let is : length order ≡ v = omega (arith, past, inside, long) in
-          new (subst (Contains order) (sym (front_at order x u u_low) ∙ same ∙ last_at order x v is) (listed_at order u u_low))
+          new (subst (Contains order) (sym (front u u_low) ∙ same ∙ last v is) (Contains-get_or order u 0 u_low))
     ];
     behind = λ u less other. elim (cases_lt u (length order)) as (λ _. (v : ℕ) × (v < u) × (number_at (order ++ x ∷ []) v ≡ parent_of ps (number_at (order ++ x ∷ []) u))) [
       | inl before ↦ let b = h.behind u before other in let b1 = b.1 in
-          (b.0, b.1, front_at order x b.0 (omega (arith, b1, before)) ∙ b.2 ∙ ap (parent_of ps) (sym (front_at order x u before)))
+          (b.0, b.1, front b.0 (omega (arith, b1, before)) ∙ b.2 ∙ ap (parent_of ps) (sym (front u before)))
       | inr past ↦
           let is : length order ≡ u = omega (arith, past, less, long) in
           let there = parent.1 in
-          (parent.0, omega (arith, there, past), front_at order x parent.0 there ∙ parent.2 ∙ ap (parent_of ps) (sym (last_at order x u is)))
+          (parent.0, omega (arith, there, past), front parent.0 there ∙ parent.2 ∙ ap (parent_of ps) (sym (last u is)))
     ];
   }
 
 -- a path more, from the end of which on all is listed
 listed_path : (ps order path : List ℕ) (from end : ℕ) → IsListed ps order → IsWay ps from path end → IsOnce path → ((i : ℕ) → Contains path i → i < length ps) → ((i : ℕ) → Contains path i → Contains order i → ⊥) → Contains order end
-    → IsListed ps (with_path order path)
-listed_path ps order [] from end h way once low new ends = h
+    → IsListed ps (order ++ reverse path)
+listed_path ps order [] from end h way once low new ends = rw (append-nil order) h
 listed_path ps order (i ∷ path) from end h (start, rest) (out, once) low new ends =
-    listed_on (listed_path ps order path (parent_of ps i) end h rest once (λ j there. low j (in_rest i path j there)) (λ j there. new j (in_rest i path j there)) ends)
+    rw (reverse-append (i ∷ []) path, ← append_assoc order (reverse path) (i ∷ []))
+    (listed_on (listed_path ps order path (parent_of ps i) end h rest once (λ j there. low j (in_rest i path j there)) (λ j there. new j (in_rest i path j there)) ends)
     i (low i (in_front i path))
-    (λ there. elim (with_cases order path i there) as (λ _. ⊥) [ inl old ↦ new i (in_front i path) old | inr again ↦ out again ])
-    (elim (way_head ps path (parent_of ps i) end rest) as (λ _. Contains (with_path order path) (parent_of ps i)) [
-      | inl on ↦ with_right order path (parent_of ps i) on
-      | inr is ↦ with_left order path (parent_of ps i) (subst (Contains order) (sym is) ends)
-    ])
+    (λ there. elim (Contains-append_cases order (reverse path) i there) as (λ _. ⊥) [ inl old ↦ new i (in_front i path) old | inr again ↦ out (from_reverse path i again) ])
+    (elim (way_head ps path (parent_of ps i) end rest) as (λ _. Contains (order ++ reverse path) (parent_of ps i)) [
+      | inl on ↦ Contains-append_right order (reverse path) (parent_of ps i) (in_reverse path (parent_of ps i) on)
+      | inr is ↦ Contains-append_left order (reverse path) (parent_of ps i) (subst (Contains order) (sym is) ends)
+    ]))
 
 -- ---- a climb
 
@@ -101,33 +88,33 @@ module _ {ps starts new order path : List ℕ} {from end : ℕ} (h : IsListing p
   -- where the end was come to from the same place, it is come to again
   pub round_found : number_at new end ≡ from → HasRound ps
   round_found same =
-      let unseen : number_at starts end ≡ length ps = elim (same_or_not (number_at starts end) (length ps)) as (λ _. number_at starts end ≡ length ps) [
+      let unseen : number_at starts end ≡ length ps = elim (cases_eq (number_at starts end) (length ps)) as (λ _. number_at starts end ≡ length ps) [
         | inl is ↦ is
         | inr seen ↦ absurd (h.started end end_low seen (ap (number_at starts) (sym (climb.kept end seen) ∙ same) ∙ unlisted))
       ] in
-      (end, end_low, comes_to ps path from end end climb.way (climb.found end unseen ends), λ is top. h.rooted top (ap (number_at starts) (sym is) ∙ unseen))
+      (end, end_low, (comes_to ps path from end end climb.way (climb.found end unseen ends), λ is top. h.rooted top (ap (number_at starts) (sym is) ∙ unseen)))
 
   module _ (other : number_at new end ≢ from) where
     end_seen : number_at starts end ≢ length ps
     end_seen unseen = other (climb.seen end (climb.found end unseen ends))
 
-    pub listing : IsListing ps new (with_path order path)
+    pub listing : IsListing ps new (order ++ reverse path)
     listing = record {
       listed = listed_path ps order path from end h.listed climb.way climb.once (path_low climb h.long low) (λ i there old. h.seen i old (climb.unseen i there)) (h.each end end_low end_seen);
       long = climb.long;
-      each = λ i less seen. elim (same_or_not (number_at starts i) (length ps)) as (λ _. Contains (with_path order path) i) [
-        | inl unseen ↦ with_right order path i (climb.found i unseen seen)
-        | inr was ↦ with_left order path i (h.each i less was)
+      each = λ i less seen. elim (cases_eq (number_at starts i) (length ps)) as (λ _. Contains (order ++ reverse path) i) [
+        | inl unseen ↦ Contains-append_right order (reverse path) i (in_reverse path i (climb.found i unseen seen))
+        | inr was ↦ Contains-append_left order (reverse path) i (h.each i less was)
       ];
-      seen = λ i there. elim (with_cases order path i there) as (λ _. number_at new i ≢ length ps) [ inl old ↦ still_seen i (h.seen i old) | inr on ↦ path_seen climb low ends i on ];
-      started = λ i less seen. elim (same_or_not (number_at starts i) (length ps)) as (λ _. number_at new (number_at new i) ≢ length ps) [
+      seen = λ i there. elim (Contains-append_cases order (reverse path) i there) as (λ _. number_at new i ≢ length ps) [ inl old ↦ still_seen i (h.seen i old) | inr on ↦ path_seen climb low ends i (from_reverse path i on) ];
+      started = λ i less seen. elim (cases_eq (number_at starts i) (length ps)) as (λ _. number_at new (number_at new i) ≢ length ps) [
         | inl unseen ↦
             let there = climb.found i unseen seen in
-            subst (λ j. number_at new j ≢ length ps) (sym (climb.seen i there)) (path_seen climb low ends from (way_first ps path from end i climb.way there))
+            subst (λ j. number_at new j ≢ length ps) (sym (climb.seen i there)) (from_seen climb low ends)
         | inr was ↦ subst (λ j. number_at new j ≢ length ps) (sym (climb.kept i was)) (still_seen (number_at starts i) (h.started i less was))
       ];
       rooted = λ top. still_seen 0 (h.rooted top);
-      fewer = let longer = with_long order path in let less = climb.fewer in let before = h.fewer in omega (arith, longer, less, before);
+      fewer = let longer = length-append order (reverse path) in let same = length-reverse path in let less = climb.fewer in let before = h.fewer in omega (arith, longer, same, less, before);
     }
 
 -- ---- place 0
@@ -137,7 +124,7 @@ module _ {ps starts : List ℕ} (some : 0 < length ps) (new : AreNew ps starts) 
   top_seen = get_or-set_same starts 0 0 0 (let long = new.long in omega (arith, long, some))
 
   top_alone : (i : ℕ) → i < length ps → number_at (slice_set starts 0 0) i ≢ length ps → 0 ≡ i
-  top_alone i low seen = elim (same_or_not 0 i) as (λ _. 0 ≡ i) [ inl is ↦ is | inr other ↦ absurd (seen (get_or-set_other starts 0 i 0 0 (λ e. other (sym e)) ∙ new.each i low)) ]
+  top_alone i low seen = elim (cases_eq 0 i) as (λ _. 0 ≡ i) [ inl is ↦ is | inr other ↦ absurd (seen (get_or-set_other starts 0 i 0 0 (λ e. other (sym e)) ∙ new.each i low)) ]
 
   pub top_listed : parent_of ps 0 ≡ 0 → IsListing ps (slice_set starts 0 0) (0 ∷ [])
   top_listed top = record {
@@ -166,3 +153,20 @@ ordered {ps} {starts} {order} h some within all = record {
   few = let fewer = h.fewer in omega (arith, fewer);
   all = λ i low. place_in order i (h.each i low (all i low));
 }
+
+-- ---- each is below place 0
+
+module _ {ps order : List ℕ} (o : IsOrder ps order) where
+  below_top : (b u : ℕ) → u < b → u < length order → IsUnder ps (number_at order u) 0
+  below_top zero u less low = absurd (omega (arith, less))
+  below_top (suc b) u less low =
+      elim (cases_eq u 0) as (λ _. IsUnder ps (number_at order u) 0) [
+        | inl is ↦ (0, ap (number_at order) is ∙ o.listed.start)
+        | inr other ↦
+            let (v, before, over) = o.listed.behind u low other in
+            let (n, above) = below_top b v (omega (arith, before, less)) (omega (arith, before, low)) in
+            (suc n, ap (up ps n) (sym over) ∙ above)
+      ]
+
+  pub forest : IsForest ps
+  forest = record { top = o.listed.top o.some; below = λ i low. let (u, inside, is) = o.all i low in subst (λ j. IsUnder ps j 0) is (below_top (u + 1) u (omega arith) inside) }

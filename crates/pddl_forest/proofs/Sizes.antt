@@ -1,29 +1,24 @@
 -- How many places are under each, found in an order in which each comes behind its parent.
 use Rattle.std.proofs.Common.{◌≡◌, ◌≢◌, ℕ, zero, suc, ◌+◌, ◌<◌, ◌≤◌, List, length, replicate, slice_set, refl, sym, ap, ◌∙◌, subst, arith, inl, inr, ◌⊎◌}
-use Rattle.std.proofs.lemmas.Bool.{cases_lt}
+use Rattle.std.proofs.lemmas.Bool.{cases_eq, cases_lt}
 use Rattle.std.proofs.lemmas.List.{get_or-set_same, get_or-set_other, get_or-replicate, length-set, length-replicate}
 use Rattle.pddl_forest.specs.Forests.{parent_of, number_at}
 use Rattle.pddl_forest.specs.Inner.Orders.{IsOrder}
 use Rattle.pddl_forest.specs.Inner.Sizes.{IsFrom, IsUpTo, total, AreSized, AreNumbered}
-use Rattle.pddl_forest.proofs.Lists.{same_or_not}
 
 -- ---- sums of so many numbers
 
-total_same : (f g : ℕ → ℕ) (m : ℕ) → ((u : ℕ) → u < m → g u ≡ f u) → total g m ≡ total f m
-total_same f g zero same = refl
-total_same f g (suc m) same = let rest = total_same f g m (λ u low. same u (omega (arith, low))) in let here = same m (omega arith) in omega (arith, rest, here)
-
 -- one of them is raised
-total_raised : (f g : ℕ → ℕ) (m q d : ℕ) → q < m → g q ≡ f q + d → ((u : ℕ) → u < m → u ≢ q → g u ≡ f u) → total g m ≡ total f m + d
-total_raised f g zero q d low raised same = absurd (omega (arith, low))
-total_raised f g (suc m) q d low raised same =
-    elim (same_or_not m q) as (λ _. total g (suc m) ≡ total f (suc m) + d) [
+total_raised : (f g : ℕ → ℕ) (m q d : ℕ) → (q < m → g q ≤ f q + d) → ((u : ℕ) → u < m → u ≢ q → g u ≤ f u) → total g m ≤ total f m + d
+total_raised f g zero q d raised same = omega arith
+total_raised f g (suc m) q d raised same =
+    elim (cases_eq m q) as (λ _. total g (suc m) ≤ total f (suc m) + d) [
       | inl is ↦
-          let rest = total_same f g m (λ u less. same u (omega (arith, less)) (λ e. omega (arith, e, is, less))) in
-          let here : g m ≡ f m + d = subst (λ k. g k ≡ f k + d) (sym is) raised in
+          let rest = total_raised f g m q 0 (λ low. absurd (omega (arith, low, is))) (λ u less. same u (omega (arith, less))) in
+          let here : g m ≤ f m + d = subst (λ k. g k ≤ f k + d) (sym is) (raised (omega (arith, is))) in
           omega (arith, rest, here)
       | inr other ↦
-          let rest = total_raised f g m q d (let apart : q ≢ m = λ e. other (sym e) in omega (arith, low, apart)) raised (λ u less. same u (omega (arith, less))) in
+          let rest = total_raised f g m q d (λ low. raised (omega (arith, low))) (λ u less. same u (omega (arith, less))) in
           let here = same m (omega arith) other in
           omega (arith, rest, here)
     ]
@@ -31,13 +26,13 @@ total_raised f g (suc m) q d low raised same =
 total_low : (f : ℕ → ℕ) (m q : ℕ) → q < m → f q ≤ total f m
 total_low f zero q low = absurd (omega (arith, low))
 total_low f (suc m) q low =
-    elim (same_or_not m q) as (λ _. f q ≤ total f (suc m)) [
+    elim (cases_eq m q) as (λ _. f q ≤ total f (suc m)) [
       | inl is ↦ let e = ap f is in omega (arith, e)
       | inr other ↦ let rest = total_low f m q (let apart : q ≢ m = λ e. other (sym e) in omega (arith, low, apart)) in omega (arith, rest)
     ]
 
-total_ones : (f : ℕ → ℕ) (m : ℕ) → ((u : ℕ) → u < m → f u ≡ 1) → total f m ≡ m
-total_ones f zero ones = refl
+total_ones : (f : ℕ → ℕ) (m : ℕ) → ((u : ℕ) → u < m → f u ≡ 1) → total f m ≤ m
+total_ones f zero ones = omega arith
 total_ones f (suc m) ones = let rest = total_ones f m (λ u low. ones u (omega (arith, low))) in let here = ones m (omega arith) in omega (arith, rest, here)
 
 -- ---- sizes, from the end of the order
@@ -91,13 +86,13 @@ module _ {ps order : List ℕ} (o : IsOrder ps order) (turn : ℕ) (low : turn <
   past_parent i (u, past, inside, at) is = o.listed.once over.0 u (let before = over.1 in omega (arith, past, before)) inside (over.2 ∙ sym is ∙ sym at)
 
   here_or_past : (i : ℕ) → IsFrom order turn i → (place ≡ i) ⊎ IsFrom order (suc turn) i
-  here_or_past i (u, from, inside, at) = elim (same_or_not turn u) as (λ _. (place ≡ i) ⊎ IsFrom order (suc turn) i) [
+  here_or_past i (u, from, inside, at) = elim (cases_eq turn u) as (λ _. (place ≡ i) ⊎ IsFrom order (suc turn) i) [
     | inl is ↦ inl (ap (number_at order) is ∙ at)
     | inr other ↦ inr (u, omega (arith, from, other), inside, at)
   ]
 
   here_or_before : (i : ℕ) → IsUpTo order (turn + 1) i → (place ≡ i) ⊎ IsUpTo order turn i
-  here_or_before i (u, up_to, at) = elim (same_or_not turn u) as (λ _. (place ≡ i) ⊎ IsUpTo order turn i) [
+  here_or_before i (u, up_to, at) = elim (cases_eq turn u) as (λ _. (place ≡ i) ⊎ IsUpTo order turn i) [
     | inl is ↦ inl (ap (number_at order) is ∙ at)
     | inr other ↦ inr (u, omega (arith, up_to, other), at)
   ]
@@ -127,7 +122,7 @@ module _ {ps order : List ℕ} (o : IsOrder ps order) (turn : ℕ) (low : turn <
       kept i other = get_or-set_other sizes parent i size 0 other
 
       grown : (i : ℕ) → number_at sizes i ≤ size_of i
-      grown i = elim (same_or_not i parent) as (λ _. number_at sizes i ≤ size_of i) [
+      grown i = elim (cases_eq i parent) as (λ _. number_at sizes i ≤ size_of i) [
         | inl is ↦ let now = ap size_of is ∙ raised in let was = ap (number_at sizes) is in omega (arith, now, was)
         | inr other ↦ let same = kept i other in omega (arith, same)
       ]
@@ -145,38 +140,6 @@ module _ {ps order : List ℕ} (o : IsOrder ps order) (turn : ℕ) (low : turn <
       size_past : (i : ℕ) → IsFrom order (suc turn) i → size_of i ≡ number_at sizes i
       size_past i past = kept i (past_parent i past)
 
-      -- a place that was done and has the same parent ends where this one begins
-      ends_before : (k : ℕ) → IsFrom order (suc turn) k → parent_of ps k ≡ parent → number_at offsets k + number_at sizes k ≤ number_at sizes parent
-      ends_before k past same = let within = h.inside k past in let e = ap (number_at sizes) same in omega (arith, within, e)
-
-      apart_here : (i k : ℕ) → IsFrom order turn i → IsFrom order turn k → k ≢ i → parent_of ps k ≡ parent_of ps i → offset_of k ≤ offset_of i → offset_of k + size_of k ≤ offset_of i
-      apart_here i k from also differ same before =
-          elim (here_or_past i from) as (λ _. offset_of k + size_of k ≤ offset_of i) [
-            | inl is ↦ elim (here_or_past k also) as (λ _. offset_of k + size_of k ≤ offset_of i) [
-              | inl too ↦ absurd (differ (sym too ∙ is))
-              | inr past ↦
-                  let a = ap offset_of (sym is) ∙ put_here in
-                  let b = offset_past k past in
-                  let c = size_past k past in
-                  let d = ends_before k past (same ∙ ap (parent_of ps) (sym is)) in
-                  omega (arith, a, b, c, d)
-            ]
-            | inr done ↦ elim (here_or_past k also) as (λ _. offset_of k + size_of k ≤ offset_of i) [
-              | inl is ↦
-                  let a = ap offset_of (sym is) ∙ put_here in
-                  let b = offset_past i done in
-                  let d = ends_before i done (sym same ∙ ap (parent_of ps) (sym is)) in
-                  let some = h.some i (subst (λ j. j < length ps) done.3 (o.listed.in_range done.0 done.2)) in
-                  absurd (omega (arith, a, b, d, some, before))
-              | inr past ↦
-                  let a = offset_past i done in
-                  let b = offset_past k past in
-                  let c = size_past k past in
-                  let was = h.apart i k done past differ same (omega (arith, before, a, b)) in
-                  omega (arith, a, b, c, was)
-            ]
-          ]
-
       pub sized : AreSized ps order (slice_set sizes parent size) (slice_set offsets place offset) turn
       sized = record {
         long = length-set sizes parent size ∙ h.long;
@@ -186,8 +149,8 @@ module _ {ps order : List ℕ} (o : IsOrder ps order) (turn : ℕ) (low : turn <
             let f : ℕ → ℕ = λ u. number_at sizes (number_at order u) in
             let g : ℕ → ℕ = λ u. size_of (number_at order u) in
             let more : g over.0 ≡ f over.0 + number_at sizes place = ap size_of over.2 ∙ raised ∙ ap (λ n. n + number_at sizes place) (ap (number_at sizes) (sym over.2)) in
-            let sum : total g turn ≡ total f turn + number_at sizes place = total_raised f g turn over.0 (number_at sizes place) over.1 more
-            (λ u before other. kept (number_at order u) (λ e. apart_at u over.0 (omega (arith, before, low)) over_low other (e ∙ sym over.2))) in
+            let sum = total_raised f g turn over.0 (number_at sizes place) (λ _. omega (arith, more))
+            (λ u before other. let same = kept (number_at order u) (λ e. apart_at u over.0 (omega (arith, before, low)) over_low other (e ∙ sym over.2)) in omega (arith, same)) in
             let whole = h.whole in
             omega (arith, sum, whole);
         behind = λ i from. elim (here_or_past i from) as (λ _. 0 < offset_of i) [
@@ -207,7 +170,23 @@ module _ {ps order : List ℕ} (o : IsOrder ps order) (turn : ℕ) (low : turn <
               let more = grown (parent_of ps i) in
               omega (arith, a, b, was, more)
         ];
-        apart = apart_here;
+        apart = λ i k (u, from, low, at) (w, _, inside, at_k) later same.
+            let past : IsFrom order (suc turn) k = (w, omega (arith, from, later), inside, at_k) in
+            let b = offset_past k past in
+            let c = size_past k past in
+            elim (cases_eq turn u) as (λ _. offset_of k + size_of k ≤ offset_of i) [
+              | inl is ↦
+                  let here : place ≡ i = ap (number_at order) is ∙ at in
+                  let a = ap offset_of (sym here) ∙ put_here in
+                  let within = h.inside k past in
+                  let e = ap (number_at sizes) (same ∙ ap (parent_of ps) (sym here)) in
+                  omega (arith, a, b, c, within, e)
+              | inr other ↦
+                  let done : IsFrom order (suc turn) i = (u, omega (arith, from, other), low, at) in
+                  let a = offset_past i done in
+                  let was = h.apart i k done past later same in
+                  omega (arith, a, b, c, was)
+            ];
       }
 
   -- ---- first numbers, from the beginning of the order

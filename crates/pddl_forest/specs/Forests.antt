@@ -1,5 +1,5 @@
 -- Places that each have a parent's place, and which are under which. Own.
-use Rattle.std.specs.Prelude.{◌≡◌, ◌≤◌, ◌<◌, ℕ, zero, suc, List, length}
+use Rattle.std.specs.Prelude.{◌≡◌, ◌<◌, ℕ, zero, suc, List, length}
 use Rattle.std.specs.List.{slice_index_or}
 
 -- the place of a place's parent
@@ -19,18 +19,7 @@ IsUnder ps i g = (n : ℕ) × (up ps n i ≡ g)
 abbrev pub number_at : List ℕ → ℕ → ℕ
 number_at numbers i = slice_index_or numbers i 0
 
--- A place's number is among those from another's number to that of the last place below this.
-abbrev pub IsWithin : List ℕ → List ℕ → ℕ → ℕ → Type 0
-IsWithin first last i g = (number_at first g ≤ number_at first i) × (number_at first i ≤ number_at last g)
-
 -- each place is 0 or below it, and 0 is its own parent
 pub record IsForest (ps : List ℕ) : Type 0 where
   pub top : parent_of ps 0 ≡ 0
   pub below : (i : ℕ) → i < length ps → IsUnder ps i 0
-
--- The places of a forest are numbered, from 0 to less than there are places, so that those under one have the numbers from its own to a last one.
-pub record IsPreorder (ps first last : List ℕ) : Type 0 where
-  pub forest : IsForest ps
-  pub low : (i : ℕ) → i < length ps → number_at last i < length ps
-  pub within : (i g : ℕ) → i < length ps → g < length ps → IsUnder ps i g → IsWithin first last i g
-  pub under : (i g : ℕ) → i < length ps → g < length ps → IsWithin first last i g → IsUnder ps i g

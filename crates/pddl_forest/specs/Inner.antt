@@ -2,4 +2,3 @@
 pub mod Climbs
 pub mod Orders
 pub mod Sizes
-pub mod Roots

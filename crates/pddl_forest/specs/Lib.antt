@@ -1,4 +1,4 @@
 pub mod Forests
-pub mod Counts
+pub mod Spans
 pub mod Rounds
 pub mod Inner

@@ -6,9 +6,13 @@ use Rattle.pddl_forest.specs.Forests.{up, parent_of, number_at}
 abbrev pub GoesRound : List ℕ → ℕ → Type 0
 GoesRound ps i = (n : ℕ) × (up ps (suc n) i ≡ i)
 
--- some place is come to again from its parent, other than place 0 as its own parent
+-- and not as place 0 that is its own parent
+abbrev pub IsOnRound : List ℕ → ℕ → Type 0
+IsOnRound ps i = GoesRound ps i × (i ≡ 0 → parent_of ps 0 ≢ 0)
+
+-- some place is so
 abbrev pub HasRound : List ℕ → Type 0
-HasRound ps = (i : ℕ) × (i < length ps) × GoesRound ps i × (i ≡ 0 → parent_of ps 0 ≢ 0)
+HasRound ps = (i : ℕ) × (i < length ps) × IsOnRound ps i
 
 -- a place has the number 0 where it is come to again from its parent, and only there
 pub record AreOffRounds (ps numbers : List ℕ) : Type 0 where

@@ -1,14 +1,16 @@
-//! Numbers of places in a forest, by which a test of what is under what is two comparisons; and places that lie on no way round, where it is no forest.
+//! Spans of numbers of places in a forest, by which a test of what is under what is two comparisons; and places that lie on no way round, where it is no
+//! forest.
 #![tactic(auto)]
 
 mod climbing;
-mod counting;
 mod numbering;
 mod ordering;
 mod places;
-mod preorder;
-mod roots;
 mod rounds;
+mod spans;
+mod tops;
 
-pub use preorder::Preorder;
+pub use numbering::forest_spans;
 pub use rounds::off_rounds;
+pub use spans::{Span, hold_all};
+pub use tops::keep_tops;

@@ -1,11 +1,15 @@
-//! Numbers for the places of a forest: each place behind its parent, and what is below a place directly behind it.
+//! Numbers for the places of a forest: each place behind its parent, and what is below a place directly behind it. So each place has a span.
 
-ghost use Rattle.std.specs.Prelude.{◌≡◌, ◌+◌, ◌≤◌, ◌<◌, ℕ, length, IfOk};
-ghost use Rattle.pddl_forest.specs.Forests.{number_at, IsPreorder};
+ghost use Rattle.std.specs.Prelude.{◌≡◌, ◌+◌, ◌≤◌, ◌<◌, ℕ, length, IfOk, IfSome};
+ghost use Rattle.pddl_forest.specs.Forests.{parent_of, number_at, IsForest};
+ghost use Rattle.pddl_forest.specs.Spans.{AreSpans};
+ghost use Rattle.pddl_forest.specs.Rounds.{HasRound};
 ghost use Rattle.pddl_forest.specs.Inner.Orders.{IsOrder};
-ghost use Rattle.pddl_forest.specs.Inner.Sizes.{AreSized, AreNumbered, AreLast};
+ghost use Rattle.pddl_forest.specs.Inner.Sizes.{AreSized, AreNumbered, AreSpansOf};
 
+use crate::ordering::ordered;
 use crate::places::{number_at, parent_of, put};
+use crate::spans::Span;
 use std::alloc::{AllocError, Allocator};
 
 /// How many places are under each. `offsets` gets how far each comes behind its parent: behind what is below the places of that parent which come later in
@@ -57,47 +61,60 @@ fn first_numbers<'a, B: Allocator>(
     Ok(first)
 }
 
-/// The largest number of the places under each.
+/// The span of each place: from its number to the last of those of the places under it.
 ///
 /// Fails where memory for them is refused.
-fn last_numbers<'a, B: Allocator>(
+fn spans_of<'a, B: Allocator>(
     alloc: &'a B,
     parents: &[usize],
     sizes: &[usize],
     first: &[usize],
-) -> Result<Vec<usize, &'a B>, AllocError>
+) -> Result<Vec<Span, &'a B>, AllocError>
     requires some { (i : ℕ) → i < length parents.now → 0 < number_at sizes.now i }
     requires fits { (i : ℕ) → i < length parents.now → number_at first.now i + number_at sizes.now i ≤ length parents.now }
-    ensures { IfOk result (λ last. AreLast parents.now sizes.now first.now last.items) }
+    ensures { IfOk result (λ spans. AreSpansOf parents.now sizes.now first.now spans.items) }
 {
-    let mut last = Vec::new(alloc);
+    let mut spans = Vec::with_capacity(alloc, parents.len())?;
     for place in 0..parents.len() {
-        last.push(number_at(first, place) + number_at(sizes, place) - 1)?;
+        let first = number_at(first, place);
+        let last = first + number_at(sizes, place) - 1;
+        spans.push(Span { first, last })?;
     }
-    Ok(last)
+    Ok(spans)
 }
 
-/// The number of each place, and the largest of the places under it.
-#[derive(Drop)]
-pub struct Numbers<'a, B: Allocator> {
-    pub first: Vec<usize, &'a B>,
-    pub last: Vec<usize, &'a B>,
-}
-
-/// Numbers for the places of a forest, which are given in an order in which each comes behind its parent.
+/// The spans of the places of a forest, which are given in an order in which each comes behind its parent.
 ///
 /// Fails where memory for them is refused.
-pub fn numbered<'a, B: Allocator>(
+fn numbered<'a, B: Allocator>(
     alloc: &'a B,
     parents: &[usize],
     order: &[usize],
-) -> Result<Numbers<'a, B>, AllocError>
+) -> Result<Vec<Span, &'a B>, AllocError>
     requires { IsOrder parents.now order.now }
-    ensures { IfOk result (λ numbers. IsPreorder parents.now numbers.first.items numbers.last.items) }
+    ensures { IfOk result (λ spans. AreSpans parents.now spans.items) }
 {
     let mut offsets = vec![in alloc; 0; parents.len()]?;
     let sizes = sizes_of(alloc, parents, order, &mut offsets)?;
     let first = first_numbers(alloc, parents, order, &sizes, &offsets)?;
-    let last = last_numbers(alloc, parents, &sizes, &first)?;
-    Ok(Numbers { first, last })
+    spans_of(alloc, parents, &sizes, &first)
+}
+
+/// The spans of the places whose parents stand at these places, or `None` where a way from parent to parent goes round, other than from place 0 to itself.
+///
+/// Fails where memory for them is refused.
+pub fn forest_spans<'a, B: Allocator>(
+    alloc: &'a B,
+    parents: &[usize],
+) -> Result<Option<Vec<Span, &'a B>>, AllocError>
+    requires some { 0 < length parents.now }
+    requires within { (i : ℕ) → i < length parents.now → parent_of parents.now i < length parents.now }
+    ensures spans { IfOk result (λ found. IfSome found (λ spans. AreSpans parents.now spans.items)) }
+    ensures forest { IfOk result (λ found. IfSome found (λ spans. IsForest parents.now)) }
+    ensures none { IfOk result (λ found. found ≡ None → HasRound parents.now) }
+{
+    match ordered(alloc, parents)? {
+        Some(order) => Ok(Some(numbered(alloc, parents, &order)?)),
+        None => Ok(None),
+    }
 }

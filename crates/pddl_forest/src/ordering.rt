@@ -1,9 +1,9 @@
 //! The places of a forest in an order in which each comes behind its parent.
 
-ghost use Rattle.std.specs.Prelude.{◌≡◌, ◌≢◌, ◌<◌, ℕ, [], length, true, false, IfOk, IfSome, OnOk};
+ghost use Rattle.std.specs.Prelude.{◌≡◌, ◌≢◌, ◌<◌, ℕ, [], ◌++◌, reverse, length, true, false, IfOk, IfSome, OnOk};
 ghost use Rattle.pddl_forest.specs.Forests.{parent_of, number_at};
 ghost use Rattle.pddl_forest.specs.Rounds.{HasRound};
-ghost use Rattle.pddl_forest.specs.Inner.Climbs.{AreNew, with_path};
+ghost use Rattle.pddl_forest.specs.Inner.Climbs.{AreNew};
 ghost use Rattle.pddl_forest.specs.Inner.Orders.{IsListing, IsOrder};
 
 use crate::climbing::climb;
@@ -17,7 +17,7 @@ fn list_path<'a, B: Allocator>(
     path: &mut Vec<usize, &'a B>,
     order: &mut Vec<usize, &'a B>,
 ) -> Result<(), AllocError>
-    ensures listed { OnOk result (order.new.items ≡ with_path order.old.items path.old.items) }
+    ensures listed { OnOk result (order.new.items ≡ order.old.items ++ reverse path.old.items) }
     ensures clear { OnOk result (path.new.items ≡ []) }
 {
     while let Some(place) = path.pop() {

@@ -1,2 +1,3 @@
+pub mod NamedWell
 pub mod Settings
 pub mod Stages

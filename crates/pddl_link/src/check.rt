@@ -1,20 +1,18 @@
 //! Checks a domain: the lowest fault that stands.
 
-ghost use Rattle.std.specs.Prelude.{◌≡◌, [], map, drop, OnOk};
+ghost use Rattle.std.specs.Prelude.{◌≡◌, map, drop, OnOk};
 ghost use Rattle.pddl_domain.specs.Domains.{domain_view};
-ghost use Rattle.pddl_task.specs.Names.{firsts, repeated};
-ghost use Rattle.pddl_task.specs.Settings.{symbol_of, function_signatures};
-ghost use Rattle.pddl_task.specs.Linked.{domain_fault, domain_faults, rules};
+ghost use Rattle.pddl_task.specs.Names.{firsts};
+ghost use Rattle.pddl_task.specs.Linked.{domain_fault, domain_faults, rules, NoneStands};
 ghost use Rattle.pddl_faults.specs.Passes.{Verdict};
 ghost use Rattle.pddl_types.specs.KnownNames.{object_in};
-ghost use Rattle.pddl_types.specs.Places.{IsEmpty, AreListedAt};
+ghost use Rattle.pddl_types.specs.TypeSpans.{IsEmpty, AreListed};
 ghost use Rattle.pddl_names.specs.FaultParts.{name_rules, use_rules};
 
 use pddl_domain::Domain;
 use pddl_faults::{LinkFault, lower};
-use pddl_linked_task::{let_go_declared, let_go_objects};
 use pddl_names::{list_objects, look_at_domain, look_at_domain_uses, type_twice};
-use pddl_types::{Declared, Listed, Types};
+use pddl_types::{Declared, Listed, Types, let_go_declared, let_go_objects};
 use std::alloc::Allocator;
 
 /// The lowest fault of names in a domain, whose constants are added to no objects.
@@ -24,28 +22,27 @@ fn look_at_names<'m, 'a, A: Allocator, B: Allocator>(
     constants: &mut Listed<'m, 'a, A, B>,
     domain: &'m Domain<A>,
 ) -> Result<(), LinkFault<'m>>
-    requires types { types.now ≡ (domain_view domain.now).types }
+    requires types { types.now.declared ≡ (domain_view domain.now).types }
     requires none { IsEmpty constants.old }
     ensures constants { OnOk result (map object_in constants.new.objects.entries ≡ firsts (domain_view domain.now).constants) }
-    ensures places { OnOk result (AreListedAt types.now constants.new) }
+    ensures listed { OnOk result (AreListed types.now constants.new) }
     ensures verdict { Verdict (map (domain_fault (domain_view domain.now)) name_rules) result }
 {
     let listed = list_objects(alloc, types, constants, &domain.constants);
     lower(listed, look_at_domain(alloc, types, domain))
 }
 
-/// The lowest fault of what a domain uses, in which no predicate and no function stands twice.
+/// The lowest fault of what a domain uses, where none of names stands.
 fn look_at_uses<'m, 'a, A: Allocator, B: Allocator>(
     alloc: &'a B,
     types: &Types<'m, 'a, A, B>,
     constants: &Listed<'m, 'a, A, B>,
     domain: &'m Domain<A>,
 ) -> Result<(), LinkFault<'m>>
-    requires types { types.now ≡ (domain_view domain.now).types }
+    requires types { types.now.declared ≡ (domain_view domain.now).types }
     requires constants { map object_in constants.now.objects.entries ≡ firsts (domain_view domain.now).constants }
-    requires places { AreListedAt types.now constants.now }
-    requires predicates { repeated [] (map symbol_of (domain_view domain.now).predicates) ≡ [] }
-    requires functions { repeated [] (map symbol_of (function_signatures (domain_view domain.now))) ≡ [] }
+    requires listed { AreListed types.now constants.now }
+    requires named { NoneStands (map (domain_fault (domain_view domain.now)) name_rules) }
     ensures { Verdict (map (domain_fault (domain_view domain.now)) use_rules) result }
 {
     let declared = Declared::of(alloc, types, domain)?;
@@ -60,7 +57,7 @@ fn check_by_types<'m, 'a, A: Allocator, B: Allocator>(
     types: &Types<'m, 'a, A, B>,
     domain: &'m Domain<A>,
 ) -> Result<(), LinkFault<'m>>
-    requires { types.now ≡ (domain_view domain.now).types }
+    requires { types.now.declared ≡ (domain_view domain.now).types }
     ensures { Verdict (map (domain_fault (domain_view domain.now)) (drop 3 rules)) result }
 {
     let mut constants = Listed::new(alloc);

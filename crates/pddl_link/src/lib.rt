@@ -1,7 +1,7 @@
 //! Links domains and problems.
 //!
-//! `check_domain` and `link` look for faults stage by stage, in the order of their numbers: names of domains and types that stand twice, types and names, and
-//! what is used. Of what a stage finds the lowest is answered. What links is a `Task`.
+//! `check_domain` and `link` look for faults stage by stage, in the order of their numbers: the domain's name and types that stand twice or above themselves,
+//! types and names, and what is used. Of what a stage finds the lowest is answered. What links is a `Task`.
 #![tactic(auto)]
 
 mod check;

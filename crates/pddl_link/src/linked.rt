@@ -3,14 +3,14 @@
 ghost use Rattle.std.specs.Prelude.{◌≡◌, [], map, drop, IfOk, OnOk};
 ghost use Rattle.pddl_domain.specs.Domains.{domain_view};
 ghost use Rattle.pddl_problem.specs.Problems.{problem_view};
-ghost use Rattle.pddl_task.specs.Names.{firsts, repeated};
-ghost use Rattle.pddl_task.specs.Settings.{objects_of, symbol_of, function_signatures};
-ghost use Rattle.pddl_task.specs.Linked.{fault_in, faults, rules};
+ghost use Rattle.pddl_task.specs.Names.{firsts};
+ghost use Rattle.pddl_task.specs.Settings.{objects_of, function_signatures};
+ghost use Rattle.pddl_task.specs.Linked.{domain_fault, fault_in, faults, rules, NoneStands};
 ghost use Rattle.pddl_faults.specs.Passes.{Verdict};
 ghost use Rattle.pddl_search.specs.Claims.{HoldsValues};
-ghost use Rattle.pddl_types.specs.ObjectCounts.{AreCountsOf};
-ghost use Rattle.pddl_types.specs.KnownNames.{signature_in, object_in};
-ghost use Rattle.pddl_types.specs.Places.{AreSlotTops, IsEmpty, AreListedAt};
+ghost use Rattle.pddl_types.specs.KnownNames.{signature_in, object_in, action_signature};
+ghost use Rattle.pddl_types.specs.TypeSpans.{AreSlotTops, IsEmpty, AreListed};
+ghost use Rattle.pddl_sizes.specs.ObjectOrders.{IsOrderOf};
 ghost use Rattle.pddl_names.specs.FaultParts.{first_rules, name_rules, use_rules};
 ghost use Rattle.pddl_linked_task.specs.TaskTables.{HoldBehindTypes};
 ghost use Rattle.pddl_linked_task.specs.LinkedTasks.{files};
@@ -18,15 +18,15 @@ ghost use Rattle.pddl_linked_task.specs.LinkedTasks.{files};
 use indexmap::IndexMap;
 use pddl_domain::Domain;
 use pddl_faults::{LinkFault, lower};
-use pddl_linked_task::{Tables, Task, let_go_declared, let_go_objects};
+use pddl_linked_task::{Tables, Task};
 use pddl_names::{
     list_all, list_objects, look_at_domain, look_at_domain_uses, look_at_problem,
     look_at_problem_uses, type_twice,
 };
 use pddl_problem::Problem;
 use pddl_search::{Values, domain_name};
-use pddl_sizes::{ObjectCounts, ObjectOrder, goal_size};
-use pddl_types::{Declared, Listed, TypeCounts, Types};
+use pddl_sizes::{Fitting, ObjectOrder, goal_size};
+use pddl_types::{Declared, Listed, SlotTops, Types, let_go_declared, let_go_objects};
 use std::alloc::{AllocError, Allocator};
 
 /// The lowest fault of names in a domain and a problem, whose constants and objects are added to none.
@@ -38,13 +38,13 @@ fn look_at_both<'m, 'a, A: Allocator, B: Allocator>(
     domain: &'m Domain<A>,
     problem: &'m Problem<A>,
 ) -> Result<(), LinkFault<'m>>
-    requires types { types.now ≡ (domain_view domain.now).types }
+    requires types { types.now.declared ≡ (domain_view domain.now).types }
     requires no_constants { IsEmpty constants.old }
     requires no_objects { IsEmpty listed.old }
     ensures constants { OnOk result (map object_in constants.new.objects.entries ≡ firsts (domain_view domain.now).constants) }
     ensures objects { OnOk result (map object_in listed.new.objects.entries ≡ objects_of (domain_view domain.now) (problem_view problem.now)) }
-    ensures constants_at { OnOk result (AreListedAt types.now constants.new) }
-    ensures objects_at { OnOk result (AreListedAt types.now listed.new) }
+    ensures constants_listed { OnOk result (AreListed types.now constants.new) }
+    ensures objects_listed { OnOk result (AreListed types.now listed.new) }
     ensures verdict { Verdict (map (fault_in (domain_view domain.now) (problem_view problem.now)) name_rules) result }
 {
     let inner = list_objects(alloc, types, constants, &domain.constants);
@@ -54,7 +54,7 @@ fn look_at_both<'m, 'a, A: Allocator, B: Allocator>(
     lower(inner, lower(declared, lower(all, bound)))
 }
 
-/// The lowest fault of what a domain and a problem use; the values of functions of objects are added to none.
+/// The lowest fault of what a domain and a problem use, where none of names stands; the values of functions of objects are added to none.
 fn look_at_uses<'t, 'm, 'a, A: Allocator, B: Allocator>(
     alloc: &'a B,
     types: &'t Types<'m, 'a, A, B>,
@@ -65,54 +65,38 @@ fn look_at_uses<'t, 'm, 'a, A: Allocator, B: Allocator>(
     domain: &'m Domain<A>,
     problem: &'m Problem<A>,
 ) -> Result<(), LinkFault<'m>>
-    requires types { types.now ≡ (domain_view domain.now).types }
+    requires types { types.now.declared ≡ (domain_view domain.now).types }
+    requires named { NoneStands (map (fault_in (domain_view domain.now) (problem_view problem.now)) name_rules) }
     requires constants { map object_in constants.now.objects.entries ≡ firsts (domain_view domain.now).constants }
     requires objects { map object_in listed.now.objects.entries ≡ objects_of (domain_view domain.now) (problem_view problem.now) }
+    requires constants_listed { AreListed types.now constants.now }
+    requires objects_listed { AreListed types.now listed.now }
     requires predicates { map signature_in tables.now.declared.predicates.entries ≡ (domain_view domain.now).predicates }
     requires functions { map signature_in tables.now.declared.functions.entries ≡ function_signatures (domain_view domain.now) }
-    requires constants_at { AreListedAt types.now constants.now }
-    requires objects_at { AreListedAt types.now listed.now }
-    requires counts { AreCountsOf types.now (map object_in listed.now.objects.entries) tables.now.counts.entries }
     requires predicate_tops { AreSlotTops types.now (domain_view domain.now).predicates tables.now.declared.tops.predicates }
     requires function_tops { AreSlotTops types.now (function_signatures (domain_view domain.now)) tables.now.declared.tops.functions }
+    requires ordered { ∥ IsOrderOf listed.now.spans.items tables.now.order ∥₁ }
     requires none { values.old.entries ≡ [] }
     ensures values { OnOk result (HoldsValues (problem_view problem.now).init values.new.entries) }
     ensures verdict { Verdict (map (fault_in (domain_view domain.now) (problem_view problem.now)) use_rules) result }
 {
     let inner = tables.declared.known(types, constants);
     let outer = tables.declared.known(types, listed);
-    let counts = ObjectCounts {
+    let order = &tables.order;
+    let fitting = Fitting {
         types,
         listed,
-        counts: &tables.counts,
+        order,
     };
     let used = look_at_domain_uses(alloc, &inner, domain);
-    let size = goal_size(&counts, domain, problem);
+    let size = goal_size(&fitting, domain, problem);
     lower(
         used,
         look_at_problem_uses(alloc, &outer, size, values, domain, problem),
     )
 }
 
-/// How many objects fit each type, and the order of the types of objects.
-///
-/// Fails where memory for these is refused.
-fn fits_of<'m, 'a, A: Allocator, B: Allocator>(
-    alloc: &'a B,
-    types: &Types<'m, 'a, A, B>,
-    listed: &Listed<'m, 'a, A, B>,
-) -> Result<(TypeCounts<'m, 'a, B>, ObjectOrder<'a, B>), AllocError>
-    requires { AreListedAt types.now listed.now }
-    ensures { IfOk result (λ fits. AreCountsOf types.now (map object_in listed.now.objects.entries) fits.0.entries) }
-{
-    let order = ObjectOrder::of(alloc, types, &listed.places)?;
-    match types.counts(alloc, listed) {
-        Ok(counts) => Ok((counts, order)),
-        Err(error) => Err(error),
-    }
-}
-
-/// The tables of a domain in which no predicate and no function stands twice, and of objects.
+/// The tables of a domain in which none of the faults of names stands, and of objects.
 ///
 /// Fails where memory for them is refused.
 fn tables_of<'m, 'a, A: Allocator, B: Allocator>(
@@ -121,31 +105,26 @@ fn tables_of<'m, 'a, A: Allocator, B: Allocator>(
     listed: &Listed<'m, 'a, A, B>,
     domain: &'m Domain<A>,
 ) -> Result<Tables<'m, 'a, A, B>, AllocError>
-    requires objects_at { AreListedAt types.now listed.now }
-    requires predicates { repeated [] (map symbol_of (domain_view domain.now).predicates) ≡ [] }
-    requires functions { repeated [] (map symbol_of (function_signatures (domain_view domain.now))) ≡ [] }
+    requires { NoneStands (map (domain_fault (domain_view domain.now)) name_rules) }
     ensures predicates { IfOk result (λ tables. map signature_in tables.declared.predicates.entries ≡ (domain_view domain.now).predicates) }
     ensures functions { IfOk result (λ tables. map signature_in tables.declared.functions.entries ≡ function_signatures (domain_view domain.now)) }
-    ensures counts { IfOk result (λ tables. AreCountsOf types.now (map object_in listed.now.objects.entries) tables.counts.entries) }
     ensures predicate_tops { IfOk result (λ tables. AreSlotTops types.now (domain_view domain.now).predicates tables.declared.tops.predicates) }
     ensures function_tops { IfOk result (λ tables. AreSlotTops types.now (function_signatures (domain_view domain.now)) tables.declared.tops.functions) }
+    ensures parameters { IfOk result (λ tables. AreSlotTops types.now (map action_signature (domain_view domain.now).actions) tables.parameters) }
+    ensures ordered { IfOk result (λ tables. ∥ IsOrderOf listed.now.spans.items tables.order ∥₁) }
 {
-    let (counts, order) = fits_of(alloc, types, listed)?;
-    match Declared::of(alloc, types, domain) {
-        Ok(declared) => Ok(Tables {
-            declared,
-            counts,
-            order,
-        }),
-        Err(error) => {
-            drop(counts);
-            drop(order);
-            Err(error)
-        }
-    }
+    let order = ObjectOrder::of(alloc, &listed.spans)?;
+    let parameters = SlotTops::of_declared(alloc, types, &domain.actions)?;
+    let declared = Declared::of(alloc, types, domain)?;
+    Ok(Tables {
+        declared,
+        parameters,
+        order,
+    })
 }
 
-/// The tables of a domain and a problem behind their objects, where no fault of what is used stands. The values of functions of objects are added to none.
+/// The tables of a domain and a problem behind their objects, where no fault of what is used stands, and none of names. The values of functions of objects
+/// are added to none.
 fn tables_behind<'m, 'a, A: Allocator, B: Allocator>(
     alloc: &'a B,
     types: &Types<'m, 'a, A, B>,
@@ -155,15 +134,14 @@ fn tables_behind<'m, 'a, A: Allocator, B: Allocator>(
     domain: &'m Domain<A>,
     problem: &'m Problem<A>,
 ) -> Result<Tables<'m, 'a, A, B>, LinkFault<'m>>
-    requires types { types.now ≡ (domain_view domain.now).types }
+    requires types { types.now.declared ≡ (domain_view domain.now).types }
+    requires named { NoneStands (map (fault_in (domain_view domain.now) (problem_view problem.now)) name_rules) }
     requires constants { map object_in constants.now.objects.entries ≡ firsts (domain_view domain.now).constants }
     requires objects { map object_in listed.now.objects.entries ≡ objects_of (domain_view domain.now) (problem_view problem.now) }
-    requires constants_at { AreListedAt types.now constants.now }
-    requires objects_at { AreListedAt types.now listed.now }
-    requires predicates { repeated [] (map symbol_of (domain_view domain.now).predicates) ≡ [] }
-    requires functions { repeated [] (map symbol_of (function_signatures (domain_view domain.now))) ≡ [] }
+    requires constants_listed { AreListed types.now constants.now }
+    requires objects_listed { AreListed types.now listed.now }
     requires none { values.old.entries ≡ [] }
-    ensures tables { IfOk result (λ tables. HoldBehindTypes (domain_view domain.now) (problem_view problem.now) types.now tables.declared.predicates.entries listed.now tables.counts.entries values.new.entries) }
+    ensures tables { IfOk result (λ tables. HoldBehindTypes (domain_view domain.now) (problem_view problem.now) types.now listed.now tables values.new.entries) }
     ensures verdict { Verdict (map (fault_in (domain_view domain.now) (problem_view problem.now)) use_rules) result }
 {
     let tables = tables_of(alloc, types, listed, domain)?;
@@ -173,7 +151,7 @@ fn tables_behind<'m, 'a, A: Allocator, B: Allocator>(
         Ok(()) => Ok(tables),
         Err(fault) => {
             let_go_declared(tables.declared);
-            drop(tables.counts);
+            drop(tables.parameters);
             drop(tables.order);
             Err(fault)
         }
@@ -190,10 +168,10 @@ fn tables_behind_types<'m, 'a, A: Allocator, B: Allocator>(
     domain: &'m Domain<A>,
     problem: &'m Problem<A>,
 ) -> Result<Tables<'m, 'a, A, B>, LinkFault<'m>>
-    requires types { types.now ≡ (domain_view domain.now).types }
+    requires types { types.now.declared ≡ (domain_view domain.now).types }
     requires no_objects { IsEmpty listed.old }
     requires no_values { values.old.entries ≡ [] }
-    ensures tables { IfOk result (λ tables. HoldBehindTypes (domain_view domain.now) (problem_view problem.now) types.now tables.declared.predicates.entries listed.new tables.counts.entries values.new.entries) }
+    ensures tables { IfOk result (λ tables. HoldBehindTypes (domain_view domain.now) (problem_view problem.now) types.now listed.new tables values.new.entries) }
     ensures verdict { Verdict (map (fault_in (domain_view domain.now) (problem_view problem.now)) (drop 3 rules)) result }
 {
     let mut constants = Listed::new(alloc);
@@ -211,7 +189,7 @@ fn types_of<'m, 'a, A: Allocator, B: Allocator>(
     domain: &'m Domain<A>,
     problem: &'m Problem<A>,
 ) -> Result<Types<'m, 'a, A, B>, LinkFault<'m>>
-    ensures types { IfOk result (λ types. types ≡ (domain_view domain.now).types) }
+    ensures types { IfOk result (λ types. types.declared ≡ (domain_view domain.now).types) }
     ensures verdict { Verdict (map (fault_in (domain_view domain.now) (problem_view problem.now)) first_rules) result }
 {
     lower(domain_name(domain, problem), type_twice(alloc, domain))?;

@@ -1,2 +1,3 @@
 pub mod CostValues
 pub mod OnceNamed
+pub mod ParameterTops

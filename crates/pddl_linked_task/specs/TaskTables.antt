@@ -1,32 +1,30 @@
 -- Tables of what two linked files declare.
 use Rattle.std.specs.Prelude.{◌≡◌, ℕ, List, map}
-use Rattle.std.specs.Borrow.{Bor}
-use Rattle.pddl_formula.specs.declared.type_names.Typed.{Typed}
-use Rattle.pddl_domain.specs.Declarations.{TypeValue}
 use Rattle.pddl_domain.specs.Domains.{DomainValue}
 use Rattle.pddl_problem.specs.Inits.{GroundValue}
 use Rattle.pddl_problem.specs.Problems.{ProblemValue}
 use Rattle.pddl_task.specs.Settings.{objects_of}
 use Rattle.pddl_task.specs.Linked.{IsLinked}
-use Rattle.pddl_types.specs.KnownNames.{signature_in, object_in}
-use Rattle.pddl_types.specs.ObjectCounts.{AreCountsOf}
-use Rattle.pddl_types.specs.Places.{AreListedAt}
-use Rattle.pddl_types.specs.TypeTables.{Row}
+use Rattle.pddl_types.specs.KnownNames.{signature_in, object_in, action_signature}
+use Rattle.pddl_types.specs.TypeSpans.{TypesValue, AreSlotTops, AreSingle, AreListed}
 use Rattle.pddl_types.specs.declared.listed.Listed.{Listed}
 use Rattle.pddl_search.specs.Claims.{HoldsValues}
+use Rattle.pddl_sizes.specs.ObjectOrders.{IsOrderOf}
+use Rattle.pddl_linked_task.specs.declared.task.Tables.{Tables}
 
 -- tables hold what two files declare beside types
-pub record HoldBehindTypes {A B : Type 0} (d : DomainValue) (p : ProblemValue) (types : List TypeValue) (predicates : List (Bor (List ℕ) × Bor (List (Typed A))))
-    (listed : Listed A B) (counts : List Row) (values : List (GroundValue × ℕ)) : Type 0 where
-  pub predicates_are : map signature_in predicates ≡ d.predicates
+pub record HoldBehindTypes {A B : Type 0} (d : DomainValue) (p : ProblemValue) (types : TypesValue) (listed : Listed A B) (tables : Tables A B)
+    (values : List (GroundValue × ℕ)) : Type 0 where
+  pub predicates_are : map signature_in tables.declared.predicates.entries ≡ d.predicates
+  pub parameters_are : AreSlotTops types (map action_signature d.actions) tables.parameters
   pub objects_are : map object_in listed.objects.entries ≡ objects_of d p
-  pub counts_are : AreCountsOf types (map object_in listed.objects.entries) counts
-  pub places_are : AreListedAt types listed
+  pub spans_are : AreListed types listed
+  pub single : AreSingle types.declared (map object_in listed.objects.entries)
+  pub ordered : ∥ IsOrderOf listed.spans.items tables.order ∥₁
   pub values_are : HoldsValues p.init values
 
 -- two files are linked, and the tables hold what they declare
-pub record AreTablesOf {A B : Type 0} (d : DomainValue) (p : ProblemValue) (types : List TypeValue) (predicates : List (Bor (List ℕ) × Bor (List (Typed A))))
-    (listed : Listed A B) (counts : List Row) (values : List (GroundValue × ℕ)) : Type 0 where
+pub record AreTablesOf {A B : Type 0} (d : DomainValue) (p : ProblemValue) (types : TypesValue) (listed : Listed A B) (tables : Tables A B) (values : List (GroundValue × ℕ)) : Type 0 where
   pub linked : IsLinked d p
-  pub types_are : types ≡ d.types
-  pub behind : HoldBehindTypes d p types predicates listed counts values
+  pub types_are : types.declared ≡ d.types
+  pub behind : HoldBehindTypes d p types listed tables values

@@ -5,4 +5,4 @@
 
 mod task;
 
-pub use task::{Tables, Task, let_go_declared, let_go_objects, let_go_task};
+pub use task::{Tables, Task, let_go_task};

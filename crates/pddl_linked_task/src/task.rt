@@ -3,15 +3,15 @@
 ghost use Rattle.std.specs.Prelude.{◌≡◌, ◌<◌, false, Some, map, length, option_map, slice_get, position, bytes_eq, IfOk};
 ghost use Rattle.std.specs.Option.{option_map_or};
 ghost use Rattle.pddl_formula.specs.Formulas.{formula_view};
-ghost use Rattle.pddl_domain.specs.Actions.{action_view};
+ghost use Rattle.pddl_formula.specs.TypedLists.{TypedValue};
+ghost use Rattle.pddl_domain.specs.Actions.{ActionValue, action_view};
 ghost use Rattle.pddl_domain.specs.Domains.{domain_view};
 ghost use Rattle.pddl_problem.specs.Problems.{problem_view};
 ghost use Rattle.pddl_task.specs.Types.{pairs, fits, is_subtype};
 ghost use Rattle.pddl_task.specs.GroundSize.{capped, formula_size, action_size};
 ghost use Rattle.pddl_task.specs.Linked.{IsLinked};
 ghost use Rattle.pddl_task.specs.Tasks.{task_count, predicate_names, object_names, fitting_numbers, cost_of};
-ghost use Rattle.pddl_types.specs.KnownNames.{action_signature};
-ghost use Rattle.pddl_types.specs.Places.{AreTops, AreSlotTops};
+ghost use Rattle.pddl_types.specs.KnownNames.{object_in};
 ghost use Rattle.pddl_linked_task.specs.LinkedTasks.{files, task_of_files};
 ghost use Rattle.pddl_linked_task.specs.TaskTables.{AreTablesOf};
 
@@ -19,31 +19,18 @@ use pddl_domain::{Action, Domain};
 use pddl_formula::{Formula, TypeNames};
 use pddl_problem::Problem;
 use pddl_search::{Ground, Values};
-use pddl_sizes::{ObjectCounts, ObjectOrder, action_ground_size, fitting_objects, ground_size};
+use pddl_sizes::{Fitting, ObjectOrder, action_ground_size, ground_size};
 use pddl_token::Name;
-use pddl_types::{Declared, FunctionNumbers, Listed, SlotTops, Top, TypeCounts, Types};
+use pddl_types::{Declared, FunctionNumbers, Listed, SlotTops, Types};
 use std::alloc::{AllocError, Allocator};
 use std::marker::Model;
 
-/// What a domain declares by name, how many objects fit each type, and the order of the types of objects, in tables that borrow from the files.
+/// What a domain declares by name, the tops of the parameters of its actions, and the order of the types of objects, in tables that borrow from the files.
 #[derive(Drop)]
 pub struct Tables<'m, 'a, A: Allocator, B: Allocator> {
     pub declared: Declared<'m, 'a, A, B>,
-    pub counts: TypeCounts<'m, 'a, B>,
+    pub parameters: SlotTops<'a, B>,
     pub order: ObjectOrder<'a, B>,
-}
-
-/// Lets go what a domain declares, table by table. (A call of `drop` with the whole has no proof today.)
-pub fn let_go_declared<'m, 'a, A: Allocator, B: Allocator>(declared: Declared<'m, 'a, A, B>) {
-    drop(declared.predicates);
-    drop(declared.functions);
-    drop(declared.tops);
-}
-
-/// Lets go objects, likewise.
-pub fn let_go_objects<'m, 'a, A: Allocator, B: Allocator>(listed: Listed<'m, 'a, A, B>) {
-    drop(listed.objects);
-    drop(listed.places);
 }
 
 /// What a domain and a problem that link say together.
@@ -75,7 +62,7 @@ impl<'m, 'a, A: Allocator, B: Allocator> Model for Task<'m, 'a, A, B> {
 
     ghost view = { λ t. files (domain_view t.domain.now) (problem_view t.problem.now) };
 
-    ghost invariant = { λ t. AreTablesOf (domain_view t.domain.now) (problem_view t.problem.now) t.types t.tables.declared.predicates.entries t.listed t.tables.counts.entries t.values.entries };
+    ghost invariant = { λ t. AreTablesOf (domain_view t.domain.now) (problem_view t.problem.now) t.types t.listed t.tables t.values.entries };
 }
 
 impl<'m, 'a, A: Allocator, B: Allocator> Task<'m, 'a, A, B> {
@@ -88,7 +75,7 @@ impl<'m, 'a, A: Allocator, B: Allocator> Task<'m, 'a, A, B> {
         tables: Tables<'m, 'a, A, B>,
         values: Values<'m, 'a, A, B>,
     ) -> Task<'m, 'a, A, B>
-        requires { AreTablesOf (domain_view domain.now) (problem_view problem.now) types tables.declared.predicates.entries listed tables.counts.entries values.entries }
+        requires { AreTablesOf (domain_view domain.now) (problem_view problem.now) types listed tables values.entries }
         ensures { result ≡ files (domain_view domain.now) (problem_view problem.now) }
     {
         Task {
@@ -175,28 +162,15 @@ impl<'m, 'a, A: Allocator, B: Allocator> Task<'m, 'a, A, B> {
         self.types.is_a(sub.as_bytes(), over.as_bytes())
     }
 
-    /// The tops of the parameters of its actions, by which `object_fits_by` is fast.
-    ///
-    /// Fails where memory for them is refused.
-    pub fn action_tops<'c, C: Allocator>(&self, alloc: &'c C) -> Result<SlotTops<'c, C>, AllocError>
-        ensures { IfOk result (λ tops. AreSlotTops (task_of_files self.now).types (map action_signature (task_of_files self.now).actions) tops) }
+    /// Whether the object of a number fits a parameter of an action, both by their numbers; past the last object there is none that does.
+    pub fn fits_parameter(&self, object: usize, action: usize, parameter: usize) -> bool
+        requires action { action < length (task_of_files self.now).actions }
+        requires parameter { (a : ActionValue) → slice_get (task_of_files self.now).actions action ≡ Some a → parameter < length a.parameters }
+        ensures { (a : ActionValue) (x : TypedValue) → slice_get (task_of_files self.now).actions action ≡ Some a → slice_get a.parameters parameter ≡ Some x
+            → result ≡ option_map_or (λ o. fits (pairs (task_of_files self.now).types) o.of x.of) (slice_get (task_of_files self.now).objects object) false }
     {
-        let domain = self.domain;
-        SlotTops::of_declared(alloc, &self.types, &domain.actions)
-    }
-
-    /// Whether the object of a number fits a type, which is found fast by tops of the type; past the last there is none that does.
-    pub fn object_fits_by<N: Allocator>(
-        &self,
-        object: usize,
-        types: &TypeNames<N>,
-        tops: &[Top],
-    ) -> bool
-        requires { AreTops (task_of_files self.now).types types.now tops.now }
-        ensures { result ≡ option_map_or (λ o. fits (pairs (task_of_files self.now).types) o.of types.now)
-            (slice_get (task_of_files self.now).objects object) false }
-    {
-        self.listed.fits(&self.types, object, types, tops)
+        let tops = self.tables.parameters.at(action, parameter);
+        self.listed.fits_by(&self.types, object, tops)
     }
 
     /// Whether the object of a number fits a type; past the last there is none that does.
@@ -204,7 +178,19 @@ impl<'m, 'a, A: Allocator, B: Allocator> Task<'m, 'a, A, B> {
         ensures { result ≡ option_map_or (λ o. fits (pairs (task_of_files self.now).types) o.of types.now)
             (slice_get (task_of_files self.now).objects object) false }
     {
-        self.object_fits_by(object, types, &[])
+        self.listed.fits(&self.types, object, types)
+    }
+
+    /// What finds the objects that fit a type.
+    fn fitting_by<'t>(&'t self) -> Fitting<'t, 'm, 'a, A, B>
+        ensures types { result.types.now.declared ≡ (task_of_files self.now).types }
+        ensures objects { map object_in result.listed.now.objects.entries ≡ (task_of_files self.now).objects }
+    {
+        Fitting {
+            types: &self.types,
+            listed: &self.listed,
+            order: &self.tables.order,
+        }
     }
 
     /// The numbers of the objects that fit a type, rising.
@@ -217,36 +203,21 @@ impl<'m, 'a, A: Allocator, B: Allocator> Task<'m, 'a, A, B> {
     ) -> Result<Vec<usize, &'b C>, AllocError>
         ensures { IfOk result (λ numbers. numbers.items ≡ fitting_numbers (task_of_files self.now) types.now) }
     {
-        let counts = ObjectCounts {
-            types: &self.types,
-            listed: &self.listed,
-            counts: &self.tables.counts,
-        };
-        fitting_objects(alloc, &counts, &self.tables.order, types)
+        self.fitting_by().objects(alloc, types)
     }
 
     /// The ground size of a formula over the task's objects, or 1,000,001 where it is over 1,000,000.
     pub fn ground_size<N: Allocator>(&self, formula: &Formula<N>) -> u32
         ensures { result ≡ capped (formula_size (task_count (task_of_files self.now)) (formula_view formula.now)) }
     {
-        let counts = ObjectCounts {
-            types: &self.types,
-            listed: &self.listed,
-            counts: &self.tables.counts,
-        };
-        ground_size(&counts, formula)
+        ground_size(&self.fitting_by(), formula)
     }
 
     /// The ground size of a step of an action over the task's objects, or 1,000,001 where it is over 1,000,000.
     pub fn action_ground_size<N: Allocator>(&self, action: &Action<N>) -> u32
         ensures { result ≡ capped (action_size (task_count (task_of_files self.now)) (action_view action.now)) }
     {
-        let counts = ObjectCounts {
-            types: &self.types,
-            listed: &self.listed,
-            counts: &self.tables.counts,
-        };
-        action_ground_size(&counts, action)
+        action_ground_size(&self.fitting_by(), action)
     }
 
     /// The cost that `:init` gives a function of these objects, or `None` where it gives none.

@@ -12,8 +12,8 @@ use Rattle.pddl_formula.specs.TypedLists.{TypedValue}
 use Rattle.pddl_formula.specs.declared.type_names.Typed.{Typed}
 use Rattle.pddl_task.specs.Names.{Name, same_names}
 use Rattle.pddl_types.specs.KnownNames.{object_in}
-use Rattle.pddl_types.specs.Places.{HaveNumbers}
-use Rattle.pddl_types.proofs.TypePlaces.{found_at}
+use Rattle.pddl_types.specs.TypeSpans.{HaveEach}
+use Rattle.pddl_types.proofs.ListedObjects.{found_at}
 
 abbrev Key : Type 0
 Key = Bor (List Name)
@@ -50,7 +50,7 @@ still_met keys k false n types at = longer keys n at
     longer (j ∷ keys) (suc n) at = longer keys n at
 
 pub numbers_still : (keys new : List Key) (objects : List TypedValue) (numbers : List ℕ) → ((n : ℕ) (types : List Name) → type_of_number keys n ≡ Some types → type_of_number new n ≡ Some types)
-    → HaveNumbers (λ types n. type_of_number keys n ≡ Some types) objects numbers → HaveNumbers (λ types n. type_of_number new n ≡ Some types) objects numbers
+    → HaveEach (λ types n. type_of_number keys n ≡ Some types) objects numbers → HaveEach (λ types n. type_of_number new n ≡ Some types) objects numbers
 numbers_still keys new objects numbers still are = record { many = are.many; each = λ k n x object number. still n x.of (are.each k n x object number) }
 
 -- the type that was looked for is that of the number which it was found at
@@ -90,7 +90,7 @@ same_by_numbers keys i j types others once at also =
 
 -- the number of the type of an object that is found by its name
 pub known_type : {A : Type 0} (es : List (Bor (List ℕ) × Bor (Typed A))) (n : Name) (found : Bor (Typed A)) (keys : List Key) (numbers : List ℕ) (place : ℕ)
-    → lookup (λ k. bytes_eq n k.now) es ≡ Some found → place ≡ position_or_len (λ k. bytes_eq n k.now) (keys_of es) → HaveNumbers (λ types k. type_of_number keys k ≡ Some types) (map object_in es) numbers
+    → lookup (λ k. bytes_eq n k.now) es ≡ Some found → place ≡ position_or_len (λ k. bytes_eq n k.now) (keys_of es) → HaveEach (λ types k. type_of_number keys k ≡ Some types) (map object_in es) numbers
     → (place < length numbers) × ((known : ℕ) → known ≡ get_or numbers place known → type_of_number keys known ≡ Some found.now.types)
 known_type es n found keys numbers place there is are =
     let x = found_at es n found there in

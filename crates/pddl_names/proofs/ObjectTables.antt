@@ -1,11 +1,11 @@
 -- Names with their types, one after another, beside a table of each at its first place.
-use Rattle.std.proofs.Common.{◌≡◌, ℕ, ◌+◌, ◌<◌, ◌≤◌, Bool, true, false, ◌&&◌, ◌||◌, not, cond, List, [], ◌∷◌, ◌++◌, map, filter, length, get_or, drop, Option, Some, None, refl, ap, sym, ◌∙◌, subst, true≢false, bytes_eq, if◌then◌else◌}
+use Rattle.std.proofs.Common.{◌≡◌, ℕ, ◌+◌, ◌<◌, Bool, true, false, ◌&&◌, ◌||◌, not, cond, List, [], ◌∷◌, ◌++◌, map, filter, length, get_or, drop, Option, Some, None, refl, ap, sym, ◌∙◌, subst, true≢false, bytes_eq, if◌then◌else◌}
 use Rattle.std.specs.Prelude.{Contains, unwrap_or, option_map, is_some}
 use Rattle.std.specs.Borrow.{Bor}
 use Rattle.std.specs.Cmp.Lexicographic.{bytes_decides, pointwise_decides, nat_list_eq_equiv}
 use Rattle.std.specs.List.{list_any}
 use Rattle.std.specs.Map.{lookup}
-use Rattle.std.proofs.lemmas.List.{take_all, append_assoc}
+use Rattle.std.proofs.lemmas.List.{append_assoc}
 use Rattle.indexmap.specs.IndexMap.{insert_entry}
 use Rattle.pddl_formula.specs.TypedLists.{TypedValue, typed_view}
 use Rattle.pddl_formula.specs.declared.type_names.Typed.{Typed}
@@ -16,7 +16,7 @@ use Rattle.pddl_task.proofs.Lists.{append-none, bytes_same, nil_parts}
 use Rattle.pddl_types.specs.KnownNames.{AreNamed, object_in}
 use Rattle.pddl_names.specs.ObjectTables.{type_in, is_at_odds, put}
 use Rattle.pddl_search.proofs.Claims.{disagree, at_odds, Tells, tells_more, clash_told}
-use Rattle.pddl_search.proofs.SeenItems.{seen_at, seen_more, seen_bad, seen_good, seen_all}
+use Rattle.pddl_search.proofs.SeenItems.{seen_at, seen_more, seen_bad, seen_good}
 
 -- ---- a table of names with types
 
@@ -288,9 +288,3 @@ module _ {A : Type 0} (before : List TypedValue) (xs : List (Typed A)) (i : ℕ)
         rest = seen_good typed_view (λ y. y.item) (λ s y. list_any (clash y) s) retyped (λ s y ys. refl) before xs i x (retyped before (map typed_view xs)) h at l.rest
             (told seen (typed_view x) l.told ∙ agrees);
       }
-
--- all is listed
-pub listed_all : {A : Type 0} (before : List TypedValue) (xs : List (Typed A)) (i : ℕ) (es : List TypedValue) → length xs ≤ i → ListedUpTo before xs i es
-    → (retyped before (map typed_view xs) ≡ []) × (es ≡ firsts (before ++ map typed_view xs))
-listed_all before xs i es past l =
-    (seen_all typed_view retyped (λ seen. refl) before xs i (retyped before (map typed_view xs)) past l.rest, l.kept ∙ ap (λ ys. firsts (before ++ map typed_view ys)) (take_all i xs past))

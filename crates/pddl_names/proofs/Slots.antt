@@ -3,20 +3,20 @@ use Rattle.std.proofs.Common.{◌≡◌, ℕ, suc, ◌+◌, ◌<◌, ◌≤◌, 
 use Rattle.std.proofs.lemmas.List.{drop_all}
 use Rattle.std.proofs.lemmas.List.Elements.{Contains-append_left}
 use Rattle.std.proofs.lemmas.Option.{same_Some}
-use Rattle.std.specs.Prelude.{Contains, find, is_some, option_map}
+use Rattle.std.specs.Prelude.{Contains, is_some, option_map}
 use Rattle.std.specs.Borrow.{Bor}
 use Rattle.std.specs.List.{flat_map}
 use Rattle.std.specs.Slice.{IsItemAt}
 use Rattle.pddl_formula.specs.Terms.{TermValue, name, variable}
 use Rattle.pddl_formula.specs.TypedLists.{TypedValue}
 use Rattle.pddl_domain.specs.Declarations.{TypeValue}
-use Rattle.pddl_task.specs.Names.{Name, is_in, is_named, item_of, word_if}
+use Rattle.pddl_task.specs.Names.{Name, word_if}
 use Rattle.pddl_task.specs.Types.{fits}
 use Rattle.pddl_task.specs.Settings.{Setting}
 use Rattle.pddl_task.specs.Faults.{typed_term, unknown_term, is_misfit, some_misfit}
 use Rattle.pddl_task.proofs.Lists.{has_first}
 use Rattle.pddl_faults.specs.Parts.{term_name}
-use Rattle.pddl_faults.proofs.PutValues.{found_or}
+use Rattle.pddl_faults.proofs.BoundTypes.{is_bound}
 use Rattle.pddl_names.specs.Uses.{fit_of}
 
 -- ---- words that stand
@@ -29,13 +29,9 @@ one_word part known w is told = subst (λ ws. Contains ws w) (sym (is ∙ ap (λ
 
 -- ---- a term and its slot
 
-some_named : (xs : List TypedValue) (n : Name) → is_some (find (is_named n) xs) ≡ is_in (map item_of xs) n
-some_named [] n = refl
-some_named (x ∷ xs) n = found_or (is_named n x) x (find (is_named n) xs) ∙ ap (λ b. is_named n x || b) (some_named xs n)
-
 unknown_is : (s : Setting) (b : List TypedValue) (t : TermValue) → unknown_term s b t ≡ word_if (not (is_some (typed_term s b t))) (term_name t)
-unknown_is s b (name n) = ap (λ c. word_if (not c) n) (sym (some_named s.objects n))
-unknown_is s b (variable x) = ap (λ c. word_if (not c) x) (sym (some_named b x))
+unknown_is s b (name n) = ap (λ c. word_if (not c) n) (sym (is_bound s.objects n))
+unknown_is s b (variable x) = ap (λ c. word_if (not c) x) (sym (is_bound b x))
 
 fit_some : (ps : List TypeValue) (x slot : Option TypedValue) → is_some (fit_of ps x slot) ≡ is_some x
 fit_some ps None slot = refl

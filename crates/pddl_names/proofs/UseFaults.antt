@@ -1,12 +1,11 @@
 -- The faults of a predicate or a function with its terms.
-use Rattle.std.proofs.Common.{◌≡◌, ◌≢◌, ◌≤◌, ℕ, ◌∷◌, IfSome, Ok, ◌⊎◌, Bool, true, false, not, List, [], ◌++◌, map, length, ◌==◌, Option, Some, None, Result, Err, refl, ap, sym, ◌∙◌, subst, bytes_eq, arith, inl, inr}
-use Rattle.std.specs.Prelude.{Contains, is_some, option_map, MatchOption, OnOk, IsOk}
-use Rattle.std.specs.Option.{option_map_or}
+use Rattle.std.proofs.Common.{◌≡◌, ◌≤◌, ℕ, Bool, true, false, not, List, [], ◌++◌, map, length, ◌==◌, Option, Some, None, Result, Err, refl, ap, sym, ◌∙◌, subst, bytes_eq, arith, inl, inr}
+use Rattle.std.specs.Prelude.{Contains, is_some, option_map}
 use Rattle.std.specs.Borrow.{Bor}
 use Rattle.std.specs.List.{flat_map}
 use Rattle.std.specs.Map.{lookup}
-use Rattle.std.proofs.lemmas.List.{map-append, length-map}
-use Rattle.std.proofs.lemmas.List.Elements.{Contains-append_cases, Contains-append_left, Contains-append_right}
+use Rattle.std.proofs.lemmas.List.{map-append}
+use Rattle.std.proofs.lemmas.List.Elements.{Contains-append_cases, Contains-append_left}
 use Rattle.pddl_formula.specs.Terms.{TermValue}
 use Rattle.pddl_formula.specs.TypedLists.{TypedValue, typed_view}
 use Rattle.pddl_formula.specs.declared.type_names.Typed.{Typed}
@@ -16,17 +15,17 @@ use Rattle.pddl_task.specs.Settings.{Setting}
 use Rattle.pddl_task.specs.Faults.{Use, is_declared, signature_of, unknown_term, takes_others, some_misfit, has_misfit}
 use Rattle.pddl_task.proofs.Lists.{mapped_is, append-none, has_first}
 use Rattle.pddl_faults.specs.declared.fault.LinkFault.{LinkFault}
-use Rattle.pddl_faults.specs.Passes.{fault_of, Passes}
-use Rattle.pddl_faults.specs.Found.{IsLowestOf, IsFound, numbered}
+use Rattle.pddl_faults.specs.Passes.{Passes}
+use Rattle.pddl_faults.specs.Found.{IsFound, numbered}
 use Rattle.pddl_faults.proofs.FoundFaults.{AreBelow, passed_found, found_first, found_rest, found_same}
 use Rattle.pddl_types.specs.KnownNames.{signature_in}
 use Rattle.pddl_types.proofs.Lookups.{is_symbol, signature_found}
-use Rattle.pddl_names.specs.Uses.{IsFoundUpTo, faults_of_use, faults_of_terms}
+use Rattle.pddl_names.specs.Uses.{faults_of_use, faults_of_terms}
 
 -- ---- three faults in turn
 
 -- names that are not known, another number of terms, and terms that do not fit
-abbrev pub in_turn : List Name → List Name → List Name → List (ℕ × Name)
+abbrev in_turn : List Name → List Name → List Name → List (ℕ × Name)
 in_turn xs ys zs = numbered 26 xs ++ (numbered 27 ys ++ numbered 28 zs)
 
 at_number : (n : ℕ) (words : List Name) (f : ℕ × Name) → Contains (numbered n words) f → f.0 ≡ n
@@ -103,7 +102,7 @@ module _ {A : Type 0} (s : Setting) (b : List TypedValue) (ts : List TermValue) 
       (Contains-append_left (word_if (not (is_declared used)) n) (flat_map (unknown_term s b) ts) n (has_word (not (is_declared used)) (is_declared used) n refl off)))
 
   -- the faults of a name that is found are those of its terms
-  pub declared_is : (slots : Bor (List (Typed A))) → Some slots ≡ lookup (λ k. bytes_eq n k.now) es → faults_of_use s b used ≡ faults_of_terms s b n ts (length slots.now) (map typed_view slots.now)
+  pub declared_is : (slots : Bor (List (Typed A))) → Some slots ≡ lookup (λ k. bytes_eq n k.now) es → faults_of_use s b used ≡ faults_of_terms s b n ts (map typed_view slots.now)
   declared_is slots at =
       let xs = map typed_view slots.now in
       let words = flat_map (unknown_term s b) ts in
@@ -113,65 +112,8 @@ module _ {A : Type 0} (s : Setting) (b : List TypedValue) (ts : List TermValue) 
       let takes : takes_others (signature_of used) ts ≡ not (length ts == length xs) = takes_is (signature_of used) ts ∙ ap (λ o. slots_differ o ts) same in
       let misfit : has_misfit s b ts (signature_of used) ≡ some_misfit s b ts xs = misfit_is s b ts (signature_of used) ∙ ap (slots_misfit s b ts) same in
       ap (λ c. in_turn (word_if (not c) n ++ words) (word_if (takes_others (signature_of used) ts) n) (word_if (has_misfit s b ts (signature_of used)) n)) on
-      ∙ ap (λ c. in_turn words (word_if c n) (word_if (has_misfit s b ts (signature_of used)) n)) (takes ∙ ap (λ k. not (length ts == k)) (length-map slots.now typed_view))
-      ∙ ap (λ c. in_turn words (word_if (not (length ts == length slots.now)) n) (word_if c n)) misfit
-
--- ---- where a fault was found already that is no higher than a term that does not fit
-
--- what has so low a number
-pub up_to : (o : Option (ℕ × Name)) (n : ℕ) → n ≡ option_map_or (λ f. f.0) o 0 → n ≢ 0 → n ≤ 28 → MatchOption o ⊥ (λ f. f.0 ≤ 28)
-up_to None n is some low = absurd (some is)
-up_to (Some f) n is some low = omega (arith, is)
-
-with_misfits : (before : List (ℕ × Name)) (xs ys zs : List Name) (f : ℕ × Name) → Contains (before ++ in_turn xs ys []) f → Contains (before ++ in_turn xs ys zs) f
-with_misfits before xs ys zs f c =
-    elim (Contains-append_cases before (in_turn xs ys []) f c) as (λ _. Contains (before ++ in_turn xs ys zs) f) [
-      | inl h ↦ Contains-append_left before (in_turn xs ys zs) f h
-      | inr h ↦
-          Contains-append_right before (in_turn xs ys zs) f (elim (Contains-append_cases (numbered 26 xs) (numbered 27 ys ++ []) f h) as (λ _. Contains (in_turn xs ys zs) f) [
-            | inl k ↦ Contains-append_left (numbered 26 xs) (numbered 27 ys ++ numbered 28 zs) f k
-            | inr k ↦ Contains-append_right (numbered 26 xs) (numbered 27 ys ++ numbered 28 zs) f (Contains-append_left (numbered 27 ys) (numbered 28 zs) f (subst (λ (fs : List (ℕ × Name)). Contains fs f) (append-none (numbered 27 ys)) k))
-          ])
-    ]
-
-without_misfits : (before : List (ℕ × Name)) (xs ys zs : List Name) (f : ℕ × Name) → Contains (before ++ in_turn xs ys zs) f → Contains (before ++ in_turn xs ys []) f ⊎ (f.0 ≡ 28)
-without_misfits before xs ys zs f c =
-    elim (Contains-append_cases before (in_turn xs ys zs) f c) as (λ _. Contains (before ++ in_turn xs ys []) f ⊎ (f.0 ≡ 28)) [
-      | inl h ↦ inl (Contains-append_left before (in_turn xs ys []) f h)
-      | inr h ↦
-          elim (Contains-append_cases (numbered 26 xs) (numbered 27 ys ++ numbered 28 zs) f h) as (λ _. Contains (before ++ in_turn xs ys []) f ⊎ (f.0 ≡ 28)) [
-            | inl k ↦ inl (Contains-append_right before (in_turn xs ys []) f (Contains-append_left (numbered 26 xs) (numbered 27 ys ++ []) f k))
-            | inr k ↦
-                elim (Contains-append_cases (numbered 27 ys) (numbered 28 zs) f k) as (λ _. Contains (before ++ in_turn xs ys []) f ⊎ (f.0 ≡ 28)) [
-                  | inl m ↦ inl (Contains-append_right before (in_turn xs ys []) f (Contains-append_right (numbered 26 xs) (numbered 27 ys ++ []) f (Contains-append_left (numbered 27 ys) [] f m)))
-                  | inr m ↦ inr (at_number 28 zs f m)
-                ]
-          ]
-    ]
-
-some_settled : (before : List (ℕ × Name)) (xs ys zs : List Name) (o p : Option (ℕ × Name)) → MatchOption o ⊥ (λ f. f.0 ≤ 28) → IfSome o (IsLowestOf before)
-    → IfSome p (IsLowestOf (before ++ in_turn xs ys [])) → IfSome p (IsLowestOf (before ++ in_turn xs ys zs))
-some_settled before xs ys zs None p low h k = absurd low
-some_settled before xs ys zs (Some f) None low h k = tt
-some_settled before xs ys zs (Some f) (Some g) low h k = record {
-  stands = with_misfits before xs ys zs g k.stands;
-  lowest = λ other c. elim (without_misfits before xs ys zs other c) as (λ _. g.0 ≤ other.0) [
-    | inl m ↦ k.lowest other m
-    | inr is ↦ let m = k.lowest f (Contains-append_left before (in_turn xs ys []) f h.stands) in omega (arith, m, low, is)
-  ];
-}
-
--- then terms that do not fit change nothing
-pub settled : (before : List (ℕ × Name)) (xs ys zs : List Name) (first second both : Result (Unit {0}) LinkFault) → IsFoundUpTo 28 first → OnOk both (IsOk first × IsOk second)
-    → IsFound before first → IsFound (before ++ in_turn xs ys []) both → IsFound (before ++ in_turn xs ys zs) both
-settled before xs ys zs (Ok u) second both low done h k = absurd low
-settled before xs ys zs (Err e) second (Ok v) low done h k = absurd (cc (done.0))
-settled before xs ys zs (Err e) second (Err d) low done h k = some_settled before xs ys zs (fault_of e) (fault_of d) low h k
-
--- no slot, no term that does not fit
-pub no_slots : (s : Setting) (b : List TypedValue) (ts : List TermValue) → some_misfit s b ts [] ≡ false
-no_slots s b [] = refl
-no_slots s b (t ∷ ts) = refl
+      ∙ ap (λ c. in_turn words (word_if c n) (word_if (has_misfit s b ts (signature_of used)) n)) takes
+      ∙ ap (λ c. in_turn words (word_if (not (length ts == length xs)) n) (word_if c n)) misfit
 
 -- ---- at a place
 

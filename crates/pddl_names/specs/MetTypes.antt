@@ -2,9 +2,8 @@
 use Rattle.std.specs.Prelude.{◌≡◌, ℕ, List, Some, option_map, slice_get}
 use Rattle.std.specs.List.{IsDistinct}
 use Rattle.pddl_formula.specs.TypedLists.{TypedValue}
-use Rattle.pddl_domain.specs.Declarations.{TypeValue}
 use Rattle.pddl_task.specs.Names.{Name, same_names}
-use Rattle.pddl_types.specs.Places.{IsOnlyAt, HaveNumbers}
+use Rattle.pddl_types.specs.TypeSpans.{TypesValue, IsOnlySpan, HaveEach}
 use Rattle.pddl_names.specs.declared.met_types.Group.{Group}
 use Rattle.pddl_names.specs.declared.met_types.MetTypes.{MetTypes}
 
@@ -15,8 +14,8 @@ IsMetAt met types number = option_map (λ t. t.now) (slice_get met.types.keys nu
 -- no type is met twice, and each object has the number of its own
 pub record AreMet {A B : Type 0} (objects : List TypedValue) (met : MetTypes A B) : Type 0 where
   pub once : IsDistinct (λ t u. same_names t.now u.now) met.types.keys
-  pub numbers : HaveNumbers (IsMetAt met) objects met.of_objects.items
+  pub numbers : HaveEach (IsMetAt met) objects met.of_objects.items
 
 -- what is known of the type of a group
-abbrev pub IsGroupOf : {A B : _} → List TypeValue → MetTypes A B → List Name → Group → Type 0
-IsGroupOf declared met types group = IsOnlyAt declared types group.place × IsMetAt met types group.number
+abbrev pub IsGroupOf : {A B : _} → TypesValue → MetTypes A B → List Name → Group → Type 0
+IsGroupOf t met types group = IsOnlySpan t types group.span × IsMetAt met types group.number

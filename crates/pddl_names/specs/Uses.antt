@@ -1,5 +1,5 @@
 -- The faults that are looked for together at each place, each told by its number and its word.
-use Rattle.std.specs.Prelude.{Bool, true, not, ◌==◌, ℕ, List, ◌++◌, filter, length, Option, Some, None, Result, MatchResult, MatchOption, ◌≤◌}
+use Rattle.std.specs.Prelude.{Bool, true, not, ◌==◌, ℕ, List, ◌++◌, filter, length, Option, Some, None}
 use Rattle.std.specs.List.{flat_map}
 use Rattle.pddl_formula.specs.Terms.{TermValue}
 use Rattle.pddl_formula.specs.TypedLists.{TypedValue}
@@ -9,8 +9,6 @@ use Rattle.pddl_task.specs.Types.{types_of, fits}
 use Rattle.pddl_task.specs.Places.{Place}
 use Rattle.pddl_task.specs.Settings.{Setting}
 use Rattle.pddl_task.specs.Faults.{Use, primitives_of, variables_at, repeated_at, is_declared, signature_of, unknown_term, takes_others, some_misfit, has_misfit, unknown_at, arity_at, misfit_at, fraction_at}
-use Rattle.pddl_faults.specs.declared.fault.LinkFault.{LinkFault}
-use Rattle.pddl_faults.specs.Passes.{fault_of}
 use Rattle.pddl_faults.specs.Found.{numbered}
 
 -- ---- what is bound
@@ -35,18 +33,14 @@ faults_of_use s bound u =
     numbered 26 (word_if (not (is_declared u)) u.name ++ flat_map (unknown_term s bound) u.terms)
     ++ (numbered 27 (word_if (takes_others (signature_of u) u.terms) u.name) ++ numbered 28 (word_if (has_misfit s bound u.terms (signature_of u)) u.name))
 
--- and those of its terms, where it is declared with so many slots, of which these are looked at
-abbrev pub faults_of_terms : Setting → List TypedValue → Name → List TermValue → ℕ → List TypedValue → List (ℕ × Name)
-faults_of_terms s bound symbol terms count slots =
+-- and those of its terms, where it is declared with these slots
+abbrev pub faults_of_terms : Setting → List TypedValue → Name → List TermValue → List TypedValue → List (ℕ × Name)
+faults_of_terms s bound symbol terms slots =
     numbered 26 (flat_map (unknown_term s bound) terms)
-    ++ (numbered 27 (word_if (not (length terms == count)) symbol) ++ numbered 28 (word_if (some_misfit s bound terms slots) symbol))
+    ++ (numbered 27 (word_if (not (length terms == length slots)) symbol) ++ numbered 28 (word_if (some_misfit s bound terms slots) symbol))
 
 -- whether what is typed fits a slot, where there is one; `None` where nothing is typed
 abbrev pub fit_of : List TypeValue → Option TypedValue → Option TypedValue → Option Bool
 fit_of ps None slot = None
 fit_of ps (Some x) None = Some true
 fit_of ps (Some x) (Some slot) = Some (fits ps x.of slot.of)
-
--- a fault was found whose number is at most this
-abbrev pub IsFoundUpTo : ℕ → Result (Unit {0}) LinkFault → Type 0
-IsFoundUpTo n r = MatchResult r (λ _. ⊥) (λ e. MatchOption (fault_of e) ⊥ (λ f. f.0 ≤ n))

@@ -2,6 +2,7 @@
 
 use crate::repeats::name_twice;
 use pddl_faults::{LinkFault, Part, Runs, Scope, Search, Tells, lower};
+use pddl_forest::Span;
 use pddl_formula::TypeNames;
 use pddl_types::Types;
 use std::alloc::{AllocError, Allocator};
@@ -16,7 +17,7 @@ pub struct Bindings<'t, 'm, 'a, A: Allocator, B: Allocator> {
 impl<'t, 'm, 'a, A: Allocator, B: Allocator> Search<A, B> for Bindings<'t, 'm, 'a, A, B> {
     ghost use Rattle.pddl_names.specs.Uses.{binding_faults};
 
-    ghost found = { λ search place. binding_faults search.types.now place };
+    ghost found = { λ search place. binding_faults search.types.now.declared place };
 
     fn look<'d>(
         &self,
@@ -38,13 +39,13 @@ impl<'t, 'm, 'a, A: Allocator, B: Allocator> Search<A, B> for Bindings<'t, 'm, '
 }
 
 /// Nothing is told of types, since nothing of them is asked for.
-impl<'t, 'm, 'a, A: Allocator, B: Allocator> Tells<A, B, usize> for Bindings<'t, 'm, 'a, A, B> {
-    ghost is_told = { λ search types places. Unit };
+impl<'t, 'm, 'a, A: Allocator, B: Allocator> Tells<A, B> for Bindings<'t, 'm, 'a, A, B> {
+    ghost is_told = { λ search types spans. Unit };
 
     fn tell<'c>(
         &self,
         _types: &TypeNames<A>,
-        _told: &mut Runs<'c, usize, B>,
+        _told: &mut Runs<'c, Span, B>,
     ) -> Result<(), AllocError> {
         Ok(())
     }

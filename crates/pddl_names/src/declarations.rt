@@ -26,7 +26,7 @@ fn parameters_known<'m, 'a, 'd, A: Allocator + 'd, B: Allocator, D: Declares<A>>
     types: &Types<'m, 'a, A, B>,
     declared: &'d [D],
 ) -> Result<(), LinkFault<'d>>
-    ensures { Passes 23 (unknown_among types.now (flat_map parameters_of (map D.signature declared.now))) result }
+    ensures { Passes 23 (unknown_among types.now.declared (flat_map parameters_of (map D.signature declared.now))) result }
 {
     for each in declared {
         types.known(each.parameters())?;
@@ -39,7 +39,7 @@ fn look_at_types<'m, 'a, A: Allocator, B: Allocator>(
     types: &Types<'m, 'a, A, B>,
     domain: &'m Domain<A>,
 ) -> Result<(), LinkFault<'m>>
-    ensures { IsFound (joined (used_types types.now (domain_view domain.now))) result }
+    ensures { IsFound (joined (used_types types.now.declared (domain_view domain.now))) result }
 {
     let constants = types.known(&domain.constants);
     let predicates = parameters_known(types, &domain.predicates);
@@ -53,7 +53,7 @@ fn look_at_actions<'m, 'a, A: Allocator, B: Allocator>(
     types: &Types<'m, 'a, A, B>,
     actions: &'m [Action<A>],
 ) -> Result<(), LinkFault<'m>>
-    ensures { IsFound (action_faults types.now [] (map action_view actions.now)) result }
+    ensures { IsFound (action_faults types.now.declared [] (map action_view actions.now)) result }
 {
     let mut seen: IndexSet<&'m [u8], Hashed, &'a B> = IndexSet::new(alloc);
     let mut found = Ok(());
@@ -72,7 +72,7 @@ pub fn look_at_domain<'m, 'a, A: Allocator, B: Allocator>(
     types: &Types<'m, 'a, A, B>,
     domain: &'m Domain<A>,
 ) -> Result<(), LinkFault<'m>>
-    ensures { IsFound (joined (domain_parts types.now (domain_view domain.now))) result }
+    ensures { IsFound (joined (domain_parts types.now.declared (domain_view domain.now))) result }
 {
     let used = look_at_types(types, domain);
     let predicates = name_twice(alloc, &domain.predicates);
@@ -91,7 +91,7 @@ pub fn look_at_problem<'m, 'a, A: Allocator, B: Allocator>(
     types: &Types<'m, 'a, A, B>,
     problem: &'m Problem<A>,
 ) -> Result<(), LinkFault<'m>>
-    ensures { IsFound (joined (problem_parts types.now (problem_view problem.now))) result }
+    ensures { IsFound (joined (problem_parts types.now.declared (problem_view problem.now))) result }
 {
     let used = types.known(&problem.objects);
     let bound = search_problem(alloc, &Bindings { alloc, types }, problem);

@@ -6,6 +6,7 @@ ghost use Rattle.pddl_names.specs.MetTypes.{IsMetAt, AreMet, IsGroupOf};
 
 use indexmap::IndexSet;
 use pddl_faults::Hashed;
+use pddl_forest::Span;
 use pddl_formula::{TypeNames, TypedList};
 use pddl_types::Types;
 use std::alloc::{AllocError, Allocator};
@@ -18,10 +19,10 @@ pub(crate) struct MetTypes<'m, 'a, A: Allocator, B: Allocator> {
     pub(crate) of_objects: Vec<usize, &'a B>,
 }
 
-/// What is known of the type of a group of objects: the place of its one primitive, and its number among the types that were met.
+/// What is known of the type of a group of objects: the span of its one primitive, and its number among the types that were met.
 #[derive(Clone, Copy)]
 pub(crate) struct Group {
-    pub(crate) place: usize,
+    pub(crate) span: Span,
     pub(crate) number: usize,
 }
 
@@ -66,9 +67,9 @@ impl<'m, 'a, A: Allocator, B: Allocator> MetTypes<'m, 'a, A, B> {
             return Ok(before);
         }
         let object = &objects[number];
-        let place = types.single_place(&object.types);
+        let span = types.single_span(&object.types);
         let number = self.number_of(&object.types)?;
-        Ok(Group { place, number })
+        Ok(Group { span, number })
     }
 }
 

@@ -2,14 +2,13 @@
 
 ghost use Rattle.std.specs.Prelude.{◌≡◌, [], ◌++◌, List, IsTrue, not, map, IfOk, OnOk};
 ghost use Rattle.pddl_formula.specs.TypedLists.{TypedValue, typed_view};
-ghost use Rattle.pddl_domain.specs.Declarations.{TypeValue};
 ghost use Rattle.pddl_domain.specs.Domains.{domain_view};
 ghost use Rattle.pddl_problem.specs.Problems.{problem_view};
 ghost use Rattle.pddl_task.specs.Names.{firsts};
 ghost use Rattle.pddl_task.specs.Settings.{objects_of};
 ghost use Rattle.pddl_task.specs.Faults.{retyped};
 ghost use Rattle.pddl_types.specs.KnownNames.{object_in};
-ghost use Rattle.pddl_types.specs.Places.{IsOnlyAt, IsEmpty, AreListedAt};
+ghost use Rattle.pddl_types.specs.TypeSpans.{TypesValue, IsOnlySpan, IsEmpty, AreListed};
 ghost use Rattle.pddl_names.specs.MetTypes.{IsMetAt, AreMet};
 ghost use Rattle.pddl_names.specs.ObjectTables.{put, is_at_odds};
 ghost use Rattle.pddl_faults.specs.Passes.{Passes};
@@ -17,6 +16,7 @@ ghost use Rattle.pddl_faults.specs.Passes.{Passes};
 use crate::met_types::{Group, MetTypes, let_go};
 use pddl_domain::Domain;
 use pddl_faults::LinkFault;
+use pddl_forest::Span;
 use pddl_formula::{Typed, TypedList};
 use pddl_problem::Problem;
 use pddl_types::{Listed, Types};
@@ -36,7 +36,7 @@ fn list_object<'m, 'a, A: Allocator, B: Allocator>(
     requires group { IsMetAt met.old object.now.types group.number }
     ensures objects { OnOk result (map object_in listed.new.objects.entries ≡ put (typed_view object.now) (map object_in listed.old.objects.entries)) }
     ensures right { IfOk result (λ right. is_at_odds (map object_in listed.old.objects.entries) (typed_view object.now) ≡ not right) }
-    ensures places { (declared : List TypeValue) → AreListedAt declared listed.old → IsOnlyAt declared object.now.types group.place → IfOk result (λ right. IsTrue right → AreListedAt declared listed.new) }
+    ensures spans { (t : TypesValue) → AreListed t listed.old → IsOnlySpan t object.now.types group.span → IfOk result (λ right. IsTrue right → AreListed t listed.new) }
     ensures met { IfOk result (λ right. IsTrue right → AreMet (map object_in listed.new.objects.entries) met.new) }
     ensures kept { OnOk result (met.new.types ≡ met.old.types) }
 {
@@ -44,7 +44,7 @@ fn list_object<'m, 'a, A: Allocator, B: Allocator>(
     match before {
         Some(_before) => Ok(met.of_objects[number] == group.number),
         None => {
-            listed.places.push(group.place)?;
+            listed.spans.push(group.span)?;
             met.of_objects.push(group.number)?;
             Ok(true)
         }
@@ -58,15 +58,15 @@ fn add_objects<'m, 'a, A: Allocator, B: Allocator>(
     met: &mut MetTypes<'m, 'a, A, B>,
     objects: &'m TypedList<A>,
 ) -> Result<(), LinkFault<'m>>
-    requires listed { AreListedAt types.now listed.old }
+    requires listed { AreListed types.now listed.old }
     requires met { AreMet (map object_in listed.old.objects.entries) met.old }
     ensures passes { (before : List TypedValue) → retyped [] before ≡ [] → map object_in listed.old.objects.entries ≡ firsts before → Passes 24 (retyped before (map typed_view objects.now.items)) result }
     ensures lists { OnOk result ((before : List TypedValue) → retyped [] before ≡ [] → map object_in listed.old.objects.entries ≡ firsts before → map object_in listed.new.objects.entries ≡ firsts (before ++ map typed_view objects.now.items)) }
-    ensures places { OnOk result (AreListedAt types.now listed.new) }
+    ensures spans { OnOk result (AreListed types.now listed.new) }
     ensures met { OnOk result (AreMet (map object_in listed.new.objects.entries) met.new) }
 {
     let mut group = Group {
-        place: 0,
+        span: Span { first: 0, last: 0 },
         number: 0,
     };
     for number in 0..objects.len() {
@@ -89,7 +89,7 @@ pub fn list_objects<'m, 'a, A: Allocator, B: Allocator>(
     requires { IsEmpty listed.old }
     ensures passes { Passes 24 (retyped [] (map typed_view objects.now.items)) result }
     ensures lists { OnOk result (map object_in listed.new.objects.entries ≡ firsts (map typed_view objects.now.items)) }
-    ensures places { OnOk result (AreListedAt types.now listed.new) }
+    ensures spans { OnOk result (AreListed types.now listed.new) }
 {
     let mut met = MetTypes::new(alloc);
     let added = add_objects(types, listed, &mut met, objects);
@@ -108,7 +108,7 @@ pub fn list_all<'m, 'a, A: Allocator, B: Allocator>(
     requires { IsEmpty listed.old }
     ensures passes { Passes 24 (retyped [] (domain_view domain.now).constants ++ retyped (domain_view domain.now).constants (problem_view problem.now).objects) result }
     ensures objects { OnOk result (map object_in listed.new.objects.entries ≡ objects_of (domain_view domain.now) (problem_view problem.now)) }
-    ensures places { OnOk result (AreListedAt types.now listed.new) }
+    ensures spans { OnOk result (AreListed types.now listed.new) }
 {
     let mut met = MetTypes::new(alloc);
     match add_objects(types, listed, &mut met, &domain.constants) {

@@ -14,7 +14,7 @@ use Rattle.pddl_task.specs.Linked.{IsLinked}
 use Rattle.pddl_task.specs.Tasks.{TaskValue, task_of, fitting_names}
 use Rattle.pddl_task.specs.Valuations.{Valuation, giving}
 use Rattle.pddl_task.proofs.KnownAtoms.{steps_are_known}
-use Rattle.pddl_task.proofs.Lists.{any_found, is_mapped, or_cases}
+use Rattle.pddl_task.proofs.Lists.{any_found, is_mapped, or_cases, at_place}
 use Rattle.pddl_happenings.specs.Steps.{Step, changes, clash}
 use Rattle.pddl_meaning.specs.Effects.{fired, effect_adds, effect_dels}
 use Rattle.pddl_meaning.specs.Steps.{step_of}
@@ -24,7 +24,7 @@ use Rattle.pddl_meaning.proofs.Frame.{fired_spoken}
 use Rattle.pddl_linked_plan.specs.LinkedLaws.{named_step, IsLinkedStep}
 use Rattle.pddl_linked_plan.specs.LinkedSteps.{LinkedStepValue, AreLinkedSteps}
 use Rattle.pddl_plan_steps.specs.PlanSteps.{idle, named_steps}
-use Rattle.pddl_plan_steps.proofs.PlanSteps.{as_many, at_place, each_linked, objects_known}
+use Rattle.pddl_plan_steps.proofs.PlanSteps.{as_many, each_linked, objects_known}
 
 -- a known atom that passes for what is added, or for what is deleted, is the one that is asked for
 of_added : (task : TaskValue) (g : GroundValue) (x : Spoken) → tested no_atoms (same_ground g) no_atoms x ≡ true → is_known task (atom_of x) ≡ true → is_known task g ≡ true

@@ -4,12 +4,13 @@ use Rattle.std.specs.Prelude.{Option, Some, None, position}
 use Rattle.std.specs.Borrow.{Bor}
 use Rattle.std.specs.Map.{keys_of}
 use Rattle.std.specs.List.{slice_get}
+use Rattle.std.specs.Option.{option_map_or}
 use Rattle.std.proofs.lemmas.Bool.Decides.{nat_tests}
 use Rattle.std.proofs.lemmas.List.{length-map}
+use Rattle.std.proofs.lemmas.Option.{slice_get_within}
 use Rattle.pddl_plan.specs.Plans.{StepValue}
 use Rattle.pddl_formula.specs.Terms.{name}
 use Rattle.pddl_formula.specs.TypedLists.{typed_view}
-use Rattle.pddl_formula.specs.declared.type_names.Typed.{Typed}
 use Rattle.pddl_domain.specs.Actions.{ActionValue, action_view}
 use Rattle.pddl_domain.specs.Domains.{DomainValue}
 use Rattle.pddl_problem.specs.Problems.{ProblemValue}
@@ -67,10 +68,16 @@ module _ {A : Type 0} (task : TaskValue) (es : List (Entry A)) (s : StepValue) (
     pub found_there : slice_get task.actions i ≡ Some a
     found_there = action_there task es n are i (key, held) at there
 
+    pub number_low : i < length task.actions
+    number_low = slice_get_within task.actions i a found_there
+
     -- there are as many objects as parameters, or not
     module _ (m k : ℕ) (first : m ≡ length s.objects) (second : k ≡ length held.action.now.parameters.items) where
       parameters_are : length a.parameters ≡ k
       parameters_are = length-map held.action.now.parameters.items typed_view ∙ sym second
+
+      pub slots_are : (b : ActionValue) → slice_get task.actions i ≡ Some b → length b.parameters ≡ k
+      slots_are b stands = ap (λ o. option_map_or (λ x. length x.parameters) o 0) (sym stands ∙ found_there) ∙ parameters_are
 
       compared : length s.objects == length a.parameters ≡ m == k
       compared = ap (λ j. j == length a.parameters) (sym first) ∙ ap (λ j. m == j) parameters_are
@@ -98,12 +105,9 @@ module _ {A : Type 0} (task : TaskValue) (es : List (Entry A)) (s : StepValue) (
             numbers_are = numbered all ∙ ap (map (number_in (object_names task))) own
 
             -- some object does not fit, or all do
-            module _ (lent : List ℕ) (slots : List (Typed A)) (unfit : Bool) (whole : lent ≡ numbers) (parameters : slots ≡ held.action.now.parameters.items)
-                (tested : unfit ≡ some_unfit task lent (map typed_view slots)) where
+            module _ (lent : List ℕ) (unfit : Bool) (whole : lent ≡ numbers) (tested : (b : ActionValue) → slice_get task.actions i ≡ Some b → unfit ≡ some_unfit task lent b.parameters) where
               misfit : unfit ≡ some_misfit (naming task.types task.objects) [] (map name s.objects) a.parameters
-              misfit =
-                  tested ∙ ap (λ ns. some_unfit task ns (map typed_view slots)) (whole ∙ numbers_are)
-                  ∙ ap (λ (xs : List (Typed A)). some_unfit task (map (number_in (object_names task)) s.objects) (map typed_view xs)) parameters ∙ unfit_is task s.objects a.parameters known
+              misfit = tested a found_there ∙ ap (λ ns. some_unfit task ns a.parameters) (whole ∙ numbers_are) ∙ unfit_is task s.objects a.parameters known
 
               pub type_differs : unfit ≡ true → IsFirst (step_faults task s) 43
               type_differs is = type_first task s a named arity known (sym misfit ∙ is)

@@ -1,3 +1,4 @@
+pub mod FittingParameters
 pub mod CostWalks
 pub mod CheckedSteps
 pub mod PlanSteps

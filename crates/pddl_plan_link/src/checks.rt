@@ -1,13 +1,10 @@
 //! The faults of a step.
 
-ghost use Rattle.std.specs.Prelude.{◌≡◌, [], true, Some, map, reverse, slice_get, not, IfOk, OnOk};
-ghost use Rattle.std.specs.List.{list_any, slice_index_or};
-ghost use Rattle.pddl_formula.specs.TypedLists.{typed_view};
-ghost use Rattle.pddl_domain.specs.Actions.{action_view};
+ghost use Rattle.std.specs.Prelude.{◌≡◌, ◌<◌, true, Some, map, length, reverse, slice_get, not, IfOk, OnOk};
+ghost use Rattle.std.specs.List.{list_any};
+ghost use Rattle.pddl_domain.specs.Actions.{ActionValue, action_view};
 ghost use Rattle.pddl_task.specs.Names.{is_in, number_in};
 ghost use Rattle.pddl_task.specs.Tasks.{object_names};
-ghost use Rattle.pddl_faults.specs.Told.{AreTold};
-ghost use Rattle.pddl_types.specs.Places.{AreTops};
 ghost use Rattle.pddl_linked_task.specs.LinkedTasks.{task_of_files};
 ghost use Rattle.pddl_tables.specs.Lookups.{price_in};
 ghost use Rattle.pddl_plan_tables.specs.ChangeCosts.{is_unpriced, some_cost};
@@ -20,7 +17,6 @@ ghost use Rattle.pddl_plan_link.specs.StepVerdicts.{StepVerdict};
 use crate::fault::StepFault;
 use pddl_compiled::Frame;
 use pddl_domain::Action;
-use pddl_formula::Typed;
 use pddl_linked_task::Task;
 use pddl_plan::Step;
 use pddl_plan_tables::{Changes, PlanTables, make_change, some_costless};
@@ -48,21 +44,19 @@ fn number_objects<'m, 'a, 'c, A: Allocator, B: Allocator, C: Allocator, D: Alloc
     Ok(true)
 }
 
-/// Whether an object, by its number, does not fit its parameter of the action of a number.
-fn some_unfit<'t, 'm, 'a, 'c, A: Allocator, B: Allocator, C: Allocator>(
-    tables: &PlanTables<'t, 'm, 'a, 'c, A, B, C>,
+/// Whether an object, by its number, does not fit its parameter of an action, which has so many.
+fn some_unfit<'m, 'a, A: Allocator, B: Allocator>(
+    task: &Task<'m, 'a, A, B>,
     action: usize,
     numbers: &[usize],
-    parameters: &[Typed<A>],
+    parameters: usize,
 ) -> bool
-    requires { AreTold (AreTops (task_of_files tables.now.task.now).types) (map typed_view parameters.now) (slice_index_or tables.now.tops action []) }
-    ensures { result ≡ some_unfit (task_of_files tables.now.task.now) numbers.now (map typed_view parameters.now) }
+    requires action { action < length (task_of_files task.now).actions }
+    requires parameters { (a : ActionValue) → slice_get (task_of_files task.now).actions action ≡ Some a → length a.parameters ≡ parameters }
+    ensures { (a : ActionValue) → slice_get (task_of_files task.now).actions action ≡ Some a → result ≡ some_unfit (task_of_files task.now) numbers.now a.parameters }
 {
-    let task = tables.task;
-    for i in 0..numbers.len().min(parameters.len()) {
-        let number = numbers[i];
-        let parameter = &parameters[i];
-        if !task.object_fits_by(number, &parameter.types, tables.tops.at(action, i)) {
+    for parameter in 0..numbers.len().min(parameters) {
+        if !task.fits_parameter(numbers[parameter], action, parameter) {
             return true;
         }
     }
@@ -123,7 +117,7 @@ where
     if !number_objects(tables.task, step, numbers)? {
         return Err(StepFault::UnknownObject { step: place });
     }
-    if some_unfit(tables, number, numbers, &action.parameters) {
+    if some_unfit(tables.task, number, numbers, action.parameters.len()) {
         return Err(StepFault::StepType { step: place });
     }
     if found.size > 1_000_000 {

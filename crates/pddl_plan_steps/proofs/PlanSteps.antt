@@ -18,16 +18,13 @@ use Rattle.pddl_task.proofs.KnownAtoms.{steps_are_known, initial_is_known}
 use Rattle.pddl_state.specs.Atoms.{AtomValue, atom_eq}
 use Rattle.pddl_happenings.specs.NamedSteps.{by_name, DoesAsNamed, DoAsNamed}
 use Rattle.pddl_meaning.specs.Steps.{step_of}
+use Rattle.pddl_task.proofs.Lists.{at_place}
 use Rattle.pddl_linked_plan.specs.LinkedSteps.{LinkedStepValue, AreLinkedSteps}
 use Rattle.pddl_linked_plan.specs.LinkedLaws.{named_step, IsLinkedStep}
 use Rattle.pddl_linked_plan.proofs.SoundSteps.{all_at, steps_are_sound, steps_have_names}
 use Rattle.pddl_plan_steps.specs.NumberedSteps.{number_of, numbered_step}
 use Rattle.pddl_plan_steps.specs.PlanSteps.{idle, named_steps, numbered_steps, initial_state, numbered_start}
 use Rattle.pddl_plan_steps.proofs.NamedSteps.{does_as_named, numbers_agree}
-
--- what is at a place is an element
-pub at_place : {X : Type 0} (xs : List X) (k : ℕ) (x : X) → slice_get xs k ≡ Some x → Contains xs x
-at_place xs k x is = (k, slice_get_within xs k x is, get_or_from_slice_get xs k x x is)
 
 idle_as_named : (task : TaskValue) → DoesAsNamed (number_of task) (idle {A = AtomValue}) (idle {A = GroundValue})
 idle_as_named task = record {

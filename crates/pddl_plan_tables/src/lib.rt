@@ -1,5 +1,5 @@
-//! What the steps of a plan are looked up in: the actions of a task by name with their ground sizes, the tops of their parameters, its functions, its costs,
-//! and what an action's effect can cost.
+//! What the steps of a plan are looked up in: the actions of a task by name with their ground sizes, its functions, its costs, and what an action's effect
+//! can cost.
 #![tactic(auto)]
 
 mod action_table;

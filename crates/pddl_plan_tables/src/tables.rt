@@ -8,16 +8,14 @@ use crate::action_table::{Actions, actions_by_name};
 use pddl_build::both_made;
 use pddl_linked_task::Task;
 use pddl_tables::{TaskLookups, TaskPrices, task_lookups, task_prices};
-use pddl_types::SlotTops;
 use std::alloc::{AllocError, Allocator};
 
-/// A task with its actions by name and the tops of their parameters, its functions by name, and its costs by numbers.
+/// A task with its actions by name, its functions by name, and its costs by numbers.
 #[derive(Drop)]
 pub struct PlanTables<'t, 'm, 'a, 'c, A: Allocator, B: Allocator, C: Allocator> {
     pub alloc: &'c C,
     pub task: &'t Task<'m, 'a, A, B>,
     pub actions: Actions<'m, 'c, A, C>,
-    pub tops: SlotTops<'c, C>,
     pub lookups: TaskLookups<'t, 'm, 'a, 'c, A, B, C>,
     pub prices: TaskPrices<'c, C>,
 }
@@ -48,16 +46,13 @@ pub fn plan_tables<'t, 'm, 'a, 'c, A: Allocator, B: Allocator, C: Allocator>(
 {
     let domain = task.domain();
     let actions = actions_by_name(alloc, task, &domain.actions);
-    let tops = task.action_tops(alloc);
-    let steps = both_made(actions, tops);
     let costs = cost_tables(alloc, task);
-    let (steps, costs) = both_made(steps, costs)?;
+    let (actions, (lookups, prices)) = both_made(actions, costs)?;
     Ok(PlanTables {
         alloc,
         task,
-        actions: steps.0,
-        tops: steps.1,
-        lookups: costs.0,
-        prices: costs.1,
+        actions,
+        lookups,
+        prices,
     })
 }

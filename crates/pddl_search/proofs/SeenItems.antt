@@ -41,9 +41,3 @@ module _ {X I : Type 0} (view : X → I) (word : I → Name) (bad : List I → I
   seen_good before xs i x whole h at is is_good =
       ap (λ s. words s (map view (drop (i + 1) xs))) (seen_more view before xs i x h at)
       ∙ ap (λ b. word_if b (word (view x)) ++ words (seen_at view before xs i ++ view x ∷ []) (map view (drop (i + 1) xs))) (sym is_good) ∙ here before xs i x whole h at is
-
--- all have been seen
-pub seen_all : {X I : Type 0} (view : X → I) (words : List I → List I → List Name) (none : (seen : List I) → words seen [] ≡ []) (before : List I) (xs : List X) (i : ℕ) (whole : List Name)
-    → length xs ≤ i → words (seen_at view before xs i) (map view (drop i xs)) ≡ whole → whole ≡ []
-seen_all view words none before xs i whole past is =
-    sym is ∙ ap (λ ys. words (seen_at view before xs i) (map view ys)) (drop_all i xs past) ∙ none (seen_at view before xs i)

@@ -15,7 +15,7 @@ use Rattle.pddl_linked_plan.specs.LinkedLaws.{named_step, without_moment}
 use Rattle.pddl_linked_plan.specs.LinkedSteps.{LinkedStepValue}
 use Rattle.pddl_linked_plan.proofs.SoundSteps.{all_at}
 use Rattle.pddl_plan_steps.specs.PlanSteps.{idle, named_steps}
-use Rattle.pddl_plan_steps.proofs.PlanSteps.{at_place}
+use Rattle.pddl_task.proofs.Lists.{at_place}
 use Rattle.pddl_serial_plans.specs.NewSteps.{no_step, picked, at_moment, at_moments, timed_step}
 use Rattle.pddl_valid.specs.AcceptedPlans.{moments_in}
 

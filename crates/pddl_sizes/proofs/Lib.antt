@@ -1,6 +1,7 @@
 pub mod Capped
 pub mod EffectSizes
-pub mod FittingObjects
-pub mod FittingPlaces
+pub mod FittingSpans
 pub mod GoalSizes
+pub mod ListSums
+pub mod ObjectSums
 pub mod Sizes

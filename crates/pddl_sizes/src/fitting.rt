@@ -1,102 +1,75 @@
-//! The objects that fit a type.
+//! The objects that fit a type: how many, and which.
 
-ghost use Rattle.std.specs.Prelude.{◌≡◌, true, map, IfOk};
+ghost use Rattle.std.specs.Prelude.{◌≡◌, map, IfOk};
 ghost use Rattle.pddl_task.specs.Types.{pairs, fits};
-ghost use Rattle.pddl_types.specs.KnownNames.{object_in};
-ghost use Rattle.pddl_types.specs.Places.{AreTops, AreListedAt};
-ghost use Rattle.pddl_sizes.specs.Fitting.{AreSome};
+ghost use Rattle.pddl_task.specs.GroundSize.{fitting_count};
 ghost use Rattle.pddl_task.specs.Tasks.{places_from};
+ghost use Rattle.pddl_types.specs.KnownNames.{object_in};
+ghost use Rattle.pddl_types.specs.TypeSpans.{AreSingle, AreListed};
+ghost use Rattle.pddl_sizes.specs.ObjectOrders.{IsOrderOf};
 
-use crate::object_counts::ObjectCounts;
 use crate::object_order::ObjectOrder;
 use crate::size::FittingCount;
-use pddl_faults::{Runs, Tells};
 use pddl_formula::TypeNames;
-use pddl_types::{Listed, Top, Types};
+use pddl_types::{Listed, Types};
 use std::alloc::{AllocError, Allocator};
 
-/// The numbers of the objects that fit a type with these tops, rising, where each object is looked at.
-///
-/// Fails where memory for them is refused.
-fn fitting_by<'m, 'a, 'b, A: Allocator, B: Allocator, C: Allocator, N: Allocator>(
-    alloc: &'b C,
-    types: &Types<'m, 'a, A, B>,
-    listed: &Listed<'m, 'a, A, B>,
-    slot: &TypeNames<N>,
-    tops: &[Top],
-) -> Result<Vec<usize, &'b C>, AllocError>
-    requires places { AreListedAt types.now listed.now }
-    requires tops { AreTops types.now slot.now tops.now }
-    ensures { IfOk result (λ numbers. numbers.items ≡ places_from 0 (λ o. fits (pairs types.now) o.of slot.now) (map object_in listed.now.objects.entries)) }
-{
-    let mut numbers = Vec::new(alloc);
-    for number in 0..listed.objects.len() {
-        if listed.fits(types, number, slot, tops) {
-            numbers.push(number)?;
+/// Finds the objects that fit a type, by the order of the numbers of their types.
+#[derive(Drop)]
+pub struct Fitting<'t, 'm, 'a, A: Allocator, B: Allocator> {
+    pub types: &'t Types<'m, 'a, A, B>,
+    pub listed: &'t Listed<'m, 'a, A, B>,
+    pub order: &'t ObjectOrder<'a, B>,
+    ghost objects: { AreListed types.now listed.now },
+    ghost single: { AreSingle types.now.declared (map object_in listed.now.objects.entries) },
+    ghost ordered: { ∥ IsOrderOf listed.now.spans.items order.now ∥₁ },
+}
+
+impl<'t, 'm, 'a, A: Allocator, B: Allocator> Fitting<'t, 'm, 'a, A, B> {
+    /// How many objects fit a type, which are looked at one by one.
+    fn count_each<N: Allocator>(&self, slot: &TypeNames<N>) -> usize
+        ensures { result ≡ fitting_count (pairs self.now.types.now.declared) (map object_in self.now.listed.now.objects.entries) slot.now }
+    {
+        let mut count = 0;
+        for number in 0..self.listed.objects.len() {
+            if self.listed.fits(self.types, number, slot) {
+                count += 1;
+            }
+        }
+        count
+    }
+
+    /// The numbers of the objects that fit a type, rising.
+    ///
+    /// Fails where memory for them is refused.
+    pub fn objects<'b, C: Allocator, N: Allocator>(
+        &self,
+        alloc: &'b C,
+        slot: &TypeNames<N>,
+    ) -> Result<Vec<usize, &'b C>, AllocError>
+        ensures { IfOk result (λ numbers. numbers.items ≡ places_from 0 (λ o. fits (pairs self.now.types.now.declared) o.of slot.now) (map object_in self.now.listed.now.objects.entries)) }
+    {
+        self.types.tops_tell();
+        let tops = self.types.tops(alloc, slot)?;
+        self.order.objects_under(alloc, &self.listed.spans, &tops)
+    }
+}
+
+/// They are counted by the tops of the type, and one by one where memory for these is refused.
+impl<'t, 'm, 'a, A: Allocator, B: Allocator, N: Allocator> FittingCount<N>
+    for Fitting<'t, 'm, 'a, A, B> {
+    ghost use Rattle.std.specs.Prelude.{map};
+    ghost use Rattle.pddl_task.specs.Types.{pairs};
+    ghost use Rattle.pddl_task.specs.GroundSize.{fitting_count};
+    ghost use Rattle.pddl_types.specs.KnownNames.{object_in};
+
+    ghost count = { λ fitting slot. fitting_count (pairs fitting.types.now.declared) (map object_in fitting.listed.now.objects.entries) slot };
+
+    fn fitting_count(&self, types: &TypeNames<N>) -> usize {
+        self.types.tops_tell();
+        match self.types.tops(*self.listed.spans.allocator(), types) {
+            Ok(tops) => self.order.count(&self.listed.spans, &tops),
+            Err(_) => self.count_each(types),
         }
     }
-    Ok(numbers)
-}
-
-/// Whether numbers rise, and the objects of all of them fit a type, as above.
-fn all_fit<'m, 'a, A: Allocator, B: Allocator, N: Allocator>(
-    types: &Types<'m, 'a, A, B>,
-    listed: &Listed<'m, 'a, A, B>,
-    numbers: &[usize],
-    slot: &TypeNames<N>,
-    tops: &[Top],
-) -> bool
-    requires places { AreListedAt types.now listed.now }
-    requires tops { AreTops types.now slot.now tops.now }
-    ensures { result ≡ true → AreSome (λ o. fits (pairs types.now) o.of slot.now) (map object_in listed.now.objects.entries) 0 numbers.now }
-{
-    let mut above = usize::MAX;
-    for i in (0..numbers.len()).rev() {
-        let number = numbers[i];
-        if above <= number || !listed.fits(types, number, slot, tops) {
-            return false;
-        }
-        above = number;
-    }
-    true
-}
-
-/// The numbers of the objects that fit a type, rising, by its tops: those whose types are under the tops, where as many fit, or else each object is looked at.
-///
-/// Fails where memory for them is refused.
-fn fitting_under<'t, 'm, 'a, 'b, A: Allocator, B: Allocator, C: Allocator, N: Allocator>(
-    alloc: &'b C,
-    counts: &ObjectCounts<'t, 'm, 'a, A, B>,
-    order: &ObjectOrder<'a, B>,
-    slot: &TypeNames<N>,
-    tops: &[Top],
-) -> Result<Vec<usize, &'b C>, AllocError>
-    requires places { AreListedAt counts.now.types.now counts.now.listed.now }
-    requires tops { AreTops counts.now.types.now slot.now tops.now }
-    ensures { IfOk result (λ numbers. numbers.items ≡ places_from 0 (λ o. fits (pairs counts.now.types.now) o.of slot.now) (map object_in counts.now.listed.now.objects.entries)) }
-{
-    let (types, listed) = (counts.types, counts.listed);
-    let mut numbers = Vec::new(alloc);
-    order.add_all(types, &listed.places, tops, &mut numbers)?;
-    if numbers.len() == counts.fitting_count(slot) && all_fit(types, listed, &numbers, slot, tops) {
-        return Ok(numbers);
-    }
-    fitting_by(alloc, types, listed, slot, tops)
-}
-
-/// The numbers of the objects that fit a type, rising.
-///
-/// Fails where memory for them is refused.
-pub fn fitting_objects<'t, 'm, 'a, 'b, A: Allocator, B: Allocator, C: Allocator, N: Allocator>(
-    alloc: &'b C,
-    counts: &ObjectCounts<'t, 'm, 'a, A, B>,
-    order: &ObjectOrder<'a, B>,
-    slot: &TypeNames<N>,
-) -> Result<Vec<usize, &'b C>, AllocError>
-    requires { AreListedAt counts.now.types.now counts.now.listed.now }
-    ensures { IfOk result (λ numbers. numbers.items ≡ places_from 0 (λ o. fits (pairs counts.now.types.now) o.of slot.now) (map object_in counts.now.listed.now.objects.entries)) }
-{
-    let mut tops = Runs::new(alloc);
-    counts.types.tell(slot, &mut tops)?;
-    fitting_under(alloc, counts, order, slot, tops.added())
 }

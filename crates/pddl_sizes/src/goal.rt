@@ -8,7 +8,7 @@ ghost use Rattle.pddl_task.specs.Faults.{large_goals};
 ghost use Rattle.pddl_faults.specs.Passes.{Passes};
 ghost use Rattle.pddl_types.specs.KnownNames.{object_in};
 
-use crate::object_counts::ObjectCounts;
+use crate::fitting::Fitting;
 use crate::size::ground_size;
 use pddl_domain::Domain;
 use pddl_faults::LinkFault;
@@ -17,15 +17,15 @@ use std::alloc::Allocator;
 
 /// The goal is not too large.
 pub fn goal_size<'k, 'm, 'a, 'd, A: Allocator, B: Allocator>(
-    counts: &ObjectCounts<'k, 'm, 'a, A, B>,
+    fitting: &Fitting<'k, 'm, 'a, A, B>,
     domain: &Domain<A>,
     problem: &'d Problem<A>,
 ) -> Result<(), LinkFault<'d>>
-    requires types { counts.now.types.now ≡ (domain_view domain.now).types }
-    requires objects { map object_in counts.now.listed.now.objects.entries ≡ objects_of (domain_view domain.now) (problem_view problem.now) }
+    requires types { fitting.now.types.now.declared ≡ (domain_view domain.now).types }
+    requires objects { map object_in fitting.now.listed.now.objects.entries ≡ objects_of (domain_view domain.now) (problem_view problem.now) }
     ensures { Passes 35 (large_goals (domain_view domain.now) (problem_view problem.now)) result }
 {
-    if ground_size(counts, &problem.goal) > 1_000_000 {
+    if ground_size(fitting, &problem.goal) > 1_000_000 {
         Err(LinkFault::GoalTooLarge)
     } else {
         Ok(())

@@ -4,13 +4,11 @@
 mod effect_size;
 mod fitting;
 mod goal;
-mod object_counts;
 mod object_order;
 mod size;
 
 pub use effect_size::{action_ground_size, effect_ground_size};
-pub use fitting::fitting_objects;
+pub use fitting::Fitting;
 pub use goal::goal_size;
-pub use object_counts::ObjectCounts;
 pub use object_order::ObjectOrder;
 pub use size::{FittingCount, ground_size};

@@ -1,79 +1,87 @@
-//! Objects in the order of their types.
-//!
-//! Of this order nothing is promised: what is found by it is looked at, and where it is not all, it is looked for without it.
+//! Objects in the order of the numbers of their types.
 
-use pddl_types::{Top, Types};
+ghost use Rattle.std.specs.Prelude.{◌≡◌, filter, length, IfOk};
+ghost use Rattle.pddl_forest.specs.Spans.{holds, some_holds, span_at, AreApart};
+ghost use Rattle.pddl_task.specs.Tasks.{places_from};
+ghost use Rattle.pddl_sizes.specs.ObjectOrders.{IsOrderOf};
+
+use pddl_forest::Span;
 use std::alloc::{AllocError, Allocator};
 
-/// The numbers of objects, in the order of the numbers that their types have in pre-order.
+/// The numbers of objects, in the order of the numbers of their types. So those whose types are under one stand side by side.
 #[derive(Drop)]
 pub struct ObjectOrder<'a, B: Allocator> {
-    numbers: Vec<usize, &'a B>,
+    objects: Vec<usize, &'a B>,
 }
 
-/// The number of the type of the object of a number, where the types of objects stand at these places; 0 where it has none.
-fn type_number<'m, 't, A: Allocator, B: Allocator>(
-    types: &Types<'m, 't, A, B>,
-    places: &[usize],
-    object: usize,
-) -> usize {
-    match places.get(object) {
-        Some(place) => types.number_at(*place),
-        None => 0,
+/// The number of the type of an object, where the types of objects have these spans.
+fn type_number(spans: &[Span], object: usize) -> usize
+    ensures { result ≡ (span_at spans.now object).first }
+{
+    match spans.get(object) {
+        Some(span) => span.first,
+        None => spans.len(),
     }
 }
 
 impl<'a, B: Allocator> ObjectOrder<'a, B> {
-    /// That of objects whose types stand at these places.
+    /// That of objects whose types have these spans.
     ///
     /// Fails where memory for it is refused.
-    pub fn of<'m, 't, A: Allocator, C: Allocator>(
-        alloc: &'a B,
-        types: &Types<'m, 't, A, C>,
-        places: &[usize],
-    ) -> Result<ObjectOrder<'a, B>, AllocError> {
-        let mut numbers = Vec::with_capacity(alloc, places.len())?;
-        for object in 0..places.len() {
-            numbers.push(object)?;
+    pub fn of(alloc: &'a B, spans: &[Span]) -> Result<ObjectOrder<'a, B>, AllocError>
+        ensures { IfOk result (λ order. ∥ IsOrderOf spans.now order ∥₁) }
+    {
+        let mut objects = Vec::with_capacity(alloc, spans.len())?;
+        for object in 0..spans.len() {
+            objects.push(object)?;
         }
-        numbers.sort_unstable_by_key(|object| type_number(types, places, *object));
-        Ok(ObjectOrder { numbers })
+        objects.sort_unstable_by_key(|object| type_number(spans, *object));
+        Ok(ObjectOrder { objects })
     }
 
-    /// Adds the numbers of the objects whose types are under a top.
-    ///
-    /// Fails where memory for them is refused.
-    fn add_under<'m, 't, 'c, A: Allocator, D: Allocator, C: Allocator>(
-        &self,
-        types: &Types<'m, 't, A, D>,
-        places: &[usize],
-        top: &Top,
-        found: &mut Vec<usize, &'c C>,
-    ) -> Result<(), AllocError> {
-        let numbers = self.numbers.as_slice();
-        let start = numbers.partition_point(|object| type_number(types, places, *object)
-            < top.number);
-        let end = numbers.partition_point(|object| type_number(types, places, *object) <= top.last);
-        if start <= end && end <= numbers.len() {
-            found.extend_from_slice(&numbers[start..end])?;
-        }
-        Ok(())
+    /// The objects whose types have numbers in a span.
+    fn under(&self, spans: &[Span], top: Span) -> &[usize]
+        requires { ∥ IsOrderOf spans.now self.now ∥₁ }
+        ensures { result.now ≡ filter (λ o. holds top (span_at spans.now o).first) self.now.objects.items }
+    {
+        let objects = self.objects.as_slice();
+        let start = objects.partition_point(|object| type_number(spans, *object) < top.first);
+        let from = &objects[start..];
+        let many = from.partition_point(|object| type_number(spans, *object) <= top.last);
+        &from[..many]
     }
 
-    /// Adds the numbers of the objects whose types, at these places, are under tops, rising.
+    /// How many objects have types whose numbers are in some of these spans.
+    pub fn count(&self, spans: &[Span], tops: &[Span]) -> usize
+        requires order { ∥ IsOrderOf spans.now self.now ∥₁ }
+        requires apart { AreApart tops.now }
+        ensures { result ≡ length (filter (λ s. some_holds tops.now s.first) spans.now) }
+    {
+        let mut count = 0;
+        for top in tops {
+            count += self.under(spans, *top).len();
+        }
+        count
+    }
+
+    /// The numbers of these objects, rising.
     ///
     /// Fails where memory for them is refused.
-    pub fn add_all<'m, 't, 'c, A: Allocator, D: Allocator, C: Allocator>(
+    pub fn objects_under<'c, C: Allocator>(
         &self,
-        types: &Types<'m, 't, A, D>,
-        places: &[usize],
-        tops: &[Top],
-        found: &mut Vec<usize, &'c C>,
-    ) -> Result<(), AllocError> {
-        for i in 0..tops.len() {
-            self.add_under(types, places, &tops[i], found)?;
+        alloc: &'c C,
+        spans: &[Span],
+        tops: &[Span],
+    ) -> Result<Vec<usize, &'c C>, AllocError>
+        requires order { ∥ IsOrderOf spans.now self.now ∥₁ }
+        requires apart { AreApart tops.now }
+        ensures { IfOk result (λ objects. objects.items ≡ places_from 0 (λ s. some_holds tops.now s.first) spans.now) }
+    {
+        let mut found = Vec::new(alloc);
+        for top in tops {
+            found.extend_from_slice(self.under(spans, *top))?;
         }
         found.sort_unstable();
-        Ok(())
+        Ok(found)
     }
 }

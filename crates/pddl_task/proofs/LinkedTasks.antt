@@ -63,7 +63,7 @@ nothing_has : {X : Type 0} (xs : List X) (x : X) → xs ≡ [] → Contains xs x
 nothing_has [] x h c = has_none x c
 nothing_has (y ∷ xs) x h c = cc
 
-at_most_one : (xs : List TypedValue) (x : TypedValue) → object_types xs ≡ [] → Contains xs x → (b : Bool) → nat_lt 1 (length x.of) ≡ b → length x.of ≤ 1
+pub at_most_one : (xs : List TypedValue) (x : TypedValue) → object_types xs ≡ [] → Contains xs x → (b : Bool) → nat_lt 1 (length x.of) ≡ b → length x.of ≤ 1
 at_most_one xs x h c true more =
     let q : TypedValue → Bool = λ y. nat_lt 1 (length y.of) in
     absurd (nothing_has (filter q xs) x (mapped_nothing item_of (filter q xs) h) (is_kept q xs x c more))
@@ -77,12 +77,12 @@ objects_have_one_type d p linked x c =
       | inr object ↦ at_most_one p.objects x parts.1 object (nat_lt 1 (length x.of)) refl
     ]
 
-in_flat : {X Y : Type 0} (f : X → List Y) (xs : List X) (x : X) (y : Y) → Contains xs x → Contains (f x) y → Contains (flat_map f xs) y
+pub in_flat : {X Y : Type 0} (f : X → List Y) (xs : List X) (x : X) (y : Y) → Contains xs x → Contains (f x) y → Contains (flat_map f xs) y
 in_flat f [] x y c h = absurd (has_none x c)
 in_flat f (z ∷ xs) x y (zero, low, is) h = Contains-append_left (f z) (flat_map f xs) y (subst (λ w. Contains (f w) y) (sym is) h)
 in_flat f (z ∷ xs) x y (suc i, low, is) h = Contains-append_right (f z) (flat_map f xs) y (in_flat f xs x y (i, omega arith, is) h)
 
-type_known : (d : DomainValue) (xs : List TypedValue) → unknown_types d xs ≡ [] → (x : TypedValue) → Contains xs x → (t : Name) → Contains x.of t → (b : Bool) → is_in (types_of d.types) t ≡ b → is_in (types_of d.types) t ≡ true
+pub type_known : (d : DomainValue) (xs : List TypedValue) → unknown_types d xs ≡ [] → (x : TypedValue) → Contains xs x → (t : Name) → Contains x.of t → (b : Bool) → is_in (types_of d.types) t ≡ b → is_in (types_of d.types) t ≡ true
 type_known d xs h x c t has true known = known
 type_known d xs h x c t has false unknown =
     let q : Name → Bool = λ n. not (is_in (types_of d.types) n) in

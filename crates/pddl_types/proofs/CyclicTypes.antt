@@ -8,7 +8,7 @@ use Rattle.std.proofs.lemmas.List.{length-map, at_drop_more}
 use Rattle.std.proofs.lemmas.List.Elements.{Contains-append_left, Contains-append_cases}
 use Rattle.std.proofs.lemmas.Bool.{not-true}
 use Rattle.pddl_forest.specs.Forests.{parent_of, up, IsForest}
-use Rattle.pddl_forest.specs.Rounds.{GoesRound, HasRound}
+use Rattle.pddl_forest.specs.Rounds.{GoesRound, IsOnRound, HasRound}
 use Rattle.pddl_domain.specs.Declarations.{TypeValue}
 use Rattle.pddl_task.specs.Names.{Name, is_in, item_of}
 use Rattle.pddl_task.specs.Types as types
@@ -16,7 +16,7 @@ use Rattle.pddl_task.specs.Types.{root, types_of, says_nothing, under_root, only
 use Rattle.pddl_task.specs.Faults.{first_alone}
 use Rattle.pddl_task.proofs.Lists.{and_left, and_right, and_both, none_left, bytes_same, same_bytes, has_none, kept_is, is_kept, mapped_is, is_mapped}
 use Rattle.pddl_task.proofs.Subtypes.{is_cyclic_decides}
-use Rattle.pddl_types.specs.TypeTables.{Row, name_at, parent_in, IsTypeTable, IsOnRound, cycle_in}
+use Rattle.pddl_types.specs.TypeTables.{Row, name_at, parent_in, IsTypeTable, cycle_in}
 use Rattle.pddl_types.proofs.TypeParents.{in_has, type_declared, parent_declared, parent_undeclared, once_declared, pair_is, same_tests}
 use Rattle.pddl_types.proofs.TypeLookups.{found_place, no_type}
 use Rattle.pddl_types.proofs.TypeForests.{parents_in, place_in, same_place, parent_at, come_to, goes_to}
@@ -135,7 +135,7 @@ module _ (declared : List TypeValue) (rows : List Row) (h : IsTypeTable declared
       is_first (parent_of ps i) p.0 (p.1 ∙ parent_undeclared declared (name_at rows i) off)
 
   some_cyclic : HasRound ps → HasCyclic
-  some_cyclic (i, less, round, other) =
+  some_cyclic (i, less, (round, other)) =
       let low : i < length rows = omega (arith, less, length-map rows (λ (r : Row). r.1)) in
       elim (is_in (map item_of declared) (name_at rows i)) as (λ b. is_in (map item_of declared) (name_at rows i) ≡ b → HasCyclic) [
         | true ↦ declared_round i low (round, other)

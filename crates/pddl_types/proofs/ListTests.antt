@@ -1,18 +1,10 @@
 -- Tests of the elements of a list, one after another.
-use Rattle.std.proofs.Common.{◌≡◌, ℕ, suc, ◌+◌, ◌<◌, ◌≤◌, Bool, true, false, ◌&&◌, ◌||◌, cond, List, [], ◌∷◌, length, get_or, drop, filter, refl, ap, sym, ◌∙◌, subst, arith, add-one, drop-cons}
+use Rattle.std.proofs.Common.{◌≡◌, ℕ, suc, ◌+◌, ◌<◌, ◌≤◌, Bool, true, false, ◌||◌, cond, List, [], ◌∷◌, length, get_or, drop, filter, refl, ap, sym, ◌∙◌, subst, arith, add-one, drop-cons}
 use Rattle.std.specs.Prelude.{Contains}
-use Rattle.std.specs.List.{list_any, list_all}
+use Rattle.std.specs.List.{list_any}
 use Rattle.std.proofs.lemmas.List.{drop_all}
 
--- the first passes: all do where the others do; it fails: not all do
-and_passed : (r rest whole : Bool) → r ≡ true → r && rest ≡ whole → rest ≡ whole
-and_passed true rest whole passes is = is
-and_passed false rest whole passes is = absurd (cc (passes))
-
-and_failed : (r rest whole : Bool) → r ≡ false → r && rest ≡ whole → false ≡ whole
-and_failed false rest whole fails is = is
-and_failed true rest whole fails is = absurd (cc (fails))
-
+-- the first passes: some do; it fails: some do where one of the others does
 or_passed : (r rest whole : Bool) → r ≡ true → r || rest ≡ whole → true ≡ whole
 or_passed true rest whole passes is = is
 or_passed false rest whole passes is = absurd (cc (passes))
@@ -22,21 +14,6 @@ or_failed false rest whole fails is = is
 or_failed true rest whole fails is = absurd (cc (fails))
 
 module _ {X : Type 0} (p : X → Bool) (xs : List X) (i : ℕ) (x : X) (r whole : Bool) where
-  -- ---- all pass: what is left of the list answers for the whole, where those before pass
-
-  all_front : i < length xs → list_all p (drop i xs) ≡ p (get_or xs i x) && list_all p (drop (i + 1) xs)
-  all_front h = rw (add-one, drop-cons xs i x h) refl
-
-  all_left : i < length xs → x ≡ get_or xs i x → r ≡ p x → list_all p (drop i xs) ≡ whole → r && list_all p (drop (i + 1) xs) ≡ whole
-  all_left h is test so_far =
-      ap (λ b. b && list_all p (drop (i + 1) xs)) (test ∙ ap p is) ∙ sym (all_front h) ∙ so_far
-
-  pub all_goes_on : i < length xs → x ≡ get_or xs i x → r ≡ p x → r ≡ true → list_all p (drop i xs) ≡ whole → list_all p (drop (i + 1) xs) ≡ whole
-  all_goes_on h is test passes so_far = and_passed r (list_all p (drop (i + 1) xs)) whole passes (all_left h is test so_far)
-
-  pub all_stops : i < length xs → x ≡ get_or xs i x → r ≡ p x → r ≡ false → list_all p (drop i xs) ≡ whole → false ≡ whole
-  all_stops h is test fails so_far = and_failed r (list_all p (drop (i + 1) xs)) whole fails (all_left h is test so_far)
-
   -- ---- some passes: what is left answers for the whole, where those before fail
 
   any_front : i < length xs → list_any p (drop i xs) ≡ p (get_or xs i x) || list_any p (drop (i + 1) xs)
@@ -53,9 +30,6 @@ module _ {X : Type 0} (p : X → Bool) (xs : List X) (i : ℕ) (x : X) (r whole 
   any_stops h is test passes so_far = or_passed r (list_any p (drop (i + 1) xs)) whole passes (any_left h is test so_far)
 
 -- none is left
-pub all_ends : {X : Type 0} (p : X → Bool) (xs : List X) (i : ℕ) (whole : Bool) → length xs ≤ i → list_all p (drop i xs) ≡ whole → true ≡ whole
-all_ends p xs i whole past so_far = sym (ap (list_all p) (drop_all i xs past)) ∙ so_far
-
 pub any_ends : {X : Type 0} (p : X → Bool) (xs : List X) (i : ℕ) (whole : Bool) → length xs ≤ i → list_any p (drop i xs) ≡ whole → false ≡ whole
 any_ends p xs i whole past so_far = sym (ap (list_any p) (drop_all i xs past)) ∙ so_far
 

@@ -6,19 +6,14 @@ use Rattle.std.specs.Map.{lookup}
 use Rattle.pddl_formula.specs.TypedLists.{typed_view}
 use Rattle.pddl_formula.specs.declared.type_names.Typed.{Typed}
 use Rattle.pddl_domain.specs.Declarations.{Signature}
-use Rattle.pddl_task.specs.Names.{Name, is_in, is_named, item_of}
+use Rattle.pddl_task.specs.Names.{Name, is_in}
 use Rattle.pddl_task.specs.Settings.{symbol_of}
-use Rattle.pddl_task.specs.Faults.{primitives_of}
-use Rattle.pddl_types.specs.KnownNames.{signature_in, object_in}
+use Rattle.pddl_types.specs.KnownNames.{signature_in}
 use Rattle.pddl_faults.proofs.PutValues.{found_or}
 
 pub is_symbol : {A : Type 0} (es : List (Bor (List ℕ) × Bor (List (Typed A)))) (n : Name) → is_some (lookup (λ k. bytes_eq n k.now) es) ≡ is_in (map symbol_of (map signature_in es)) n
 is_symbol [] n = refl
 is_symbol (e ∷ es) n = found_or (bytes_eq n e.0.now) e.1 (lookup (λ k. bytes_eq n k.now) es) ∙ ap (λ b. bytes_eq n e.0.now || b) (is_symbol es n)
-
-pub is_item : {A : Type 0} (es : List (Bor (List ℕ) × Bor (Typed A))) (n : Name) → is_some (lookup (λ k. bytes_eq n k.now) es) ≡ is_in (map item_of (map object_in es)) n
-is_item [] n = refl
-is_item (e ∷ es) n = found_or (bytes_eq n e.0.now) e.1 (lookup (λ k. bytes_eq n k.now) es) ∙ ap (λ b. bytes_eq n e.0.now || b) (is_item es n)
 
 -- ---- what is found, by a value of it
 
@@ -34,11 +29,3 @@ signature_found [] n = refl
 signature_found {A} (e ∷ es) n =
     value_at (λ (s : Signature). s.parameters) (λ (xs : Bor (List (Typed A))). map typed_view xs.now) (bytes_eq n e.0.now) (signature_in e) e.1
     (find (λ s. bytes_eq n s.name) (map signature_in es)) (lookup (λ k. bytes_eq n k.now) es) refl (signature_found es n)
-
--- the type of an object
-pub object_found : {A : Type 0} (es : List (Bor (List ℕ) × Bor (Typed A))) (n : Name)
-    → option_map primitives_of (find (is_named n) (map object_in es)) ≡ option_map (λ (t : Bor (Typed A)). t.now.types) (lookup (λ k. bytes_eq n k.now) es)
-object_found [] n = refl
-object_found {A} (e ∷ es) n =
-    value_at primitives_of (λ (t : Bor (Typed A)). t.now.types) (bytes_eq n e.0.now) (object_in e) e.1
-    (find (is_named n) (map object_in es)) (lookup (λ k. bytes_eq n k.now) es) refl (object_found es n)

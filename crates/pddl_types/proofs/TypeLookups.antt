@@ -10,10 +10,9 @@ use Rattle.std.proofs.lemmas.Map.Made.{is_some-lookup}
 use Rattle.indexmap.proofs.MapLemmas.{some_index}
 use Rattle.pddl_domain.specs.Declarations.{TypeValue}
 use Rattle.pddl_task.specs.Names.{Name, is_in}
-use Rattle.pddl_task.specs.Types.{types_of, pairs, itself, is_under}
+use Rattle.pddl_task.specs.Types.{types_of}
 use Rattle.pddl_types.specs.TypeTables.{Row, names_in, name_at, with_name, IsTypeTable}
 use Rattle.pddl_task.proofs.Lists.{bytes_same}
-use Rattle.pddl_task.proofs.Subtypes.{under_found}
 use Rattle.pddl_types.proofs.TypeTables.{put, put_at, table_has}
 use Rattle.pddl_types.proofs.TypeParents.{has_in}
 use Rattle.pddl_types.proofs.TypeForests.{name_has}
@@ -62,9 +61,3 @@ contained declared rows t h = is_named rows t ∙ table_has (types_of declared) 
 
 pub no_type : (declared : List TypeValue) (rows : List Row) (q : Bor (List ℕ)) → IsTypeTable declared rows → position (λ k. bytes_eq q.now k.now) (keys_of rows) ≡ None → is_in (types_of declared) q.now ≡ false
 no_type declared rows q h at = sym (table_has (types_of declared) declared rows h.table q.now) ∙ no_place rows q at
-
--- ---- types that are under others
-
--- a name is under itself
-pub under_itself : (declared : List TypeValue) (t u : Name) → bytes_eq t u ≡ true → true ≡ is_under (pairs declared) t u
-under_itself declared t u same = sym (under_found (pairs declared) t u (itself (bytes_same t u same)))

@@ -12,7 +12,7 @@ use Rattle.pddl_task.specs.Types.{root, parent_of, types_of, says_nothing, under
 use Rattle.pddl_types.specs.TypeTables.{parent_in}
 use Rattle.pddl_task.proofs.Lists.{or_none, any_found, found_any, has_cases, has_later, has_none, bytes_same, same_bytes, or_left, none_left, none_right, kept_is, is_kept, mapped_is, is_mapped}
 use Rattle.pddl_task.proofs.DistinctNames.{no_repetition}
-use Rattle.pddl_task.proofs.Subtypes.{under_found, is_under_decides}
+use Rattle.pddl_task.proofs.Subtypes.{is_under_decides}
 use Rattle.pddl_task.proofs.TypeCycles.{parent_above}
 use Rattle.pddl_types.proofs.TypeTables.{apart}
 
@@ -118,16 +118,10 @@ under_is declared t u once (climb e has named rest) =
       | inr both ↦ inr (type, both.1)
     ]
 
--- what is no type is under itself alone, and nothing else is under it
-pub alone : (declared : List TypeValue) (t : Name) → repeated [] (map item_of declared) ≡ [] → is_in (types_of declared) t ≡ false
-    → (n : Name) → (is_under (pairs declared) t n ≡ bytes_eq t n) × (is_under (pairs declared) n t ≡ bytes_eq n t)
-alone declared t declared_once missing n = (only t n (λ both. let is : is_in (types_of declared) t ≡ true = both.0 in cc), only n t (λ both. let is : is_in (types_of declared) t ≡ true = both.1 in cc))
-  where
-    only : (a b : Name) → ((is_in (types_of declared) a ≡ true) × (is_in (types_of declared) b ≡ true) → ⊥) → is_under (pairs declared) a b ≡ bytes_eq a b
-    only a b not_both =
-        same_tests (is_under (pairs declared) a b) (bytes_eq a b)
-        (λ up. elim (under_is declared a b (once_declared declared declared_once) ((is_under_decides (pairs declared) a b).0 up)) as (λ _. bytes_eq a b ≡ true) [
-          | inl same ↦ same_bytes a b same
-          | inr both ↦ absurd (not_both both)
-        ])
-        (λ same. under_found (pairs declared) a b (itself (bytes_same a b same)))
+-- so it is a type where that is
+pub same_types : (declared : List TypeValue) (t u : Name) → repeated [] (map item_of declared) ≡ [] → is_under (pairs declared) t u ≡ true → is_in (types_of declared) t ≡ is_in (types_of declared) u
+same_types declared t u declared_once up =
+    elim (under_is declared t u (once_declared declared declared_once) ((is_under_decides (pairs declared) t u).0 up)) as (λ _. is_in (types_of declared) t ≡ is_in (types_of declared) u) [
+      | inl same ↦ ap (is_in (types_of declared)) same
+      | inr both ↦ both.0 ∙ sym both.1
+    ]

@@ -1,5 +1,4 @@
 pub mod TypeTables
 pub mod KnownNames
-pub mod Places
+pub mod TypeSpans
 pub mod Settings
-pub mod ObjectCounts

@@ -7,7 +7,7 @@ use Rattle.pddl_types.specs.declared.known.Known.{Known}
 
 abbrev pub setting_of : {A B : _} → Known A B → Setting
 setting_of known = record {
-  pairs = pairs known.types.now;
+  pairs = pairs known.types.now.declared;
   predicates = map signature_in known.predicates.now.entries;
   functions = map signature_in known.functions.now.entries;
   objects = map object_in known.listed.now.objects.entries;

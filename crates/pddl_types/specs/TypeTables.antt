@@ -1,10 +1,8 @@
 -- How the types of a domain are held for look-ups by name.
-use Rattle.std.specs.Prelude.{◌≡◌, ◌≢◌, ℕ, ◌<◌, List, [], ◌∷◌, ◌++◌, map, filter, length, cond, bytes_eq, Contains}
+use Rattle.std.specs.Prelude.{◌≡◌, ℕ, ◌<◌, List, [], ◌∷◌, ◌++◌, map, filter, length, cond, bytes_eq, Contains}
 use Rattle.indexmap.specs.IndexMap.{insert_entry}
 use Rattle.std.specs.List.{slice_index_or}
 use Rattle.std.specs.Borrow.{Bor}
-use Rattle.pddl_forest.specs.Forests.{parent_of}
-use Rattle.pddl_forest.specs.Rounds.{GoesRound}
 use Rattle.pddl_domain.specs.Declarations.{TypeValue}
 use Rattle.pddl_task.specs.Names.{Name, is_in, repeated, item_of}
 use Rattle.pddl_task.specs.Types.{root, types_of, pairs, is_cyclic}
@@ -61,10 +59,6 @@ abbrev pub with_name : List Row → Bor (List ℕ) → List Row
 with_name rows k = cond (is_in (names_in rows) k.now) rows (insert_entry (λ x y. bytes_eq x.now y.now) rows k 0)
 
 -- ---- cycles
-
--- a place is come to again from its parent, other than place 0 as its own parent
-abbrev pub IsOnRound : List ℕ → ℕ → Type 0
-IsOnRound ps i = GoesRound ps i × (i ≡ 0 → parent_of ps 0 ≢ 0)
 
 -- the first declared type that is above itself, if there is one
 abbrev pub cycle_in : List TypeValue → List Name

@@ -2,10 +2,9 @@
 
 ghost use Rattle.std.specs.Prelude.{◌≡◌, ◌<◌, ◌↔◌, IsTrue, map, length, IfOk, Contains};
 ghost use Rattle.pddl_domain.specs.Declarations.{type_view};
-ghost use Rattle.pddl_forest.specs.Rounds.{HasRound, AreOffRounds};
-ghost use Rattle.pddl_types.specs.TypeTables.{IsTypeTable, IsOnRound, cycle_in};
+ghost use Rattle.pddl_forest.specs.Rounds.{IsOnRound, HasRound, AreOffRounds};
+ghost use Rattle.pddl_types.specs.TypeTables.{IsTypeTable, cycle_in};
 
-use crate::type_table::parent_places;
 use indexmap::IndexMap;
 use pddl_domain::DeclaredType;
 use pddl_faults::Hashed;
@@ -55,13 +54,14 @@ fn first_on_round<'m, 'a, A: Allocator, B: Allocator>(
 pub(crate) fn first_cycle<'m, 'a, A: Allocator, B: Allocator>(
     alloc: &'a B,
     table: &IndexMap<&'m [u8], usize, Hashed, &'a B>,
+    parents: &[usize],
     declared: &'m [DeclaredType<A>],
 ) -> Result<&'m [u8], AllocError>
     requires table { IsTypeTable (map type_view declared.now) table.now.entries }
-    requires round { HasRound (map (λ r. r.1) table.now.entries) }
+    requires parents { parents.now ≡ map (λ r. r.1) table.now.entries }
+    requires round { HasRound parents.now }
     ensures { IfOk result (λ name. Contains (cycle_in (map type_view declared.now)) name.now) }
 {
-    let parents = parent_places(alloc, table)?;
-    let numbers = off_rounds(alloc, &parents)?;
-    Ok(first_on_round(table, &parents, &numbers, declared))
+    let numbers = off_rounds(alloc, parents)?;
+    Ok(first_on_round(table, parents, &numbers, declared))
 }

@@ -7,7 +7,7 @@ ghost use Rattle.pddl_task.specs.Types.{pairs};
 ghost use Rattle.pddl_task.specs.Settings.{symbol_of, function_signatures};
 ghost use Rattle.pddl_types.specs.KnownNames.{signature_in, object_in};
 ghost use Rattle.pddl_types.specs.Settings.{setting_of};
-ghost use Rattle.pddl_types.specs.Places.{AreSlotTops, AreListedAt};
+ghost use Rattle.pddl_types.specs.TypeSpans.{AreSlotTops, HaveTypes, AreSingle, AreListed};
 
 use crate::known::{Known, Signatures, signatures};
 use crate::listed::Listed;
@@ -58,8 +58,11 @@ impl<'m, 'a, A: Allocator, B: Allocator> Declared<'m, 'a, A, B> {
     ) -> Known<'t, 'm, 'a, A, B>
         requires predicate_tops { AreSlotTops types.now (map signature_in self.now.predicates.entries) self.now.tops.predicates }
         requires function_tops { AreSlotTops types.now (map signature_in self.now.functions.entries) self.now.tops.functions }
-        requires places { AreListedAt types.now listed.now }
-        ensures { setting_of result ≡ record { pairs = pairs types.now; predicates = map signature_in self.now.predicates.entries; functions = map signature_in self.now.functions.entries; objects = map object_in listed.now.objects.entries } }
+        requires predicate_types { HaveTypes types.now.declared (map signature_in self.now.predicates.entries) }
+        requires function_types { HaveTypes types.now.declared (map signature_in self.now.functions.entries) }
+        requires objects { AreListed types.now listed.now }
+        requires single { AreSingle types.now.declared (map object_in listed.now.objects.entries) }
+        ensures { setting_of result ≡ record { pairs = pairs types.now.declared; predicates = map signature_in self.now.predicates.entries; functions = map signature_in self.now.functions.entries; objects = map object_in listed.now.objects.entries } }
     {
         Known {
             types,
@@ -69,4 +72,11 @@ impl<'m, 'a, A: Allocator, B: Allocator> Declared<'m, 'a, A, B> {
             listed,
         }
     }
+}
+
+/// Lets go what a domain declares, table by table. (A call of `drop` with the whole has no proof today.)
+pub fn let_go_declared<'m, 'a, A: Allocator, B: Allocator>(declared: Declared<'m, 'a, A, B>) {
+    drop(declared.predicates);
+    drop(declared.functions);
+    drop(declared.tops);
 }

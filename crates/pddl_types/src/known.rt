@@ -3,8 +3,8 @@
 ghost use Rattle.std.specs.Prelude.{◌≡◌, [], map, IfOk};
 ghost use Rattle.pddl_task.specs.Names.{repeated};
 ghost use Rattle.pddl_task.specs.Settings.{symbol_of};
-ghost use Rattle.pddl_types.specs.KnownNames.{signature_in};
-ghost use Rattle.pddl_types.specs.Places.{AreSlotTops, AreListedAt};
+ghost use Rattle.pddl_types.specs.KnownNames.{signature_in, object_in};
+ghost use Rattle.pddl_types.specs.TypeSpans.{AreSlotTops, HaveTypes, AreSingle, AreListed};
 
 use crate::declares::Declares;
 use crate::listed::Listed;
@@ -18,7 +18,7 @@ use std::alloc::{AllocError, Allocator};
 /// Predicates or functions by name, each with its parameters.
 pub type Signatures<'m, 'a, A, B> = IndexMap<&'m [u8], &'m [Typed<A>], Hashed, &'a B>;
 
-/// What may be named: types, predicates and functions with their parameters and the tops of these, and objects with their types and the places of these.
+/// What may be named: types, predicates and functions with their parameters, whose types are known, and the tops of these, and objects, each of one type that is known.
 #[derive(Drop)]
 pub struct Known<'t, 'm, 'a, A: Allocator, B: Allocator> {
     pub types: &'t Types<'m, 'a, A, B>,
@@ -28,7 +28,10 @@ pub struct Known<'t, 'm, 'a, A: Allocator, B: Allocator> {
     pub listed: &'t Listed<'m, 'a, A, B>,
     pub ghost predicate_tops: { AreSlotTops types.now (map signature_in predicates.now.entries) tops.now.predicates },
     pub ghost function_tops: { AreSlotTops types.now (map signature_in functions.now.entries) tops.now.functions },
-    pub ghost object_places: { AreListedAt types.now listed.now },
+    pub ghost predicate_types: { HaveTypes types.now.declared (map signature_in predicates.now.entries) },
+    pub ghost function_types: { HaveTypes types.now.declared (map signature_in functions.now.entries) },
+    pub ghost objects: { AreListed types.now listed.now },
+    pub ghost single: { AreSingle types.now.declared (map object_in listed.now.objects.entries) },
 }
 
 /// What is declared by its name, each name once.

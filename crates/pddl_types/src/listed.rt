@@ -1,40 +1,29 @@
-//! Objects by name, with the places of their types.
+//! Objects by name, with the spans of their types.
 
-ghost use Rattle.std.specs.Prelude.{◌≡◌, [], List, false, map, find, take, drop, slice_get, option_map, IfSome};
-ghost use Rattle.std.specs.Option.{option_copied, option_map_or};
-ghost use Rattle.pddl_domain.specs.Declarations.{TypeValue};
-ghost use Rattle.pddl_task.specs.Names.{is_in, is_named, item_of};
+ghost use Rattle.std.specs.Prelude.{◌≡◌, List, ℕ, false, map, find, slice_get};
+ghost use Rattle.std.specs.Option.{option_map_or};
+ghost use Rattle.pddl_task.specs.Names.{is_named};
 ghost use Rattle.pddl_task.specs.Types.{pairs, fits};
-ghost use Rattle.pddl_task.specs.Faults.{primitives_of};
+ghost use Rattle.pddl_forest.specs.Spans.{AreApart};
 ghost use Rattle.pddl_types.specs.KnownNames.{object_in};
-ghost use Rattle.pddl_types.specs.Places.{AreToldAt, AreTops, IsEmpty, AreListedAt};
+ghost use Rattle.pddl_types.specs.TypeSpans.{TypesValue, IsTold, IsToldOf, AreSingle, IsEmpty, AreListed};
 
-use crate::top::Top;
 use crate::types::Types;
 use indexmap::IndexMap;
 use pddl_faults::Hashed;
+use pddl_forest::Span;
 use pddl_formula::{TypeNames, Typed};
 use std::alloc::Allocator;
+use std::slice::from_ref;
 
 /// Objects by name, each as it is listed with its type.
 pub type Objects<'m, 'a, A, B> = IndexMap<&'m [u8], &'m Typed<A>, Hashed, &'a B>;
 
-/// Constants or objects by name, in the order in which they are listed, and for each the place of its type.
+/// Constants or objects by name, in the order in which they are listed, and for each the span of its type.
 #[derive(Drop)]
 pub struct Listed<'m, 'a, A: Allocator, B: Allocator> {
     pub objects: Objects<'m, 'a, A, B>,
-    pub places: Vec<usize, &'a B>,
-}
-
-/// Of the places of the types of objects, in turn, that of the object of a number, or none past their end.
-fn one_place(places: &[usize], number: usize) -> &[usize]
-    ensures { result.now ≡ take 1 (drop number places.now) }
-{
-    if number < places.len() {
-        &places[number..number + 1]
-    } else {
-        &[]
-    }
+    pub spans: Vec<Span, &'a B>,
 }
 
 impl<'m, 'a, A: Allocator, B: Allocator> Listed<'m, 'a, A, B> {
@@ -44,46 +33,55 @@ impl<'m, 'a, A: Allocator, B: Allocator> Listed<'m, 'a, A, B> {
     {
         Listed {
             objects: IndexMap::new(alloc),
-            places: Vec::new(alloc),
+            spans: Vec::new(alloc),
         }
     }
 
-    /// Whether an object has this name.
-    pub fn contains(&self, name: &[u8]) -> bool
-        ensures { result ≡ is_in (map item_of (map object_in self.now.objects.entries)) name.now }
+    /// The span of the type of the object of this name, as what is told of the type, where each object has one type.
+    pub fn told_of(&self, name: &[u8]) -> Option<&[Span]>
+        ensures { (t : TypesValue) → AreListed t self.now → AreSingle t.declared (map object_in self.now.objects.entries) → IsToldOf t (find (is_named name.now) (map object_in self.now.objects.entries)) result }
     {
-        self.objects.contains_key(name)
-    }
-
-    /// The type of the object of this name, and the place at which it stands, as far as it is known.
-    pub fn type_of(&self, name: &[u8]) -> (Option<&'m TypeNames<A>>, &[usize])
-        ensures types { option_copied result.0 ≡ option_map primitives_of (find (is_named name.now) (map object_in self.now.objects.entries)) }
-        ensures told { (declared : List TypeValue) → AreListedAt declared self.now → IfSome result.0 (λ types. AreToldAt declared types.now result.1.now) }
-    {
-        match self.objects.get_full(name) {
-            Some((number, _, object)) => (Some(&object.types), one_place(&self.places, number)),
-            None => (None, &[]),
+        let number = self.objects.get_index_of(name)?;
+        match self.spans.get(number) {
+            Some(span) => Some(from_ref(span)),
+            None => None,
         }
     }
 
     /// Whether the object of a number fits a slot with these tops; past the last object there is none that does.
+    pub fn fits_by(&self, types: &Types<'m, 'a, A, B>, number: usize, tops: &[Span]) -> bool
+        requires spans { AreListed types.now self.now }
+        requires single { AreSingle types.now.declared (map object_in self.now.objects.entries) }
+        requires apart { AreApart tops.now }
+        ensures { (slot : List (List ℕ)) → IsTold types.now slot tops.now
+            → result ≡ option_map_or (λ o. fits (pairs types.now.declared) o.of slot) (slice_get (map object_in self.now.objects.entries) number) false }
+    {
+        match self.spans.get(number) {
+            Some(span) => types.fits(from_ref(span), tops),
+            None => false,
+        }
+    }
+
+    /// Whether the object of a number fits a slot, of which each primitive is looked up; past the last object there is none that does.
     pub fn fits<S: Allocator>(
         &self,
         types: &Types<'m, 'a, A, B>,
         number: usize,
         slot: &TypeNames<S>,
-        tops: &[Top],
     ) -> bool
-        requires places { AreListedAt types.now self.now }
-        requires tops { AreTops types.now slot.now tops.now }
-        ensures { result ≡ option_map_or (λ o. fits (pairs types.now) o.of slot.now) (slice_get (map object_in self.now.objects.entries) number) false }
+        requires spans { AreListed types.now self.now }
+        requires single { AreSingle types.now.declared (map object_in self.now.objects.entries) }
+        ensures { result ≡ option_map_or (λ o. fits (pairs types.now.declared) o.of slot.now) (slice_get (map object_in self.now.objects.entries) number) false }
     {
-        match self.objects.get_index(number) {
-            Some((_, object)) => {
-                let places = one_place(&self.places, number);
-                types.fits_by(&object.types, places, slot, tops)
-            }
+        match self.spans.get(number) {
+            Some(span) => types.is_under_some(*span, slot),
             None => false,
         }
     }
+}
+
+/// Lets go objects. (A call of `drop` with the whole has no proof today.)
+pub fn let_go_objects<'m, 'a, A: Allocator, B: Allocator>(listed: Listed<'m, 'a, A, B>) {
+    drop(listed.objects);
+    drop(listed.spans);
 }

@@ -1,16 +1,16 @@
-//! The tops of slots, in the order of their numbers, so that one that a type is under is found fast.
+//! The tops of slots, by which what fits a slot is found fast.
 
 ghost use Rattle.std.specs.Prelude.{◌≡◌, [], map, IfOk};
 ghost use Rattle.std.specs.List.{slice_index_or};
 ghost use Rattle.pddl_domain.specs.Domains.{domain_view};
 ghost use Rattle.pddl_task.specs.Settings.{function_signatures};
-ghost use Rattle.pddl_types.specs.Places.{AreSlotTops};
+ghost use Rattle.pddl_types.specs.TypeSpans.{AreSlotTops};
 
 use crate::declares::Declares;
-use crate::top::Top;
 use crate::types::Types;
 use pddl_domain::Domain;
 use pddl_faults::{Runs, tell_all};
+use pddl_forest::Span;
 use std::alloc::{AllocError, Allocator};
 use std::marker::Model;
 
@@ -20,14 +20,14 @@ use std::marker::Model;
 /// Contracts see them as lists, name by name, and slot by slot.
 #[derive(Drop)]
 pub struct SlotTops<'a, B: Allocator> {
-    names: Vec<Runs<'a, Top, B>, &'a B>,
+    names: Vec<Runs<'a, Span, B>, &'a B>,
 }
 
 impl<'a, B: Allocator> Model for SlotTops<'a, B> {
     ghost use Rattle.std.specs.Prelude.{List, map};
-    ghost use Rattle.pddl_types.specs.declared.top.Top.{Top};
+    ghost use Rattle.pddl_forest.specs.declared.spans.Span.{Span};
 
-    ghost Value = { List (List (List Top)) };
+    ghost Value = { List (List (List Span)) };
 
     ghost view = { λ s. map (λ runs. runs.0) s.names.items };
 }
@@ -53,7 +53,7 @@ impl<'a, B: Allocator> SlotTops<'a, B> {
     }
 
     /// The tops of a slot of a name, both by their numbers.
-    pub fn at(&self, name: usize, slot: usize) -> &[Top]
+    pub fn at(&self, name: usize, slot: usize) -> &[Span]
         ensures { result.now ≡ slice_index_or (slice_index_or self.now name []) slot [] }
     {
         match self.names.get(name) {

@@ -1,9 +1,10 @@
-//! The table of the types of a domain, each with the place of its parent, and its places in pre-order.
+//! The table of the types of a domain, each with the place of its parent, and the spans of its places.
 
 ghost use Rattle.std.specs.Prelude.{◌≡◌, ◌<◌, [], ◌∷◌, map, length, IfOk, OnOk};
 ghost use Rattle.pddl_domain.specs.Declarations.{type_view};
 ghost use Rattle.pddl_task.specs.Names.{repeated, item_of};
 ghost use Rattle.pddl_task.specs.Types.{root};
+ghost use Rattle.pddl_forest.specs.Spans.{AreSpans};
 ghost use Rattle.pddl_faults.specs.Passes.{Passes};
 ghost use Rattle.pddl_types.specs.TypeTables.{IsTableOf, IsTypeTable, with_name, name_at, cycle_in};
 
@@ -11,7 +12,7 @@ use crate::cycles::first_cycle;
 use indexmap::IndexMap;
 use pddl_domain::{DeclaredType, DeclaredTypes};
 use pddl_faults::{Hashed, LinkFault};
-use pddl_forest::Preorder;
+use pddl_forest::{Span, forest_spans};
 use std::alloc::{AllocError, Allocator};
 
 /// The place of a type in the table; it is put there under `object` where it does not stand yet.
@@ -86,28 +87,28 @@ pub(crate) fn parent_table<'m, 'a, A: Allocator, B: Allocator>(
 /// The places of the parents, in the table's order.
 ///
 /// Fails where memory for them is refused.
-pub(crate) fn parent_places<'m, 'a, B: Allocator>(
+fn parent_places<'m, 'a, B: Allocator>(
     alloc: &'a B,
-    parents: &IndexMap<&'m [u8], usize, Hashed, &'a B>,
+    table: &IndexMap<&'m [u8], usize, Hashed, &'a B>,
 ) -> Result<Vec<usize, &'a B>, AllocError>
-    ensures { IfOk result (λ places. places.items ≡ map (λ r. r.1) parents.now.entries) }
+    ensures { IfOk result (λ places. places.items ≡ map (λ r. r.1) table.now.entries) }
 {
-    parents.values().copied().collect(alloc)
+    table.values().copied().collect(alloc)
 }
 
-/// The places of a table in pre-order, or the first type that is above itself.
-pub(crate) fn in_order<'m, 'a, A: Allocator, B: Allocator>(
+/// The spans of the types of a table, or the first type that is above itself.
+pub(crate) fn spans_of<'m, 'a, A: Allocator, B: Allocator>(
     alloc: &'a B,
-    parents: &IndexMap<&'m [u8], usize, Hashed, &'a B>,
+    table: &IndexMap<&'m [u8], usize, Hashed, &'a B>,
     declared: &'m [DeclaredType<A>],
-) -> Result<Preorder<'a, B>, LinkFault<'m>>
-    requires { IsTypeTable (map type_view declared.now) parents.now.entries }
-    ensures order { IfOk result (λ order. order ≡ map (λ r. r.1) parents.now.entries) }
+) -> Result<Vec<Span, &'a B>, LinkFault<'m>>
+    requires { IsTypeTable (map type_view declared.now) table.now.entries }
+    ensures spans { IfOk result (λ spans. AreSpans (map (λ r. r.1) table.now.entries) spans.items) }
     ensures cycle { Passes 22 (cycle_in (map type_view declared.now)) result }
 {
-    let places = parent_places(alloc, parents)?;
-    match Preorder::of(alloc, places)? {
-        Some(order) => Ok(order),
-        None => Err(LinkFault::TypeCycle(first_cycle(alloc, parents, declared)?)),
+    let parents = parent_places(alloc, table)?;
+    match forest_spans(alloc, &parents)? {
+        Some(spans) => Ok(spans),
+        None => Err(LinkFault::TypeCycle(first_cycle(alloc, table, &parents, declared)?)),
     }
 }

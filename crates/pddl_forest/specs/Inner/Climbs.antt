@@ -1,5 +1,5 @@
 -- Ways from a place to its parent, and so on, and which places were come to by them. No public contract names these.
-use Rattle.std.specs.Prelude.{◌≡◌, ◌≢◌, ◌+◌, ◌≤◌, ◌<◌, ◌==◌, cond, ℕ, List, [], ◌∷◌, ◌++◌, length, Contains}
+use Rattle.std.specs.Prelude.{◌≡◌, ◌≢◌, ◌+◌, ◌≤◌, ◌<◌, ◌==◌, cond, ℕ, List, [], ◌∷◌, length, Contains}
 use Rattle.std.specs.List.{sum_by}
 use Rattle.pddl_forest.specs.Forests.{parent_of, number_at}
 
@@ -33,11 +33,6 @@ pub record AreNew (ps starts : List ℕ) : Type 0 where
   pub long : length starts ≡ length ps
   pub each : (i : ℕ) → i < length ps → number_at starts i ≡ length ps
   pub count : new_count ps starts ≡ length ps
-
--- a path's places behind others, its last first
-abbrev pub with_path : List ℕ → List ℕ → List ℕ
-with_path order [] = order
-with_path order (i ∷ path) = with_path order path ++ i ∷ []
 
 -- a place stands on a path, and neither at it nor before it does another
 abbrev pub IsBefore : List ℕ → ℕ → ℕ → Type 0

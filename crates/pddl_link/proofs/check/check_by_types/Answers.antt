@@ -5,16 +5,9 @@ use Rattle.pddl_names.specs.FaultParts.{name_rules, use_rules}
 use Rattle.pddl_faults.specs.declared.fault.LinkFault.{LinkFault}
 use Rattle.pddl_faults.specs.Passes.{Verdict}
 use Rattle.pddl_faults.proofs.Verdicts.{decided_after}
-use Rattle.pddl_linked_task.proofs.OnceNamed.{no_repeats}
 use Rattle.pddl_link.proofs.Stages.{stage_first}
 use Rattle.pddl_link.proofs.check.check_by_types.Goals as goal
 use Rattle.pddl_link.proofs.check.check_by_types.Goals.{in-Ok, in-Err}
-
-pub look_at_uses-checked-requires-clause-predicates : goal.look_at_uses-checked-requires-clause-predicates
-look_at_uses-checked-requires-clause-predicates g c = (no_repeats (domain_view c.args.domain.now) c.in-Ok.ensures.verdict.1.0).0
-
-pub look_at_uses-checked-requires-clause-functions : goal.look_at_uses-checked-requires-clause-functions
-look_at_uses-checked-requires-clause-functions g c = (no_repeats (domain_view c.args.domain.now) c.in-Ok.ensures.verdict.1.0).1
 
 pub returns : goal.returns
 returns g c =

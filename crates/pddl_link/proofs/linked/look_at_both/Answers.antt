@@ -7,7 +7,7 @@ use Rattle.pddl_task.specs.Faults.{retyped}
 use Rattle.pddl_task.specs.Linked.{fault_in}
 use Rattle.pddl_faults.specs.Found.{IsFound, numbered}
 use Rattle.pddl_types.specs.KnownNames.{object_in}
-use Rattle.pddl_types.specs.Places.{AreListedAt}
+use Rattle.pddl_types.specs.TypeSpans.{AreListed}
 use Rattle.pddl_names.specs.FaultParts.{joined, domain_parts, problem_parts, name_rules}
 use Rattle.pddl_names.proofs.FoundParts.{found_parts, passed_part, first_kept, second_kept}
 use Rattle.pddl_names.proofs.RuleParts.{names_stand}
@@ -26,23 +26,23 @@ returns-clause-objects g c =
     (second_kept c.look_at_domain-declared.result c.lower.result c.lower-2.result listed c.lower-2.ensures.both
     (first_kept c.list_all-all.result c.look_at_problem-bound.result c.lower.result listed c.lower.ensures.both c.list_all-all.ensures.objects))
 
-pub returns-clause-constants_at : goal.returns-clause-constants_at
-returns-clause-constants_at g c =
-    let at = AreListedAt c.args.types.now c.list_objects-inner.new.listed in
-    first_kept c.list_objects-inner.result c.lower-2.result c.lower-3.result at c.lower-3.ensures.both c.list_objects-inner.ensures.places
+pub returns-clause-constants_listed : goal.returns-clause-constants_listed
+returns-clause-constants_listed g c =
+    let at = AreListed c.args.types.now c.list_objects-inner.new.listed in
+    first_kept c.list_objects-inner.result c.lower-2.result c.lower-3.result at c.lower-3.ensures.both c.list_objects-inner.ensures.spans
 
-pub returns-clause-objects_at : goal.returns-clause-objects_at
-returns-clause-objects_at g c =
-    let at = AreListedAt c.args.types.now c.list_all-all.new.listed in
+pub returns-clause-objects_listed : goal.returns-clause-objects_listed
+returns-clause-objects_listed g c =
+    let at = AreListed c.args.types.now c.list_all-all.new.listed in
     second_kept c.list_objects-inner.result c.lower-2.result c.lower-3.result at c.lower-3.ensures.both
     (second_kept c.look_at_domain-declared.result c.lower.result c.lower-2.result at c.lower-2.ensures.both
-    (first_kept c.list_all-all.result c.look_at_problem-bound.result c.lower.result at c.lower.ensures.both c.list_all-all.ensures.places))
+    (first_kept c.list_all-all.result c.look_at_problem-bound.result c.lower.result at c.lower.ensures.both c.list_all-all.ensures.spans))
 
 pub returns-clause-verdict : goal.returns-clause-verdict
 returns-clause-verdict g c =
     let d = domain_view c.args.domain.now in
     let p = problem_view c.args.problem.now in
-    let ts = c.args.types.now in
+    let ts = c.args.types.now.declared in
     let listed = numbered 24 (retyped [] d.constants) in
     let all = numbered 24 (retyped [] d.constants ++ retyped d.constants p.objects) in
     verdict_of (joined (listed ∷ (domain_parts d.types d ++ (all ∷ problem_parts d.types p)))) (map (fault_in d p) name_rules) c.lower-3.result (names_stand d p)

@@ -1,27 +1,14 @@
 use Rattle.std.proofs.Common.{Result, map, drop, refl, sym, subst}
 use Rattle.pddl_domain.specs.Domains.{domain_view}
 use Rattle.pddl_problem.specs.Problems.{problem_view}
-use Rattle.pddl_task.specs.Faults.{domain_repeats, problem_repeats}
 use Rattle.pddl_task.specs.Linked.{fault_in, rules}
-use Rattle.pddl_task.proofs.Lists.{nil_parts}
 use Rattle.pddl_faults.specs.declared.fault.LinkFault.{LinkFault}
 use Rattle.pddl_faults.specs.Passes.{Verdict}
 use Rattle.pddl_faults.proofs.Verdicts.{decided_after}
 use Rattle.pddl_names.specs.FaultParts.{name_rules, use_rules}
-use Rattle.pddl_linked_task.proofs.OnceNamed.{no_repeats}
 use Rattle.pddl_link.proofs.Stages.{stage_first}
 use Rattle.pddl_link.proofs.linked.tables_behind_types.Goals as goal
 use Rattle.pddl_link.proofs.linked.tables_behind_types.Goals.{in-Ok, in-Err}
-
-pub tables_behind-made-requires-clause-predicates : goal.tables_behind-made-requires-clause-predicates
-tables_behind-made-requires-clause-predicates g c =
-    let d = domain_view c.args.domain.now in
-    (no_repeats d (nil_parts (domain_repeats d) (problem_repeats d (problem_view c.args.problem.now)) c.in-Ok.ensures.verdict.1.0).0).0
-
-pub tables_behind-made-requires-clause-functions : goal.tables_behind-made-requires-clause-functions
-tables_behind-made-requires-clause-functions g c =
-    let d = domain_view c.args.domain.now in
-    (no_repeats d (nil_parts (domain_repeats d) (problem_repeats d (problem_view c.args.problem.now)) c.in-Ok.ensures.verdict.1.0).0).1
 
 pub returns-clause-verdict : goal.returns-clause-verdict
 returns-clause-verdict g c =

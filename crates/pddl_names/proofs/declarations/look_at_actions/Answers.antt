@@ -18,12 +18,12 @@ pub loop-action-init : goal.loop-action-init
 loop-action-init g c = record {
   seen = [];
   same = λ n. ap (λ ks. is_in (texts ks) n) c.new-seen.ensures.empty;
-  so_far = up_to_none [] (action_faults c.args.types.now [] (map action_view c.args.actions.now)) (Ok tt) refl;
+  so_far = up_to_none [] (action_faults c.args.types.now.declared [] (map action_view c.args.actions.now)) (Ok tt) refl;
 }
 
 pub loop-action-preserved : goal.loop-action-preserved
 loop-action-preserved g c =
-    let ts = c.args.types.now in
+    let ts = c.args.types.now.declared in
     let all = c.args.actions.now in
     let i = c.loop-action.action-index in
     let a = c.action-item.result in
@@ -44,7 +44,7 @@ loop-action-preserved g c =
 
 pub returns : goal.returns
 returns g c =
-    let ts = c.args.types.now in
+    let ts = c.args.types.now.declared in
     let all = c.args.actions.now in
     up_to_all [] (action_faults ts c.loop-action.invariant.seen (map action_view (drop c.loop-action.action-index all))) (action_faults ts [] (map action_view all)) c.loop-action.found
     (ap (λ xs. action_faults ts c.loop-action.invariant.seen (map action_view xs)) (drop_all c.loop-action.action-index all c.loop-action-test.false)) c.loop-action.invariant.so_far

@@ -2,4 +2,4 @@ use Rattle.pddl_names.proofs.ActionFaults.{ActionsUpTo}
 use Rattle.pddl_names.proofs.declarations.look_at_actions.Given as goal
 
 abbrev pub invariant-loop-action : goal.invariant-loop-action
-invariant-loop-action g l = ActionsUpTo l.types l.actions l.action-index l.seen.keys l.found
+invariant-loop-action g l = ActionsUpTo l.types.declared l.actions l.action-index l.seen.keys l.found

@@ -15,7 +15,7 @@ use Rattle.pddl_names.proofs.declarations.look_at_domain.Goals as goal
 
 pub returns : goal.returns
 returns g c =
-    let ts = c.args.types.now in
+    let ts = c.args.types.now.declared in
     let d = domain_view c.args.domain.now in
     let predicates = numbered 24 (repeated [] (map symbol_of d.predicates)) in
     let functions = numbered 24 (repeated [] (map symbol_of (function_signatures d))) in

@@ -11,7 +11,7 @@ use Rattle.pddl_names.proofs.declarations.look_at_problem.Goals as goal
 
 pub returns : goal.returns
 returns g c =
-    let ts = c.args.types.now in
+    let ts = c.args.types.now.declared in
     let p = problem_view c.args.problem.now in
     let used = numbered 23 (unknown_among ts p.objects) in
     let bound = flat_map (binding_faults ts) (problem_places p) in

@@ -12,7 +12,7 @@ use Rattle.pddl_names.proofs.declarations.look_at_types.Goals as goal
 
 pub returns : goal.returns
 returns g c =
-    let ts = c.args.types.now in
+    let ts = c.args.types.now.declared in
     let d = domain_view c.args.domain.now in
     let constants = numbered 23 (unknown_among ts d.constants) in
     let predicates = numbered 23 (unknown_among ts (flat_map parameters_of d.predicates)) in

@@ -11,7 +11,7 @@ use Rattle.pddl_names.proofs.declarations.parameters_known.Goals as goal
 pub returns-in_err-known : goal.returns-in_err-known
 returns-in_err-known g c =
     let signature = g.D.Declares.signature in
-    let ts = c.args.types.now in
+    let ts = c.args.types.now.declared in
     let all = c.args.declared.now in
     let i = c.loop-each.each-index in
     let own = map typed_view c.parameters.result.now.items in
@@ -23,7 +23,7 @@ returns-in_err-known g c =
 pub loop-each-preserved : goal.loop-each-preserved
 loop-each-preserved g c =
     let signature = g.D.Declares.signature in
-    let ts = c.args.types.now in
+    let ts = c.args.types.now.declared in
     let all = c.args.declared.now in
     let i = c.loop-each.each-index in
     let own = map typed_view c.parameters.result.now.items in

@@ -7,4 +7,4 @@ use Rattle.pddl_names.proofs.declarations.parameters_known.Given as goal
 -- the words of the whole are those of what is left
 abbrev pub invariant-loop-each : goal.invariant-loop-each
 invariant-loop-each g l =
-    unknown_among l.types (flat_map parameters_of (map g.D.Declares.signature (drop l.each-index l.declared))) ≡ unknown_among l.types (flat_map parameters_of (map g.D.Declares.signature l.declared))
+    unknown_among l.types.declared (flat_map parameters_of (map g.D.Declares.signature (drop l.each-index l.declared))) ≡ unknown_among l.types.declared (flat_map parameters_of (map g.D.Declares.signature l.declared))

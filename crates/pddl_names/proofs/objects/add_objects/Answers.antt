@@ -4,7 +4,7 @@ use Rattle.std.proofs.lemmas.Option.{slice_get_read}
 use Rattle.pddl_formula.specs.TypedLists.{typed_view}
 use Rattle.pddl_task.specs.Faults.{retyped}
 use Rattle.pddl_types.specs.KnownNames.{object_in}
-use Rattle.pddl_types.proofs.TypePlaces.{seen_entry}
+use Rattle.pddl_types.proofs.Views.{seen_entry}
 use Rattle.std.specs.HashSet.{HashSet}
 use Rattle.pddl_names.proofs.MetTypes.{type_of_number}
 use Rattle.pddl_names.proofs.ObjectTables.{listed_start, listed_twice, listed_more}
@@ -13,7 +13,7 @@ use Rattle.pddl_names.proofs.objects.add_objects.Goals as goal
 pub loop-number-init : goal.loop-number-init
 loop-number-init g c = record {
   lists = λ before none is. listed_start before c.args.objects.now.items (map object_in c.args.listed.now.objects.entries) none is;
-  places = c.requires.listed;
+  spans = c.requires.listed;
   met = c.requires.met;
   last = λ j x next. absurd (omega (arith, next));
 }
@@ -31,7 +31,7 @@ loop-number-preserved g c =
       lists = λ before none is.
           listed_more before xs l.number x es low at (l.invariant.lists before none is) (map object_in c.list_object.new.listed.objects.entries) c.in_ok-list_object.ensures.objects
           (c.in_ok-list_object.ensures.right ∙ ap not c.if-not-branch.false);
-      places = c.in_ok-list_object.ensures.places c.args.types.now l.invariant.places here.0 c.if-not-branch.false;
+      spans = c.in_ok-list_object.ensures.spans c.args.types.now l.invariant.spans here.0 c.if-not-branch.false;
       met = c.in_ok-list_object.ensures.met c.if-not-branch.false;
       last = λ j y next there.
           let group = c.in_ok-group.ensures.group y (ap (slice_get (map typed_view xs)) (omega (arith, next)) ∙ there) in

@@ -3,7 +3,7 @@ use Rattle.std.proofs.lemmas.Result.{on_ok_weaker}
 use Rattle.pddl_formula.specs.TypedLists.{typed_view}
 use Rattle.pddl_task.specs.Faults.{retyped}
 use Rattle.pddl_types.specs.KnownNames.{object_in}
-use Rattle.pddl_types.proofs.TypePlaces.{none_listed}
+use Rattle.pddl_types.proofs.ListedObjects.{none_listed}
 use Rattle.pddl_faults.proofs.PassedParts.{pass_front, pass_back}
 use Rattle.pddl_names.proofs.objects.list_all.Goals as goal
 

@@ -2,8 +2,8 @@ use Rattle.std.proofs.Common.{◌==◌, ◌∷◌, [], ◌++◌, map, bytes_eq, 
 use Rattle.std.specs.Map.{lookup}
 use Rattle.pddl_formula.specs.TypedLists.{typed_view}
 use Rattle.pddl_types.specs.KnownNames.{AreNamed, object_in}
-use Rattle.pddl_types.specs.Places.{HaveNumbers, AreObjectsAt, IsOnlyAt}
-use Rattle.pddl_types.proofs.TypePlaces.{numbers_more}
+use Rattle.pddl_types.specs.TypeSpans.{HaveEach, IsOnlySpan}
+use Rattle.pddl_types.proofs.ListedObjects.{each_more}
 use Rattle.pddl_names.specs.MetTypes.{IsMetAt, AreMet}
 use Rattle.pddl_names.proofs.MetTypes.{known_type, same_by_numbers}
 use Rattle.pddl_names.proofs.ObjectTables.{put_there, named_entry, odds_there, kept_there, odds_new, last_new}
@@ -30,8 +30,8 @@ returns-in-Some-clause-right g c =
     odds_there es c.args.object.now.name c.args.object.now.types c.in_ok-number.before (c.in_ok-number.ensures.old ∙ ap (λ n. lookup (λ k. bytes_eq n k.now) es) c.as_bytes.ensures.value)
     c.in-Some._before c.in-Some.is (c.index.result.now == c.args.group.number) same
 
-pub returns-in-Some-clause-places : goal.returns-in-Some-clause-places
-returns-in-Some-clause-places g c = λ declared listed only right.
+pub returns-in-Some-clause-spans : goal.returns-in-Some-clause-spans
+returns-in-Some-clause-spans g c = λ t listed only right.
     let es = c.args.listed.now.objects.entries in
     let met = c.args.met.now in
     let known = known_type es c.as_bytes.result.now c.in-Some._before met.types.keys met.of_objects.items c.in_ok-number.number
@@ -40,10 +40,10 @@ returns-in-Some-clause-places g c = λ declared listed only right.
     let x = c.args.object.now in
     record {
       named = subst AreNamed (sym c.in_ok-number.ensures.entries) (named_entry c.as_bytes.result c.args.object es (sym c.as_bytes.ensures.value) listed.named);
-      at = subst (λ os. AreObjectsAt declared os c.args.listed.now.places.items)
+      spans = subst (λ os. HaveEach (IsOnlySpan t) os c.args.listed.now.spans.items)
           (sym (put_there c.as_bytes.result c.args.object es c.insert_full.new.self.entries c.as_bytes.ensures.value c.in_ok-number.ensures.entries
           ∙ kept_there es x.name x.types c.in_ok-number.before (c.in_ok-number.ensures.old ∙ ap (λ n. lookup (λ k. bytes_eq n k.now) es) c.as_bytes.ensures.value) c.in-Some._before c.in-Some.is (c.index.result.now == c.args.group.number) same right))
-          listed.at;
+          listed.spans;
     }
 
 pub returns-in-Some-clause-met : goal.returns-in-Some-clause-met
@@ -68,18 +68,18 @@ returns-in_ok-push-in-None-2-clause-right g c =
     let es = c.args.listed.now.objects.entries in
     odds_new es c.args.object.now.name c.args.object.now.types c.in_ok-number.before (c.in_ok-number.ensures.old ∙ ap (λ n. lookup (λ k. bytes_eq n k.now) es) c.as_bytes.ensures.value) c.in-None.is
 
-pub returns-in_ok-push-in-None-2-clause-places : goal.returns-in_ok-push-in-None-2-clause-places
-returns-in_ok-push-in-None-2-clause-places g c = λ declared listed only right.
+pub returns-in_ok-push-in-None-2-clause-spans : goal.returns-in_ok-push-in-None-2-clause-spans
+returns-in_ok-push-in-None-2-clause-spans g c = λ t listed only right.
     let l = c.args.listed.now in
     let es = l.objects.entries in
     let x = c.args.object.now in
     record {
       named = subst AreNamed (sym c.in_ok-number.ensures.entries) (named_entry c.as_bytes.result c.args.object es (sym c.as_bytes.ensures.value) listed.named);
-      at = subst (λ os. AreObjectsAt declared os c.push.new.self.items)
+      spans = subst (λ os. HaveEach (IsOnlySpan t) os c.push.new.self.items)
           (sym (put_there c.as_bytes.result c.args.object es c.insert_full.new.self.entries c.as_bytes.ensures.value c.in_ok-number.ensures.entries
           ∙ last_new es x.name x.types c.in_ok-number.before (c.in_ok-number.ensures.old ∙ ap (λ n. lookup (λ k. bytes_eq n k.now) es) c.as_bytes.ensures.value) c.in-None.is))
-          (subst (AreObjectsAt declared (map object_in es ++ typed_view x ∷ [])) (sym c.in_ok-push-in-None.ensures.items)
-          (numbers_more (IsOnlyAt declared) (map object_in es) l.places.items (typed_view x) c.args.group.place only listed.at));
+          (subst (HaveEach (IsOnlySpan t) (map object_in es ++ typed_view x ∷ [])) (sym c.in_ok-push-in-None.ensures.items)
+          (each_more (IsOnlySpan t) (map object_in es) l.spans.items (typed_view x) c.args.group.span only listed.spans));
     }
 
 pub returns-in_ok-push-in-None-2-clause-met : goal.returns-in_ok-push-in-None-2-clause-met
@@ -89,9 +89,9 @@ returns-in_ok-push-in-None-2-clause-met g c = λ right.
     let x = c.args.object.now in
     record {
       once = c.requires.met.once;
-      numbers = subst (λ os. HaveNumbers (IsMetAt met) os c.push-in-None.new.self.items)
+      numbers = subst (λ os. HaveEach (IsMetAt met) os c.push-in-None.new.self.items)
           (sym (put_there c.as_bytes.result c.args.object es c.insert_full.new.self.entries c.as_bytes.ensures.value c.in_ok-number.ensures.entries
           ∙ last_new es x.name x.types c.in_ok-number.before (c.in_ok-number.ensures.old ∙ ap (λ n. lookup (λ k. bytes_eq n k.now) es) c.as_bytes.ensures.value) c.in-None.is))
-          (subst (HaveNumbers (IsMetAt met) (map object_in es ++ typed_view x ∷ [])) (sym c.in_ok-push-in-None-2.ensures.items)
-          (numbers_more (IsMetAt met) (map object_in es) met.of_objects.items (typed_view x) c.args.group.number c.requires.group c.requires.met.numbers));
+          (subst (HaveEach (IsMetAt met) (map object_in es ++ typed_view x ∷ [])) (sym c.in_ok-push-in-None-2.ensures.items)
+          (each_more (IsMetAt met) (map object_in es) met.of_objects.items (typed_view x) c.args.group.number c.requires.group c.requires.met.numbers));
     }

@@ -1,7 +1,7 @@
 use Rattle.std.proofs.Common.{[], map, refl, ap}
 use Rattle.std.proofs.lemmas.Result.{on_ok_weaker}
 use Rattle.pddl_types.specs.KnownNames.{object_in}
-use Rattle.pddl_types.proofs.TypePlaces.{none_listed}
+use Rattle.pddl_types.proofs.ListedObjects.{none_listed}
 use Rattle.pddl_names.proofs.objects.list_objects.Goals as goal
 
 pub add_objects-added-requires-clause-listed : goal.add_objects-added-requires-clause-listed

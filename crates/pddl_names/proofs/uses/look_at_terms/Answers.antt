@@ -1,6 +1,7 @@
 use Rattle.std.proofs.Common.{◌≡◌, false, true, not, ◌==◌, length, map, Err, refl, arith}
 use Rattle.std.specs.List.{flat_map}
 use Rattle.std.proofs.lemmas.Grind.{common_steps}
+use Rattle.std.proofs.lemmas.List.{length-map}
 use Rattle.std.proofs.lemmas.Result.{err_from_is_err_and}
 use Rattle.pddl_formula.specs.TypedLists.{typed_view}
 use Rattle.pddl_task.specs.Names.{word_if}
@@ -20,18 +21,18 @@ returns-in_err-all_fit g c =
     let ts = terms_in c.args.terms.now in
     let slots = map typed_view c.args.slots.now in
     let p = err_from_is_err_and c.from_residual.result c.from_residual.ensures.1 in
-    rw (p.1, p.2) (first_found (flat_map (unknown_term s b) ts) (word_if (not (length ts == c.args.count)) n) (word_if (some_misfit s b ts slots) n) c.in_err-all_fit.field-0.0 c.in_err-all_fit.ensures.passes)
+    rw (p.1, p.2) (first_found (flat_map (unknown_term s b) ts) (word_if (not (length ts == length slots)) n) (word_if (some_misfit s b ts slots) n) c.in_err-all_fit.field-0.0 c.in_err-all_fit.ensures.passes)
 
-pub returns-then-len-count : goal.returns-then-len-count
-returns-then-len-count g c =
+pub returns-then-len-slots : goal.returns-then-len-slots
+returns-then-len-slots g c =
     let s = setting_of c.args.known.now in
     let b = bound_of c.args.scope.now in
     let n = c.args.symbol.now in
     let ts = terms_in c.args.terms.now in
     let slots = map typed_view c.args.slots.now in
-    let other : (length ts == c.args.count) ≡ false = grind (arith, common_steps, c.len.ensures, c.if-len-count.true) in
-    second_found (flat_map (unknown_term s b) ts) (word_if (not (length ts == c.args.count)) n) (word_if (some_misfit s b ts slots) n) (link.Arity c.args.symbol)
-    c.in_ok-all_fit.ensures.passes (refl, has_word (not (length ts == c.args.count)) (length ts == c.args.count) n refl other)
+    let other : (length ts == length slots) ≡ false = grind (arith, common_steps, c.len.ensures, length-map c.args.slots.now typed_view, c.if-len-slots.true) in
+    second_found (flat_map (unknown_term s b) ts) (word_if (not (length ts == length slots)) n) (word_if (some_misfit s b ts slots) n) (link.Arity c.args.symbol)
+    c.in_ok-all_fit.ensures.passes (refl, has_word (not (length ts == length slots)) (length ts == length slots) n refl other)
 
 pub returns-else-all_fit : goal.returns-else-all_fit
 returns-else-all_fit g c =
@@ -40,7 +41,7 @@ returns-else-all_fit g c =
     let n = c.args.symbol.now in
     let ts = terms_in c.args.terms.now in
     let slots = map typed_view c.args.slots.now in
-    let same : (length ts == c.args.count) ≡ true = grind (arith, common_steps, c.len.ensures, c.if-len-count.false) in
-    third_found (flat_map (unknown_term s b) ts) (word_if (not (length ts == c.args.count)) n) (word_if (some_misfit s b ts slots) n) (Err (link.ArgumentType c.args.symbol))
-    c.in_ok-all_fit.ensures.passes (has_no_word (length ts == c.args.count) n same)
+    let same : (length ts == length slots) ≡ true = grind (arith, common_steps, c.len.ensures, length-map c.args.slots.now typed_view, c.if-len-slots.false) in
+    third_found (flat_map (unknown_term s b) ts) (word_if (not (length ts == length slots)) n) (word_if (some_misfit s b ts slots) n) (Err (link.ArgumentType c.args.symbol))
+    c.in_ok-all_fit.ensures.passes (has_no_word (length ts == length slots) n same)
     (refl, has_word (some_misfit s b ts slots) c.in_ok-all_fit.all_fit n c.in_ok-all_fit.ensures.fits c.if-all_fit.false)

@@ -7,7 +7,7 @@ use Rattle.pddl_faults.specs.Parts.{term_in, terms_in}
 use Rattle.pddl_faults.specs.Scopes.{bound_of}
 use Rattle.pddl_types.specs.Settings.{setting_of}
 use Rattle.pddl_names.proofs.Slots.{unknown_here, known_here, fits_here}
-use Rattle.pddl_names.proofs.ToldUses.{slot_told}
+use Rattle.pddl_names.proofs.ToldUses.{slot_told, slot_types}
 use Rattle.pddl_names.proofs.uses.terms_fit.Goals.{then-all_fit, else-all_fit}
 use Rattle.pddl_names.proofs.uses.terms_fit.Goals as goal
 
@@ -46,3 +46,6 @@ loop-i-preserved g c =
 
 pub term_fits-requires-clause-tops : goal.term_fits-requires-clause-tops
 term_fits-requires-clause-tops g c = slot_told c.args.known.now.types.now c.args.slots.now _ c.loop-i.i c.get.result c.at.result.now c.requires.tops c.get.ensures.lookup c.at.ensures
+
+pub term_fits-requires-clause-types : goal.term_fits-requires-clause-types
+term_fits-requires-clause-types g c = slot_types c.args.known.now.types.now.declared c.args.slots.now c.loop-i.i c.get.result c.requires.types c.get.ensures.lookup

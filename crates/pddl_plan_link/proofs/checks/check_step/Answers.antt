@@ -1,16 +1,10 @@
-use Rattle.std.proofs.Common.{[], map, refl, sym, ap, ◌∙◌, subst}
-use Rattle.std.specs.List.{slice_get, slice_index_or}
-use Rattle.pddl_formula.specs.TypedLists.{typed_view}
-use Rattle.pddl_domain.specs.Actions.{action_view}
+use Rattle.std.proofs.Common.{refl, sym, ap, ◌∙◌, subst}
+use Rattle.std.specs.List.{slice_get}
 use Rattle.pddl_task.specs.Tasks.{TaskValue}
-use Rattle.pddl_faults.specs.Told.{AreTold}
-use Rattle.pddl_types.specs.KnownNames.{action_signature}
-use Rattle.pddl_types.specs.Places.{AreTops}
-use Rattle.pddl_types.proofs.TypePlaces.{seen_entry}
 use Rattle.pddl_linked_task.specs.LinkedTasks.{task_of_files}
 use Rattle.pddl_tables.specs.Lookups.{price_in}
 use Rattle.pddl_plan_tables.specs.ActionChanges.{AreChangesOf}
-use Rattle.pddl_plan_link.proofs.CheckedSteps.{action_unknown, number_is, found_there, arity_differs, object_unknown, numbers_are, type_differs, step_is_large, cost_is_undefined, step_is_good}
+use Rattle.pddl_plan_link.proofs.CheckedSteps.{action_unknown, number_is, found_there, number_low, slots_are, arity_differs, object_unknown, numbers_are, type_differs, step_is_large, cost_is_undefined, step_is_good}
 use Rattle.pddl_plan_link.proofs.checks.check_step.Goals as goal
 
 pub returns-in_default-clause-verdict : goal.returns-in_default-clause-verdict
@@ -38,7 +32,7 @@ returns-then-some_unfit-clause-verdict g c = (
   type_differs (task_of_files c.args.tables.now.task.now) c.args.tables.now.actions.entries c.args.step.now c.action.result.now c.requires.tables.actions c.action.ensures
       c.in-Some.number c.in-Some.field-0-1.now c.in-Some.found.now c.in-Some.ensures.index c.in-Some.ensures.entry c.arity.result c.len.result c.arity.ensures c.len.ensures c.if-arity-len.false
       c.args.step.now.objects c.in_ok-number_objects.field-0 refl c.in_ok-number_objects.ensures.known c.number_objects.new.numbers.items c.in_ok-number_objects.ensures.numbers c.if-not-branch.false
-      c.deref.result.now c.deref-2.result.now c.some_unfit.result c.deref.ensures.value c.deref-2.ensures.value c.some_unfit.ensures c.if-some_unfit.true,
+      c.deref.result.now c.some_unfit.result c.deref.ensures.value c.some_unfit.ensures c.if-some_unfit.true,
 )
 
 pub returns-then-found-gt1000000-clause-verdict : goal.returns-then-found-gt1000000-clause-verdict
@@ -47,7 +41,7 @@ returns-then-found-gt1000000-clause-verdict g c = (
   step_is_large (task_of_files c.args.tables.now.task.now) c.args.tables.now.actions.entries c.args.step.now c.action.result.now c.requires.tables.actions c.action.ensures
       c.in-Some.number c.in-Some.field-0-1.now c.in-Some.found.now c.in-Some.ensures.index c.in-Some.ensures.entry c.arity.result c.len.result c.arity.ensures c.len.ensures c.if-arity-len.false
       c.args.step.now.objects c.in_ok-number_objects.field-0 refl c.in_ok-number_objects.ensures.known c.number_objects.new.numbers.items c.in_ok-number_objects.ensures.numbers c.if-not-branch.false
-      c.deref.result.now c.deref-2.result.now c.some_unfit.result c.deref.ensures.value c.deref-2.ensures.value c.some_unfit.ensures c.if-some_unfit.false c.if-found-gt1000000.true,
+      c.deref.result.now c.some_unfit.result c.deref.ensures.value c.some_unfit.ensures c.if-some_unfit.false c.if-found-gt1000000.true,
 )
 
 pub lacks_cost-requires : goal.lacks_cost-requires
@@ -66,9 +60,9 @@ returns-then-branch-clause-verdict g c =
       cost_is_undefined (task_of_files c.args.tables.now.task.now) c.args.tables.now.actions.entries c.args.step.now c.action.result.now c.requires.tables.actions c.action.ensures
           c.in-Some.number c.in-Some.field-0-1.now c.in-Some.found.now c.in-Some.ensures.index c.in-Some.ensures.entry c.arity.result c.len.result c.arity.ensures c.len.ensures c.if-arity-len.false
           c.args.step.now.objects c.in_ok-number_objects.field-0 refl c.in_ok-number_objects.ensures.known c.number_objects.new.numbers.items c.in_ok-number_objects.ensures.numbers c.if-not-branch.false
-          c.deref.result.now c.deref-2.result.now c.some_unfit.result c.deref.ensures.value c.deref-2.ensures.value c.some_unfit.ensures
+          c.deref.result.now c.some_unfit.result c.deref.ensures.value c.some_unfit.ensures
           c.if-some_unfit.false c.if-found-gt1000000.false files.domain files.problem c.requires.tables.linked refl (task_of_files c.args.tables.now.lookups) (price_in c.args.tables.now.prices)
-          c.requires.tables.lookups c.requires.tables.prices c.deref-3.result.now c.in_ok-lacks_cost.field-0 c.deref-3.ensures.value c.in_ok-lacks_cost.ensures.answer c.if-branch.true,
+          c.requires.tables.lookups c.requires.tables.prices c.deref-2.result.now c.in_ok-lacks_cost.field-0 c.deref-2.ensures.value c.in_ok-lacks_cost.ensures.answer c.if-branch.true,
     )
 
 pub returns-clause-verdict : goal.returns-clause-verdict
@@ -77,9 +71,9 @@ returns-clause-verdict g c =
     step_is_good (task_of_files c.args.tables.now.task.now) c.args.tables.now.actions.entries c.args.step.now c.action.result.now c.requires.tables.actions c.action.ensures
     c.in-Some.number c.in-Some.field-0-1.now c.in-Some.found.now c.in-Some.ensures.index c.in-Some.ensures.entry c.arity.result c.len.result c.arity.ensures c.len.ensures c.if-arity-len.false
     c.args.step.now.objects c.in_ok-number_objects.field-0 refl c.in_ok-number_objects.ensures.known c.number_objects.new.numbers.items c.in_ok-number_objects.ensures.numbers c.if-not-branch.false
-    c.deref.result.now c.deref-2.result.now c.some_unfit.result c.deref.ensures.value c.deref-2.ensures.value c.some_unfit.ensures
+    c.deref.result.now c.some_unfit.result c.deref.ensures.value c.some_unfit.ensures
     c.if-some_unfit.false c.if-found-gt1000000.false files.domain files.problem c.requires.tables.linked refl (task_of_files c.args.tables.now.lookups) (price_in c.args.tables.now.prices)
-    c.requires.tables.lookups c.requires.tables.prices c.deref-3.result.now c.in_ok-lacks_cost.field-0 c.deref-3.ensures.value c.in_ok-lacks_cost.ensures.answer c.if-branch.false
+    c.requires.tables.lookups c.requires.tables.prices c.deref-2.result.now c.in_ok-lacks_cost.field-0 c.deref-2.ensures.value c.in_ok-lacks_cost.ensures.answer c.if-branch.false
 
 pub returns-clause-action : goal.returns-clause-action
 returns-clause-action g c =
@@ -98,8 +92,9 @@ returns-clause-changes g c = subst (λ t. AreChangesOf t c.lacks_cost.new.change
 pub some_unfit-requires : goal.some_unfit-requires
 some_unfit-requires g c =
     let task = task_of_files c.args.tables.now.task.now in
-    let a = action_view c.in-Some.found.now.action.now in
-    subst (λ ps. AreTold (AreTops task.types) (map typed_view ps) (slice_index_or c.args.tables.now.tops c.in-Some.number [])) (sym c.deref-2.ensures.value)
-    (c.requires.tables.tops c.in-Some.number (action_signature a) (seen_entry action_signature task.actions c.in-Some.number a
-    (found_there task c.args.tables.now.actions.entries c.args.step.now c.action.result.now c.requires.tables.actions c.action.ensures
-    c.in-Some.number c.in-Some.field-0-1.now c.in-Some.found.now c.in-Some.ensures.index c.in-Some.ensures.entry)))
+    record {
+      action = number_low task c.args.tables.now.actions.entries c.args.step.now c.action.result.now c.requires.tables.actions c.action.ensures
+          c.in-Some.number c.in-Some.field-0-1.now c.in-Some.found.now c.in-Some.ensures.index c.in-Some.ensures.entry;
+      parameters = slots_are task c.args.tables.now.actions.entries c.args.step.now c.action.result.now c.requires.tables.actions c.action.ensures
+          c.in-Some.number c.in-Some.field-0-1.now c.in-Some.found.now c.in-Some.ensures.index c.in-Some.ensures.entry c.arity.result c.len-2.result c.arity.ensures c.len-2.ensures;
+    }

@@ -15,6 +15,6 @@ returns-then-ground_size-gt1000000 g c = (
   refl,
   too_large (formula_size (setting_count (in_problem (domain_view c.args.domain.now) (problem_view c.args.problem.now))) (formula_view c.args.problem.now.goal)) c.ground_size.result
       (c.ground_size.ensures
-      ∙ ap (λ ts. capped (formula_size (fitting_count (pairs ts) (map object_in c.args.counts.now.listed.now.objects.entries)) (formula_view c.args.problem.now.goal))) c.requires.types
+      ∙ ap (λ ts. capped (formula_size (fitting_count (pairs ts) (map object_in c.args.fitting.now.listed.now.objects.entries)) (formula_view c.args.problem.now.goal))) c.requires.types
       ∙ ap (λ os. capped (formula_size (fitting_count (pairs (domain_view c.args.domain.now).types) os) (formula_view c.args.problem.now.goal))) c.requires.objects) c.if-ground_size-gt1000000.true,
 )

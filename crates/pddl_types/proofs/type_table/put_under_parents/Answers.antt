@@ -3,8 +3,8 @@ use Rattle.std.proofs.lemmas.List.{take_all}
 use Rattle.std.proofs.lemmas.Option.{slice_get_read}
 use Rattle.pddl_domain.specs.Declarations.{TypeValue, type_view}
 use Rattle.pddl_types.proofs.SharedTypes.{of_next}
-use Rattle.pddl_types.proofs.TypePlaces.{seen_entry}
 use Rattle.pddl_types.proofs.TypesTold.{Tells, HasNextParent, StandsAt, tells_none, parent_at, parent_put, told_next, stands_on}
+use Rattle.pddl_types.proofs.Views.{seen_entry}
 use Rattle.pddl_types.proofs.type_table.put_under_parents.Goals.{then-not-shares+in_ok-over, else-not-shares}
 use Rattle.pddl_types.proofs.type_table.put_under_parents.Goals as goal
 

@@ -11,7 +11,7 @@ use Rattle.pddl_names.proofs.bindings.BindingsSearch.look.Goals as goal
 pub returns-in-Binds : goal.returns-in-Binds
 returns-in-Binds g c = λ before h.
     let xs = map typed_view c.in-Binds.variables.now.items in
-    let unknown = unknown_among c.args.self.now.types.now xs in
+    let unknown = unknown_among c.args.self.now.types.now.declared xs in
     let twice = repeated [] (map item_of xs) in
     rw c.in-Binds.is
     (c.lower-in-Binds.ensures.found before (numbered 23 unknown ++ numbered 24 twice) h

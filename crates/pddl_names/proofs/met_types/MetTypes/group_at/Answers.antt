@@ -16,5 +16,5 @@ returns-clause-group g c = λ x at.
     let item = c.index-deref-number.result in
     let own : item.types ≡ x.of = ap (λ (y : Typed _). y.types) c.index-deref-number.is
     ∙ type_at c.args.objects.now.items c.deref.result.now c.args.number item x c.deref.ensures.value c.requires.within c.index-deref-number.is at in
-    subst (λ ts. IsGroupOf c.args.types.now c.number_of.new.self ts (record { place = c.single_place-place.result; number = c.in_ok-number.number })) own
-    (c.single_place-place.ensures, c.in_ok-number.ensures.number)
+    subst (λ ts. IsGroupOf c.args.types.now c.number_of.new.self ts (record { span = c.single_span-span.result; number = c.in_ok-number.number })) own
+    (c.single_span-span.ensures, c.in_ok-number.ensures.number)

@@ -10,10 +10,10 @@ use Rattle.pddl_names.proofs.UseFaults.{both_found}
 use Rattle.pddl_names.proofs.uses.UsesSearch.look.Goals as goal
 
 pub returns-in-Says : goal.returns-in-Says
-returns-in-Says g c = λ before h. rw c.in-Says.is (c.look_at_use.ensures before h)
+returns-in-Says g c = λ before h. rw c.in-Says.is (c.lower.ensures.found before _ h c.look_at_use-used.ensures)
 
 pub returns-in-Calls : goal.returns-in-Calls
-returns-in-Calls g c = λ before h. rw c.in-Calls.is (c.look_at_use-in-Calls.ensures before h)
+returns-in-Calls g c = λ before h. rw c.in-Calls.is (c.lower-in-Calls.ensures.found before _ h c.look_at_use-used-in-Calls.ensures)
 
 pub returns-in-Equates : goal.returns-in-Equates
 returns-in-Equates g c = λ before h.
@@ -21,8 +21,8 @@ returns-in-Equates g c = λ before h.
     let xs = word (term_view c.in-Equates.first.now) in
     let ys = word (term_view c.in-Equates.second.now) in
     rw c.in-Equates.is
-    (c.lower-in-Equates.ensures.found before (numbered 26 (xs ++ (ys ++ [])) ++ []) h (both_found xs ys c.lower.result
-    (c.lower.ensures.found (numbered 26 xs) (numbered 26 ys) (passed_found 26 xs c.look_at_term-first.result c.look_at_term-first.ensures) (passed_found 26 ys c.look_at_term.result c.look_at_term.ensures))))
+    (c.lower-in-Equates-2.ensures.found before (numbered 26 (xs ++ (ys ++ [])) ++ []) h (both_found xs ys c.lower-in-Equates.result
+    (c.lower-in-Equates.ensures.found (numbered 26 xs) (numbered 26 ys) (passed_found 26 xs c.look_at_term-first.result c.look_at_term-first.ensures) (passed_found 26 ys c.look_at_term.result c.look_at_term.ensures))))
 
 pub returns-in-Binds : goal.returns-in-Binds
 returns-in-Binds g c = λ before h. rw c.in-Binds.is (found_no_more before c.args.so_far h)

@@ -2,7 +2,7 @@ use Rattle.std.proofs.Common.{map, sym, subst, arith}
 use Rattle.std.proofs.lemmas.List.{length-map}
 use Rattle.pddl_formula.specs.TypedLists.{typed_view}
 use Rattle.pddl_faults.proofs.BoundTypes.{viewed_at}
-use Rattle.pddl_types.proofs.SlotPlaces.{SlotsUpTo, told_alone, slots_none, slots_next, slots_all}
+use Rattle.pddl_types.proofs.ToldSlots.{SlotsUpTo, added_alone, slots_none, slots_next, slots_all}
 use Rattle.pddl_types.proofs.slot_tops.SlotTops.of_declared.Goals as goal
 
 pub loop-each-init : goal.loop-each-init
@@ -17,7 +17,7 @@ loop-each-preserved g c =
     let i = c.loop-each.each-index in
     slots_next c.args.types.now (map signature declared) c.loop-each.names.items c.push.new.self.items i c.tell_all.new.told (signature c.each-item.result) c.loop-each.invariant c.in_ok-push.ensures.items
     (viewed_at signature declared i c.each-item.result c.loop-each-test.true c.each-item.is)
-    (told_alone c.args.types.now (map typed_view c.parameters.result.now.items) (signature c.each-item.result).parameters c.new-tops.result c.tell_all.new.told c.parameters.ensures c.new-tops.ensures c.in_ok-tell_all.ensures)
+    (added_alone c.args.types.now (map typed_view c.parameters.result.now.items) (signature c.each-item.result).parameters c.new-tops.result c.tell_all.new.told c.parameters.ensures c.new-tops.ensures c.in_ok-tell_all.ensures)
 
 pub returns : goal.returns
 returns g c =

@@ -1,5 +1,5 @@
 use Rattle.std.proofs.Common.{map}
-use Rattle.pddl_types.proofs.SlotPlaces.{SlotsUpTo}
+use Rattle.pddl_types.proofs.ToldSlots.{SlotsUpTo}
 use Rattle.pddl_types.proofs.slot_tops.SlotTops.of_declared.Given as goal
 
 -- the tops of the names so far

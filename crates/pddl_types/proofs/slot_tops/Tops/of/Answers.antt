@@ -1,7 +1,7 @@
 use Rattle.std.proofs.Common.{map, ap, sym, subst, ◌∙◌}
 use Rattle.pddl_domain.specs.Declarations.{predicate_view, function_view}
 use Rattle.pddl_task.specs.Names.{item_of}
-use Rattle.pddl_types.specs.Places.{AreSlotTops}
+use Rattle.pddl_types.specs.TypeSpans.{AreSlotTops}
 use Rattle.pddl_types.proofs.Views.{map-map}
 use Rattle.pddl_types.proofs.slot_tops.Tops.of.Goals as goal
 

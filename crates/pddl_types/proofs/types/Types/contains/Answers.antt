@@ -2,10 +2,11 @@ use Rattle.std.proofs.Common.{map, ap, ◌∙◌}
 use Rattle.pddl_task.specs.Names.{is_in}
 use Rattle.pddl_task.specs.Types.{types_of}
 use Rattle.pddl_domain.specs.Declarations.{type_view}
+use Rattle.pddl_types.specs.TypeSpans.{TypesValue}
 use Rattle.pddl_types.proofs.TypeLookups.{contained}
 use Rattle.pddl_types.proofs.types.Types.contains.Goals as goal
 
 pub returns : goal.returns
 returns g c =
     c.contains_key.ensures ∙ contained (map type_view c.self.inside.declared.now) c.self.inside.parents.entries c.args.name.now c.self.invariant.0
-    ∙ ap (λ ts. is_in (types_of ts) c.args.name.now) c.self.view_is
+    ∙ ap (λ (t : TypesValue). is_in (types_of t.declared) c.args.name.now) c.self.view_is

@@ -13,7 +13,7 @@ use Rattle.pddl_types.proofs.types.Types.known.Goals as goal
 
 pub returns-in_err-known_item : goal.returns-in_err-known_item
 returns-in_err-known_item g c =
-    let unknown = λ (t : Name). not (is_in (types_of c.args.self.now) t) in
+    let unknown = λ (t : Name). not (is_in (types_of c.args.self.now.declared) t) in
     let items = c.args.typed.now.items in
     let all = map typed_view items in
     let i = c.loop-place.place in
@@ -25,7 +25,7 @@ returns-in_err-known_item g c =
 
 pub loop-place-preserved : goal.loop-place-preserved
 loop-place-preserved g c =
-    let unknown = λ (t : Name). not (is_in (types_of c.args.self.now) t) in
+    let unknown = λ (t : Name). not (is_in (types_of c.args.self.now.declared) t) in
     let items = c.args.typed.now.items in
     let all = map typed_view items in
     let i = c.loop-place.place in

@@ -9,7 +9,7 @@ use Rattle.pddl_types.proofs.types.Types.known.Given as goal
 -- the unknown types are those of what is left, and the item before that has none
 abbrev pub invariant-loop-place : goal.invariant-loop-place
 invariant-loop-place g l =
-    let unknown = filter (λ t. not (is_in (types_of l.self) t)) in
+    let unknown = filter (λ t. not (is_in (types_of l.self.declared) t)) in
     let all = map typed_view l.typed.items in
     record {
       left : unknown (flat_map primitives_of (drop l.place all)) ≡ unknown (flat_map primitives_of all);

@@ -1,0 +1,22 @@
+use Rattle.std.proofs.Common.{subst}
+use Rattle.pddl_domain.specs.Actions.{action_view}
+use Rattle.pddl_domain.specs.Domains.{domain_view}
+use Rattle.pddl_types.specs.KnownNames.{action_signature}
+use Rattle.pddl_types.specs.TypeSpans.{AreSlotTops}
+use Rattle.pddl_types.proofs.Views.{seen_of}
+use Rattle.pddl_sizes.specs.ObjectOrders.{IsOrderOf}
+use Rattle.pddl_linked_task.proofs.OnceNamed.{no_repeats}
+use Rattle.pddl_link.proofs.linked.tables_of.Goals as goal
+
+pub of-requires-2-clause-predicates : goal.of-requires-2-clause-predicates
+of-requires-2-clause-predicates g c = (no_repeats (domain_view c.args.domain.now) c.requires.1.0).0
+
+pub of-requires-2-clause-functions : goal.of-requires-2-clause-functions
+of-requires-2-clause-functions g c = (no_repeats (domain_view c.args.domain.now) c.requires.1.0).1
+
+pub returns-clause-parameters : goal.returns-clause-parameters
+returns-clause-parameters g c =
+    subst (λ fs. AreSlotTops c.args.types.now fs c.in_ok-parameters.parameters) (seen_of action_signature action_view c.deref-2.ensures.value) c.in_ok-parameters.ensures
+
+pub returns-clause-ordered : goal.returns-clause-ordered
+returns-clause-ordered g c = subst (λ spans. ∥ IsOrderOf spans c.in_ok-order.order ∥₁) c.deref.ensures.value c.in_ok-order.ensures

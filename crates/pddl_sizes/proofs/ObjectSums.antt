@@ -1,0 +1,121 @@
+-- The objects under tops that are apart: by sums over an order of all objects, and as parts of it.
+use Rattle.std.proofs.Common.{◌≡◌, ℕ, zero, suc, ◌+◌, ◌-◌, ◌<◌, ◌≤◌, Bool, true, false, cond, ltb, leb, ◌&&◌, List, [], ◌∷◌, filter, length, take, drop, refl, sym, ap, ◌∙◌, subst, arith, slice_index_or, take-suc}
+use Rattle.std.proofs.Math.Nat.{ℕ_set}
+use Rattle.std.specs.Coded.{le_prop}
+use Rattle.std.specs.List.{sum_by}
+use Rattle.std.proofs.lemmas.Bool.{leb-true, lt-leb, ltb-true, ltb-false, and_parts}
+use Rattle.std.proofs.lemmas.List.{get_or_default, get_or-take, length-drop, length-take-le, take_all}
+use Rattle.std.proofs.lemmas.List.Folds.{list_any-append, Any-from_list_any}
+use Rattle.std.proofs.lemmas.List.Sorted.{sum_by-IsPermutation}
+use Rattle.std.specs.List.Sorted.{IsNonDecreasingBy, IsPartitionPoint}
+use Rattle.std.proofs.Math.Logic.{∥∥₁_elim}
+use Rattle.std.proofs.Math.Bool.{and-false}
+use Rattle.pddl_task.specs.Tasks.{places_from}
+use Rattle.pddl_forest.specs.Spans.{holds, some_holds, span_at, AreApart}
+use Rattle.pddl_forest.specs.declared.spans.Span.{Span}
+use Rattle.pddl_forest.proofs.ApartSpans.{held}
+use Rattle.pddl_sizes.specs.ObjectOrders.{numbers_below, IsOrderOf}
+use Rattle.pddl_sizes.specs.declared.object_order.ObjectOrder.{ObjectOrder}
+use Rattle.pddl_sizes.proofs.ListSums.{if_passes, if_either, sum_filter, sum_two, sum_ones, few_pass, places_are}
+
+module _ (spans tops : List Span) (order : List ℕ) where
+  abbrev number : ℕ → ℕ
+  number o = (span_at spans o).first
+
+  -- over those that are under so many tops
+  abbrev pub sum_under : (ℕ → ℕ) → ℕ → ℕ
+  sum_under f i = sum_by (λ o. if_passes (some_holds (take i tops) (number o)) (f o)) order
+
+  pub none_under : (f : ℕ → ℕ) → 0 ≡ sum_under f 0
+  none_under f =
+      let g : ℕ → ℕ = λ o. if_passes (some_holds (take 0 tops) (number o)) (f o) in
+      let twice = sum_two g g g (λ o. refl) order in
+      omega (arith, twice)
+
+  -- no more are than there are
+  pub few_under : (i : ℕ) → sum_under (λ _. 1) i ≤ length order
+  few_under i =
+      let test : ℕ → Bool = λ o. some_holds (take i tops) (number o) in
+      omega (arith, sum_filter test (λ _. 1) order, sum_ones (filter test order), few_pass test order)
+
+  module _ (apart : AreApart tops) (i : ℕ) (none : Span) (low : i < length tops) where
+    abbrev top : Span
+    top = slice_index_or tops i none
+
+    no_other : (n : ℕ) → some_holds (take i tops) n ≡ true → holds top n ≡ true → ⊥
+    no_other n before here =
+        let (k, s, k_low, s_is, on) = Any-from_list_any (λ t. holds t n) (take i tops) before in
+        let few = length-take-le i tops (omega (arith, low)) in
+        let past = apart.behind k i (omega (arith, k_low, few)) low in
+        let at : span_at tops k ≡ s = sym (get_or-take i tops k _ (omega (arith, k_low, few))) ∙ get_or_default (take i tops) k _ s k_low ∙ s_is in
+        let also : span_at tops i ≡ top = get_or_default tops i _ none low in
+        let to = leb-true n s.last (and_parts (leb s.first n) (leb n s.last) on).1 in
+        let from = leb-true top.first n (and_parts (leb top.first n) (leb n top.last) here).0 in
+        let a = ap (λ t. t.last) at in
+        let b = ap (λ t. t.first) also in
+        omega (arith, past, to, from, a, b)
+
+    one_of : (n m : ℕ) → if_passes (some_holds (take (i + 1) tops) n) m ≡ if_passes (some_holds (take i tops) n) m + if_passes (holds top n) m
+    one_of n m =
+        let next : i + 1 ≡ suc i = omega arith in
+        ap (λ ts. if_passes (some_holds ts n) m) (ap (λ k. take k tops) next ∙ take-suc tops i none low) ∙ ap (λ b. if_passes b m) (list_any-append (λ t. holds t n) (take i tops) (top ∷ []))
+        ∙ if_either (some_holds (take i tops) n) (holds top n) m (no_other n)
+
+    pub next_top : (f : ℕ → ℕ) → sum_under f (i + 1) ≡ sum_under f i + sum_by f (filter (λ o. holds top (number o)) order)
+    next_top f =
+        sum_two (λ o. if_passes (some_holds (take i tops) (number o)) (f o)) (λ o. if_passes (holds top (number o)) (f o)) (λ o. if_passes (some_holds (take (i + 1) tops) (number o)) (f o)) (λ o. one_of (number o) (f o)) order
+        ∙ ap (λ n. sum_under f i + n) (sym (sum_filter (λ o. holds top (number o)) f order))
+
+-- all objects stand in the order once
+pub sum_under_all : {B : Type 0} (spans tops : List Span) (order : ObjectOrder B) (i : ℕ) (f : ℕ → ℕ) → ∥ IsOrderOf spans order ∥₁ → length tops ≤ i
+    → sum_under spans tops order.objects.items f i ≡ sum_by f (places_from 0 (λ s. some_holds tops s.first) spans)
+sum_under_all spans tops order i f ordered past =
+    let test : Span → Bool = λ s. some_holds tops s.first in
+    let none : Span = record { first = length spans; last = length spans } in
+    let g : ℕ → ℕ = λ o. if_passes (test (span_at spans o)) (f o) in
+    ap (λ ts. sum_by (λ o. if_passes (some_holds ts (span_at spans o).first) (f o)) order.objects.items) (take_all i tops past)
+    ∙ ∥∥₁_elim ordered (hlevel ℕ_set) (λ is. sum_by-IsPermutation g (numbers_below (length spans)) order.objects.items is.all)
+    ∙ sym (sum_filter (λ o. test (span_at spans o)) f (numbers_below (length spans)))
+    ∙ ap (sum_by f) (places_are test spans none)
+
+-- their types have numbers that do not fall
+pub rising : {B : Type 0} (spans : List Span) (order : ObjectOrder B) → ∥ IsOrderOf spans order ∥₁ → IsNonDecreasingBy (λ o. (span_at spans o).first) order.objects.items
+rising spans order ordered = λ i j d le low. ∥∥₁_elim ordered (hlevel le_prop) (λ is. is.rising i j d le low)
+
+-- ---- a part of an order
+
+-- behind the numbers below a span, as far as the numbers are not past it, are those in the span
+module _ {X : Type 0} (n : X → ℕ) (top : Span) where
+  abbrev one : X → Bool → List X → List X
+  one x b xs = cond b (x ∷ filter (λ y. holds top (n y)) xs) (filter (λ y. holds top (n y)) xs)
+
+  abbrev IsStart : List X → ℕ → Type 0
+  IsStart = IsPartitionPoint (λ x. ltb (n x) top.first ≡ true) (λ x. ltb (n x) top.first ≡ false)
+
+  abbrev IsEnd : List X → ℕ → Type 0
+  IsEnd = IsPartitionPoint (λ x. leb (n x) top.last ≡ true) (λ x. leb (n x) top.last ≡ false)
+
+  part_holds : (xs : List X) (start many : ℕ) → many ≤ length (drop start xs) → IsStart xs start → IsEnd (drop start xs) many → take many (drop start xs) ≡ filter (λ x. holds top (n x)) xs
+  part_holds [] zero zero few from to = refl
+  part_holds [] zero (suc many) few from to = absurd (omega (arith, few))
+  part_holds [] (suc start) zero few from to = refl
+  part_holds [] (suc start) (suc many) few from to = absurd (omega (arith, few))
+  part_holds (x ∷ xs) (suc start) many few from to =
+      part_holds xs start many few (λ k d _ low. from.0 (suc k) d (omega arith) (omega (arith, low)), λ k d past low. from.1 (suc k) d (omega (arith, past)) (omega (arith, low))) to
+      ∙ ap (λ b. one x (b && leb (n x) top.last) xs) (sym (lt-leb top.first (n x) (ltb-true (n x) top.first (from.0 0 x (omega arith) (omega arith)))))
+  part_holds (x ∷ xs) zero zero few from to =
+      part_holds xs zero zero (omega arith) (λ k d _ low. absurd (omega (arith, low)), λ k d past low. from.1 (suc k) d (omega arith) (omega (arith, low)))
+      (λ k d _ low. absurd (omega (arith, low)), λ k d past low. to.1 (suc k) d (omega arith) (omega (arith, low)))
+      ∙ ap (λ b. one x b xs) (sym (ap (λ b. leb top.first (n x) && b) (to.1 0 x (omega arith) (omega arith)) ∙ and-false (leb top.first (n x))))
+  part_holds (x ∷ xs) zero (suc many) few from to =
+      ap (λ ys. x ∷ ys) (part_holds xs zero many (omega (arith, few)) (λ k d _ low. absurd (omega (arith, low)), λ k d past low. from.1 (suc k) d (omega arith) (omega (arith, low)))
+      (λ k d _ low. to.0 (suc k) d (omega arith) (omega (arith, low)), λ k d past low. to.1 (suc k) d (omega (arith, past)) (omega (arith, low))))
+      ∙ ap (λ b. one x b xs) (sym (held top (n x) (ltb-false (n x) top.first (from.1 0 x (omega arith) (omega arith))) (leb-true (n x) top.last (to.0 0 x (omega arith) (omega arith)))))
+
+  -- the same, where the rest is as a slice has it
+  pub rest_holds : (xs : List X) (start many : ℕ) → many ≤ length (take (length xs - start) (drop start xs)) → IsStart xs start → IsEnd (take (length xs - start) (drop start xs)) many
+      → take many (take (length xs - start) (drop start xs)) ≡ filter (λ x. holds top (n x)) xs
+  rest_holds xs start many few from to =
+      let same : take (length xs - start) (drop start xs) ≡ drop start xs = take_all (length xs - start) (drop start xs) (omega (arith, length-drop start xs)) in
+      ap (take many) same
+      ∙ part_holds xs start many (subst (λ ys. many ≤ length ys) same few) from (subst (λ ys. IsEnd ys many) same to)

@@ -1,0 +1,8 @@
+use Rattle.std.proofs.Common.{◌≡◌, ℕ}
+use Rattle.std.specs.List.{sum_by}
+use Rattle.pddl_sizes.proofs.ObjectSums.{sum_under}
+use Rattle.pddl_sizes.proofs.object_order.ObjectOrder.objects_under.Given as goal
+
+-- the objects under the tops so far are found
+abbrev pub invariant-loop-top : goal.invariant-loop-top
+invariant-loop-top g l = (f : ℕ → ℕ) → sum_by f l.found.items ≡ sum_under l.spans l.tops l.self.objects.items f l.top-index

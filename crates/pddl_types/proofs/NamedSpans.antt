@@ -1,0 +1,242 @@
+-- Types by their spans: what is under a type is what has its first number in the type's span.
+use Rattle.std.proofs.Common.{◌≡◌, ℕ, zero, suc, ◌+◌, ◌<◌, ◌≤◌, Bool, true, false, not, ◌&&◌, ◌||◌, cond, eqb, leb, List, [], ◌∷◌, map, length, refl, sym, ap, ◌∙◌, subst, arith, bytes_eq, ◌⊎◌, inl, inr, slice_index_or, eqb-true, eq-eqb, le-leb, leb-true, true≢false}
+use Rattle.std.specs.Prelude.{IsTrue, Some, None, Contains}
+use Rattle.std.specs.Borrow.{Bor}
+use Rattle.std.specs.List.{list_any, position}
+use Rattle.std.specs.Map.{keys_of}
+use Rattle.std.proofs.lemmas.List.{length-map, get_or_past}
+use Rattle.pddl_forest.specs.Spans.{holds, some_holds, hold_all, span_at, AreSpans}
+use Rattle.pddl_forest.specs.declared.spans.Span.{Span}
+use Rattle.pddl_domain.specs.Declarations.{TypeValue}
+use Rattle.pddl_task.specs.Names.{Name, is_in, number_in}
+use Rattle.pddl_task.specs.Types.{root, types_of, pairs, is_under, is_subtype, fits}
+use Rattle.pddl_types.specs.TypeTables.{Row, names_in, name_at, type_names, IsTypeTable}
+use Rattle.pddl_types.specs.TypeSpans.{TypesValue, span_of, IsTold, DoTell, are_types}
+use Rattle.pddl_task.proofs.Lists.{and_left, and_right, and_both, any_found, found_any, all_found, found_all, has_first, has_cases, has_none, bytes_same, mapped_is, is_mapped}
+use Rattle.pddl_task.proofs.Subtypes.{is_under_decides, under_found, under_through}
+use Rattle.pddl_types.proofs.TypeTables.{table_has}
+use Rattle.pddl_types.proofs.TypeParents.{same_tests, same_types}
+use Rattle.pddl_types.proofs.TypeForests.{parents_in, type_there, same_place, under_numbered}
+use Rattle.pddl_types.proofs.TypeLookups.{found_place, no_type}
+
+-- ---- numbers of names
+
+number_there : (ns : List Name) (n d : Name) → is_in ns n ≡ true → (number_in ns n < length ns) × (slice_index_or ns (number_in ns n) d ≡ n)
+number_there [] n d h = cc
+number_there (m ∷ ns) n d h =
+    elim (bytes_eq n m) as (λ b. bytes_eq n m ≡ b → b || is_in ns n ≡ true → (cond (not b) (1 + number_in ns n) 0 < suc (length ns)) × (slice_index_or (m ∷ ns) (cond (not b) (1 + number_in ns n) 0) d ≡ n)) [
+      | true ↦ λ same _. (omega arith, sym (bytes_same n m same))
+      | false ↦ λ _ later.
+          let rest = number_there ns n d later in
+          let one : 1 + number_in ns n ≡ suc (number_in ns n) = omega arith in
+          (omega (arith, rest.0), ap (λ k. slice_index_or (m ∷ ns) k d) one ∙ rest.1)
+    ] refl h
+
+number_past : (ns : List Name) (n : Name) → is_in ns n ≡ false → number_in ns n ≡ length ns
+number_past [] n h = refl
+number_past (m ∷ ns) n h =
+    elim (bytes_eq n m) as (λ b. b || is_in ns n ≡ false → cond (not b) (1 + number_in ns n) 0 ≡ suc (length ns)) [
+      | true ↦ λ k. cc
+      | false ↦ λ later. let rest = number_past ns n later in omega (arith, rest)
+    ] h
+
+-- ---- spans
+
+held : (s : Span) (i : ℕ) → holds s i ≡ true → (s.first ≤ i) × (i ≤ s.last)
+held s i h = (leb-true s.first i (and_left (leb s.first i) (leb i s.last) h), leb-true i s.last (and_right (leb s.first i) (leb i s.last) h))
+
+first_held : (s : Span) → s.first ≤ s.last → holds s s.first ≡ true
+first_held s some = and_both (leb s.first s.first) (leb s.first s.last) (le-leb s.first s.first (omega arith)) (le-leb s.first s.last some)
+
+abbrev is_same : Span → Span → Bool
+is_same s u = eqb s.first u.first && eqb s.last u.last
+
+same_span : (s u : Span) → is_same s u ≡ true → s ≡ u
+same_span s u h =
+    let first = eqb-true s.first u.first (and_left (eqb s.first u.first) (eqb s.last u.last) h) in
+    let last = eqb-true s.last u.last (and_right (eqb s.first u.first) (eqb s.last u.last) h) in
+    ap (λ n. record { first = n; last = s.last }) first ∙ ap (λ n. record { first = u.first; last = n }) last
+
+-- ---- the spans of types
+
+-- types, as a table has them
+abbrev pub AreInTable : TypesValue → List Row → Type 0
+AreInTable t rows = IsTypeTable t.declared rows × AreSpans (parents_in rows) t.spans
+
+module _ (t : TypesValue) (rows : List Row) (h : AreInTable t rows) where
+  abbrev is_type : Name → Bool
+  is_type = is_in (types_of t.declared)
+
+  abbrev number : Name → ℕ
+  number = number_in (type_names t.declared)
+
+  long : length t.spans ≡ length rows
+  long = h.1.many ∙ length-map rows (λ r. r.1)
+
+  stands : (n : Name) → is_type n ≡ true → (number n < length rows) × (name_at rows (number n) ≡ n)
+  stands n type =
+      let p = number_there (names_in rows) n root (table_has (types_of t.declared) t.declared rows h.0.table n ∙ type) in
+      subst (λ ns. (number_in ns n < length rows) × (name_at rows (number_in ns n) ≡ n)) h.0.table.names (omega (arith, p.0, length-map rows (λ (r : Row). r.0.now)), p.1)
+
+  past : (n : Name) → is_type n ≡ false → number n ≡ length t.spans
+  past n off =
+      let p = number_past (names_in rows) n (table_has (types_of t.declared) t.declared rows h.0.table n ∙ off) in
+      ap (λ ns. number_in ns n) (sym h.0.table.names) ∙ p ∙ length-map rows (λ (r : Row). r.0.now) ∙ sym long
+
+  past_span : (n : Name) → is_type n ≡ false → span_of t n ≡ record { first = length t.spans; last = length t.spans }
+  past_span n off = get_or_past t.spans (number n) (record { first = length t.spans; last = length t.spans }) (omega (arith, past n off))
+
+  behind : (n : Name) → is_type n ≡ false → ((span_of t n).first ≡ length t.spans) × ((span_of t n).last ≡ length t.spans)
+  behind n off = (ap (λ (s : Span). s.first) (past_span n off), ap (λ (s : Span). s.last) (past_span n off))
+
+  within : (n : Name) → is_type n ≡ true → ((span_of t n).first ≤ (span_of t n).last) × ((span_of t n).last < length t.spans)
+  within n type =
+      let low : number n < length (parents_in rows) = omega (arith, (stands n type).0, length-map rows (λ (r : Row). r.1)) in
+      (h.1.some (number n) low, omega (arith, h.1.low (number n) low, h.1.many))
+
+  pub some : (n : Name) → (span_of t n).first ≤ (span_of t n).last
+  some n = elim (is_type n) as (λ b. is_type n ≡ b → (span_of t n).first ≤ (span_of t n).last) [
+    | true ↦ λ type. (within n type).0
+    | false ↦ λ off. let b = behind n off in omega (arith, b.0, b.1)
+  ] refl
+
+  pub all_some : (names : List Name) (spans : List Span) → spans ≡ map (span_of t) names → (s : Span) → Contains spans s → s.first ≤ s.last
+  all_some names spans is s there =
+      let n = mapped_is (span_of t) names s (subst (λ us. Contains us s) is there) in
+      subst (λ (u : Span). u.first ≤ u.last) n.2 (some n.0)
+
+  -- a name that is looked up
+  pub found_span : (q : Bor (List ℕ)) (i : ℕ) → position (λ k. bytes_eq q.now k.now) (keys_of rows) ≡ Some i → (i < length t.spans) × (span_at t.spans i ≡ span_of t q.now)
+  found_span q i at =
+      let found = found_place rows q i at in
+      let s = stands q.now (ap is_type (sym found.1) ∙ type_there t.declared rows h.0 i found.0) in
+      (omega (arith, found.0, long), ap (span_at t.spans) (same_place t.declared rows h.0 i (number q.now) found.0 s.0 (found.1 ∙ sym s.1)))
+
+  pub no_span : (q : Bor (List ℕ)) → position (λ k. bytes_eq q.now k.now) (keys_of rows) ≡ None → span_of t q.now ≡ record { first = length t.spans; last = length t.spans }
+  no_span q at = past_span q.now (no_type t.declared rows q h.0 at)
+
+  -- ---- what is under what
+
+  abbrev under : Name → Name → Bool
+  under = is_under (pairs t.declared)
+
+  abbrev test : Name → Name → Bool
+  test n m = holds (span_of t m) (span_of t n).first
+
+  -- one of two names at least is a type
+  abbrev IsKnown : Name → Name → Type 0
+  IsKnown n m = IsTrue (is_type n) ⊎ IsTrue (is_type m)
+
+  pub is_test : (n m : Name) → IsKnown n m → test n m ≡ under n m
+  is_test n m known =
+      elim (is_type n) as (λ b. is_type n ≡ b → test n m ≡ under n m) [
+        | true ↦ λ one. elim (is_type m) as (λ b. is_type m ≡ b → test n m ≡ under n m) [
+          | true ↦ both one
+          | false ↦ λ off. same_tests (test n m) (under n m)
+              (λ yes. let in_span = held (span_of t m) (span_of t n).first yes in absurd (omega (arith, in_span.0, (behind m off).0, (within n one).0, (within n one).1)))
+              (λ yes. absurd (true≢false (sym one ∙ same_types t.declared n m h.0.declared_once yes ∙ off)))
+        ] refl
+        | false ↦ λ off. same_tests (test n m) (under n m)
+            (λ yes. let in_span = held (span_of t m) (span_of t n).first yes in absurd (omega (arith, in_span.1, (behind n off).0, (within m (other off)).1)))
+            (λ yes. absurd (true≢false (sym (other off) ∙ sym (same_types t.declared n m h.0.declared_once yes) ∙ off)))
+      ] refl
+    where
+      other : is_type n ≡ false → is_type m ≡ true
+      other off = elim known as (λ _. is_type m ≡ true) [ inl is ↦ absurd (true≢false (sym is ∙ off)) | inr is ↦ is ]
+
+      both : is_type n ≡ true → is_type m ≡ true → test n m ≡ under n m
+      both one other =
+          let (low, at) = stands n one in
+          let (also, there) = stands m other in
+          let long_enough = length-map rows (λ (r : Row). r.1) in
+          let told = h.1.under (number n) (number m) (omega (arith, low, long_enough)) (omega (arith, also, long_enough)) in
+          let tells = under_numbered t.declared rows h.0 (parents_in rows) (number n) (number m) refl low also in
+          same_tests (test n m) (under (name_at rows (number n)) (name_at rows (number m))) (λ yes. tells.1 (told.0 yes)) (λ yes. told.1 (tells.0 yes))
+          ∙ ap (λ k. under k (name_at rows (number m))) at ∙ ap (under n) there
+
+  pub test_told : (n m : Name) (low over : Span) → IsKnown n m → low ≡ span_of t n → over ≡ span_of t m → holds over low.first ≡ under n m
+  test_told n m low over known is also = ap (λ s. holds s low.first) also ∙ ap (λ (s : Span). holds (span_of t m) s.first) is ∙ is_test n m known
+
+  through : (n m u : Name) → under n m ≡ true → under m u ≡ true → under n u ≡ true
+  through n m u low high =
+      under_found (pairs t.declared) n u (under_through (pairs t.declared) n m u ((is_under_decides (pairs t.declared) n m).0 low) ((is_under_decides (pairs t.declared) m u).0 high))
+
+  -- ---- what is told by tops
+
+  -- a top is the span of one of the names
+  top_of : (names : List Name) (tops : List Span) (s : Span) → IsTold t names tops → Contains tops s → (m : Name) × Contains names m × (span_of t m ≡ s)
+  top_of names tops s told there =
+      let one = any_found (is_same s) (map (span_of t) names) (told.each s there) in
+      let m = mapped_is (span_of t) names one.0 one.1 in
+      (m.0, m.1, m.2 ∙ sym (same_span s one.0 one.2))
+
+  -- the span of a name begins in that of one of the names, which is a top
+  in_top : (names : List Name) (tops : List Span) (n : Name) → IsTold t names tops → some_holds tops (span_of t n).first ≡ true
+      → (m : Name) × Contains names m × Contains tops (span_of t m) × (test n m ≡ true)
+  in_top names tops n told some_do =
+      let s = any_found (λ u. holds u (span_of t n).first) tops some_do in
+      let m = top_of names tops s.0 told s.1 in
+      (m.0, m.1, subst (Contains tops) (sym m.2) s.1, ap (λ u. holds u (span_of t n).first) m.2 ∙ s.2)
+
+  pub do_tell : DoTell t
+  do_tell n slot tops told known =
+      same_tests (some_holds tops (span_of t n).first) (list_any (under n) slot)
+      (λ yes. let m = in_top slot tops n told yes in found_any (under n) slot m.0 m.1 (sym (is_test n m.0 (with_one m.0 m.1)) ∙ m.3))
+      (λ yes.
+      let m = any_found (under n) slot yes in
+      let u = in_top slot tops m.0 told (told.all (span_of t m.0) (is_mapped (span_of t) slot m.0 m.1)) in
+      let up = through n m.0 u.0 m.2 (sym (is_test m.0 u.0 (over m.0 u.0 u.1 m.2)) ∙ u.3) in
+      found_any (λ s. holds s (span_of t n).first) tops (span_of t u.0) u.2 (is_test n u.0 (with_one u.0 u.1) ∙ up))
+    where
+      with_one : (m : Name) → Contains slot m → IsKnown n m
+      with_one m there = elim known as (λ _. IsKnown n m) [ inl type ↦ inl type | inr all ↦ inr (all_found is_type slot all m there) ]
+
+      over : (m u : Name) → Contains slot u → under n m ≡ true → IsKnown m u
+      over m u there up = elim (with_one u there) as (λ _. IsKnown m u) [
+        | inl type ↦ inl (sym (same_types t.declared n m h.0.declared_once up) ∙ type)
+        | inr type ↦ inr type
+      ]
+
+  -- what is told of two types tells whether one fits the other
+  pub tops_fit : (types slot : List Name) (told tops : List Span) → IsTold t types told → IsTold t slot tops → IsTrue (are_types t.declared types) ⊎ IsTrue (are_types t.declared slot)
+      → hold_all tops told ≡ fits (pairs t.declared) types slot
+  tops_fit types slot told tops first second known =
+      same_tests (hold_all tops told) (fits (pairs t.declared) types slot)
+      (λ yes. found_all (λ n. list_any (under n) slot) types (λ n there.
+      let m = in_top types told n first (first.all (span_of t n) (is_mapped (span_of t) types n there)) in
+      let u = any_found (under m.0) slot (sym (do_tell m.0 slot tops second (one m.0 m.1)) ∙ all_found (λ s. some_holds tops s.first) told yes (span_of t m.0) m.2) in
+      let type = elim (one m.0 m.1) as (λ _. is_type m.0 ≡ true) [ inl is ↦ is | inr all ↦ same_types t.declared m.0 u.0 h.0.declared_once u.2 ∙ all_found is_type slot all u.0 u.1 ] in
+      found_any (under n) slot u.0 u.1 (through n m.0 u.0 (sym (is_test n m.0 (inr type)) ∙ m.3) u.2)))
+      (λ yes. found_all (λ s. some_holds tops s.first) told (λ s there.
+      let m = top_of types told s first there in
+      ap (λ (u : Span). some_holds tops u.first) (sym m.2) ∙ do_tell m.0 slot tops second (one m.0 m.1) ∙ all_found (λ n. list_any (under n) slot) types yes m.0 m.1))
+    where
+      one : (n : Name) → Contains types n → IsTrue (is_type n) ⊎ IsTrue (are_types t.declared slot)
+      one n there = elim known as (λ _. IsTrue (is_type n) ⊎ IsTrue (are_types t.declared slot)) [ inl all ↦ inl (all_found is_type types all n there) | inr all ↦ inr all ]
+
+-- a test of types alone
+pub subtype_is : (declared : List TypeValue) (sub over : Name) (told : Bool) → is_in (types_of declared) sub ≡ true → is_in (types_of declared) over ≡ true → told ≡ is_under (pairs declared) sub over
+    → told ≡ is_subtype declared sub over
+subtype_is declared sub over told one other is =
+    let under = is_under (pairs declared) sub over in
+    is ∙ sym (ap (λ b. b && (is_in (types_of declared) over && under)) one ∙ ap (λ b. b && under) other)
+
+-- the span of a name alone
+pub told_alone : (t : TypesValue) (n : Name) (s : Span) → s.first ≤ s.last → s ≡ span_of t n → IsTold t (n ∷ []) (s ∷ [])
+told_alone t n s low is = record {
+  each = λ u there. found_any (is_same u) (span_of t n ∷ []) (span_of t n) (has_first (span_of t n) []) (same u (only s u there ∙ is));
+  all = λ u there. found_any (λ v. holds v u.first) (s ∷ []) s (has_first s []) (ap (λ (v : Span). holds s v.first) (only (span_of t n) u there ∙ sym is) ∙ first_held s low);
+  apart = record { own = own; behind = λ i j less inside. absurd (omega (arith, less, inside)) };
+}
+  where
+    only : (v u : Span) → Contains (v ∷ []) u → u ≡ v
+    only v u there = elim (has_cases v [] u there) as (λ _. u ≡ v) [ inl one ↦ sym one | inr none ↦ absurd (has_none u none) ]
+
+    same : (u : Span) → u ≡ span_of t n → is_same u (span_of t n) ≡ true
+    same u one =
+        let v = span_of t n in
+        and_both (eqb u.first v.first) (eqb u.last v.last) (eq-eqb u.first v.first (ap (λ (w : Span). w.first) one)) (eq-eqb u.last v.last (ap (λ (w : Span). w.last) one))
+
+    own : (i : ℕ) → i < 1 → (span_at (s ∷ []) i).first ≤ (span_at (s ∷ []) i).last
+    own zero inside = low
+    own (suc i) inside = absurd (omega (arith, inside))

@@ -1,0 +1,83 @@
+-- Types by spans of numbers: what is under a type has its numbers in the type's span. Own.
+use Rattle.std.specs.Prelude.{◌≡◌, ◌<◌, ◌≤◌, ◌⊎◌, ⊤, ℕ, Bool, false, IsTrue, List, [], ◌∷◌, Option, Some, None, map, length, slice_get, Contains}
+use Rattle.std.specs.Borrow.{Bor}
+use Rattle.std.specs.List.{list_any, list_all, slice_index_or}
+use Rattle.pddl_forest.specs.Spans.{some_holds, span_at, AreTops}
+use Rattle.pddl_forest.specs.declared.spans.Span.{Span}
+use Rattle.pddl_formula.specs.TypedLists.{TypedValue}
+use Rattle.pddl_domain.specs.Declarations.{TypeValue, Signature}
+use Rattle.pddl_task.specs.Names.{Name, is_in, number_in}
+use Rattle.pddl_task.specs.Types.{types_of, pairs, is_under}
+use Rattle.pddl_faults.specs.Told.{AreTold}
+use Rattle.pddl_types.specs.TypeTables.{type_names}
+use Rattle.pddl_types.specs.KnownNames.{AreNamed, object_in}
+use Rattle.pddl_types.specs.declared.listed.Listed.{Listed}
+
+-- the types that are declared, and the spans of all types, in the order of a table
+pub record TypesValue : Type 0 where
+  pub declared : List TypeValue
+  pub spans : List Span
+
+-- the span of a type, or one behind all numbers where the name is no type
+abbrev pub span_of : TypesValue → Name → Span
+span_of t n = span_at t.spans (number_in (type_names t.declared) n)
+
+-- ---- what is told of types
+
+-- tops of a type's primitives
+abbrev pub IsTold : TypesValue → List Name → List Span → Type 0
+IsTold t names tops = AreTops (map (span_of t) names) tops
+
+-- what is told of the type of an item, where there is one
+abbrev pub IsToldOf : TypesValue → Option TypedValue → Option (Bor (List Span)) → Type 0
+IsToldOf t None None = ⊤
+IsToldOf t (Some x) (Some told) = IsTold t x.of told.now
+IsToldOf t _ _ = ⊥
+
+-- tops for each slot of each of some names
+abbrev pub AreSlotTops : TypesValue → List Signature → List (List (List Span)) → Type 0
+AreSlotTops t signatures tops = (k : ℕ) (f : Signature) → slice_get signatures k ≡ Some f → AreTold (IsTold t) f.parameters (slice_index_or tops k [])
+
+-- all names are types
+abbrev pub are_types : List TypeValue → List Name → Bool
+are_types declared names = list_all (is_in (types_of declared)) names
+
+-- the primitives of all slots are
+abbrev pub HaveTypes : List TypeValue → List Signature → Type 0
+HaveTypes declared signatures = (f : Signature) (x : TypedValue) → Contains signatures f → Contains f.parameters x → IsTrue (are_types declared x.of)
+
+-- Tops of a slot hold the first number of a name's span where the name is under some primitive of the slot, unless neither the name nor some primitive is a type.
+abbrev pub DoTell : TypesValue → Type 0
+DoTell t = (n : Name) (slot : List Name) (tops : List Span) → IsTold t slot tops → IsTrue (is_in (types_of t.declared) n) ⊎ IsTrue (are_types t.declared slot)
+    → some_holds tops (span_of t n).first ≡ list_any (is_under (pairs t.declared) n) slot
+
+-- ---- objects
+
+-- the type has one primitive, which is one of the domain's types
+abbrev pub is_single : List TypeValue → List Name → Bool
+is_single declared (n ∷ []) = is_in (types_of declared) n
+is_single declared _ = false
+
+-- each object has such a type
+abbrev pub AreSingle : List TypeValue → List TypedValue → Type 0
+AreSingle declared objects = (o : TypedValue) → Contains objects o → IsTrue (is_single declared o.of)
+
+-- the span, of a number at least, is that of the one primitive of a type, which has some, if there is one alone
+pub record IsOnlySpan (t : TypesValue) (types : List Name) (s : Span) : Type 0 where
+  pub own : s.first ≤ s.last
+  pub some : 0 < length types
+  pub only : (n : Name) → types ≡ n ∷ [] → s ≡ span_of t n
+
+-- each of some objects has a value, of which this holds with its type
+pub record HaveEach {T : Type 0} (Holds : List Name → T → Type 0) (objects : List TypedValue) (values : List T) : Type 0 where
+  pub many : length values ≡ length objects
+  pub each : (k : ℕ) (v : T) (x : TypedValue) → slice_get objects k ≡ Some x → slice_get values k ≡ Some v → Holds x.of v
+
+-- no objects are listed
+abbrev pub IsEmpty : {A B : _} → Listed A B → Type 0
+IsEmpty l = (l.objects.entries ≡ []) × (l.spans.items ≡ [])
+
+-- objects that are listed stand each under its own name, with such a span
+pub record AreListed {A B : Type 0} (t : TypesValue) (l : Listed A B) : Type 0 where
+  pub named : AreNamed l.objects.entries
+  pub spans : HaveEach (IsOnlySpan t) (map object_in l.objects.entries) l.spans.items
