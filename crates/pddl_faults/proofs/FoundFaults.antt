@@ -183,34 +183,27 @@ found_verdict fs (Err e) h = lowest_standing fs (fault_of e) h
 pub found_same : {T : Type 0} (xs whole : List (ℕ × Name)) (r : Result T LinkFault) → whole ≡ xs → IsFound xs r → IsFound whole r
 found_same xs whole r is h = subst (λ (fs : List (ℕ × Name)). IsFound fs r) (sym is) h
 
--- ---- behind what was found before
+-- ---- part by part
 
--- what is found behind two parts in turn is found behind both
-pub found_in_two : (before xs ys whole : List (ℕ × Name)) (r : Result (Unit {0}) LinkFault) → whole ≡ xs ++ ys → IsFound ((before ++ xs) ++ ys) r → IsFound (before ++ whole) r
-found_in_two before xs ys whole r is h = found_same ((before ++ xs) ++ ys) (before ++ whole) r (ap (λ zs. before ++ zs) is ∙ sym (append_assoc before xs ys)) h
-
--- nothing more is there
-pub found_no_more : (before : List (ℕ × Name)) (r : Result (Unit {0}) LinkFault) → IsFound before r → IsFound (before ++ []) r
-found_no_more before r h = found_same before (before ++ []) r (append-none before) h
-
--- what is found in the whole but for what is left of it, behind what was found before
-pub record IsFoundUpTo (before left whole : List (ℕ × Name)) (r : Result (Unit {0}) LinkFault) : Type 0 where
+-- what is found in the whole but for what is left of it
+pub record IsFoundUpTo (left whole : List (ℕ × Name)) (r : Result (Unit {0}) LinkFault) : Type 0 where
   pub gone : List (ℕ × Name)
   pub parts : gone ++ left ≡ whole
-  pub found : IsFound (before ++ gone) r
+  pub found : IsFound gone r
 
-pub up_to_none : (before whole : List (ℕ × Name)) (r : Result (Unit {0}) LinkFault) → IsFound before r → IsFoundUpTo before whole whole r
-up_to_none before whole r h = record { gone = []; parts = refl; found = found_no_more before r h }
+-- all is left at first
+pub up_to_none : {whole : List (ℕ × Name)} → IsFoundUpTo whole whole (Ok tt)
+up_to_none = record { gone = []; parts = refl; found = refl }
 
-pub up_to_more : (before left part rest whole : List (ℕ × Name)) (r next : Result (Unit {0}) LinkFault) → left ≡ part ++ rest
-    → ((xs : List (ℕ × Name)) → IsFound xs r → IsFound (xs ++ part) next) → IsFoundUpTo before left whole r → IsFoundUpTo before rest whole next
-up_to_more before left part rest whole r next is more so_far = record {
+-- a part more
+pub up_to_more : {left rest whole : List (ℕ × Name)} {r both : Result (Unit {0}) LinkFault} (part : List (ℕ × Name)) (next : Result (Unit {0}) LinkFault) → left ≡ part ++ rest
+    → ((xs ys : List (ℕ × Name)) → IsFound xs r → IsFound ys next → IsFound (xs ++ ys) both) → IsFound part next → IsFoundUpTo left whole r → IsFoundUpTo rest whole both
+up_to_more {rest = rest} part next is lower more so_far = record {
   gone = so_far.gone ++ part;
   parts = append_assoc so_far.gone part rest ∙ ap (λ zs. so_far.gone ++ zs) (sym is) ∙ so_far.parts;
-  found = found_same ((before ++ so_far.gone) ++ part) (before ++ (so_far.gone ++ part)) next (sym (append_assoc before so_far.gone part)) (more (before ++ so_far.gone) so_far.found);
+  found = lower so_far.gone part so_far.found more;
 }
 
-pub up_to_all : (before left whole : List (ℕ × Name)) (r : Result (Unit {0}) LinkFault) → left ≡ [] → IsFoundUpTo before left whole r → IsFound (before ++ whole) r
-up_to_all before left whole r none so_far =
-    let all : so_far.gone ≡ whole = sym (append-none so_far.gone) ∙ ap (λ zs. so_far.gone ++ zs) (sym none) ∙ so_far.parts in
-    subst (λ (fs : List (ℕ × Name)). IsFound (before ++ fs) r) all so_far.found
+-- nothing is left
+pub up_to_all : {left whole : List (ℕ × Name)} {r : Result (Unit {0}) LinkFault} → left ≡ [] → IsFoundUpTo left whole r → IsFound whole r
+up_to_all {whole = whole} {r} none so_far = found_same so_far.gone whole r (sym so_far.parts ∙ ap (λ zs. so_far.gone ++ zs) none ∙ append-none so_far.gone) so_far.found

@@ -4,7 +4,4 @@ pub mod Verdicts
 pub mod PassedParts
 pub mod ViewTurns
 pub mod PutValues
-pub mod BoundTypes
-pub mod ToldTypes
 pub mod FoundFaults
-pub mod HeldRuns

@@ -1,5 +1,5 @@
 -- What is found of faults that stand, each told by its number and its word (own).
-use Rattle.std.specs.Prelude.{◌≡◌, ◌≤◌, ℕ, List, [], ◌++◌, map, Contains, Result, MatchResult, IfSome}
+use Rattle.std.specs.Prelude.{◌≡◌, ◌≤◌, ℕ, List, [], map, Contains, Result, MatchResult, IfSome}
 use Rattle.pddl_task.specs.Names.{Name}
 use Rattle.pddl_faults.specs.declared.fault.LinkFault.{LinkFault}
 use Rattle.pddl_faults.specs.Passes.{fault_of}
@@ -12,10 +12,6 @@ pub record IsLowestOf (all : List (ℕ × Name)) (found : ℕ × Name) : Type 0 
 -- none of these faults is there, or the lowest of them is answered
 abbrev pub IsFound : {T : Type 0} → List (ℕ × Name) → Result T LinkFault → Type 0
 IsFound all r = MatchResult r (λ _. all ≡ []) (λ e. IfSome (fault_of e) (IsLowestOf all))
-
--- behind what is found of some faults, it is found of these as well: the lowest of both together is answered
-abbrev pub FindsMore : {S T : Type 0} → List (ℕ × Name) → Result S LinkFault → Result T LinkFault → Type 0
-FindsMore more so_far r = (before : List (ℕ × Name)) → IsFound before so_far → IsFound (before ++ more) r
 
 -- words, each with the number of its fault
 abbrev pub numbered : ℕ → List Name → List (ℕ × Name)

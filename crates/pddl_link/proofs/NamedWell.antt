@@ -1,7 +1,7 @@
 -- What is known behind the stage of names, where none of its faults stands: predicates and functions stand once, the types of their parameters are known, and so is the one type of each
 -- object.
-use Rattle.std.proofs.Common.{◌≡◌, ℕ, ◌<◌, ◌≤◌, true, nat_lt, List, [], ◌∷◌, ◌++◌, map, length, refl, ap, ◌∙◌, subst, arith, inl, inr}
-use Rattle.std.specs.Prelude.{Contains, slice_get, Some}
+use Rattle.std.proofs.Common.{◌≡◌, ◌<◌, ◌≤◌, true, nat_lt, List, [], ◌∷◌, ◌++◌, map, length, refl, ap, ◌∙◌, subst, arith, inl, inr}
+use Rattle.std.specs.Prelude.{Contains, Some}
 use Rattle.std.specs.List.{flat_map}
 use Rattle.std.proofs.lemmas.List.Elements.{Contains-append_left, Contains-append_right, Contains-append_cases}
 use Rattle.std.proofs.lemmas.Option.{slice_get-get_or}
@@ -34,17 +34,16 @@ module _ (d : DomainValue) (named : NoneStands (map (domain_fault d) name_rules)
   known : (x : TypedValue) → Contains (domain_typed d) x → are_types d.types x.of ≡ true
   known x there = found_all (is_in (types_of d.types)) x.of (λ t has. type_known d (domain_typed d) named.0 x there t has (is_in (types_of d.types) t) refl)
 
-  -- the parameters of predicates, and those of functions
-  pub predicate_types : HaveTypes d.types d.predicates
-  predicate_types f x there has =
-      known x (Contains-append_left (d.constants ++ flat_map parameters_of d.predicates ++ flat_map parameters_of (function_signatures d)) (flat_map variables_at (domain_places d)) x
-      (Contains-append_left (d.constants ++ flat_map parameters_of d.predicates) (flat_map parameters_of (function_signatures d)) x
-      (Contains-append_right d.constants (flat_map parameters_of d.predicates) x (in_flat parameters_of d.predicates f x there has))))
-
-  pub function_types : HaveTypes d.types (function_signatures d)
-  function_types f x there has =
-      known x (Contains-append_left (d.constants ++ flat_map parameters_of d.predicates ++ flat_map parameters_of (function_signatures d)) (flat_map variables_at (domain_places d)) x
-      (Contains-append_right (d.constants ++ flat_map parameters_of d.predicates) (flat_map parameters_of (function_signatures d)) x (in_flat parameters_of (function_signatures d) f x there has)))
+  -- the parameters of predicates and of functions
+  pub slot_types : HaveTypes d.types (d.predicates ++ function_signatures d)
+  slot_types f x there has =
+      let predicates = flat_map parameters_of d.predicates in
+      let functions = flat_map parameters_of (function_signatures d) in
+      known x (Contains-append_left (d.constants ++ predicates ++ functions) (flat_map variables_at (domain_places d)) x
+      (elim (Contains-append_cases d.predicates (function_signatures d) f there) as (λ _. Contains (d.constants ++ predicates ++ functions) x) [
+        | inl h ↦ Contains-append_left (d.constants ++ predicates) functions x (Contains-append_right d.constants predicates x (in_flat parameters_of d.predicates f x h has))
+        | inr h ↦ Contains-append_right (d.constants ++ predicates) functions x (in_flat parameters_of (function_signatures d) f x h has)
+      ]))
 
   constant_known : (x : TypedValue) → Contains d.constants x → are_types d.types x.of ≡ true
   constant_known x there =

@@ -11,7 +11,7 @@ ghost use Rattle.pddl_names.specs.FaultParts.{name_rules, use_rules};
 
 use pddl_domain::Domain;
 use pddl_faults::{LinkFault, lower};
-use pddl_names::{list_objects, look_at_domain, look_at_domain_uses, type_twice};
+use pddl_names::{list_constants, look_at_domain, look_at_domain_uses, type_twice};
 use pddl_types::{Declared, Listed, Types, let_go_declared, let_go_objects};
 use std::alloc::Allocator;
 
@@ -28,7 +28,7 @@ fn look_at_names<'m, 'a, A: Allocator, B: Allocator>(
     ensures listed { OnOk result (AreListed types.now constants.new) }
     ensures verdict { Verdict (map (domain_fault (domain_view domain.now)) name_rules) result }
 {
-    let listed = list_objects(alloc, types, constants, &domain.constants);
+    let listed = list_constants(alloc, types, constants, domain);
     lower(listed, look_at_domain(alloc, types, domain))
 }
 
@@ -46,7 +46,8 @@ fn look_at_uses<'m, 'a, A: Allocator, B: Allocator>(
     ensures { Verdict (map (domain_fault (domain_view domain.now)) use_rules) result }
 {
     let declared = Declared::of(alloc, types, domain)?;
-    let used = look_at_domain_uses(alloc, &declared.known(types, constants), domain);
+    let known = declared.known(types, constants, constants.objects.len());
+    let used = look_at_domain_uses(alloc, &known, domain);
     let_go_declared(declared);
     used
 }

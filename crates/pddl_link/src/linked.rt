@@ -1,6 +1,6 @@
 //! Links a domain and a problem.
 
-ghost use Rattle.std.specs.Prelude.{◌≡◌, [], map, drop, IfOk, OnOk};
+ghost use Rattle.std.specs.Prelude.{◌≡◌, [], ◌++◌, map, take, drop, IfOk, OnOk};
 ghost use Rattle.pddl_domain.specs.Domains.{domain_view};
 ghost use Rattle.pddl_problem.specs.Problems.{problem_view};
 ghost use Rattle.pddl_task.specs.Names.{firsts};
@@ -9,7 +9,8 @@ ghost use Rattle.pddl_task.specs.Linked.{domain_fault, fault_in, faults, rules, 
 ghost use Rattle.pddl_faults.specs.Passes.{Verdict};
 ghost use Rattle.pddl_search.specs.Claims.{HoldsValues};
 ghost use Rattle.pddl_types.specs.KnownNames.{signature_in, object_in, action_signature};
-ghost use Rattle.pddl_types.specs.TypeSpans.{AreSlotTops, IsEmpty, AreListed};
+ghost use Rattle.pddl_types.specs.TypeSpans.{IsEmpty, AreListed};
+ghost use Rattle.pddl_types.specs.ToldTops.{AreSlotTops};
 ghost use Rattle.pddl_sizes.specs.ObjectOrders.{IsOrderOf};
 ghost use Rattle.pddl_names.specs.FaultParts.{first_rules, name_rules, use_rules};
 ghost use Rattle.pddl_linked_task.specs.TaskTables.{HoldBehindTypes};
@@ -20,45 +21,40 @@ use pddl_domain::Domain;
 use pddl_faults::{LinkFault, lower};
 use pddl_linked_task::{Tables, Task};
 use pddl_names::{
-    list_all, list_objects, look_at_domain, look_at_domain_uses, look_at_problem,
+    goal_size, list_all, look_at_domain, look_at_domain_uses, look_at_problem,
     look_at_problem_uses, type_twice,
 };
 use pddl_problem::Problem;
 use pddl_search::{Values, domain_name};
-use pddl_sizes::{Fitting, ObjectOrder, goal_size};
-use pddl_types::{Declared, Listed, SlotTops, Types, let_go_declared, let_go_objects};
+use pddl_sizes::ObjectOrder;
+use pddl_types::{Declared, Fitting, Listed, SlotTops, Types, let_go_declared, let_go_objects};
 use std::alloc::{AllocError, Allocator};
 
 /// The lowest fault of names in a domain and a problem, whose constants and objects are added to none.
 fn look_at_both<'m, 'a, A: Allocator, B: Allocator>(
     alloc: &'a B,
     types: &Types<'m, 'a, A, B>,
-    constants: &mut Listed<'m, 'a, A, B>,
     listed: &mut Listed<'m, 'a, A, B>,
     domain: &'m Domain<A>,
     problem: &'m Problem<A>,
 ) -> Result<(), LinkFault<'m>>
     requires types { types.now.declared ≡ (domain_view domain.now).types }
-    requires no_constants { IsEmpty constants.old }
     requires no_objects { IsEmpty listed.old }
-    ensures constants { OnOk result (map object_in constants.new.objects.entries ≡ firsts (domain_view domain.now).constants) }
     ensures objects { OnOk result (map object_in listed.new.objects.entries ≡ objects_of (domain_view domain.now) (problem_view problem.now)) }
-    ensures constants_listed { OnOk result (AreListed types.now constants.new) }
-    ensures objects_listed { OnOk result (AreListed types.now listed.new) }
+    ensures constants { OnOk result (take listed.new.constants (map object_in listed.new.objects.entries) ≡ firsts (domain_view domain.now).constants) }
+    ensures listed { OnOk result (AreListed types.now listed.new) }
     ensures verdict { Verdict (map (fault_in (domain_view domain.now) (problem_view problem.now)) name_rules) result }
 {
-    let inner = list_objects(alloc, types, constants, &domain.constants);
     let declared = look_at_domain(alloc, types, domain);
     let all = list_all(alloc, types, listed, domain, problem);
     let bound = look_at_problem(alloc, types, problem);
-    lower(inner, lower(declared, lower(all, bound)))
+    lower(declared, lower(all, bound))
 }
 
 /// The lowest fault of what a domain and a problem use, where none of names stands; the values of functions of objects are added to none.
 fn look_at_uses<'t, 'm, 'a, A: Allocator, B: Allocator>(
     alloc: &'a B,
     types: &'t Types<'m, 'a, A, B>,
-    constants: &'t Listed<'m, 'a, A, B>,
     listed: &'t Listed<'m, 'a, A, B>,
     tables: &'t Tables<'m, 'a, A, B>,
     values: &mut Values<'m, 'a, A, B>,
@@ -67,21 +63,19 @@ fn look_at_uses<'t, 'm, 'a, A: Allocator, B: Allocator>(
 ) -> Result<(), LinkFault<'m>>
     requires types { types.now.declared ≡ (domain_view domain.now).types }
     requires named { NoneStands (map (fault_in (domain_view domain.now) (problem_view problem.now)) name_rules) }
-    requires constants { map object_in constants.now.objects.entries ≡ firsts (domain_view domain.now).constants }
     requires objects { map object_in listed.now.objects.entries ≡ objects_of (domain_view domain.now) (problem_view problem.now) }
-    requires constants_listed { AreListed types.now constants.now }
-    requires objects_listed { AreListed types.now listed.now }
+    requires constants { take listed.now.constants (map object_in listed.now.objects.entries) ≡ firsts (domain_view domain.now).constants }
+    requires listed { AreListed types.now listed.now }
     requires predicates { map signature_in tables.now.declared.predicates.entries ≡ (domain_view domain.now).predicates }
     requires functions { map signature_in tables.now.declared.functions.entries ≡ function_signatures (domain_view domain.now) }
-    requires predicate_tops { AreSlotTops types.now (domain_view domain.now).predicates tables.now.declared.tops.predicates }
-    requires function_tops { AreSlotTops types.now (function_signatures (domain_view domain.now)) tables.now.declared.tops.functions }
+    requires slots { AreSlotTops types.now ((domain_view domain.now).predicates ++ function_signatures (domain_view domain.now)) tables.now.declared.slots }
     requires ordered { ∥ IsOrderOf listed.now.spans.items tables.now.order ∥₁ }
     requires none { values.old.entries ≡ [] }
     ensures values { OnOk result (HoldsValues (problem_view problem.now).init values.new.entries) }
     ensures verdict { Verdict (map (fault_in (domain_view domain.now) (problem_view problem.now)) use_rules) result }
 {
-    let inner = tables.declared.known(types, constants);
-    let outer = tables.declared.known(types, listed);
+    let inner = tables.declared.known(types, listed, listed.constants);
+    let outer = tables.declared.known(types, listed, listed.objects.len());
     let order = &tables.order;
     let fitting = Fitting {
         types,
@@ -108,13 +102,13 @@ fn tables_of<'m, 'a, A: Allocator, B: Allocator>(
     requires { NoneStands (map (domain_fault (domain_view domain.now)) name_rules) }
     ensures predicates { IfOk result (λ tables. map signature_in tables.declared.predicates.entries ≡ (domain_view domain.now).predicates) }
     ensures functions { IfOk result (λ tables. map signature_in tables.declared.functions.entries ≡ function_signatures (domain_view domain.now)) }
-    ensures predicate_tops { IfOk result (λ tables. AreSlotTops types.now (domain_view domain.now).predicates tables.declared.tops.predicates) }
-    ensures function_tops { IfOk result (λ tables. AreSlotTops types.now (function_signatures (domain_view domain.now)) tables.declared.tops.functions) }
+    ensures slots { IfOk result (λ tables. AreSlotTops types.now ((domain_view domain.now).predicates ++ function_signatures (domain_view domain.now)) tables.declared.slots) }
     ensures parameters { IfOk result (λ tables. AreSlotTops types.now (map action_signature (domain_view domain.now).actions) tables.parameters) }
     ensures ordered { IfOk result (λ tables. ∥ IsOrderOf listed.now.spans.items tables.order ∥₁) }
 {
     let order = ObjectOrder::of(alloc, &listed.spans)?;
-    let parameters = SlotTops::of_declared(alloc, types, &domain.actions)?;
+    let mut parameters = SlotTops::new(alloc);
+    parameters.add(types, &domain.actions)?;
     let declared = Declared::of(alloc, types, domain)?;
     Ok(Tables {
         declared,
@@ -128,7 +122,6 @@ fn tables_of<'m, 'a, A: Allocator, B: Allocator>(
 fn tables_behind<'m, 'a, A: Allocator, B: Allocator>(
     alloc: &'a B,
     types: &Types<'m, 'a, A, B>,
-    constants: &Listed<'m, 'a, A, B>,
     listed: &Listed<'m, 'a, A, B>,
     values: &mut Values<'m, 'a, A, B>,
     domain: &'m Domain<A>,
@@ -136,18 +129,15 @@ fn tables_behind<'m, 'a, A: Allocator, B: Allocator>(
 ) -> Result<Tables<'m, 'a, A, B>, LinkFault<'m>>
     requires types { types.now.declared ≡ (domain_view domain.now).types }
     requires named { NoneStands (map (fault_in (domain_view domain.now) (problem_view problem.now)) name_rules) }
-    requires constants { map object_in constants.now.objects.entries ≡ firsts (domain_view domain.now).constants }
     requires objects { map object_in listed.now.objects.entries ≡ objects_of (domain_view domain.now) (problem_view problem.now) }
-    requires constants_listed { AreListed types.now constants.now }
-    requires objects_listed { AreListed types.now listed.now }
+    requires constants { take listed.now.constants (map object_in listed.now.objects.entries) ≡ firsts (domain_view domain.now).constants }
+    requires listed { AreListed types.now listed.now }
     requires none { values.old.entries ≡ [] }
     ensures tables { IfOk result (λ tables. HoldBehindTypes (domain_view domain.now) (problem_view problem.now) types.now listed.now tables values.new.entries) }
     ensures verdict { Verdict (map (fault_in (domain_view domain.now) (problem_view problem.now)) use_rules) result }
 {
     let tables = tables_of(alloc, types, listed, domain)?;
-    match look_at_uses(
-        alloc, types, constants, listed, &tables, values, domain, problem,
-    ) {
+    match look_at_uses(alloc, types, listed, &tables, values, domain, problem) {
         Ok(()) => Ok(tables),
         Err(fault) => {
             let_go_declared(tables.declared);
@@ -174,13 +164,10 @@ fn tables_behind_types<'m, 'a, A: Allocator, B: Allocator>(
     ensures tables { IfOk result (λ tables. HoldBehindTypes (domain_view domain.now) (problem_view problem.now) types.now listed.new tables values.new.entries) }
     ensures verdict { Verdict (map (fault_in (domain_view domain.now) (problem_view problem.now)) (drop 3 rules)) result }
 {
-    let mut constants = Listed::new(alloc);
-    let made = match look_at_both(alloc, types, &mut constants, listed, domain, problem) {
-        Ok(()) => tables_behind(alloc, types, &constants, listed, values, domain, problem),
+    match look_at_both(alloc, types, listed, domain, problem) {
+        Ok(()) => tables_behind(alloc, types, listed, values, domain, problem),
         Err(fault) => Err(fault),
-    };
-    let_go_objects(constants);
-    made
+    }
 }
 
 /// The types of a domain, where its name is the problem's, no type stands twice and none is above itself.

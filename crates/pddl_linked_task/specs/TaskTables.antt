@@ -6,7 +6,8 @@ use Rattle.pddl_problem.specs.Problems.{ProblemValue}
 use Rattle.pddl_task.specs.Settings.{objects_of}
 use Rattle.pddl_task.specs.Linked.{IsLinked}
 use Rattle.pddl_types.specs.KnownNames.{signature_in, object_in, action_signature}
-use Rattle.pddl_types.specs.TypeSpans.{TypesValue, AreSlotTops, AreSingle, AreListed}
+use Rattle.pddl_types.specs.TypeSpans.{TypesValue, AreSingle, AreListed}
+use Rattle.pddl_types.specs.ToldTops.{AreSlotTops}
 use Rattle.pddl_types.specs.declared.listed.Listed.{Listed}
 use Rattle.pddl_search.specs.Claims.{HoldsValues}
 use Rattle.pddl_sizes.specs.ObjectOrders.{IsOrderOf}

@@ -19,9 +19,9 @@ use pddl_domain::{Action, Domain};
 use pddl_formula::{Formula, TypeNames};
 use pddl_problem::Problem;
 use pddl_search::{Ground, Values};
-use pddl_sizes::{Fitting, ObjectOrder, action_ground_size, ground_size};
+use pddl_sizes::{ObjectOrder, action_ground_size, ground_size};
 use pddl_token::Name;
-use pddl_types::{Declared, FunctionNumbers, Listed, SlotTops, Types};
+use pddl_types::{Declared, Fitting, FunctionNumbers, Listed, SlotTops, Types};
 use std::alloc::{AllocError, Allocator};
 use std::marker::Model;
 

@@ -16,7 +16,7 @@ use Rattle.pddl_names.proofs.SeenNames.{texts, is_in-texts, texts-push}
 pub record ActionsUpTo {A : Type 0} (types : List TypeValue) (all : List (Action A)) (i : ℕ) (keys : List (Bor (List ℕ))) (found : Result (Unit {0}) LinkFault) : Type 0 where
   pub seen : List Name
   pub same : (n : Name) → is_in (texts keys) n ≡ is_in seen n
-  pub so_far : IsFoundUpTo [] (action_faults types seen (map action_view (drop i all))) (action_faults types [] (map action_view all)) found
+  pub so_far : IsFoundUpTo (action_faults types seen (map action_view (drop i all))) (action_faults types [] (map action_view all)) found
 
 or_false : (a : Bool) → (a || false) ≡ a
 or_false true = refl

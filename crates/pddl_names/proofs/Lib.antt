@@ -1,5 +1,8 @@
 pub mod ActionFaults
+pub mod DeclaredSlots
+pub mod FittingTables
 pub mod FoundParts
+pub mod GoalSizes
 pub mod ObjectTables
 pub mod MetTypes
 pub mod RuleParts

@@ -1,11 +1,13 @@
 -- Names with their types, one after another, beside a table of each at its first place.
-use Rattle.std.proofs.Common.{◌≡◌, ℕ, ◌+◌, ◌<◌, Bool, true, false, ◌&&◌, ◌||◌, not, cond, List, [], ◌∷◌, ◌++◌, map, filter, length, get_or, drop, Option, Some, None, refl, ap, sym, ◌∙◌, subst, true≢false, bytes_eq, if◌then◌else◌}
+use Rattle.std.proofs.Common.{◌≡◌, ℕ, ◌+◌, ◌<◌, Bool, true, false, ◌&&◌, ◌||◌, not, cond, List, [], ◌∷◌, ◌++◌, map, filter, length, get_or, take, drop, Option, Some, None, refl, ap, sym, ◌∙◌, subst, true≢false, bytes_eq, if◌then◌else◌}
 use Rattle.std.specs.Prelude.{Contains, unwrap_or, option_map, is_some}
 use Rattle.std.specs.Borrow.{Bor}
 use Rattle.std.specs.Cmp.Lexicographic.{bytes_decides, pointwise_decides, nat_list_eq_equiv}
 use Rattle.std.specs.List.{list_any}
 use Rattle.std.specs.Map.{lookup}
+use Rattle.std.proofs.Math.Seq.{take-append_seam}
 use Rattle.std.proofs.lemmas.List.{append_assoc}
+use Rattle.std.proofs.lemmas.List.Elements.{filter-append}
 use Rattle.indexmap.specs.IndexMap.{insert_entry}
 use Rattle.pddl_formula.specs.TypedLists.{TypedValue, typed_view}
 use Rattle.pddl_formula.specs.declared.type_names.Typed.{Typed}
@@ -73,14 +75,6 @@ type_put x (y ∷ ys) n = go (bytes_eq x.item y.item) (type_put x ys n) refl
 abbrev fresh : List TypedValue → TypedValue → List TypedValue
 fresh ys x = cond (list_any (is_named x.item) ys) [] (x ∷ [])
 
-filter_more : (test : TypedValue → Bool) (xs ys : List TypedValue) → filter test (xs ++ ys) ≡ filter test xs ++ filter test ys
-filter_more test [] ys = refl
-filter_more test (x ∷ xs) ys = go (test x) (filter_more test xs ys)
-  where
-    go : (b : Bool) → filter test (xs ++ ys) ≡ filter test xs ++ filter test ys → cond b (x ∷ filter test (xs ++ ys)) (filter test (xs ++ ys)) ≡ cond b (x ∷ filter test xs) (filter test xs) ++ filter test ys
-    go true later = ap (λ zs. x ∷ zs) later
-    go false later = later
-
 fresh_kept : (b c : Bool) (x : TypedValue) (test : TypedValue → Bool) → test x ≡ not b → filter test (cond c [] (x ∷ [])) ≡ cond (b || c) [] (x ∷ [])
 fresh_kept true true x test h = refl
 fresh_kept false true x test h = refl
@@ -91,9 +85,20 @@ firsts_more : (ys : List TypedValue) (x : TypedValue) → firsts (ys ++ x ∷ []
 firsts_more [] x = refl
 firsts_more (y ∷ ys) x =
     ap (λ zs. y ∷ filter (λ z. not (is_named y.item z)) zs) (firsts_more ys x)
-    ∙ ap (λ zs. y ∷ zs) (filter_more (λ z. not (is_named y.item z)) (firsts ys) (fresh ys x))
+    ∙ ap (λ zs. y ∷ zs) (filter-append (λ z. not (is_named y.item z)) (firsts ys) (fresh ys x))
     ∙ ap (λ zs. y ∷ (filter (λ z. not (is_named y.item z)) (firsts ys) ++ zs))
     (fresh_kept (bytes_eq x.item y.item) (list_any (is_named x.item) ys) x (λ z. not (is_named y.item z)) (ap not (bytes_turn y.item x.item)))
+
+firsts_front : (xs ys : List TypedValue) → (more : List TypedValue) × (firsts (xs ++ ys) ≡ firsts xs ++ more)
+firsts_front [] ys = (firsts ys, refl)
+firsts_front (x ∷ xs) ys =
+    let (more, is) = firsts_front xs ys in
+    let others = λ (z : TypedValue). not (is_named x.item z) in
+    (filter others more, ap (λ zs. x ∷ filter others zs) is ∙ ap (λ zs. x ∷ zs) (filter-append others (firsts xs) more))
+
+-- those of some names stay in front, whatever comes behind
+pub firsts_begin : (xs ys own all : List TypedValue) (n : ℕ) → own ≡ firsts xs → n ≡ length own → all ≡ firsts (xs ++ ys) → take n all ≡ firsts xs
+firsts_begin xs ys own all n are many is = let (more, front) = firsts_front xs ys in rw (many, are, is, front) (take-append_seam (firsts xs) more)
 
 -- of a name that is not left out, the first is the first
 type_kept : (m n : Name) (es : List TypedValue) → bytes_eq n m ≡ false → type_in (filter (λ z. not (is_named m z)) es) n ≡ type_in es n

@@ -192,7 +192,7 @@ names_of d =
 
 -- these, as they are looked for, before others
 abbrev names_before : Joint → Joint
-names_before s = alone 24 0 ⊕ alone 23 1 ⊕ alone 23 2 ⊕ alone 23 3 ⊕ alone 24 5 ⊕ alone 24 6 ⊕ (alone 23 4 ⊕ alone 24 7) ⊕ alone 25 8 ⊕ s
+names_before s = alone 23 1 ⊕ alone 23 2 ⊕ alone 23 3 ⊕ alone 24 5 ⊕ alone 24 6 ⊕ (alone 23 4 ⊕ alone 24 7) ⊕ alone 25 8 ⊕ s
 
 -- names of a domain
 pub domain_names_stand : (d : DomainValue) → Same (joined (numbered 24 (retyped [] d.constants) ∷ domain_parts d.types d)) (standing (map (domain_fault d) name_rules))
@@ -200,15 +200,15 @@ domain_names_stand d =
     let parts = numbered 24 (retyped [] d.constants) ∷ domain_parts d.types d in
     rw (unknown-domain d.types d)
     (same_then (same_behind (take 6 parts) (same_both (action_same d.types [] d.actions) (same_self (joined (drop 7 parts)))))
-    (same_found (names_of d) (names_before none)
+    (same_found (names_of d) (alone 24 0 ⊕ names_before none)
     (the (23, the 1 ⊕ the 2 ⊕ the 3 ⊕ the 4) ⊕ the (24, ((the 0 ⊕ the 5) ⊕ the 6) ⊕ the 7) ⊕ alone 25 8 ⊕ none) refl refl))
 
 -- names of a domain and a problem
-pub names_stand : (d : DomainValue) (p : ProblemValue) → Same (joined (numbered 24 (retyped [] d.constants) ∷ (domain_parts d.types d ++ (numbered 24 (retyped [] d.constants ++ retyped d.constants p.objects) ∷ problem_parts d.types p)))) (standing (map (fault_in d p) name_rules))
+pub names_stand : (d : DomainValue) (p : ProblemValue) → Same (joined (domain_parts d.types d ++ (numbered 24 (retyped [] d.constants ++ retyped d.constants p.objects) ∷ problem_parts d.types p))) (standing (map (fault_in d p) name_rules))
 names_stand d p =
-    let parts = numbered 24 (retyped [] d.constants) ∷ (domain_parts d.types d ++ (numbered 24 (retyped [] d.constants ++ retyped d.constants p.objects) ∷ problem_parts d.types p)) in
+    let parts = domain_parts d.types d ++ (numbered 24 (retyped [] d.constants ++ retyped d.constants p.objects) ∷ problem_parts d.types p) in
     rw (unknown-domain d.types d, unknown-problem d.types p)
-    (same_then (same_behind (take 6 parts) (same_both (action_same d.types [] d.actions) (same_behind (take 3 (drop 7 parts)) (same_both (binding_same d.types (problem_places p)) (same_self (joined (drop 11 parts)))))))
+    (same_then (same_behind (take 5 parts) (same_both (action_same d.types [] d.actions) (same_behind (take 3 (drop 6 parts)) (same_both (binding_same d.types (problem_places p)) (same_self (joined (drop 10 parts)))))))
     (same_found (names_of d ++ (retyped d.constants p.objects ∷ unknown_among d.types p.objects ∷ unknown_in d.types (problem_places p) ∷ flat_map repeated_at (problem_places p) ∷ object_types p.objects ∷ []))
     (names_before (the (24, the 0 ⊕ the 9) ⊕ alone 23 10 ⊕ (alone 23 11 ⊕ alone 24 12) ⊕ alone 25 13 ⊕ none))
     (the (23, (the 1 ⊕ the 2 ⊕ the 3 ⊕ the 4) ⊕ (the 10 ⊕ the 11)) ⊕ the (24, (((the 0 ⊕ the 5) ⊕ the 6) ⊕ the 7) ⊕ (the 9 ⊕ the 12)) ⊕ the (25, the 8 ⊕ the 13) ⊕ none) refl refl))

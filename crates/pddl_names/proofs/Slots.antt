@@ -1,12 +1,11 @@
 -- Terms and their slots, in turn.
-use Rattle.std.proofs.Common.{◌≡◌, ℕ, suc, ◌+◌, ◌<◌, ◌≤◌, Bool, true, false, not, ◌&&◌, ◌||◌, List, [], ◌∷◌, ◌++◌, map, length, get_or, drop, Option, Some, None, refl, ap, sym, ◌∙◌, subst, arith, add-one, drop-cons}
+use Rattle.std.proofs.Common.{◌≡◌, ℕ, suc, ◌+◌, ◌<◌, ◌≤◌, Bool, true, false, not, ◌&&◌, ◌||◌, List, [], ◌∷◌, ◌++◌, length, get_or, drop, Option, Some, None, refl, ap, sym, ◌∙◌, subst, arith, inl, inr, add-one, drop-cons}
+use Rattle.std.proofs.lemmas.Bool.{cases_lt}
 use Rattle.std.proofs.lemmas.List.{drop_all}
 use Rattle.std.proofs.lemmas.List.Elements.{Contains-append_left}
-use Rattle.std.proofs.lemmas.Option.{same_Some}
-use Rattle.std.specs.Prelude.{Contains, is_some, option_map}
-use Rattle.std.specs.Borrow.{Bor}
+use Rattle.std.proofs.lemmas.Option.{same_Some, slice_get_within, get_or_from_slice_get}
+use Rattle.std.specs.Prelude.{Contains, is_some, slice_get}
 use Rattle.std.specs.List.{flat_map}
-use Rattle.std.specs.Slice.{IsItemAt}
 use Rattle.pddl_formula.specs.Terms.{TermValue, name, variable}
 use Rattle.pddl_formula.specs.TypedLists.{TypedValue}
 use Rattle.pddl_domain.specs.Declarations.{TypeValue}
@@ -14,9 +13,10 @@ use Rattle.pddl_task.specs.Names.{Name, word_if}
 use Rattle.pddl_task.specs.Types.{fits}
 use Rattle.pddl_task.specs.Settings.{Setting}
 use Rattle.pddl_task.specs.Faults.{typed_term, unknown_term, is_misfit, some_misfit}
-use Rattle.pddl_task.proofs.Lists.{has_first}
-use Rattle.pddl_faults.specs.Parts.{term_name}
-use Rattle.pddl_faults.proofs.BoundTypes.{is_bound}
+use Rattle.pddl_task.proofs.Lists.{has_first, some_at}
+use Rattle.pddl_search.specs.Parts.{term_name}
+use Rattle.pddl_search.proofs.BoundTypes.{is_bound}
+use Rattle.pddl_faults.proofs.ListTurns.{rest_is}
 use Rattle.pddl_names.specs.Uses.{fit_of}
 
 -- ---- words that stand
@@ -60,36 +60,31 @@ more_fit : (all f next some rest whole : Bool) → some ≡ not f || rest → (n
 more_fit true f next some rest whole step inv is = ap (λ c. not c || rest) is ∙ sym step ∙ inv
 more_fit false f next some rest whole step inv is = ap (λ c. not c || rest) is ∙ inv
 
-module _ {Y : Type 0} (s : Setting) (b : List TypedValue) (view : Y → TypedValue) (ts : List TermValue) (ys : List Y) (i : ℕ) where
-  slots_front : (t : TermValue) (y : Y) → i < length ts → i < length ys
-      → some_misfit s b (drop i ts) (map view (drop i ys)) ≡ is_misfit s.pairs (typed_term s b (get_or ts i t)) (view (get_or ys i y)) || some_misfit s b (drop (i + 1) ts) (map view (drop (i + 1) ys))
-  slots_front t y h k = rw (add-one, drop-cons ts i t h, drop-cons ys i y k) refl
+module _ (s : Setting) (b : List TypedValue) (ts : List TermValue) (xs : List TypedValue) (i : ℕ) where
+  past_end : slice_get xs i ≡ None → length xs ≤ i
+  past_end none = elim (cases_lt i (length xs)) as (λ _. length xs ≤ i) [ inl low ↦ absurd (cc (none, (some_at xs i low).1)) | inr past ↦ past ]
 
-  slots_past : (us : List TermValue) (j : ℕ) → length ys ≤ j → some_misfit s b us (map view (drop j ys)) ≡ false
-  slots_past us j h = ap (λ zs. some_misfit s b us (map view zs)) (drop_all j ys h) ∙ no_slots s b us
+  slots_past : (us : List TermValue) (j : ℕ) → length xs ≤ j → some_misfit s b us (drop j xs) ≡ false
+  slots_past us j h = ap (some_misfit s b us) (drop_all j xs h) ∙ no_slots s b us
 
-  slots_left : (t : TermValue) (slot : Option (Bor Y)) (f : Bool) → i < length ts → t ≡ get_or ts i t → IsItemAt ys i slot → Some f ≡ fit_of s.pairs (typed_term s b t) (option_map (λ y. view y.now) slot)
-      → some_misfit s b (drop i ts) (map view (drop i ys)) ≡ not f || some_misfit s b (drop (i + 1) ts) (map view (drop (i + 1) ys))
+  slots_left : (t : TermValue) (slot : Option TypedValue) (f : Bool) → i < length ts → t ≡ get_or ts i t → slice_get xs i ≡ slot → Some f ≡ fit_of s.pairs (typed_term s b t) slot
+      → some_misfit s b (drop i ts) (drop i xs) ≡ not f || some_misfit s b (drop (i + 1) ts) (drop (i + 1) xs)
   slots_left t None f h at item is =
-      let rest = some_misfit s b (drop (i + 1) ts) (map view (drop (i + 1) ys)) in
-      let past : length ys ≤ i = item.3 in
+      let past : length xs ≤ i = past_end item in
       slots_past (drop i ts) i past ∙ sym (slots_past (drop (i + 1) ts) (i + 1) (omega (arith, past)))
-      ∙ ap (λ c. not c || rest) (sym (past_fits s.pairs (typed_term s b t) f is))
-  slots_left t (Some y) f h at item is =
-      let rest = some_misfit s b (drop (i + 1) ts) (map view (drop (i + 1) ys)) in
-      let here : y.now ≡ get_or ys i y.now = item.1 in
-      slots_front t y.now h item.3.0
-      ∙ ap (λ z. is_misfit s.pairs (typed_term s b z) (view (get_or ys i y.now)) || rest) (sym at)
-      ∙ ap (λ z. is_misfit s.pairs (typed_term s b t) (view z) || rest) (sym here)
-      ∙ ap (λ c. c || rest) (slot_fits s.pairs (typed_term s b t) (view y.now) f is)
+      ∙ ap (λ c. not c || some_misfit s b (drop (i + 1) ts) (drop (i + 1) xs)) (sym (past_fits s.pairs (typed_term s b t) f is))
+  slots_left t (Some x) f h at item is =
+      ap (λ us. some_misfit s b us (drop i xs)) (rest_is ts i t h at)
+      ∙ ap (some_misfit s b (t ∷ drop (i + 1) ts)) (rest_is xs i x (slice_get_within xs i x item) (sym (get_or_from_slice_get xs i x x item)))
+      ∙ ap (λ c. c || some_misfit s b (drop (i + 1) ts) (drop (i + 1) xs)) (slot_fits s.pairs (typed_term s b t) x f is)
 
   -- a term is in turn with its slot, where there is one: whether all fit so far, with it
-  pub fits_here : (t : TermValue) (slot : Option (Bor Y)) (r : Option Bool) (f all next whole : Bool) → i < length ts → t ≡ get_or ts i t → IsItemAt ys i slot
-      → (not all || some_misfit s b (drop i ts) (map view (drop i ys))) ≡ whole → r ≡ fit_of s.pairs (typed_term s b t) (option_map (λ y. view y.now) slot) → r ≡ Some f → next ≡ all && f
-      → (not next || some_misfit s b (drop (i + 1) ts) (map view (drop (i + 1) ys))) ≡ whole
-  fits_here t slot r f all next whole h at item left is some both =
-      more_fit all f next (some_misfit s b (drop i ts) (map view (drop i ys))) (some_misfit s b (drop (i + 1) ts) (map view (drop (i + 1) ys))) whole
-      (slots_left t slot f h at item (sym some ∙ is)) left both
+  pub fits_here : (t : TermValue) (r : Option Bool) (f all next whole : Bool) → i < length ts → t ≡ get_or ts i t
+      → (not all || some_misfit s b (drop i ts) (drop i xs)) ≡ whole → r ≡ fit_of s.pairs (typed_term s b t) (slice_get xs i) → r ≡ Some f → next ≡ all && f
+      → (not next || some_misfit s b (drop (i + 1) ts) (drop (i + 1) xs)) ≡ whole
+  fits_here t r f all next whole h at left is some both =
+      more_fit all f next (some_misfit s b (drop i ts) (drop i xs)) (some_misfit s b (drop (i + 1) ts) (drop (i + 1) xs)) whole
+      (slots_left t (slice_get xs i) f h at refl (sym some ∙ is)) left both
 
 -- ---- what is not known, in turn
 

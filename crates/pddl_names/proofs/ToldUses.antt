@@ -1,87 +1,120 @@
 -- What is told of the types of terms and of slots.
-use Rattle.std.proofs.Common.{◌≡◌, ℕ, ◌⊎◌, ◌||◌, Bool, List, [], ◌∷◌, bytes_eq, map, refl, ap, sym, ◌∙◌, subst, inl, inr}
-use Rattle.std.specs.Prelude.{IsTrue, Option, Some, None, IfSome, MatchOption, Contains, is_some, slice_get, option_map}
+use Rattle.std.proofs.Common.{◌≡◌, ◌<◌, ◌⊎◌, ℕ, Bool, true, false, true≢false, List, [], length, refl, ap, sym, ◌∙◌, subst, arith, inl, inr}
+use Rattle.std.specs.Prelude.{IsTrue, Option, Some, None, IfSome, MatchOption, Contains, is_some, slice_get}
 use Rattle.std.specs.Borrow.{Bor}
 use Rattle.std.specs.Coded.{le_prop}
 use Rattle.std.specs.List.{slice_index_or}
-use Rattle.std.specs.Map.{lookup}
+use Rattle.std.specs.Option.{option_copied}
 use Rattle.std.specs.Slice.{IsItemAt}
 use Rattle.std.proofs.Math.Bool.{Bool-set}
 use Rattle.std.proofs.Math.Logic.{∥∥₁_elim}
-use Rattle.std.proofs.lemmas.Option.{slice_get_within, get_or_from_slice_get}
+use Rattle.std.proofs.lemmas.Option.{same_Some, slice_get_within, slice_get_past, slice_get_read, slice_get-get_or}
 use Rattle.pddl_forest.specs.declared.spans.Span.{Span}
-use Rattle.pddl_formula.specs.TypedLists.{TypedValue, typed_view}
-use Rattle.pddl_formula.specs.declared.type_names.Typed.{Typed}
+use Rattle.pddl_forest.specs.Spans.{AreApart}
+use Rattle.pddl_formula.specs.TypedLists.{TypedValue}
 use Rattle.pddl_domain.specs.Declarations.{TypeValue}
-use Rattle.pddl_task.specs.Names.{Name, is_in, item_of}
+use Rattle.pddl_task.specs.Names.{Name}
 use Rattle.pddl_task.specs.Types.{pairs, fits}
-use Rattle.pddl_task.proofs.Lists.{at_place}
-use Rattle.pddl_faults.specs.declared.scope.Scope.{Scope, Empty, Inside'}
-use Rattle.pddl_faults.specs.Scopes.{AllTold, IsInScope}
-use Rattle.pddl_faults.specs.Told.{AreTold}
-use Rattle.pddl_faults.proofs.BoundTypes.{viewed_at}
-use Rattle.pddl_faults.proofs.PutValues.{found_or}
-use Rattle.pddl_faults.proofs.ToldTypes.{told_in_scope}
-use Rattle.pddl_types.specs.KnownNames.{object_in}
+use Rattle.pddl_task.proofs.Lists.{at_place, some_at}
+use Rattle.pddl_search.specs.declared.scope.Scope.{Scope, Empty, Inside'}
+use Rattle.pddl_search.specs.Scopes.{AllNumbered, IsInScope}
+use Rattle.pddl_search.proofs.BoundTypes.{IsNumberedIn, numbered_in_scope}
 use Rattle.pddl_types.specs.TypeSpans.{TypesValue, IsTold, IsToldOf, are_types}
-use Rattle.pddl_names.specs.Uses.{fit_of}
+use Rattle.pddl_types.specs.ToldTops.{IsToldAt, AreToldAt}
+use Rattle.pddl_names.specs.Uses.{IsSlotAt, TellsFit, fit_of}
 
 -- ---- a variable
 
-none_in_scope : {A B : Type 0} (scope : Scope A B) (told : List Span) → IsInScope scope None told → ⊥
-none_in_scope Empty told in_it = in_it
-none_in_scope (Inside' xs p outer) told (inl one) = cc (one.3)
-none_in_scope (Inside' xs p outer) told (inr further) = none_in_scope outer told further
+none_in_scope : {A B : Type 0} (scope : Scope A B) (number : ℕ) → IsInScope scope None number → ⊥
+none_in_scope Empty number in_it = in_it
+none_in_scope (Inside' xs p outer) number (inl one) = cc (one.3)
+none_in_scope (Inside' xs p outer) number (inr further) = none_in_scope outer number further
 
--- of one in scope something is told, and of no other
-abbrev IsBoundTold : {A B : Type 0} → Scope A B → Option TypedValue → Option (Bor (List Span)) → Type 0
-IsBoundTold scope found told = MatchOption told (found ≡ None) (λ s. IsInScope scope found s.now)
-
-pub bound_some : {A B : Type 0} (scope : Scope A B) (found : Option TypedValue) (told : Option (Bor (List Span))) → IsBoundTold scope found told → is_some told ≡ is_some found
+-- what is in scope has a number, and nothing else
+pub bound_some : {A B : Type 0} (scope : Scope A B) (found : Option TypedValue) (number : Option ℕ) → MatchOption number (found ≡ None) (IsInScope scope found) → is_some number ≡ is_some found
 bound_some scope None None is = refl
 bound_some scope (Some x) None is = absurd (cc (is))
-bound_some scope None (Some s) in_it = absurd (none_in_scope scope s.now in_it)
-bound_some scope (Some x) (Some s) in_it = refl
+bound_some scope None (Some n) in_it = absurd (none_in_scope scope n in_it)
+bound_some scope (Some x) (Some n) in_it = refl
 
-pub variable_told : {A B : Type 0} (t : TypesValue) (scope : Scope A B) (found : Option TypedValue) (told : Option (Bor (List Span))) → ∥ AllTold (IsTold t) scope ∥₁ → IsBoundTold scope found told
-    → IsToldOf t found told
-variable_told t scope None None all is = tt
-variable_told t scope (Some x) None all is = absurd (cc (is))
-variable_told t scope None (Some s) all in_it = absurd (none_in_scope scope s.now in_it)
-variable_told t scope (Some x) (Some s) all in_it = ∥∥₁_elim all (hlevel (Bool-set, le_prop)) (λ each. told_in_scope (IsTold t) scope (Some x) x s.now each in_it refl)
+module _ (t : TypesValue) (told : List (List Span)) where
+  told_there : (x : TypedValue) (number : ℕ) → IsNumberedIn (AreToldAt t told) x number → IsToldAt t told x.of number
+  told_there x number is =
+      let low : is.place < length is.numbers = omega (arith, slice_get_within is.list is.place x is.stands, is.are.many) in
+      subst (IsToldAt t told x.of) is.here (is.are.each is.place (slice_index_or is.numbers is.place 0) x is.stands (slice_get-get_or is.numbers is.place 0 low))
 
--- ---- an object
+  module _ {A B : Type 0} (scope : Scope A B) (number : ℕ) (all : ∥ AllNumbered (AreToldAt t told) scope ∥₁) where
+    -- its type is told at its number
+    pub variable_told : (x : TypedValue) → IsInScope scope (Some x) number → IsToldAt t told x.of number
+    variable_told x in_it = ∥∥₁_elim all (hlevel (Bool-set, le_prop)) (λ each. told_there x number (numbered_in_scope (AreToldAt t told) scope (Some x) x number each in_it refl))
 
--- whether it is listed
-pub is_item : {A : Type 0} (es : List (Bor (List ℕ) × Bor (Typed A))) (n : Name) → is_some (lookup (λ k. bytes_eq n k.now) es) ≡ is_in (map item_of (map object_in es)) n
-is_item [] n = refl
-is_item (e ∷ es) n = found_or (bytes_eq n e.0.now) e.1 (lookup (λ k. bytes_eq n k.now) es) ∙ ap (λ b. bytes_eq n e.0.now || b) (is_item es n)
+    pub variable_low : (found : Option TypedValue) → IsInScope scope found number → number < length told
+    variable_low None in_it = absurd (none_in_scope scope number in_it)
+    variable_low (Some x) in_it = (variable_told x in_it).0
 
 -- ---- a slot
 
-slot_seen : {A : Type 0} (slots : List (Typed A)) (i : ℕ) (s : Bor (Typed A)) → IsItemAt slots i (Some s) → slice_get (map typed_view slots) i ≡ Some (typed_view s.now)
-slot_seen slots i s item = viewed_at typed_view slots i s.now item.3.0 item.1
+number_read : (numbers : List ℕ) (i : ℕ) (read : Option (Bor ℕ)) → IsItemAt numbers i read → slice_get numbers i ≡ option_copied read
+number_read numbers i None item = slice_get_past numbers i item.3
+number_read numbers i (Some n) item = slice_get_read numbers (length numbers) i n.now refl item.3.0 item.1
 
--- its tops
-pub slot_told : {A : Type 0} (t : TypesValue) (slots : List (Typed A)) (runs : List (List Span)) (i : ℕ) (o : Option (Bor (Typed A))) (tops : List Span)
-    → AreTold (IsTold t) (map typed_view slots) runs → IsItemAt slots i o → tops ≡ slice_index_or runs i [] → IfSome o (λ s. IsTold t s.now.types tops)
-slot_told t slots runs i None tops told item is = tt
-slot_told t slots runs i (Some s) tops told item is = subst (IsTold t s.now.types) (sym is) (told i (typed_view s.now) (slot_seen slots i s item))
+-- where there is one, its type is told at the number that is read for it
+pub slot_read : (t : TypesValue) (told : List (List Span)) (slots : List TypedValue) (numbers : List ℕ) (i : ℕ) (read : Option (Bor ℕ)) (slot : Option ℕ) → AreToldAt t told slots numbers
+    → ((x : TypedValue) → Contains slots x → IsTrue (are_types t.declared x.of)) → IsItemAt numbers i read → slot ≡ option_copied read → IsSlotAt t told (slice_get slots i) slot
+slot_read t told slots numbers i read slot are types item copied = here (slice_get slots i) slot refl (number_read numbers i read item ∙ sym copied)
+  where
+    here : (x : Option TypedValue) (n : Option ℕ) → slice_get slots i ≡ x → slice_get numbers i ≡ n → IsSlotAt t told x n
+    here None None at is = tt
+    here (Some x) (Some n) at is = (are.each i n x at is, types x (at_place slots i x at))
+    here (Some x) None at is = cc (is, (some_at numbers i (omega (arith, slice_get_within slots i x at, are.many))).1)
+    here None (Some n) at is = cc (at, (some_at slots i (omega (arith, slice_get_within numbers i n is, are.many))).1)
 
--- its primitives are types
-pub slot_types : {A : Type 0} (declared : List TypeValue) (slots : List (Typed A)) (i : ℕ) (o : Option (Bor (Typed A)))
-    → ((x : TypedValue) → Contains (map typed_view slots) x → IsTrue (are_types declared x.of)) → IsItemAt slots i o → IfSome o (λ s. IsTrue (are_types declared s.now.types))
-slot_types declared slots i None types item = tt
-slot_types declared slots i (Some s) types item = types (typed_view s.now) (at_place (map typed_view slots) i (typed_view s.now) (slot_seen slots i s item))
+-- and apart
+pub slot_apart : (t : TypesValue) (told : List (List Span)) (x : Option TypedValue) (slot : Option ℕ) → IsSlotAt t told x slot → IfSome slot (λ number. AreApart (slice_index_or told number []))
+slot_apart t told None None is = tt
+slot_apart t told (Some x) (Some n) is = is.0.1.apart
+slot_apart t told None (Some n) is = absurd is
+slot_apart t told (Some x) None is = absurd is
 
--- whether a term fits it
-pub slot_fit : {A : Type 0} (t : TypesValue) (x : Option TypedValue) (given : Option (Bor (List Span))) (told : Bor (List Span)) (o : Option (Bor (Typed A))) (slot : Bor (Typed A)) (tops : List Span) (f : Bool)
-    → given ≡ Some told → o ≡ Some slot → IfSome o (λ s. IsTold t s.now.types tops) → IfSome o (λ s. IsTrue (are_types t.declared s.now.types))
-    → ((types names : List Name) → IsTold t types told.now → IsTold t names tops → IsTrue (are_types t.declared types) ⊎ IsTrue (are_types t.declared names) → f ≡ fits (pairs t.declared) types names)
-    → IsToldOf t x given → Some f ≡ fit_of (pairs t.declared) x (option_map (λ s. typed_view s.now) o)
-slot_fit t x None told o slot tops f given is are types fit known = absurd (cc (given))
-slot_fit t x (Some s) told None slot tops f given is are types fit known = absurd (cc (is))
-slot_fit t None (Some s) told (Some u) slot tops f given is are types fit known = absurd known
-slot_fit t (Some x) (Some s) told (Some u) slot tops f given is are types fit known =
-    let same : s ≡ told = cc in
-    ap Some (fit x.of u.now.types (subst (λ (b : Bor (List Span)). IsTold t x.of b.now) same known) are (inr types))
+-- ---- whether a type fits a slot
+
+-- what has no slot fits
+pub past_slots : (t : TypesValue) (told : List (List Span)) (y x : Option TypedValue) → is_some y ≡ true → (slot : Option ℕ) → slot ≡ None → IsSlotAt t told x slot → Some true ≡ fit_of (pairs t.declared) y x
+past_slots t told None x some slot none is = absurd (true≢false (sym some))
+past_slots t told (Some y) None some slot none is = refl
+past_slots t told (Some y) (Some x) some None none is = absurd is
+past_slots t told (Some y) (Some x) some (Some n) none is = absurd (cc (none))
+
+-- what is not known fits none
+pub nothing_fits : (ps : List TypeValue) (y x : Option TypedValue) → is_some y ≡ false → None ≡ fit_of ps y x
+nothing_fits ps None x none = refl
+nothing_fits ps (Some y) x none = absurd (true≢false none)
+
+-- whether something is told of an object
+pub told_some : (t : TypesValue) (y : Option TypedValue) (told : Option (Bor (List Span))) → IsToldOf t y told → is_some told ≡ is_some y
+told_some t None None is = refl
+told_some t (Some y) (Some told) is = refl
+told_some t None (Some told) is = absurd is
+told_some t (Some y) None is = absurd is
+
+module _ (t : TypesValue) (there : List (List Span)) (number : ℕ) (fit : Bool) where
+  -- what is found of a type of which something is told
+  fit_found : (Known : List Name → Type 0) (y : TypedValue) → Known y.of
+      → ((types names : List Name) → Known types → IsToldAt t there names number → IsTrue (are_types t.declared types) ⊎ IsTrue (are_types t.declared names) → fit ≡ fits (pairs t.declared) types names)
+      → (slot : Option ℕ) → slot ≡ Some number → (x : Option TypedValue) → IsSlotAt t there x slot → Some fit ≡ fit_of (pairs t.declared) (Some y) x
+  fit_found Known y known found None at x is = absurd (cc (at))
+  fit_found Known y known found (Some n) at None is = absurd is
+  fit_found Known y known found (Some n) at (Some x) is = ap Some (found y.of x.of known (subst (IsToldAt t there x.of) (same_Some n number at) is.0) (inr is.1))
+
+  -- whether an object fits
+  pub object_fits : (y : Option TypedValue) (told : Bor (List Span)) → IsToldOf t y (Some told)
+      → ((types names : List Name) → IsTold t types told.now → IsToldAt t there names number → IsTrue (are_types t.declared types) ⊎ IsTrue (are_types t.declared names) → fit ≡ fits (pairs t.declared) types names)
+      → (slot : Option ℕ) → slot ≡ Some number → (x : Option TypedValue) → IsSlotAt t there x slot → Some fit ≡ fit_of (pairs t.declared) y x
+  object_fits None told known found = absurd known
+  object_fits (Some y) told known found = fit_found (λ types. IsTold t types told.now) y known found
+
+  -- whether a variable does
+  pub variable_fits : {A B : Type 0} (here : List (List Span)) (scope : Scope A B) (y : Option TypedValue) (variable : ℕ) → ∥ AllNumbered (AreToldAt t here) scope ∥₁ → IsInScope scope y variable
+      → TellsFit t here there (variable, number) fit → (slot : Option ℕ) → slot ≡ Some number → (x : Option TypedValue) → IsSlotAt t there x slot → Some fit ≡ fit_of (pairs t.declared) y x
+  variable_fits here scope None variable all in_it found = absurd (none_in_scope scope variable in_it)
+  variable_fits here scope (Some y) variable all in_it found = fit_found (λ types. IsToldAt t here types variable) y (variable_told t here scope variable all y in_it) found

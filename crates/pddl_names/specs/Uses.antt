@@ -1,15 +1,19 @@
 -- The faults that are looked for together at each place, each told by its number and its word.
-use Rattle.std.specs.Prelude.{Bool, true, not, ◌==◌, ℕ, List, ◌++◌, filter, length, Option, Some, None}
+use Rattle.std.specs.Prelude.{◌≡◌, ◌<◌, ◌⊎◌, ⊤, Bool, true, IsTrue, not, ◌==◌, ◌&&◌, ℕ, List, ◌++◌, filter, length, Option, Some, None}
 use Rattle.std.specs.List.{flat_map}
+use Rattle.std.specs.Map.{lookup}
 use Rattle.pddl_formula.specs.Terms.{TermValue}
 use Rattle.pddl_formula.specs.TypedLists.{TypedValue}
-use Rattle.pddl_domain.specs.Declarations.{TypeValue}
+use Rattle.pddl_forest.specs.declared.spans.Span.{Span}
+use Rattle.pddl_domain.specs.Declarations.{TypeValue, Signature}
 use Rattle.pddl_task.specs.Names.{Name, is_in, word_if}
-use Rattle.pddl_task.specs.Types.{types_of, fits}
+use Rattle.pddl_task.specs.Types.{types_of, pairs, fits}
 use Rattle.pddl_task.specs.Places.{Place}
 use Rattle.pddl_task.specs.Settings.{Setting}
 use Rattle.pddl_task.specs.Faults.{Use, primitives_of, variables_at, repeated_at, is_declared, signature_of, unknown_term, takes_others, some_misfit, has_misfit, unknown_at, arity_at, misfit_at, fraction_at}
 use Rattle.pddl_faults.specs.Found.{numbered}
+use Rattle.pddl_types.specs.TypeSpans.{TypesValue, are_types}
+use Rattle.pddl_types.specs.ToldTops.{SlotsValue, IsToldAt}
 
 -- ---- what is bound
 
@@ -44,3 +48,33 @@ abbrev pub fit_of : List TypeValue → Option TypedValue → Option TypedValue �
 fit_of ps None slot = None
 fit_of ps (Some x) None = Some true
 fit_of ps (Some x) (Some slot) = Some (fits ps x.of slot.of)
+
+-- ---- what fits
+
+-- what is known where names are used, with the tops of slots, those of predicates first, and of the types of variables
+pub record UsesValue : Type 0 where
+  pub types : TypesValue
+  pub predicates : List Signature
+  pub functions : List Signature
+  pub objects : List TypedValue
+  pub slots : SlotsValue
+  pub told : List (List Span)
+
+-- without the tops
+abbrev pub setting_in : UsesValue → Setting
+setting_in u = record { pairs = pairs u.types.declared; predicates = u.predicates; functions = u.functions; objects = u.objects }
+
+-- a slot, where there is one, has known types, whose tops are told at this number
+abbrev pub IsSlotAt : TypesValue → List (List Span) → Option TypedValue → Option ℕ → Type 0
+IsSlotAt t told None None = ⊤
+IsSlotAt t told (Some x) (Some number) = IsToldAt t told x.of number × IsTrue (are_types t.declared x.of)
+IsSlotAt t told _ _ = ⊥
+
+-- whether a type fits a slot's, where the tops of the one are told here and those of the other there, at these numbers, and one of the two has known primitives
+abbrev pub TellsFit : TypesValue → List (List Span) → List (List Span) → ℕ × ℕ → Bool → Type 0
+TellsFit t here there p fit = (types slot : List Name) → IsToldAt t here types p.0 → IsToldAt t there slot p.1
+    → IsTrue (are_types t.declared types) ⊎ IsTrue (are_types t.declared slot) → fit ≡ fits (pairs t.declared) types slot
+
+-- a table tells it by the numbers of a variable's type and of a slot's
+abbrev pub AreFitting : TypesValue → List (List Span) → List (List Span) → List ((ℕ × ℕ) × Bool) → Type 0
+AreFitting t here there table = (p : ℕ × ℕ) (fit : Bool) → lookup (λ q. (p.0 == q.0) && (p.1 == q.1)) table ≡ Some fit → (p.0 < length here) × TellsFit t here there p fit

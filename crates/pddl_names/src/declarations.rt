@@ -60,7 +60,7 @@ fn look_at_actions<'m, 'a, A: Allocator, B: Allocator>(
     for action in actions {
         let name = action.name.as_bytes();
         let (_, is_new) = seen.insert_full(name)?;
-        let bound = search_action(alloc, &Bindings { alloc, types }, Ok(()), action);
+        let bound = search_action(alloc, &mut Bindings { alloc, types }, action);
         found = lower(found, lower(once(is_new, name), bound));
     }
     found
@@ -94,6 +94,6 @@ pub fn look_at_problem<'m, 'a, A: Allocator, B: Allocator>(
     ensures { IsFound (joined (problem_parts types.now.declared (problem_view problem.now))) result }
 {
     let used = types.known(&problem.objects);
-    let bound = search_problem(alloc, &Bindings { alloc, types }, problem);
+    let bound = search_problem(alloc, &mut Bindings { alloc, types }, problem);
     lower(used, lower(bound, object_types(&problem.objects)))
 }

@@ -30,7 +30,8 @@ pub fn look_at_domain_uses<'k, 'm, 'a, A: Allocator, B: Allocator>(
     requires { setting_of known.now ≡ in_domain (domain_view domain.now) }
     ensures { IsFound (joined (domain_uses (domain_view domain.now))) result }
 {
-    let used = search_domain(alloc, &Uses { known }, domain);
+    let mut uses = Uses::of(alloc, known);
+    let used = search_domain(alloc, &mut uses, domain);
     lower(used, object_fluents(domain))
 }
 
@@ -50,7 +51,8 @@ pub fn look_at_problem_uses<'k, 'm, 'a, A: Allocator, B: Allocator>(
     ensures found { IsFound (joined (problem_uses (domain_view domain.now) (problem_view problem.now))) result }
     ensures values { OnOk result (HoldsValues (problem_view problem.now).init values.new.entries) }
 {
-    let used = search_problem(alloc, &Uses { known }, problem);
+    let mut uses = Uses::of(alloc, known);
+    let used = search_problem(alloc, &mut uses, problem);
     let claimed = contradictions(alloc, &problem.init);
     let metric = metric(&problem.metric);
     let told = cost_values(values, &problem.init);

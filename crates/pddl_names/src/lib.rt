@@ -4,6 +4,7 @@
 mod bindings;
 mod declarations;
 mod files;
+mod goal;
 mod met_types;
 mod objects;
 mod repeats;
@@ -12,6 +13,7 @@ mod uses;
 pub use bindings::Bindings;
 pub use declarations::{look_at_domain, look_at_problem};
 pub use files::{look_at_domain_uses, look_at_problem_uses};
-pub use objects::{list_all, list_objects};
+pub use goal::goal_size;
+pub use objects::{list_all, list_constants};
 pub use repeats::type_twice;
 pub use uses::Uses;

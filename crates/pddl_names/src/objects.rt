@@ -1,6 +1,6 @@
 //! Constants and objects with their types, each at its first place.
 
-ghost use Rattle.std.specs.Prelude.{◌≡◌, [], ◌++◌, List, IsTrue, not, map, IfOk, OnOk};
+ghost use Rattle.std.specs.Prelude.{◌≡◌, [], ◌++◌, List, IsTrue, not, map, take, IfOk, OnOk};
 ghost use Rattle.pddl_formula.specs.TypedLists.{TypedValue, typed_view};
 ghost use Rattle.pddl_domain.specs.Domains.{domain_view};
 ghost use Rattle.pddl_problem.specs.Problems.{problem_view};
@@ -39,6 +39,7 @@ fn list_object<'m, 'a, A: Allocator, B: Allocator>(
     ensures spans { (t : TypesValue) → AreListed t listed.old → IsOnlySpan t object.now.types group.span → IfOk result (λ right. IsTrue right → AreListed t listed.new) }
     ensures met { IfOk result (λ right. IsTrue right → AreMet (map object_in listed.new.objects.entries) met.new) }
     ensures kept { OnOk result (met.new.types ≡ met.old.types) }
+    ensures constants { listed.new.constants ≡ listed.old.constants }
 {
     let (number, before) = listed.objects.insert_full(object.name.as_bytes(), object)?;
     match before {
@@ -64,6 +65,7 @@ fn add_objects<'m, 'a, A: Allocator, B: Allocator>(
     ensures lists { OnOk result ((before : List TypedValue) → retyped [] before ≡ [] → map object_in listed.old.objects.entries ≡ firsts before → map object_in listed.new.objects.entries ≡ firsts (before ++ map typed_view objects.now.items)) }
     ensures spans { OnOk result (AreListed types.now listed.new) }
     ensures met { OnOk result (AreMet (map object_in listed.new.objects.entries) met.new) }
+    ensures constants { listed.new.constants ≡ listed.old.constants }
 {
     let mut group = Group {
         span: Span { first: 0, last: 0 },
@@ -79,20 +81,20 @@ fn add_objects<'m, 'a, A: Allocator, B: Allocator>(
     Ok(())
 }
 
-/// Adds constants or objects to no objects, where no name has two types.
-pub fn list_objects<'m, 'a, A: Allocator, B: Allocator>(
+/// Adds a domain's constants to no objects, where no name has two types.
+pub fn list_constants<'m, 'a, A: Allocator, B: Allocator>(
     alloc: &'a B,
     types: &Types<'m, 'a, A, B>,
     listed: &mut Listed<'m, 'a, A, B>,
-    objects: &'m TypedList<A>,
+    domain: &'m Domain<A>,
 ) -> Result<(), LinkFault<'m>>
     requires { IsEmpty listed.old }
-    ensures passes { Passes 24 (retyped [] (map typed_view objects.now.items)) result }
-    ensures lists { OnOk result (map object_in listed.new.objects.entries ≡ firsts (map typed_view objects.now.items)) }
+    ensures passes { Passes 24 (retyped [] (domain_view domain.now).constants) result }
+    ensures constants { OnOk result (map object_in listed.new.objects.entries ≡ firsts (domain_view domain.now).constants) }
     ensures spans { OnOk result (AreListed types.now listed.new) }
 {
     let mut met = MetTypes::new(alloc);
-    let added = add_objects(types, listed, &mut met, objects);
+    let added = add_objects(types, listed, &mut met, &domain.constants);
     let_go(met);
     added
 }
@@ -108,18 +110,17 @@ pub fn list_all<'m, 'a, A: Allocator, B: Allocator>(
     requires { IsEmpty listed.old }
     ensures passes { Passes 24 (retyped [] (domain_view domain.now).constants ++ retyped (domain_view domain.now).constants (problem_view problem.now).objects) result }
     ensures objects { OnOk result (map object_in listed.new.objects.entries ≡ objects_of (domain_view domain.now) (problem_view problem.now)) }
+    ensures constants { OnOk result (take listed.new.constants (map object_in listed.new.objects.entries) ≡ firsts (domain_view domain.now).constants) }
     ensures spans { OnOk result (AreListed types.now listed.new) }
 {
     let mut met = MetTypes::new(alloc);
-    match add_objects(types, listed, &mut met, &domain.constants) {
+    let added = match add_objects(types, listed, &mut met, &domain.constants) {
         Ok(()) => {
-            let added = add_objects(types, listed, &mut met, &problem.objects);
-            let_go(met);
-            added
+            listed.constants = listed.objects.len();
+            add_objects(types, listed, &mut met, &problem.objects)
         }
-        Err(fault) => {
-            let_go(met);
-            Err(fault)
-        }
-    }
+        Err(fault) => Err(fault),
+    };
+    let_go(met);
+    added
 }

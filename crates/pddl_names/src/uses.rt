@@ -1,101 +1,167 @@
 //! The search for names that are not known, other numbers of terms than declared, terms that do not fit their slots, and numbers that are not
 //! whole, with one look-up of each name.
 
-ghost use Rattle.std.specs.Prelude.{◌≡◌, [], not, map, Contains, IsTrue, Option, option_map, IfOk, IfSome};
+ghost use Rattle.std.specs.Prelude.{◌≡◌, ◌<◌, ◌≤◌, ◌+◌, ◌-◌, ℕ, [], not, map, take, length, slice_get, find, Contains, IsTrue, Option, Some, IfOk, IfSome};
 ghost use Rattle.std.specs.List.{flat_map, slice_index_or};
 ghost use Rattle.pddl_formula.specs.Terms.{term_view};
 ghost use Rattle.pddl_formula.specs.TypedLists.{TypedValue, typed_view};
-ghost use Rattle.pddl_task.specs.Names.{word_if};
+ghost use Rattle.pddl_forest.specs.Spans.{AreApart};
+ghost use Rattle.pddl_domain.specs.Declarations.{Signature};
+ghost use Rattle.pddl_task.specs.Names.{is_named, word_if};
 ghost use Rattle.pddl_task.specs.Types.{pairs};
 ghost use Rattle.pddl_task.specs.Places.{counts};
 ghost use Rattle.pddl_task.specs.Faults.{typed_term, unknown_term, some_misfit, fraction_of};
 ghost use Rattle.pddl_faults.specs.Passes.{Passes};
 ghost use Rattle.pddl_faults.specs.Found.{IsFound};
-ghost use Rattle.pddl_faults.specs.Parts.{term_in, term_name, terms_in};
-ghost use Rattle.pddl_faults.specs.Scopes.{bound_of, AllTold};
-ghost use Rattle.pddl_faults.specs.Told.{AreTold};
-ghost use Rattle.pddl_types.specs.KnownNames.{signature_in};
+ghost use Rattle.pddl_search.specs.Parts.{term_in, term_name, terms_in};
+ghost use Rattle.pddl_search.specs.Scopes.{bound_of, AllNumbered};
+ghost use Rattle.pddl_types.specs.KnownNames.{signature_in, object_in};
 ghost use Rattle.pddl_types.specs.Settings.{setting_of};
-ghost use Rattle.pddl_types.specs.TypeSpans.{IsTold, IsToldOf, AreSlotTops, are_types, HaveTypes};
-ghost use Rattle.pddl_names.specs.Uses.{fit_of, faults_of_use, faults_of_terms};
+ghost use Rattle.pddl_types.specs.TypeSpans.{are_types, HaveTypes};
+ghost use Rattle.pddl_types.specs.ToldTops.{AreToldAt};
+ghost use Rattle.pddl_names.specs.Uses.{setting_in, IsSlotAt, TellsFit, fit_of, faults_of_use, faults_of_terms};
 
-use pddl_faults::{
-    LentTerm, LinkFault, Part, Runs, Scope, Search, Tells, Terms, bound_told, lower,
-};
-use pddl_forest::Span;
-use pddl_formula::{Term, TypeNames, Typed};
+use indexmap::IndexMap;
+use pddl_faults::{Hashed, LinkFault, lower};
+use pddl_formula::{Term, Typed, TypedList};
+use pddl_search::{LentTerm, Part, Scope, Search, Terms, bound_number};
 use pddl_token::Fixed;
-use pddl_types::{Known, Signatures, SlotTops};
+use pddl_types::{Known, Signatures, ToldTops};
 use std::alloc::{AllocError, Allocator};
+use std::marker::Model;
 
 /// Looks for what is wrong with names that are used, and with numbers.
+///
+/// Contracts see what is known, and the tops of the types of variables so far.
 #[derive(Drop)]
 pub struct Uses<'k, 't, 'm, 'a, A: Allocator, B: Allocator> {
-    pub known: &'k Known<'t, 'm, 'a, A, B>,
+    known: &'k Known<'t, 'm, 'a, A, B>,
+    /// The tops of the types of variables.
+    told: ToldTops<'a, B>,
+    /// Whether a variable's type fits a slot's, each by the number at which its tops are told: for types of many tops, which are gone over once.
+    fitting: IndexMap<(usize, usize), bool, Hashed, &'a B>,
 }
 
-/// Whether a term, of whose type this is told, fits a slot with these tops, where there is one; `None` where nothing is told, since the term is not known.
-fn fits_slot<'t, 'm, 'a, A: Allocator, B: Allocator>(
+impl<'k, 't, 'm, 'a, A: Allocator, B: Allocator> Model for Uses<'k, 't, 'm, 'a, A, B> {
+    ghost use Rattle.std.specs.Prelude.{map, take};
+    ghost use Rattle.pddl_types.specs.KnownNames.{signature_in, object_in};
+    ghost use Rattle.pddl_names.specs.Uses.{UsesValue, AreFitting};
+
+    ghost Value = { UsesValue };
+
+    ghost view = { λ u. record {
+      types = u.known.now.types.now;
+      predicates = map signature_in u.known.now.predicates.now.entries;
+      functions = map signature_in u.known.now.functions.now.entries;
+      objects = take u.known.now.limit (map object_in u.known.now.listed.now.objects.entries);
+      slots = u.known.now.slots.now;
+      told = u.told;
+    } };
+
+    ghost invariant = { λ u. AreFitting u.known.now.types.now u.told u.known.now.slots.now.told u.fitting.entries };
+}
+
+impl<'k, 't, 'm, 'a, A: Allocator, B: Allocator> Uses<'k, 't, 'm, 'a, A, B> {
+    /// A search by what is known, which has met no variables.
+    pub fn of(alloc: &'a B, known: &'k Known<'t, 'm, 'a, A, B>) -> Uses<'k, 't, 'm, 'a, A, B>
+        ensures known { setting_in result ≡ setting_of known.now }
+    {
+        Uses {
+            known,
+            told: ToldTops::new(alloc),
+            fitting: IndexMap::new(alloc),
+        }
+    }
+
+    /// Whether the type of a variable fits that of a slot, each by the number at which its tops are told. Where the variable's has many, what is found is
+    /// kept.
+    ///
+    /// Fails where memory for that is refused.
+    fn variable_fits(&mut self, variable: usize, slot: usize) -> Result<bool, AllocError>
+        requires variable { variable < length self.old.told }
+        requires apart { AreApart (slice_index_or self.old.slots.told slot []) }
+        ensures kept { self.new ≡ self.old }
+        ensures fits { IfOk result (TellsFit self.old.types self.old.told self.old.slots.told (variable, slot)) }
+    {
+        let known = self.known;
+        let told = self.told.at(variable);
+        let tops = known.slots.tops(slot);
+        if told.len() < 8 {
+            return Ok(known.types.fits(told, tops));
+        }
+        if let Some(fit) = self.fitting.get(&(variable, slot)) {
+            return Ok(*fit);
+        }
+        let fit = known.types.fits(told, tops);
+        self.fitting.insert((variable, slot), fit)?;
+        Ok(fit)
+    }
+}
+
+/// Whether an object fits a slot, where there is one, by the number at which the slot's tops are told; `None` where the object is not known.
+fn object_fits<'t, 'm, 'a, A: Allocator, B: Allocator>(
     known: &Known<'t, 'm, 'a, A, B>,
-    told: Option<&[Span]>,
-    slot: Option<&Typed<A>>,
-    tops: &[Span],
+    object: &[u8],
+    slot: Option<usize>,
 ) -> Option<bool>
-    requires tops { IfSome slot (λ s. IsTold known.now.types.now s.now.types tops.now) }
-    requires types { IfSome slot (λ s. IsTrue (are_types known.now.types.now.declared s.now.types)) }
-    ensures { (x : Option TypedValue) → IsToldOf known.now.types.now x told.entry → result ≡ fit_of (pairs known.now.types.now.declared) x (option_map (λ s. typed_view s.now) slot.entry) }
+    requires { IfSome slot (λ number. AreApart (slice_index_or known.now.slots.now.told number [])) }
+    ensures { (x : Option TypedValue) → IsSlotAt known.now.types.now known.now.slots.now.told x slot
+        → result ≡ fit_of (pairs known.now.types.now.declared) (find (is_named object.now) (take known.now.limit (map object_in known.now.listed.now.objects.entries))) x }
 {
-    match told {
-        None => None,
-        Some(told) => match slot {
-            None => Some(true),
-            Some(_) => Some(known.types.fits(told, tops)),
+    let told = known.listed.told_of(object, known.limit)?;
+    match slot {
+        None => Some(true),
+        Some(slot) => Some(known.types.fits(told, known.slots.tops(slot))),
+    }
+}
+
+/// Whether a term fits a slot, where there is one, by the number at which the slot's tops are told; `None` where the term is not known.
+///
+/// Fails where memory is refused.
+fn term_fits<'k, 't, 'm, 'a, A: Allocator, B: Allocator>(
+    uses: &mut Uses<'k, 't, 'm, 'a, A, B>,
+    term: &LentTerm,
+    scope: &Scope<A, B>,
+    slot: Option<usize>,
+) -> Result<Option<bool>, AllocError>
+    requires told { ∥ AllNumbered (AreToldAt uses.old.types uses.old.told) scope.now ∥₁ }
+    requires apart { IfSome slot (λ number. AreApart (slice_index_or uses.old.slots.told number [])) }
+    ensures kept { uses.new ≡ uses.old }
+    ensures fits { IfOk result (λ fit. (x : Option TypedValue) → IsSlotAt uses.old.types uses.old.slots.told x slot → fit ≡ fit_of (pairs uses.old.types.declared) (typed_term (setting_in uses.old) (bound_of scope.now) (term_in term.now)) x) }
+{
+    match term {
+        LentTerm::Object(object) => Ok(object_fits(uses.known, *object, slot)),
+        LentTerm::Variable(variable) => match bound_number(scope, *variable) {
+            None => Ok(None),
+            Some(number) => match slot {
+                None => Ok(Some(true)),
+                Some(slot) => Ok(Some(uses.variable_fits(number, slot)?)),
+            },
         },
     }
 }
 
-/// Whether a term fits a slot with these tops, where there is one; `None` where the term is not known.
-fn term_fits<'t, 'm, 'a, A: Allocator, B: Allocator>(
-    known: &Known<'t, 'm, 'a, A, B>,
-    term: &LentTerm,
-    scope: &Scope<A, B>,
-    slot: Option<&Typed<A>>,
-    tops: &[Span],
-) -> Option<bool>
-    requires told { ∥ AllTold (IsTold known.now.types.now) scope.now ∥₁ }
-    requires tops { IfSome slot (λ s. IsTold known.now.types.now s.now.types tops.now) }
-    requires types { IfSome slot (λ s. IsTrue (are_types known.now.types.now.declared s.now.types)) }
-    ensures { result ≡ fit_of (pairs known.now.types.now.declared) (typed_term (setting_of known.now) (bound_of scope.now) (term_in term.now)) (option_map (λ s. typed_view s.now) slot.entry) }
-{
-    match term {
-        LentTerm::Object(object) => fits_slot(known, known.listed.told_of(*object), slot, tops),
-        LentTerm::Variable(variable) => {
-            fits_slot(known, bound_told(scope, *variable), slot, tops)
-        }
-    }
-}
-
-/// Whether each term fits its slot; a term without a slot, or a slot without a term, is another fault.
+/// Whether each term fits its slot, which are told by the numbers of their tops; a term without a slot, or a slot without a term, is another fault.
 ///
-/// Fails where a term is not known.
-fn terms_fit<'t, 'm, 'a, 'd, A: Allocator, B: Allocator>(
-    known: &Known<'t, 'm, 'a, A, B>,
+/// Fails where a term is not known, or memory is refused.
+fn terms_fit<'k, 't, 'm, 'a, 'd, A: Allocator, B: Allocator>(
+    uses: &mut Uses<'k, 't, 'm, 'a, A, B>,
     terms: &Terms<'d, A>,
     slots: &[Typed<A>],
-    tops: &SlotTops<'a, B>,
-    name: usize,
+    numbers: &[usize],
     scope: &Scope<A, B>,
 ) -> Result<bool, LinkFault<'d>>
-    requires told { ∥ AllTold (IsTold known.now.types.now) scope.now ∥₁ }
-    requires tops { AreTold (IsTold known.now.types.now) (map typed_view slots.now) (slice_index_or tops.now name []) }
-    requires types { (x : TypedValue) → Contains (map typed_view slots.now) x → IsTrue (are_types known.now.types.now.declared x.of) }
-    ensures passes { Passes 26 (flat_map (unknown_term (setting_of known.now) (bound_of scope.now)) (terms_in terms.now)) result }
-    ensures fits { IfOk result (λ fits. some_misfit (setting_of known.now) (bound_of scope.now) (terms_in terms.now) (map typed_view slots.now) ≡ not fits) }
+    requires told { ∥ AllNumbered (AreToldAt uses.old.types uses.old.told) scope.now ∥₁ }
+    requires slots { AreToldAt uses.old.types uses.old.slots.told (map typed_view slots.now) numbers.now }
+    requires types { (x : TypedValue) → Contains (map typed_view slots.now) x → IsTrue (are_types uses.old.types.declared x.of) }
+    ensures kept { uses.new ≡ uses.old }
+    ensures passes { Passes 26 (flat_map (unknown_term (setting_in uses.old) (bound_of scope.now)) (terms_in terms.now)) result }
+    ensures fits { IfOk result (λ fits. some_misfit (setting_in uses.old) (bound_of scope.now) (terms_in terms.now) (map typed_view slots.now) ≡ not fits) }
 {
     let mut all_fit = true;
     for i in 0..terms.len() {
         let term = terms.at(i);
-        match term_fits(known, &term, scope, slots.get(i), tops.at(name, i)) {
+        match term_fits(uses, &term, scope, numbers.get(i).copied())? {
             None => return Err(LinkFault::UnknownName(term.name())),
             Some(fits) => all_fit = all_fit && fits,
         }
@@ -104,21 +170,21 @@ fn terms_fit<'t, 'm, 'a, 'd, A: Allocator, B: Allocator>(
 }
 
 /// The lowest fault of the terms of a predicate or a function that is declared with these slots.
-fn look_at_terms<'t, 'm, 'a, 'd, A: Allocator, B: Allocator>(
-    known: &Known<'t, 'm, 'a, A, B>,
+fn look_at_terms<'k, 't, 'm, 'a, 'd, A: Allocator, B: Allocator>(
+    uses: &mut Uses<'k, 't, 'm, 'a, A, B>,
     symbol: &'d [u8],
     terms: &Terms<'d, A>,
     slots: &[Typed<A>],
-    tops: &SlotTops<'a, B>,
-    name: usize,
+    numbers: &[usize],
     scope: &Scope<A, B>,
 ) -> Result<(), LinkFault<'d>>
-    requires told { ∥ AllTold (IsTold known.now.types.now) scope.now ∥₁ }
-    requires tops { AreTold (IsTold known.now.types.now) (map typed_view slots.now) (slice_index_or tops.now name []) }
-    requires types { (x : TypedValue) → Contains (map typed_view slots.now) x → IsTrue (are_types known.now.types.now.declared x.of) }
-    ensures { IsFound (faults_of_terms (setting_of known.now) (bound_of scope.now) symbol.now (terms_in terms.now) (map typed_view slots.now)) result }
+    requires told { ∥ AllNumbered (AreToldAt uses.old.types uses.old.told) scope.now ∥₁ }
+    requires slots { AreToldAt uses.old.types uses.old.slots.told (map typed_view slots.now) numbers.now }
+    requires types { (x : TypedValue) → Contains (map typed_view slots.now) x → IsTrue (are_types uses.old.types.declared x.of) }
+    ensures kept { uses.new ≡ uses.old }
+    ensures found { IsFound (faults_of_terms (setting_in uses.old) (bound_of scope.now) symbol.now (terms_in terms.now) (map typed_view slots.now)) result }
 {
-    let all_fit = terms_fit(known, terms, slots, tops, name, scope)?;
+    let all_fit = terms_fit(uses, terms, slots, numbers, scope)?;
     if terms.len() != slots.len() {
         Err(LinkFault::Arity(symbol))
     } else if all_fit {
@@ -128,24 +194,70 @@ fn look_at_terms<'t, 'm, 'a, 'd, A: Allocator, B: Allocator>(
     }
 }
 
-/// The lowest of the faults of a predicate or a function with its terms.
-fn look_at_use<'t, 'm, 'a, 'd, A: Allocator, B: Allocator>(
-    known: &Known<'t, 'm, 'a, A, B>,
+/// The lowest of the faults of a predicate or a function with its terms; the tops of the slots of the last that is declared are told before those of a name
+/// with this number.
+fn look_at_use<'k, 't, 'm, 'a, 'd, A: Allocator, B: Allocator>(
+    uses: &mut Uses<'k, 't, 'm, 'a, A, B>,
     declared: &Signatures<'m, 'a, A, B>,
-    tops: &SlotTops<'a, B>,
+    end: usize,
     symbol: &'d [u8],
     terms: &Terms<'d, A>,
     scope: &Scope<A, B>,
 ) -> Result<(), LinkFault<'d>>
-    requires told { ∥ AllTold (IsTold known.now.types.now) scope.now ∥₁ }
-    requires tops { AreSlotTops known.now.types.now (map signature_in declared.now.entries) tops.now }
-    requires types { HaveTypes known.now.types.now.declared (map signature_in declared.now.entries) }
-    ensures { IsFound (faults_of_use (setting_of known.now) (bound_of scope.now) (record { name = symbol.now; terms = terms_in terms.now; declared = map signature_in declared.now.entries })) result }
+    requires told { ∥ AllNumbered (AreToldAt uses.old.types uses.old.told) scope.now ∥₁ }
+    requires room { length declared.now.entries ≤ end }
+    requires slots { (k : ℕ) (f : Signature) → slice_get (map signature_in declared.now.entries) k ≡ Some f
+        → AreToldAt uses.old.types uses.old.slots.told f.parameters (slice_index_or uses.old.slots.numbers (end - length declared.now.entries + k) []) }
+    requires types { HaveTypes uses.old.types.declared (map signature_in declared.now.entries) }
+    ensures kept { uses.new ≡ uses.old }
+    ensures found { IsFound (faults_of_use (setting_in uses.old) (bound_of scope.now) (record { name = symbol.now; terms = terms_in terms.now; declared = map signature_in declared.now.entries })) result }
 {
     match declared.get_full(symbol) {
         None => Err(LinkFault::UnknownName(symbol)),
-        Some((name, _, slots)) => look_at_terms(known, symbol, terms, *slots, tops, name, scope),
+        Some((name, _, slots)) => {
+            let known = uses.known;
+            let numbers = known.slots.numbers(end - declared.len() + name);
+            look_at_terms(uses, symbol, terms, *slots, numbers, scope)
+        }
     }
+}
+
+/// The lowest of the faults of a predicate with its terms.
+fn look_at_predicate<'k, 't, 'm, 'a, 'd, A: Allocator, B: Allocator>(
+    uses: &mut Uses<'k, 't, 'm, 'a, A, B>,
+    predicate: &'d [u8],
+    terms: &Terms<'d, A>,
+    scope: &Scope<A, B>,
+) -> Result<(), LinkFault<'d>>
+    requires { ∥ AllNumbered (AreToldAt uses.old.types uses.old.told) scope.now ∥₁ }
+    ensures kept { uses.new ≡ uses.old }
+    ensures found { IsFound (faults_of_use (setting_in uses.old) (bound_of scope.now) (record { name = predicate.now; terms = terms_in terms.now; declared = uses.old.predicates })) result }
+{
+    let known = uses.known;
+    let end = known.slots.len() - known.functions.len();
+    look_at_use(uses, known.predicates, end, predicate, terms, scope)
+}
+
+/// The lowest of the faults of a function with its terms.
+fn look_at_function<'k, 't, 'm, 'a, 'd, A: Allocator, B: Allocator>(
+    uses: &mut Uses<'k, 't, 'm, 'a, A, B>,
+    function: &'d [u8],
+    terms: &Terms<'d, A>,
+    scope: &Scope<A, B>,
+) -> Result<(), LinkFault<'d>>
+    requires { ∥ AllNumbered (AreToldAt uses.old.types uses.old.told) scope.now ∥₁ }
+    ensures kept { uses.new ≡ uses.old }
+    ensures found { IsFound (faults_of_use (setting_in uses.old) (bound_of scope.now) (record { name = function.now; terms = terms_in terms.now; declared = uses.old.functions })) result }
+{
+    let known = uses.known;
+    look_at_use(
+        uses,
+        known.functions,
+        known.slots.len(),
+        function,
+        terms,
+        scope,
+    )
 }
 
 /// Whether a term is an object, or a variable that is bound.
@@ -157,8 +269,8 @@ fn is_known<'t, 'm, 'a, A: Allocator, B: Allocator>(
     ensures { unknown_term (setting_of known.now) (bound_of scope.now) (term_in term.now) ≡ word_if (not result) (term_name (term_in term.now)) }
 {
     match term {
-        LentTerm::Object(object) => known.listed.objects.contains_key(*object),
-        LentTerm::Variable(variable) => bound_told(scope, *variable).is_some(),
+        LentTerm::Object(object) => known.listed.told_of(*object, known.limit).is_some(),
+        LentTerm::Variable(variable) => bound_number(scope, *variable).is_some(),
     }
 }
 
@@ -190,50 +302,31 @@ fn look_at_amount<'d>(function: &'d [u8], amount: Fixed) -> Result<(), LinkFault
 }
 
 impl<'k, 't, 'm, 'a, A: Allocator, B: Allocator> Search<A, B> for Uses<'k, 't, 'm, 'a, A, B> {
-    ghost use Rattle.pddl_types.specs.Settings.{setting_of};
-    ghost use Rattle.pddl_names.specs.Uses.{use_faults};
+    ghost use Rattle.pddl_types.specs.ToldTops.{AreToldAt};
+    ghost use Rattle.pddl_names.specs.Uses.{setting_in, use_faults};
 
-    ghost found = { λ search place. use_faults (setting_of search.known.now) place };
+    ghost are_numbers = { λ uses items numbers. AreToldAt uses.types uses.told items numbers };
 
-    fn look<'d>(
-        &self,
-        so_far: Result<(), LinkFault<'d>>,
-        part: &Part<'d, A>,
-        scope: &Scope<A, B>,
-    ) -> Result<(), LinkFault<'d>> {
-        let known = self.known;
-        match part {
-            Part::Says(predicate, terms) => {
-                let tops = &known.tops.predicates;
-                let used = look_at_use(known, known.predicates, tops, *predicate, terms, scope);
-                lower(so_far, used)
-            }
-            Part::Calls(function, terms) => {
-                let tops = &known.tops.functions;
-                let used = look_at_use(known, known.functions, tops, *function, terms, scope);
-                lower(so_far, used)
-            }
-            Part::Equates(first, second) => {
-                let first = look_at_term(known, *first, scope);
-                lower(so_far, lower(first, look_at_term(known, *second, scope)))
-            }
-            Part::Binds(_) => so_far,
-            Part::Counts(function, amount) => lower(so_far, look_at_amount(*function, *amount)),
-        }
+    ghost found = { λ uses place. use_faults (setting_in uses) place };
+
+    fn numbers<'c>(
+        &mut self,
+        alloc: &'c B,
+        list: &TypedList<A>,
+    ) -> Result<Vec<usize, &'c B>, AllocError> {
+        self.told.tell_all(alloc, self.known.types, list)
     }
-}
 
-/// The tops of types are told.
-impl<'k, 't, 'm, 'a, A: Allocator, B: Allocator> Tells<A, B> for Uses<'k, 't, 'm, 'a, A, B> {
-    ghost use Rattle.pddl_types.specs.TypeSpans.{IsTold};
-
-    ghost is_told = { λ search. IsTold search.known.now.types.now };
-
-    fn tell<'c>(
-        &self,
-        types: &TypeNames<A>,
-        told: &mut Runs<'c, Span, B>,
-    ) -> Result<(), AllocError> {
-        self.known.types.tell(types, told)
+    fn look<'d>(&mut self, part: &Part<'d, A>, scope: &Scope<A, B>) -> Result<(), LinkFault<'d>> {
+        match part {
+            Part::Says(predicate, terms) => look_at_predicate(self, *predicate, terms, scope),
+            Part::Calls(function, terms) => look_at_function(self, *function, terms, scope),
+            Part::Equates(first, second) => {
+                let first = look_at_term(self.known, *first, scope);
+                lower(first, look_at_term(self.known, *second, scope))
+            }
+            Part::Binds(_) => Ok(()),
+            Part::Counts(function, amount) => look_at_amount(*function, *amount),
+        }
     }
 }

@@ -1,18 +1,10 @@
 -- The faults of the places of domains and problems, part by part.
-use Rattle.std.proofs.Common.{◌≡◌, ℕ, ◌+◌, ◌<◌, List, [], ◌++◌, length, get_or, drop, map, ap, sym, ◌∙◌, subst, ◌∷◌, ◌⊎◌, inl, inr}
+use Rattle.std.proofs.Common.{◌≡◌, ℕ, ◌+◌, ◌<◌, List, [], ◌++◌, length, get_or, drop, map, ap, ◌∙◌, subst}
 use Rattle.std.specs.List.{flat_map}
 use Rattle.std.proofs.lemmas.List.{append_assoc}
 use Rattle.std.proofs.lemmas.List.Concat.{flat_map-append}
-use Rattle.pddl_formula.specs.Terms.{name}
-use Rattle.pddl_formula.specs.TypedLists.{TypedValue}
-use Rattle.pddl_task.proofs.Lists.{append-none}
-use Rattle.pddl_problem.specs.declared.problem.Fact.{Fact}
-use Rattle.pddl_problem.specs.declared.problem.InitItem.{InitItem}
-use Rattle.pddl_problem.specs.declared.problem.InitItem.TheVariants.{Holds, Fails}
-use Rattle.pddl_problem.specs.Inits.{fact_view, init_view}
 use Rattle.pddl_problem.specs.Problems.{ProblemValue}
-use Rattle.pddl_task.specs.Names.{Name}
-use Rattle.pddl_task.specs.Places.{Place, at, says, ground_atom, places_in, init_places, metric_places, problem_places}
+use Rattle.pddl_task.specs.Places.{Place, places_in, init_places, metric_places, problem_places}
 use Rattle.pddl_search.specs.Walks.{faults_in}
 use Rattle.pddl_faults.proofs.ListPasses.{views_drop}
 
@@ -32,19 +24,3 @@ faults_problem w p =
     flat_map-append w (flat_map init_places p.init ++ places_in p.goal []) (metric_places p.metric)
     ∙ ap (λ ws. ws ++ flat_map w (metric_places p.metric)) (flat_map-append w (flat_map init_places p.init) (places_in p.goal []))
     ∙ append_assoc (flat_map w (flat_map init_places p.init)) (faults_in w p.goal []) (flat_map w (metric_places p.metric))
-
--- a literal that holds at first, or fails
-literal_places : {A : Type 0} (item : InitItem A) (fact : Fact A) → (item ≡ Holds fact) ⊎ (item ≡ Fails fact) → init_places (init_view item) ≡ at [] (says (ground_atom (fact_view fact))) ∷ []
-literal_places item fact (inl is) = ap (λ i. init_places (init_view i)) is
-literal_places item fact (inr is) = ap (λ i. init_places (init_view i)) is
-
--- what is found of it, where nothing is bound
-pub faults_fact : {A F : Type 0} (w : Place → List F) (b : List TypedValue) (item : InitItem A) (fact : Fact A) (n : Name) (objects : List Name)
-    → b ≡ [] → (item ≡ Holds fact) ⊎ (item ≡ Fails fact) → n ≡ fact.predicate → objects ≡ fact.objects.items
-    → flat_map w (init_places (init_view item)) ≡ w (at b (says (record { predicate = n; terms = map name objects })))
-faults_fact w b item fact n objects none is named given =
-    ap (flat_map w) (literal_places item fact is)
-    ∙ append-none (w (at [] (says (record { predicate = fact.predicate; terms = map name fact.objects.items }))))
-    ∙ ap (λ p. w (at [] (says (record { predicate = p; terms = map name fact.objects.items })))) (sym named)
-    ∙ ap (λ os. w (at [] (says (record { predicate = n; terms = map name os })))) (sym given)
-    ∙ ap (λ vs. w (at vs (says (record { predicate = n; terms = map name objects })))) (sym none)

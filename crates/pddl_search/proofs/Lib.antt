@@ -1,3 +1,4 @@
+pub mod BoundTypes
 pub mod Claims
 pub mod FileWalks
 pub mod InitClaims

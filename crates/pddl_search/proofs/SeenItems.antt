@@ -1,7 +1,7 @@
 -- A walk over a list that looks back at what it has seen.
-use Rattle.std.proofs.Common.{◌≡◌, ℕ, ◌+◌, ◌<◌, ◌≤◌, Bool, true, false, List, [], ◌∷◌, ◌++◌, map, length, get_or, take, drop, refl, ap, sym, ◌∙◌, subst, arith}
+use Rattle.std.proofs.Common.{◌≡◌, ℕ, ◌+◌, ◌<◌, Bool, true, false, List, [], ◌∷◌, ◌++◌, map, length, get_or, take, drop, refl, ap, sym, ◌∙◌, subst, arith}
 use Rattle.std.specs.Prelude.{Contains}
-use Rattle.std.proofs.lemmas.List.{drop_all, take_more, map-append, append_assoc}
+use Rattle.std.proofs.lemmas.List.{take_more, map-append, append_assoc}
 use Rattle.pddl_task.specs.Names.{Name, word_if}
 use Rattle.pddl_faults.proofs.ListPasses.{views_drop}
 

@@ -1,3 +1,6 @@
+pub mod Bound
+pub mod Parts
+pub mod Scopes
 pub mod Walks
 pub mod Grounds
 pub mod Claims

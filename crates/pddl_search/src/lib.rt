@@ -1,16 +1,22 @@
-//! One walk over all places of domains and problems, and the passes for faults that need no tables of types.
+//! One walk over all places of domains and problems, what a search is shown of a place, and the passes for faults that need no tables of types.
 //!
 //! The walk hands what stands at each place, with the variables in scope there, to a `Search`, and answers the lowest fault that it finds.
 #![tactic(auto)]
 
 mod ground;
 mod init;
+mod part;
 mod passes;
+mod scope;
 mod search;
 mod search_files;
+mod variables;
 
 pub use ground::Ground;
 pub use init::{Values, contradictions, cost_values};
+pub use part::{LentTerm, Part, Terms};
 pub use passes::{domain_name, metric, object_fluents, object_types};
+pub use scope::{Scope, Search, bound_number};
 pub use search::search_action;
 pub use search_files::{search_domain, search_problem};
+pub use variables::Variables;

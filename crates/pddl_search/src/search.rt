@@ -1,6 +1,6 @@
 //! One walk over formulas, effects and actions, for the faults that are looked for in places.
 //!
-//! Each function takes what was found before its part, and answers the lowest of that and of the faults that stand in its part.
+//! Each function answers the lowest of the faults that stand in its part.
 
 ghost use Rattle.std.specs.Prelude.{◌++◌, map};
 ghost use Rattle.std.specs.List.{flat_map};
@@ -10,123 +10,138 @@ ghost use Rattle.pddl_formula.specs.Formulas.{formula_view, formulas_of};
 ghost use Rattle.pddl_effect.specs.Effects.{amount_view, effect_view, effects_of};
 ghost use Rattle.pddl_domain.specs.Actions.{action_view};
 ghost use Rattle.pddl_task.specs.Places.{at, says, calls, binds, binding, action_places};
-ghost use Rattle.pddl_faults.specs.Found.{FindsMore};
-ghost use Rattle.pddl_faults.specs.Scopes.{bound_of};
+ghost use Rattle.pddl_faults.specs.Found.{IsFound};
+ghost use Rattle.pddl_search.specs.Scopes.{bound_of, AllNumbered, IsKept};
 ghost use Rattle.pddl_search.specs.Walks.{faults_in, faults_in_all, effect_faults, effects_faults, increase_faults};
 
+use crate::part::{Part, Terms};
+use crate::scope::{Scope, Search};
+use crate::variables::Variables;
 use pddl_domain::Action;
 use pddl_effect::{Amount, Effect};
-use pddl_faults::{LinkFault, Part, Scope, Search, Terms, Variables, Within};
+use pddl_faults::{LinkFault, lower};
 use pddl_formula::{Atom, Formula, Term, TypedList};
 use std::alloc::Allocator;
 
 /// Searches an atom.
-fn search_atom<'d, 'a, A: Allocator, B: Allocator, S: Search<A, B>>(
-    within: &Within<'_, 'd, 'a, A, B, S>,
-    so_far: Result<(), LinkFault<'d>>,
+fn search_atom<'d, A: Allocator, B: Allocator, S: Search<A, B>>(
+    search: &mut S,
+    scope: &Scope<A, B>,
     atom: &'d Atom<A>,
 ) -> Result<(), LinkFault<'d>>
-    ensures { FindsMore (S.found within.now.search.now (at (bound_of within.now.scope.now) (says (atom_view atom.now)))) so_far.entry result }
+    requires { ∥ AllNumbered (S.are_numbers search.old) scope.now ∥₁ }
+    ensures kept { IsKept (S.are_numbers search.old) (S.are_numbers search.new) (S.found search.old) (S.found search.new) }
+    ensures found { IsFound (S.found search.old (at (bound_of scope.now) (says (atom_view atom.now)))) result }
 {
     let part = Part::Says(atom.predicate.as_bytes(), Terms::Any(&atom.terms));
-    within.search.look(so_far, &part, within.scope)
+    search.look(&part, scope)
 }
 
 /// Searches a function of terms.
-pub fn search_call<'d, 'a, A: Allocator, B: Allocator, S: Search<A, B>>(
-    within: &Within<'_, 'd, 'a, A, B, S>,
-    so_far: Result<(), LinkFault<'d>>,
+pub fn search_call<'d, A: Allocator, B: Allocator, S: Search<A, B>>(
+    search: &mut S,
+    scope: &Scope<A, B>,
     function: &'d [u8],
     terms: &'d [Term<A>],
 ) -> Result<(), LinkFault<'d>>
-    ensures { FindsMore (S.found within.now.search.now (at (bound_of within.now.scope.now) (calls (record { function = function.now; terms = map term_view terms.now })))) so_far.entry result }
+    requires { ∥ AllNumbered (S.are_numbers search.old) scope.now ∥₁ }
+    ensures kept { IsKept (S.are_numbers search.old) (S.are_numbers search.new) (S.found search.old) (S.found search.new) }
+    ensures found { IsFound (S.found search.old (at (bound_of scope.now) (calls (record { function = function.now; terms = map term_view terms.now })))) result }
 {
     let part = Part::Calls(function, Terms::Any(terms));
-    within.search.look(so_far, &part, within.scope)
+    search.look(&part, scope)
 }
 
 /// Searches a formula.
 #[cycle(formulas)]
 pub fn search_formula<'d, 'a, A: Allocator, B: Allocator, S: Search<A, B>>(
-    within: &Within<'_, 'd, 'a, A, B, S>,
-    so_far: Result<(), LinkFault<'d>>,
+    alloc: &'a B,
+    search: &mut S,
+    scope: &Scope<'_, 'd, 'a, A, B>,
     formula: &'d Formula<A>,
 ) -> Result<(), LinkFault<'d>>
-    ensures { FindsMore (faults_in (S.found within.now.search.now) (formula_view formula.now) (bound_of within.now.scope.now)) so_far.entry result }
+    requires { ∥ AllNumbered (S.are_numbers search.old) scope.now ∥₁ }
+    ensures kept { IsKept (S.are_numbers search.old) (S.are_numbers search.new) (S.found search.old) (S.found search.new) }
+    ensures found { IsFound (faults_in (S.found search.old) (formula_view formula.now) (bound_of scope.now)) result }
 {
     match formula {
-        Formula::Atom(atom) => search_atom(within, so_far, atom),
-        Formula::Equal(first, second) => {
-            let part = Part::Equates(first, second);
-            within.search.look(so_far, &part, within.scope)
-        }
-        Formula::Not(inner) => search_formula(within, so_far, inner),
+        Formula::Atom(atom) => search_atom(search, scope, atom),
+        Formula::Equal(first, second) => search.look(&Part::Equates(first, second), scope),
+        Formula::Not(inner) => search_formula(alloc, search, scope, inner),
         Formula::Imply(first, second) => {
-            let so_far = search_formula(within, so_far, first);
-            search_formula(within, so_far, second)
+            let first = search_formula(alloc, search, scope, first);
+            lower(first, search_formula(alloc, search, scope, second))
         }
-        Formula::And(parts) => search_formulas(within, so_far, parts),
-        Formula::Or(parts) => search_formulas(within, so_far, parts),
-        Formula::Exists(variables, inner) => { search_quantified(within, so_far, variables, inner) }
-        Formula::Forall(variables, inner) => { search_quantified(within, so_far, variables, inner) }
+        Formula::And(parts) => search_formulas(alloc, search, scope, parts),
+        Formula::Or(parts) => search_formulas(alloc, search, scope, parts),
+        Formula::Exists(variables, inner) => {
+            search_quantified(alloc, search, scope, variables, inner)
+        }
+        Formula::Forall(variables, inner) => {
+            search_quantified(alloc, search, scope, variables, inner)
+        }
     }
 }
 
 /// Searches the variables of a quantifier, and what is quantified.
 #[cycle(formulas)]
 fn search_quantified<'d, 'a, A: Allocator, B: Allocator, S: Search<A, B>>(
-    within: &Within<'_, 'd, 'a, A, B, S>,
-    so_far: Result<(), LinkFault<'d>>,
+    alloc: &'a B,
+    search: &mut S,
+    scope: &Scope<'_, 'd, 'a, A, B>,
     variables: &'d TypedList<A>,
     inner: &'d Box<Formula<A>, A>,
 ) -> Result<(), LinkFault<'d>>
-    ensures { FindsMore (S.found within.now.search.now (at (bound_of within.now.scope.now) (binds (map typed_view variables.now.items)))
-        ++ faults_in (S.found within.now.search.now) (formula_view inner.now.value) (binding (map typed_view variables.now.items) (bound_of within.now.scope.now))) so_far.entry result }
+    requires { ∥ AllNumbered (S.are_numbers search.old) scope.now ∥₁ }
+    ensures kept { IsKept (S.are_numbers search.old) (S.are_numbers search.new) (S.found search.old) (S.found search.new) }
+    ensures found { IsFound (S.found search.old (at (bound_of scope.now) (binds (map typed_view variables.now.items)))
+        ++ faults_in (S.found search.old) (formula_view inner.now.value) (binding (map typed_view variables.now.items) (bound_of scope.now))) result }
 {
-    let so_far = within
-        .search
-        .look(so_far, &Part::Binds(variables), within.scope);
-    let bound = Variables::of(within.alloc, within.search, variables)?;
-    let inside = Within {
-        alloc: within.alloc,
-        search: within.search,
-        scope: &Scope::Inside(&bound, within.scope),
-    };
-    search_formula(&inside, so_far, inner)
+    let own = search.look(&Part::Binds(variables), scope);
+    let numbers = search.numbers(alloc, variables)?;
+    let bound = Variables::of(alloc, variables, numbers)?;
+    let inside = Scope::Inside(&bound, &*scope);
+    lower(own, search_formula(alloc, search, &inside, inner))
 }
 
 /// Searches formulas in turn.
 #[cycle(formulas)]
 fn search_formulas<'d, 'a, A: Allocator, B: Allocator, S: Search<A, B>>(
-    within: &Within<'_, 'd, 'a, A, B, S>,
-    so_far: Result<(), LinkFault<'d>>,
+    alloc: &'a B,
+    search: &mut S,
+    scope: &Scope<'_, 'd, 'a, A, B>,
     formulas: &'d Vec<Formula<A>, A>,
 ) -> Result<(), LinkFault<'d>>
-    ensures { FindsMore (faults_in_all (S.found within.now.search.now) (formulas_of (map formula_view formulas.now.items)) (bound_of within.now.scope.now)) so_far.entry result }
+    requires { ∥ AllNumbered (S.are_numbers search.old) scope.now ∥₁ }
+    ensures kept { IsKept (S.are_numbers search.old) (S.are_numbers search.new) (S.found search.old) (S.found search.new) }
+    ensures found { IsFound (faults_in_all (S.found search.old) (formulas_of (map formula_view formulas.now.items)) (bound_of scope.now)) result }
 {
-    let mut found = so_far;
+    let mut found = Ok(());
     for formula in formulas {
-        found = search_formula(within, found, formula);
+        found = lower(found, search_formula(alloc, search, scope, formula));
     }
     found
 }
 
 /// Searches what an increase adds, the total cost first.
-fn search_increase<'d, 'a, A: Allocator, B: Allocator, S: Search<A, B>>(
-    within: &Within<'_, 'd, 'a, A, B, S>,
-    so_far: Result<(), LinkFault<'d>>,
+fn search_increase<'d, A: Allocator, B: Allocator, S: Search<A, B>>(
+    search: &mut S,
+    scope: &Scope<A, B>,
     amount: &'d Amount<A>,
 ) -> Result<(), LinkFault<'d>>
-    ensures { FindsMore (increase_faults (S.found within.now.search.now) (amount_view amount.now) (bound_of within.now.scope.now)) so_far.entry result }
+    requires { ∥ AllNumbered (S.are_numbers search.old) scope.now ∥₁ }
+    ensures kept { IsKept (S.are_numbers search.old) (S.are_numbers search.new) (S.found search.old) (S.found search.new) }
+    ensures found { IsFound (increase_faults (S.found search.old) (amount_view amount.now) (bound_of scope.now)) result }
 {
-    let so_far = search_call(within, so_far, b"total-cost".as_slice(), &[]);
+    let total = search_call(search, scope, b"total-cost".as_slice(), &[]);
     match amount {
         Amount::Number(number) => {
             let part = Part::Counts(b"total-cost".as_slice(), *number);
-            within.search.look(so_far, &part, within.scope)
+            lower(total, search.look(&part, scope))
         }
         Amount::Function(call) => {
-            search_call(within, so_far, call.function.as_bytes(), &call.terms)
+            let added = search_call(search, scope, call.function.as_bytes(), &call.terms);
+            lower(total, added)
         }
     }
 }
@@ -134,60 +149,64 @@ fn search_increase<'d, 'a, A: Allocator, B: Allocator, S: Search<A, B>>(
 /// Searches an effect.
 #[cycle(effects)]
 pub fn search_effect<'d, 'a, A: Allocator, B: Allocator, S: Search<A, B>>(
-    within: &Within<'_, 'd, 'a, A, B, S>,
-    so_far: Result<(), LinkFault<'d>>,
+    alloc: &'a B,
+    search: &mut S,
+    scope: &Scope<'_, 'd, 'a, A, B>,
     effect: &'d Effect<A>,
 ) -> Result<(), LinkFault<'d>>
-    ensures { FindsMore (effect_faults (S.found within.now.search.now) (effect_view effect.now) (bound_of within.now.scope.now)) so_far.entry result }
+    requires { ∥ AllNumbered (S.are_numbers search.old) scope.now ∥₁ }
+    ensures kept { IsKept (S.are_numbers search.old) (S.are_numbers search.new) (S.found search.old) (S.found search.new) }
+    ensures found { IsFound (effect_faults (S.found search.old) (effect_view effect.now) (bound_of scope.now)) result }
 {
     match effect {
-        Effect::And(parts) => search_effects(within, so_far, parts),
-        Effect::Forall(variables, inner) => { search_each(within, so_far, variables, inner) }
+        Effect::And(parts) => search_effects(alloc, search, scope, parts),
+        Effect::Forall(variables, inner) => search_each(alloc, search, scope, variables, inner),
         Effect::When(condition, inner) => {
-            let so_far = search_formula(within, so_far, condition);
-            search_effect(within, so_far, inner)
+            let condition = search_formula(alloc, search, scope, condition);
+            lower(condition, search_effect(alloc, search, scope, inner))
         }
-        Effect::Add(atom) => search_atom(within, so_far, atom),
-        Effect::Del(atom) => search_atom(within, so_far, atom),
-        Effect::Increase(amount) => search_increase(within, so_far, amount),
+        Effect::Add(atom) => search_atom(search, scope, atom),
+        Effect::Del(atom) => search_atom(search, scope, atom),
+        Effect::Increase(amount) => search_increase(search, scope, amount),
     }
 }
 
 /// Searches the variables of an effect for all objects, and the effect.
 #[cycle(effects)]
 fn search_each<'d, 'a, A: Allocator, B: Allocator, S: Search<A, B>>(
-    within: &Within<'_, 'd, 'a, A, B, S>,
-    so_far: Result<(), LinkFault<'d>>,
+    alloc: &'a B,
+    search: &mut S,
+    scope: &Scope<'_, 'd, 'a, A, B>,
     variables: &'d TypedList<A>,
     inner: &'d Box<Effect<A>, A>,
 ) -> Result<(), LinkFault<'d>>
-    ensures { FindsMore (S.found within.now.search.now (at (bound_of within.now.scope.now) (binds (map typed_view variables.now.items)))
-        ++ effect_faults (S.found within.now.search.now) (effect_view inner.now.value) (binding (map typed_view variables.now.items) (bound_of within.now.scope.now))) so_far.entry result }
+    requires { ∥ AllNumbered (S.are_numbers search.old) scope.now ∥₁ }
+    ensures kept { IsKept (S.are_numbers search.old) (S.are_numbers search.new) (S.found search.old) (S.found search.new) }
+    ensures found { IsFound (S.found search.old (at (bound_of scope.now) (binds (map typed_view variables.now.items)))
+        ++ effect_faults (S.found search.old) (effect_view inner.now.value) (binding (map typed_view variables.now.items) (bound_of scope.now))) result }
 {
-    let so_far = within
-        .search
-        .look(so_far, &Part::Binds(variables), within.scope);
-    let bound = Variables::of(within.alloc, within.search, variables)?;
-    let inside = Within {
-        alloc: within.alloc,
-        search: within.search,
-        scope: &Scope::Inside(&bound, within.scope),
-    };
-    search_effect(&inside, so_far, inner)
+    let own = search.look(&Part::Binds(variables), scope);
+    let numbers = search.numbers(alloc, variables)?;
+    let bound = Variables::of(alloc, variables, numbers)?;
+    let inside = Scope::Inside(&bound, &*scope);
+    lower(own, search_effect(alloc, search, &inside, inner))
 }
 
 /// Searches effects in turn.
 #[cycle(effects)]
 fn search_effects<'d, 'a, A: Allocator, B: Allocator, S: Search<A, B>>(
-    within: &Within<'_, 'd, 'a, A, B, S>,
-    so_far: Result<(), LinkFault<'d>>,
+    alloc: &'a B,
+    search: &mut S,
+    scope: &Scope<'_, 'd, 'a, A, B>,
     effects: &'d Vec<Effect<A>, A>,
 ) -> Result<(), LinkFault<'d>>
-    ensures { FindsMore (effects_faults (S.found within.now.search.now) (effects_of (map effect_view effects.now.items)) (bound_of within.now.scope.now)) so_far.entry result }
+    requires { ∥ AllNumbered (S.are_numbers search.old) scope.now ∥₁ }
+    ensures kept { IsKept (S.are_numbers search.old) (S.are_numbers search.new) (S.found search.old) (S.found search.new) }
+    ensures found { IsFound (effects_faults (S.found search.old) (effects_of (map effect_view effects.now.items)) (bound_of scope.now)) result }
 {
-    let mut found = so_far;
+    let mut found = Ok(());
     for effect in effects {
-        found = search_effect(within, found, effect);
+        found = lower(found, search_effect(alloc, search, scope, effect));
     }
     found
 }
@@ -195,19 +214,17 @@ fn search_effects<'d, 'a, A: Allocator, B: Allocator, S: Search<A, B>>(
 /// Searches an action: its parameters, its precondition and its effect.
 pub fn search_action<'d, 'a, A: Allocator, B: Allocator, S: Search<A, B>>(
     alloc: &'a B,
-    search: &S,
-    so_far: Result<(), LinkFault<'d>>,
+    search: &mut S,
     action: &'d Action<A>,
 ) -> Result<(), LinkFault<'d>>
-    ensures { FindsMore (flat_map (S.found search.now) (action_places (action_view action.now))) so_far.entry result }
+    ensures kept { IsKept (S.are_numbers search.old) (S.are_numbers search.new) (S.found search.old) (S.found search.new) }
+    ensures found { IsFound (flat_map (S.found search.old) (action_places (action_view action.now))) result }
 {
-    let so_far = search.look(so_far, &Part::Binds(&action.parameters), &Scope::Empty);
-    let parameters = Variables::of(alloc, search, &action.parameters)?;
-    let inside = Within {
-        alloc,
-        search,
-        scope: &Scope::Inside(&parameters, &Scope::Empty),
-    };
-    let so_far = search_formula(&inside, so_far, &action.precondition);
-    search_effect(&inside, so_far, &action.effect)
+    let own = search.look(&Part::Binds(&action.parameters), &Scope::Empty);
+    let numbers = search.numbers(alloc, &action.parameters)?;
+    let parameters = Variables::of(alloc, &action.parameters, numbers)?;
+    let inside = Scope::Inside(&parameters, &Scope::Empty);
+    let precondition = search_formula(alloc, search, &inside, &action.precondition);
+    let effect = search_effect(alloc, search, &inside, &action.effect);
+    lower(own, lower(precondition, effect))
 }

@@ -1,111 +1,110 @@
 //! One search over all places of a domain, or of a problem.
 
-ghost use Rattle.std.specs.Prelude.{◌≡◌, [], map, option_map};
+ghost use Rattle.std.specs.Prelude.{map, option_map};
 ghost use Rattle.std.specs.List.{flat_map};
 ghost use Rattle.pddl_domain.specs.Domains.{domain_view};
 ghost use Rattle.pddl_problem.specs.Inits.{init_view, metric_view};
 ghost use Rattle.pddl_problem.specs.Problems.{problem_view};
 ghost use Rattle.pddl_task.specs.Places.{init_places, metric_places, domain_places, problem_places};
-ghost use Rattle.pddl_faults.specs.Found.{IsFound, FindsMore};
-ghost use Rattle.pddl_faults.specs.Scopes.{bound_of};
+ghost use Rattle.pddl_faults.specs.Found.{IsFound};
+ghost use Rattle.pddl_search.specs.Scopes.{IsKept};
 
+use crate::part::{Part, Terms};
 use crate::passes::is_taken;
+use crate::scope::{Scope, Search};
 use crate::search::{search_action, search_call, search_formula};
 use pddl_domain::Domain;
-use pddl_faults::{LinkFault, Part, Scope, Search, Terms, Within};
+use pddl_faults::{LinkFault, lower};
 use pddl_problem::{InitItem, Metric, Problem};
 use std::alloc::Allocator;
 
 /// Searches a domain: its actions in turn.
 pub fn search_domain<'d, 'a, A: Allocator, B: Allocator, S: Search<A, B>>(
     alloc: &'a B,
-    search: &S,
+    search: &mut S,
     domain: &'d Domain<A>,
 ) -> Result<(), LinkFault<'d>>
-    ensures { IsFound (flat_map (S.found search.now) (domain_places (domain_view domain.now))) result }
+    ensures kept { IsKept (S.are_numbers search.old) (S.are_numbers search.new) (S.found search.old) (S.found search.new) }
+    ensures found { IsFound (flat_map (S.found search.old) (domain_places (domain_view domain.now))) result }
 {
     let mut found = Ok(());
     for action in &domain.actions {
-        found = search_action(alloc, search, found, action);
+        found = lower(found, search_action(alloc, search, action));
     }
     found
 }
 
 /// Searches an item of `:init`; a literal that fails is looked at like one that holds.
-fn search_item<'p, 'a, A: Allocator, B: Allocator, S: Search<A, B>>(
-    outside: &Within<'_, 'p, 'a, A, B, S>,
-    so_far: Result<(), LinkFault<'p>>,
-    item: &'p InitItem<A>,
-) -> Result<(), LinkFault<'p>>
-    requires { bound_of outside.now.scope.now ≡ [] }
-    ensures { FindsMore (flat_map (S.found outside.now.search.now) (init_places (init_view item.now))) so_far.entry result }
+fn search_item<'d, 'a, A: Allocator, B: Allocator + 'a, S: Search<A, B>>(
+    search: &mut S,
+    item: &'d InitItem<A>,
+) -> Result<(), LinkFault<'d>>
+    ensures kept { IsKept (S.are_numbers search.old) (S.are_numbers search.new) (S.found search.old) (S.found search.new) }
+    ensures found { IsFound (flat_map (S.found search.old) (init_places (init_view item.now))) result }
 {
+    let outside: Scope<'_, 'd, 'a, A, B> = Scope::Empty;
     match item {
         InitItem::Holds(fact) | InitItem::Fails(fact) => {
             let says = Part::Says(fact.predicate.as_bytes(), Terms::Objects(&fact.objects));
-            outside.search.look(so_far, &says, outside.scope)
+            search.look(&says, &outside)
         }
         InitItem::Value(call, amount) => {
             let function = call.function.as_bytes();
             let calls = Part::Calls(function, Terms::Objects(&call.objects));
-            let so_far = outside.search.look(so_far, &calls, outside.scope);
+            let called = search.look(&calls, &outside);
             let counts = Part::Counts(function, *amount);
-            outside.search.look(so_far, &counts, outside.scope)
+            lower(called, search.look(&counts, &outside))
         }
     }
 }
 
 /// Searches items of `:init` in turn.
-fn search_init<'p, 'a, A: Allocator, B: Allocator, S: Search<A, B>>(
-    outside: &Within<'_, 'p, 'a, A, B, S>,
-    so_far: Result<(), LinkFault<'p>>,
-    init: &'p [InitItem<A>],
-) -> Result<(), LinkFault<'p>>
-    requires { bound_of outside.now.scope.now ≡ [] }
-    ensures { FindsMore (flat_map (S.found outside.now.search.now) (flat_map init_places (map init_view init.now))) so_far.entry result }
+fn search_init<'d, A: Allocator, B: Allocator, S: Search<A, B>>(
+    search: &mut S,
+    init: &'d [InitItem<A>],
+) -> Result<(), LinkFault<'d>>
+    ensures kept { IsKept (S.are_numbers search.old) (S.are_numbers search.new) (S.found search.old) (S.found search.new) }
+    ensures found { IsFound (flat_map (S.found search.old) (flat_map init_places (map init_view init.now))) result }
 {
-    let mut found = so_far;
+    let mut found = Ok(());
     for item in init {
-        found = search_item(outside, found, item);
+        found = lower(found, search_item(search, item));
     }
     found
 }
 
 /// Searches a metric; nothing is looked for in one that is not taken.
-fn search_metric<'p, 'a, A: Allocator, B: Allocator, S: Search<A, B>>(
-    outside: &Within<'_, 'p, 'a, A, B, S>,
-    so_far: Result<(), LinkFault<'p>>,
-    metric: &'p Option<Metric<A>>,
-) -> Result<(), LinkFault<'p>>
-    requires { bound_of outside.now.scope.now ≡ [] }
-    ensures { FindsMore (flat_map (S.found outside.now.search.now) (metric_places (option_map metric_view metric.now))) so_far.entry result }
+fn search_metric<'d, 'a, A: Allocator, B: Allocator + 'a, S: Search<A, B>>(
+    search: &mut S,
+    metric: &'d Option<Metric<A>>,
+) -> Result<(), LinkFault<'d>>
+    ensures kept { IsKept (S.are_numbers search.old) (S.are_numbers search.new) (S.found search.old) (S.found search.new) }
+    ensures found { IsFound (flat_map (S.found search.old) (metric_places (option_map metric_view metric.now))) result }
 {
     match metric {
-        None => so_far,
+        None => Ok(()),
         Some(metric) => {
             if is_taken(metric) {
-                search_call(outside, so_far, b"total-cost".as_slice(), &[])
+                let outside: Scope<'_, 'd, 'a, A, B> = Scope::Empty;
+                search_call(search, &outside, b"total-cost".as_slice(), &[])
             } else {
-                so_far
+                Ok(())
             }
         }
     }
 }
 
 /// Searches a problem: its initial state, its goal and its metric.
-pub fn search_problem<'p, 'a, A: Allocator, B: Allocator, S: Search<A, B>>(
+pub fn search_problem<'d, 'a, A: Allocator, B: Allocator, S: Search<A, B>>(
     alloc: &'a B,
-    search: &S,
-    problem: &'p Problem<A>,
-) -> Result<(), LinkFault<'p>>
-    ensures { IsFound (flat_map (S.found search.now) (problem_places (problem_view problem.now))) result }
+    search: &mut S,
+    problem: &'d Problem<A>,
+) -> Result<(), LinkFault<'d>>
+    ensures kept { IsKept (S.are_numbers search.old) (S.are_numbers search.new) (S.found search.old) (S.found search.new) }
+    ensures found { IsFound (flat_map (S.found search.old) (problem_places (problem_view problem.now))) result }
 {
-    let outside = Within {
-        alloc,
-        search,
-        scope: &Scope::Empty,
-    };
-    let found = search_init(&outside, Ok(()), &problem.init);
-    let found = search_formula(&outside, found, &problem.goal);
-    search_metric(&outside, found, &problem.metric)
+    let init = search_init(search, &problem.init);
+    let goal = search_formula(alloc, search, &Scope::Empty, &problem.goal);
+    let metric = search_metric(search, &problem.metric);
+    lower(init, lower(goal, metric))
 }

@@ -7,8 +7,10 @@ pub mod TypeParents
 pub mod TypeForests
 pub mod TypeLookups
 pub mod NamedSpans
-pub mod ToldSlots
+pub mod HeldEach
 pub mod ListedObjects
+pub mod FittingSpans
+pub mod NumberedTops
 pub mod TypeTables
 pub mod TypesTold
 pub mod TaskNames

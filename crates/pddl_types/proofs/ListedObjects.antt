@@ -1,54 +1,22 @@
 -- Objects by their numbers, each with the span of its type.
-use Rattle.std.proofs.Common.{◌≡◌, ℕ, zero, suc, ◌+◌, ◌≤◌, ◌<◌, Bool, true, false, not, cond, nat_lt, ltb, get_or, ltb-false, ltb-true, bytes_eq, List, [], ◌∷◌, ◌++◌, map, length, refl, sym, ap, ◌∙◌, subst, arith, ◌⊎◌, inl, inr}
-use Rattle.std.specs.Prelude.{IsTrue, Some, None, slice_get, find, Contains}
+use Rattle.std.proofs.Common.{◌≡◌, ℕ, zero, suc, ◌+◌, ◌≤◌, ◌<◌, Bool, true, false, not, cond, nat_lt, ltb, get_or, ltb-false, ltb-true, bytes_eq, List, [], ◌∷◌, map, length, take, refl, sym, ap, ◌∙◌, subst, arith}
+use Rattle.std.specs.Prelude.{IsTrue, Some, None, slice_get, find}
 use Rattle.std.specs.Borrow.{Bor}
 use Rattle.std.specs.List.{position, position_or_len}
 use Rattle.std.specs.Map.{lookup, keys_of}
 use Rattle.std.specs.Option.{option_map_or}
-use Rattle.std.proofs.lemmas.List.{length-append, length-map}
-use Rattle.std.proofs.lemmas.Option.{slice_get_read, slice_get_within, slice_get_past, get_or_from_slice_get}
+use Rattle.std.proofs.lemmas.List.{length-map, length-take}
+use Rattle.std.proofs.lemmas.Option.{slice_get_read, slice_get_within, slice_get_past}
 use Rattle.pddl_forest.specs.declared.spans.Span.{Span}
 use Rattle.pddl_formula.specs.TypedLists.{TypedValue}
 use Rattle.pddl_formula.specs.declared.type_names.Typed.{Typed}
 use Rattle.pddl_domain.specs.Declarations.{TypeValue}
 use Rattle.pddl_task.specs.Names.{Name, is_in, is_named}
 use Rattle.pddl_task.specs.Types.{types_of}
-use Rattle.pddl_types.specs.KnownNames.{AreNamed, object_in}
-use Rattle.pddl_types.specs.TypeSpans.{TypesValue, span_of, IsTold, are_types, is_single, AreSingle, IsOnlySpan, HaveEach, IsEmpty, AreListed}
-use Rattle.pddl_types.specs.declared.listed.Listed.{Listed}
+use Rattle.pddl_types.specs.KnownNames.{object_in}
+use Rattle.pddl_types.specs.TypeSpans.{TypesValue, span_of, IsTold, are_types, is_single, AreSingle, IsOnlySpan, HaveEach}
 use Rattle.pddl_task.proofs.Lists.{and_both, at_place, some_at}
 use Rattle.pddl_types.proofs.NamedSpans.{told_alone}
-
--- none are listed
-pub none_listed : {A B : Type 0} (t : TypesValue) (l : Listed A B) → IsEmpty l → AreListed t l
-none_listed t l none = record {
-  named = subst AreNamed (sym none.0) refl;
-  spans = record {
-    many = ap length none.1 ∙ sym (ap (λ es. length (map object_in es)) none.0);
-    each = λ k v x object value. absurd (omega (arith, slice_get_within (map object_in l.objects.entries) k x object, ap (λ es. length (map object_in es)) none.0));
-  };
-}
-
--- what stands in a list with one more
-at_end : {X : Type 0} (xs : List X) (y z : X) (s : ℕ) → slice_get (xs ++ y ∷ []) s ≡ Some z → (slice_get xs s ≡ Some z) ⊎ ((s ≡ length xs) × (y ≡ z))
-at_end [] y z zero h = inr (refl, cc)
-at_end [] y z (suc s) h = cc
-at_end (x ∷ xs) y z zero h = inl h
-at_end (x ∷ xs) y z (suc s) h = elim (at_end xs y z s h) as (λ _. (slice_get xs s ≡ Some z) ⊎ ((suc s ≡ suc (length xs)) × (y ≡ z))) [ inl there ↦ inl there | inr last ↦ inr (ap suc last.0, last.1) ]
-
--- one that is listed last
-pub each_more : {T : Type 0} (Holds : List Name → T → Type 0) (objects : List TypedValue) (values : List T) (x : TypedValue) (v : T) → Holds x.of v → HaveEach Holds objects values
-    → HaveEach Holds (objects ++ x ∷ []) (values ++ v ∷ [])
-each_more {T} Holds objects values x v told are = record {
-  many = length-append values (v ∷ []) ∙ ap (λ k. k + 1) are.many ∙ sym (length-append objects (x ∷ []));
-  each = λ k w y object value. one k w y (at_end objects x y k object) (at_end values v w k value);
-}
-  where
-    one : (k : ℕ) (w : T) (y : TypedValue) → (slice_get objects k ≡ Some y) ⊎ ((k ≡ length objects) × (x ≡ y)) → (slice_get values k ≡ Some w) ⊎ ((k ≡ length values) × (v ≡ w)) → Holds y.of w
-    one k w y (inl object) (inl value) = are.each k w y object value
-    one k w y (inl object) (inr last) = absurd (omega (arith, slice_get_within objects k y object, last.0, are.many))
-    one k w y (inr last) (inl value) = absurd (omega (arith, slice_get_within values k w value, last.0, are.many))
-    one k w y (inr last) (inr also) = subst (Holds y.of) also.1 (subst (λ z. Holds z.of v) last.1 told)
 
 -- the one primitive of a type
 only_type : (declared : List TypeValue) (types : List Name) → IsTrue (is_single declared types) → (n : Name) × (types ≡ n ∷ []) × IsTrue (is_in (types_of declared) n)
@@ -85,30 +53,51 @@ none_past t objects spans read k test are same past =
 
 -- ---- an object that is found by its name
 
-found_named : {A : Type 0} (es : List (Bor Name × Bor (Typed A))) (n : Name) → find (is_named n) (map object_in es) ≡ slice_get (map object_in es) (position_or_len (λ k. bytes_eq n k.now) (keys_of es))
-found_named [] n = refl
-found_named (e ∷ es) n =
+-- what stands at a place is among so many where the place is
+among_first : {X : Type 0} (xs : List X) (n i : ℕ) → i < n → slice_get (take n xs) i ≡ slice_get xs i
+among_first xs zero i low = absurd (omega (arith, low))
+among_first [] (suc n) i low = refl
+among_first (x ∷ xs) (suc n) zero low = refl
+among_first (x ∷ xs) (suc n) (suc i) low = among_first xs n i (omega (arith, low))
+
+found_named : {A : Type 0} (es : List (Bor Name × Bor (Typed A))) (n : Name) (limit : ℕ)
+    → find (is_named n) (take limit (map object_in es)) ≡ slice_get (take limit (map object_in es)) (position_or_len (λ k. bytes_eq n k.now) (keys_of es))
+found_named es n zero = refl
+found_named [] n (suc limit) = refl
+found_named (e ∷ es) n (suc limit) =
     let later = position_or_len (λ k. bytes_eq n k.now) (keys_of es) in
-    let all = object_in e ∷ map object_in es in
-    elim (bytes_eq n e.0.now) as (λ b. cond b (Some (object_in e)) (find (is_named n) (map object_in es)) ≡ slice_get all (cond (not b) (1 + later) 0)) [
+    let first = take limit (map object_in es) in
+    let all = object_in e ∷ first in
+    elim (bytes_eq n e.0.now) as (λ b. cond b (Some (object_in e)) (find (is_named n) first) ≡ slice_get all (cond (not b) (1 + later) 0)) [
       | true ↦ refl
-      | false ↦ let one : suc later ≡ 1 + later = omega arith in found_named es n ∙ ap (slice_get all) one
+      | false ↦ let one : suc later ≡ 1 + later = omega arith in found_named es n limit ∙ ap (slice_get all) one
     ]
 
-pub object_found : {A : Type 0} (es : List (Bor Name × Bor (Typed A))) (n : Name) (i : ℕ) → position (λ k. bytes_eq n k.now) (keys_of es) ≡ Some i → find (is_named n) (map object_in es) ≡ slice_get (map object_in es) i
-object_found es n i at = found_named es n ∙ ap (slice_get (map object_in es)) (first_is (λ k. bytes_eq n k.now) (keys_of es) i at)
-  where
-    first_is : {X : Type 0} (p : X → Bool) (xs : List X) (i : ℕ) → position p xs ≡ Some i → position_or_len p xs ≡ i
-    first_is p xs i h = elim (nat_lt (position_or_len p xs) (length xs)) as (λ b. cond b (Some (position_or_len p xs)) None ≡ Some i → position_or_len p xs ≡ i) [ true ↦ λ k. cc | false ↦ λ k. cc ] h
+-- it is looked for among the first so many
+module _ {A : Type 0} (es : List (Bor Name × Bor (Typed A))) (n : Name) (limit : ℕ) where
+  found_at_number : (i : ℕ) → position (λ k. bytes_eq n k.now) (keys_of es) ≡ Some i → find (is_named n) (take limit (map object_in es)) ≡ slice_get (take limit (map object_in es)) i
+  found_at_number i is = found_named es n limit ∙ ap (slice_get (take limit (map object_in es))) (first_is (λ k. bytes_eq n k.now) (keys_of es) i is)
+    where
+      first_is : {X : Type 0} (p : X → Bool) (xs : List X) (i : ℕ) → position p xs ≡ Some i → position_or_len p xs ≡ i
+      first_is p xs i h = elim (nat_lt (position_or_len p xs) (length xs)) as (λ b. cond b (Some (position_or_len p xs)) None ≡ Some i → position_or_len p xs ≡ i) [ true ↦ λ k. cc | false ↦ λ k. cc ] h
 
-pub none_found : {A : Type 0} (es : List (Bor Name × Bor (Typed A))) (n : Name) → position (λ k. bytes_eq n k.now) (keys_of es) ≡ None → find (is_named n) (map object_in es) ≡ None
-none_found es n h =
-    let k = position_or_len (λ k. bytes_eq n k.now) (keys_of es) in
-    found_named es n
-    ∙ elim (nat_lt k (length (keys_of es))) as (λ b. nat_lt k (length (keys_of es)) ≡ b → cond b (Some k) None ≡ None → slice_get (map object_in es) k ≡ None) [
-      | true ↦ λ _ some. cc
-      | false ↦ λ past _. slice_get_past (map object_in es) k (omega (arith, ltb-false k (length (keys_of es)) past, length-map es (λ e. e.0), length-map es object_in))
-    ] refl h
+  -- the one of a number below that
+  pub object_found : (i : ℕ) → position (λ k. bytes_eq n k.now) (keys_of es) ≡ Some i → i < limit → find (is_named n) (take limit (map object_in es)) ≡ slice_get (map object_in es) i
+  object_found i is low = found_at_number i is ∙ among_first (map object_in es) limit i low
+
+  -- none where its number is not below
+  pub none_below : (i : ℕ) → position (λ k. bytes_eq n k.now) (keys_of es) ≡ Some i → limit ≤ i → find (is_named n) (take limit (map object_in es)) ≡ None
+  none_below i is past = found_at_number i is ∙ slice_get_past (take limit (map object_in es)) i (omega (arith, length-take limit (map object_in es), past))
+
+  pub none_found : position (λ k. bytes_eq n k.now) (keys_of es) ≡ None → find (is_named n) (take limit (map object_in es)) ≡ None
+  none_found h =
+      let i = position_or_len (λ k. bytes_eq n k.now) (keys_of es) in
+      found_named es n limit
+      ∙ elim (nat_lt i (length (keys_of es))) as (λ b. nat_lt i (length (keys_of es)) ≡ b → cond b (Some i) None ≡ None → slice_get (take limit (map object_in es)) i ≡ None) [
+        | true ↦ λ _ some. cc
+        | false ↦ λ past _. slice_get_past (take limit (map object_in es)) i
+            (omega (arith, ltb-false i (length (keys_of es)) past, length-map es (λ e. e.0), length-map es object_in, length-take limit (map object_in es)))
+      ] refl h
 
 -- with what a table has of it
 pub found_at : {A : Type 0} (es : List (Bor Name × Bor (Typed A))) (n : Name) (found : Bor (Typed A)) → lookup (λ k. bytes_eq n k.now) es ≡ Some found

@@ -1,4 +1,5 @@
 pub mod TypeTables
 pub mod KnownNames
 pub mod TypeSpans
+pub mod ToldTops
 pub mod Settings

@@ -1,5 +1,5 @@
 -- What is known, without where it is held.
-use Rattle.std.specs.Prelude.{map}
+use Rattle.std.specs.Prelude.{map, take}
 use Rattle.pddl_task.specs.Types.{pairs}
 use Rattle.pddl_task.specs.Settings.{Setting}
 use Rattle.pddl_types.specs.KnownNames.{signature_in, object_in}
@@ -10,5 +10,5 @@ setting_of known = record {
   pairs = pairs known.types.now.declared;
   predicates = map signature_in known.predicates.now.entries;
   functions = map signature_in known.functions.now.entries;
-  objects = map object_in known.listed.now.objects.entries;
+  objects = take known.limit (map object_in known.listed.now.objects.entries);
 }

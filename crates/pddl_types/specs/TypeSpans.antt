@@ -1,14 +1,13 @@
 -- Types by spans of numbers: what is under a type has its numbers in the type's span. Own.
 use Rattle.std.specs.Prelude.{◌≡◌, ◌<◌, ◌≤◌, ◌⊎◌, ⊤, ℕ, Bool, false, IsTrue, List, [], ◌∷◌, Option, Some, None, map, length, slice_get, Contains}
 use Rattle.std.specs.Borrow.{Bor}
-use Rattle.std.specs.List.{list_any, list_all, slice_index_or}
+use Rattle.std.specs.List.{list_any, list_all}
 use Rattle.pddl_forest.specs.Spans.{some_holds, span_at, AreTops}
 use Rattle.pddl_forest.specs.declared.spans.Span.{Span}
 use Rattle.pddl_formula.specs.TypedLists.{TypedValue}
 use Rattle.pddl_domain.specs.Declarations.{TypeValue, Signature}
 use Rattle.pddl_task.specs.Names.{Name, is_in, number_in}
 use Rattle.pddl_task.specs.Types.{types_of, pairs, is_under}
-use Rattle.pddl_faults.specs.Told.{AreTold}
 use Rattle.pddl_types.specs.TypeTables.{type_names}
 use Rattle.pddl_types.specs.KnownNames.{AreNamed, object_in}
 use Rattle.pddl_types.specs.declared.listed.Listed.{Listed}
@@ -33,10 +32,6 @@ abbrev pub IsToldOf : TypesValue → Option TypedValue → Option (Bor (List Spa
 IsToldOf t None None = ⊤
 IsToldOf t (Some x) (Some told) = IsTold t x.of told.now
 IsToldOf t _ _ = ⊥
-
--- tops for each slot of each of some names
-abbrev pub AreSlotTops : TypesValue → List Signature → List (List (List Span)) → Type 0
-AreSlotTops t signatures tops = (k : ℕ) (f : Signature) → slice_get signatures k ≡ Some f → AreTold (IsTold t) f.parameters (slice_index_or tops k [])
 
 -- all names are types
 abbrev pub are_types : List TypeValue → List Name → Bool

@@ -1,27 +1,44 @@
 //! The predicates and the functions of a domain by name, with the tops of their slots.
 
-ghost use Rattle.std.specs.Prelude.{◌≡◌, [], map, IfOk};
+ghost use Rattle.std.specs.Prelude.{◌≡◌, [], ◌++◌, map, take, IfOk};
 ghost use Rattle.pddl_domain.specs.Domains.{domain_view};
 ghost use Rattle.pddl_task.specs.Names.{repeated};
 ghost use Rattle.pddl_task.specs.Types.{pairs};
 ghost use Rattle.pddl_task.specs.Settings.{symbol_of, function_signatures};
 ghost use Rattle.pddl_types.specs.KnownNames.{signature_in, object_in};
 ghost use Rattle.pddl_types.specs.Settings.{setting_of};
-ghost use Rattle.pddl_types.specs.TypeSpans.{AreSlotTops, HaveTypes, AreSingle, AreListed};
+ghost use Rattle.pddl_types.specs.TypeSpans.{HaveTypes, AreSingle, AreListed};
+ghost use Rattle.pddl_types.specs.ToldTops.{AreSlotTops};
 
 use crate::known::{Known, Signatures, signatures};
 use crate::listed::Listed;
-use crate::slot_tops::Tops;
+use crate::slot_tops::SlotTops;
 use crate::types::Types;
 use pddl_domain::Domain;
 use std::alloc::{AllocError, Allocator};
 
-/// What a domain declares beside types and constants, by name.
+/// What a domain declares beside types and constants, by name, and the tops of slots, those of predicates first.
 #[derive(Drop)]
 pub struct Declared<'m, 'a, A: Allocator, B: Allocator> {
     pub predicates: Signatures<'m, 'a, A, B>,
     pub functions: Signatures<'m, 'a, A, B>,
-    pub tops: Tops<'a, B>,
+    pub slots: SlotTops<'a, B>,
+}
+
+/// The tops of the slots of predicates, and behind them those of the slots of functions.
+///
+/// Fails where memory for them is refused.
+fn slots_of<'m, 'a, A: Allocator, B: Allocator>(
+    alloc: &'a B,
+    types: &Types<'m, 'a, A, B>,
+    domain: &Domain<A>,
+) -> Result<SlotTops<'a, B>, AllocError>
+    ensures { IfOk result (AreSlotTops types.now ((domain_view domain.now).predicates ++ function_signatures (domain_view domain.now))) }
+{
+    let mut slots = SlotTops::new(alloc);
+    slots.add(types, &domain.predicates)?;
+    slots.add(types, &domain.functions)?;
+    Ok(slots)
 }
 
 impl<'m, 'a, A: Allocator, B: Allocator> Declared<'m, 'a, A, B> {
@@ -37,39 +54,38 @@ impl<'m, 'a, A: Allocator, B: Allocator> Declared<'m, 'a, A, B> {
         requires functions { repeated [] (map symbol_of (function_signatures (domain_view domain.now))) ≡ [] }
         ensures predicates { IfOk result (λ declared. map signature_in declared.predicates.entries ≡ (domain_view domain.now).predicates) }
         ensures functions { IfOk result (λ declared. map signature_in declared.functions.entries ≡ function_signatures (domain_view domain.now)) }
-        ensures predicate_tops { IfOk result (λ declared. AreSlotTops types.now (domain_view domain.now).predicates declared.tops.predicates) }
-        ensures function_tops { IfOk result (λ declared. AreSlotTops types.now (function_signatures (domain_view domain.now)) declared.tops.functions) }
+        ensures slots { IfOk result (λ declared. AreSlotTops types.now ((domain_view domain.now).predicates ++ function_signatures (domain_view domain.now)) declared.slots) }
     {
-        let tops = Tops::of(alloc, types, domain)?;
+        let slots = slots_of(alloc, types, domain)?;
         let predicates = signatures(alloc, &domain.predicates)?;
         let functions = signatures(alloc, &domain.functions)?;
         Ok(Declared {
             predicates,
             functions,
-            tops,
+            slots,
         })
     }
 
-    /// What may be named beside these objects.
+    /// What may be named beside the first so many of these objects.
     pub fn known<'t>(
         &'t self,
         types: &'t Types<'m, 'a, A, B>,
         listed: &'t Listed<'m, 'a, A, B>,
+        limit: usize,
     ) -> Known<'t, 'm, 'a, A, B>
-        requires predicate_tops { AreSlotTops types.now (map signature_in self.now.predicates.entries) self.now.tops.predicates }
-        requires function_tops { AreSlotTops types.now (map signature_in self.now.functions.entries) self.now.tops.functions }
-        requires predicate_types { HaveTypes types.now.declared (map signature_in self.now.predicates.entries) }
-        requires function_types { HaveTypes types.now.declared (map signature_in self.now.functions.entries) }
+        requires slots { AreSlotTops types.now (map signature_in self.now.predicates.entries ++ map signature_in self.now.functions.entries) self.now.slots }
+        requires types { HaveTypes types.now.declared (map signature_in self.now.predicates.entries ++ map signature_in self.now.functions.entries) }
         requires objects { AreListed types.now listed.now }
         requires single { AreSingle types.now.declared (map object_in listed.now.objects.entries) }
-        ensures { setting_of result ≡ record { pairs = pairs types.now.declared; predicates = map signature_in self.now.predicates.entries; functions = map signature_in self.now.functions.entries; objects = map object_in listed.now.objects.entries } }
+        ensures { setting_of result ≡ record { pairs = pairs types.now.declared; predicates = map signature_in self.now.predicates.entries; functions = map signature_in self.now.functions.entries; objects = take limit (map object_in listed.now.objects.entries) } }
     {
         Known {
             types,
             predicates: &self.predicates,
             functions: &self.functions,
-            tops: &self.tops,
+            slots: &self.slots,
             listed,
+            limit,
         }
     }
 }
@@ -78,5 +94,5 @@ impl<'m, 'a, A: Allocator, B: Allocator> Declared<'m, 'a, A, B> {
 pub fn let_go_declared<'m, 'a, A: Allocator, B: Allocator>(declared: Declared<'m, 'a, A, B>) {
     drop(declared.predicates);
     drop(declared.functions);
-    drop(declared.tops);
+    drop(declared.slots);
 }

@@ -1,14 +1,15 @@
 //! What may be named where something stands, looked up by name.
 
-ghost use Rattle.std.specs.Prelude.{◌≡◌, [], map, IfOk};
+ghost use Rattle.std.specs.Prelude.{◌≡◌, [], ◌++◌, map, IfOk};
 ghost use Rattle.pddl_task.specs.Names.{repeated};
 ghost use Rattle.pddl_task.specs.Settings.{symbol_of};
 ghost use Rattle.pddl_types.specs.KnownNames.{signature_in, object_in};
-ghost use Rattle.pddl_types.specs.TypeSpans.{AreSlotTops, HaveTypes, AreSingle, AreListed};
+ghost use Rattle.pddl_types.specs.TypeSpans.{HaveTypes, AreSingle, AreListed};
+ghost use Rattle.pddl_types.specs.ToldTops.{AreSlotTops};
 
 use crate::declares::Declares;
 use crate::listed::Listed;
-use crate::slot_tops::Tops;
+use crate::slot_tops::SlotTops;
 use crate::types::Types;
 use indexmap::IndexMap;
 use pddl_faults::Hashed;
@@ -18,18 +19,18 @@ use std::alloc::{AllocError, Allocator};
 /// Predicates or functions by name, each with its parameters.
 pub type Signatures<'m, 'a, A, B> = IndexMap<&'m [u8], &'m [Typed<A>], Hashed, &'a B>;
 
-/// What may be named: types, predicates and functions with their parameters, whose types are known, and the tops of these, and objects, each of one type that is known.
+/// What may be named: types, predicates and functions with their parameters, whose types are known, the tops of their slots, those of predicates first, and so
+/// many of the objects, each of one type that is known.
 #[derive(Drop)]
 pub struct Known<'t, 'm, 'a, A: Allocator, B: Allocator> {
     pub types: &'t Types<'m, 'a, A, B>,
     pub predicates: &'t Signatures<'m, 'a, A, B>,
     pub functions: &'t Signatures<'m, 'a, A, B>,
-    pub tops: &'t Tops<'a, B>,
+    pub slots: &'t SlotTops<'a, B>,
     pub listed: &'t Listed<'m, 'a, A, B>,
-    pub ghost predicate_tops: { AreSlotTops types.now (map signature_in predicates.now.entries) tops.now.predicates },
-    pub ghost function_tops: { AreSlotTops types.now (map signature_in functions.now.entries) tops.now.functions },
-    pub ghost predicate_types: { HaveTypes types.now.declared (map signature_in predicates.now.entries) },
-    pub ghost function_types: { HaveTypes types.now.declared (map signature_in functions.now.entries) },
+    pub limit: usize,
+    pub ghost slot_tops: { AreSlotTops types.now (map signature_in predicates.now.entries ++ map signature_in functions.now.entries) slots.now },
+    pub ghost slot_types: { HaveTypes types.now.declared (map signature_in predicates.now.entries ++ map signature_in functions.now.entries) },
     pub ghost objects: { AreListed types.now listed.now },
     pub ghost single: { AreSingle types.now.declared (map object_in listed.now.objects.entries) },
 }

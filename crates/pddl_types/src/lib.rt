@@ -6,17 +6,21 @@
 mod cycles;
 mod declared;
 mod declares;
+mod fitting;
 mod function_numbers;
 mod known;
 mod listed;
 mod slot_tops;
+mod told_tops;
 mod type_table;
 mod types;
 
 pub use declared::{Declared, let_go_declared};
 pub use declares::Declares;
+pub use fitting::Fitting;
 pub use function_numbers::FunctionNumbers;
 pub use known::{Known, Signatures, signatures};
 pub use listed::{Listed, Objects, let_go_objects};
-pub use slot_tops::{SlotTops, Tops};
+pub use slot_tops::SlotTops;
+pub use told_tops::ToldTops;
 pub use types::Types;

@@ -1,6 +1,6 @@
 //! Objects by name, with the spans of their types.
 
-ghost use Rattle.std.specs.Prelude.{◌≡◌, List, ℕ, false, map, find, slice_get};
+ghost use Rattle.std.specs.Prelude.{◌≡◌, List, ℕ, false, map, take, find, slice_get};
 ghost use Rattle.std.specs.Option.{option_map_or};
 ghost use Rattle.pddl_task.specs.Names.{is_named};
 ghost use Rattle.pddl_task.specs.Types.{pairs, fits};
@@ -19,11 +19,12 @@ use std::slice::from_ref;
 /// Objects by name, each as it is listed with its type.
 pub type Objects<'m, 'a, A, B> = IndexMap<&'m [u8], &'m Typed<A>, Hashed, &'a B>;
 
-/// Constants or objects by name, in the order in which they are listed, and for each the span of its type.
+/// Constants and then objects by name, in the order in which they are listed, for each the span of its type, and how many are constants.
 #[derive(Drop)]
 pub struct Listed<'m, 'a, A: Allocator, B: Allocator> {
     pub objects: Objects<'m, 'a, A, B>,
     pub spans: Vec<Span, &'a B>,
+    pub constants: usize,
 }
 
 impl<'m, 'a, A: Allocator, B: Allocator> Listed<'m, 'a, A, B> {
@@ -34,14 +35,18 @@ impl<'m, 'a, A: Allocator, B: Allocator> Listed<'m, 'a, A, B> {
         Listed {
             objects: IndexMap::new(alloc),
             spans: Vec::new(alloc),
+            constants: 0,
         }
     }
 
-    /// The span of the type of the object of this name, as what is told of the type, where each object has one type.
-    pub fn told_of(&self, name: &[u8]) -> Option<&[Span]>
-        ensures { (t : TypesValue) → AreListed t self.now → AreSingle t.declared (map object_in self.now.objects.entries) → IsToldOf t (find (is_named name.now) (map object_in self.now.objects.entries)) result }
+    /// The span of the type of the object of this name, one of the first so many, as what is told of the type, where each object has one type.
+    pub fn told_of(&self, name: &[u8], limit: usize) -> Option<&[Span]>
+        ensures { (t : TypesValue) → AreListed t self.now → AreSingle t.declared (map object_in self.now.objects.entries) → IsToldOf t (find (is_named name.now) (take limit (map object_in self.now.objects.entries))) result }
     {
         let number = self.objects.get_index_of(name)?;
+        if number >= limit {
+            return None;
+        }
         match self.spans.get(number) {
             Some(span) => Some(from_ref(span)),
             None => None,

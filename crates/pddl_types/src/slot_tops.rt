@@ -1,92 +1,99 @@
 //! The tops of slots, by which what fits a slot is found fast.
 
-ghost use Rattle.std.specs.Prelude.{◌≡◌, [], map, IfOk};
+ghost use Rattle.std.specs.Prelude.{◌≡◌, [], ◌++◌, List, map, length, slice_get, Some, OnOk};
 ghost use Rattle.std.specs.List.{slice_index_or};
-ghost use Rattle.pddl_domain.specs.Domains.{domain_view};
-ghost use Rattle.pddl_task.specs.Settings.{function_signatures};
-ghost use Rattle.pddl_types.specs.TypeSpans.{AreSlotTops};
+ghost use Rattle.pddl_formula.specs.TypedLists.{TypedValue};
+ghost use Rattle.pddl_domain.specs.Declarations.{Signature};
+ghost use Rattle.pddl_types.specs.TypeSpans.{TypesValue, IsTold};
+ghost use Rattle.pddl_types.specs.ToldTops.{AreSlotTops};
 
 use crate::declares::Declares;
+use crate::told_tops::ToldTops;
 use crate::types::Types;
-use pddl_domain::Domain;
-use pddl_faults::{Runs, tell_all};
 use pddl_forest::Span;
 use std::alloc::{AllocError, Allocator};
 use std::marker::Model;
 
-/// The tops of the slots of predicates, functions or actions, which are told by their numbers in the order in which they are declared. Slots of one group
+/// The tops of the slots of predicates, functions or actions, which are told by their numbers in the order in which they are added. Slots of one group
 /// share theirs.
 ///
-/// Contracts see them as lists, name by name, and slot by slot.
+/// Contracts see the tops, and for each name the numbers at which those of its slots are told.
 #[derive(Drop)]
 pub struct SlotTops<'a, B: Allocator> {
-    names: Vec<Runs<'a, Span, B>, &'a B>,
+    told: ToldTops<'a, B>,
+    numbers: Vec<Vec<usize, &'a B>, &'a B>,
 }
 
 impl<'a, B: Allocator> Model for SlotTops<'a, B> {
-    ghost use Rattle.std.specs.Prelude.{List, map};
-    ghost use Rattle.pddl_forest.specs.declared.spans.Span.{Span};
+    ghost use Rattle.std.specs.Prelude.{map};
+    ghost use Rattle.pddl_types.specs.ToldTops.{SlotsValue};
 
-    ghost Value = { List (List (List Span)) };
+    ghost Value = { SlotsValue };
 
-    ghost view = { λ s. map (λ runs. runs.0) s.names.items };
+    ghost view = { λ s. record { told = s.told; numbers = map (λ numbers. numbers.items) s.numbers.items } };
 }
 
 impl<'a, B: Allocator> SlotTops<'a, B> {
-    /// The tops of the slots of what is declared.
+    /// Those of no names.
+    pub fn new(alloc: &'a B) -> SlotTops<'a, B>
+        ensures { result ≡ record { told = []; numbers = [] } }
+    {
+        SlotTops {
+            told: ToldTops::new(alloc),
+            numbers: Vec::new(alloc),
+        }
+    }
+
+    /// Adds the slots of what is declared.
     ///
     /// Fails where memory for them is refused.
-    pub fn of_declared<'m, 't, A: Allocator, C: Allocator, D: Declares<A>>(
-        alloc: &'a B,
+    pub fn add<'m, 't, A: Allocator, C: Allocator, D: Declares<A>>(
+        &mut self,
         types: &Types<'m, 't, A, C>,
         declared: &[D],
-    ) -> Result<SlotTops<'a, B>, AllocError>
-        ensures { IfOk result (λ tops. AreSlotTops types.now (map D.signature declared.now) tops) }
+    ) -> Result<(), AllocError>
+        ensures { OnOk result ((before : List Signature) → AreSlotTops types.now before self.old → AreSlotTops types.now (before ++ map D.signature declared.now) self.new) }
     {
-        let mut names = Vec::with_capacity(alloc, declared.len())?;
         for each in declared {
-            let mut tops = Runs::new(alloc);
-            tell_all(types, each.parameters(), &mut tops)?;
-            names.push(tops)?;
+            let alloc = *self.numbers.allocator();
+            let numbers = self.told.tell_all(alloc, types, each.parameters())?;
+            self.numbers.push(numbers)?;
         }
-        Ok(SlotTops { names })
+        Ok(())
+    }
+
+    /// How many names have been added.
+    pub fn len(&self) -> usize
+        ensures { result ≡ length self.now.numbers }
+    {
+        self.numbers.len()
+    }
+
+    /// The numbers at which the tops of a name's slots are told, the name by its own.
+    pub fn numbers(&self, name: usize) -> &[usize]
+        ensures { result.now ≡ slice_index_or self.now.numbers name [] }
+    {
+        match self.numbers.get(name) {
+            Some(numbers) => numbers.as_slice(),
+            None => &[],
+        }
+    }
+
+    /// The tops that are told at a number.
+    pub fn tops(&self, number: usize) -> &[Span]
+        ensures { result.now ≡ slice_index_or self.now.told number [] }
+    {
+        self.told.at(number)
     }
 
     /// The tops of a slot of a name, both by their numbers.
     pub fn at(&self, name: usize, slot: usize) -> &[Span]
-        ensures { result.now ≡ slice_index_or (slice_index_or self.now name []) slot [] }
+        ensures { (t : TypesValue) (signatures : List Signature) (f : Signature) (x : TypedValue) → AreSlotTops t signatures self.now
+            → slice_get signatures name ≡ Some f → slice_get f.parameters slot ≡ Some x → IsTold t x.of result.now }
     {
-        match self.names.get(name) {
-            Some(tops) => tops.at(slot),
+        match self.numbers(name).get(slot) {
+            Some(number) => self.told.at(*number),
             None => &[],
         }
-    }
-}
-
-/// The tops of the slots of predicates, and of those of functions.
-#[derive(Drop)]
-pub struct Tops<'a, B: Allocator> {
-    pub predicates: SlotTops<'a, B>,
-    pub functions: SlotTops<'a, B>,
-}
-
-impl<'a, B: Allocator> Tops<'a, B> {
-    /// The tops of the slots of what a domain declares.
-    ///
-    /// Fails where memory for them is refused.
-    pub fn of<'m, A: Allocator>(
-        alloc: &'a B,
-        types: &Types<'m, 'a, A, B>,
-        domain: &Domain<A>,
-    ) -> Result<Tops<'a, B>, AllocError>
-        ensures predicates { IfOk result (λ tops. AreSlotTops types.now (domain_view domain.now).predicates tops.predicates) }
-        ensures functions { IfOk result (λ tops. AreSlotTops types.now (function_signatures (domain_view domain.now)) tops.functions) }
-    {
-        let predicates = SlotTops::of_declared(alloc, types, &domain.predicates)?;
-        let functions = SlotTops::of_declared(alloc, types, &domain.functions)?;
-        Ok(Tops {
-            predicates,
-            functions,
-        })
     }
 }

@@ -15,7 +15,7 @@ ghost use Rattle.pddl_types.specs.TypeSpans.{span_of, IsTold, DoTell, are_types,
 use crate::type_table::{parent_table, spans_of};
 use indexmap::IndexMap;
 use pddl_domain::{DeclaredType, DeclaredTypes};
-use pddl_faults::{Hashed, LinkFault, Runs, Tells};
+use pddl_faults::{Hashed, LinkFault};
 use pddl_forest::{Span, hold_all, keep_tops};
 use pddl_formula::{TypeName, TypeNames, TypedList};
 use std::alloc::{AllocError, Allocator};
@@ -194,26 +194,6 @@ impl<'m, 'a, A: Allocator, B: Allocator> Types<'m, 'a, A, B> {
     {
         for place in 0..typed.len() {
             self.known_item(typed, place)?;
-        }
-        Ok(())
-    }
-}
-
-/// Of a type its tops are told.
-impl<'m, 'a, A: Allocator, B: Allocator, N: Allocator, C: Allocator> Tells<N, C>
-    for Types<'m, 'a, A, B> {
-    ghost use Rattle.pddl_types.specs.TypeSpans.{IsTold};
-
-    ghost is_told = { IsTold };
-
-    fn tell<'c>(
-        &self,
-        types: &TypeNames<N>,
-        told: &mut Runs<'c, Span, C>,
-    ) -> Result<(), AllocError> {
-        let tops = self.tops(*self.spans.allocator(), types)?;
-        for top in &tops {
-            told.push(*top)?;
         }
         Ok(())
     }

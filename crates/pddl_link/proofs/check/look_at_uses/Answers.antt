@@ -1,4 +1,5 @@
-use Rattle.std.proofs.Common.{map, ◌∙◌, sym, subst}
+use Rattle.std.proofs.Common.{map, take, ◌∙◌, arith}
+use Rattle.std.proofs.lemmas.List.{length-map, take_all}
 use Rattle.pddl_domain.specs.Domains.{domain_view}
 use Rattle.pddl_task.specs.Names.{firsts}
 use Rattle.pddl_task.specs.Linked.{domain_fault}
@@ -7,27 +8,22 @@ use Rattle.pddl_names.specs.FaultParts.{joined, domain_uses, use_rules}
 use Rattle.pddl_names.proofs.RuleParts.{domain_uses_stand}
 use Rattle.pddl_link.proofs.Settings.{setting_by_parts}
 use Rattle.pddl_link.proofs.Stages.{verdict_of}
-use Rattle.pddl_types.specs.TypeSpans.{AreSlotTops}
 use Rattle.pddl_linked_task.proofs.OnceNamed.{no_repeats}
-use Rattle.pddl_link.proofs.NamedWell.{predicate_types, function_types, single_constants}
+use Rattle.pddl_link.proofs.NamedWell.{slot_types, single_constants}
 use Rattle.pddl_link.proofs.check.look_at_uses.Goals as goal
 
 pub look_at_domain_uses-used-requires : goal.look_at_domain_uses-used-requires
 look_at_domain_uses-used-requires g c =
     let d = domain_view c.args.domain.now in
-    c.known.ensures ∙ setting_by_parts d c.args.types.now.declared (map signature_in c.in_ok-declared.declared.predicates.entries) (map signature_in c.in_ok-declared.declared.functions.entries) (map object_in c.args.constants.now.objects.entries) (firsts d.constants)
-    c.requires.types c.in_ok-declared.ensures.predicates c.in_ok-declared.ensures.functions c.requires.constants
+    let constants = map object_in c.args.constants.now.objects.entries in
+    c.known-known.ensures ∙ setting_by_parts d c.args.types.now.declared (map signature_in c.in_ok-declared.declared.predicates.entries) (map signature_in c.in_ok-declared.declared.functions.entries) (take c.len.result constants) (firsts d.constants)
+    c.requires.types c.in_ok-declared.ensures.predicates c.in_ok-declared.ensures.functions
+    (take_all c.len.result constants (omega (arith, length-map c.args.constants.now.objects.entries object_in, c.len.ensures)) ∙ c.requires.constants)
 
 pub returns : goal.returns
 returns g c =
     let d = domain_view c.args.domain.now in
     verdict_of (joined (domain_uses d)) (map (domain_fault d) use_rules) c.look_at_domain_uses-used.result (domain_uses_stand d) c.look_at_domain_uses-used.ensures
-
-pub known-requires-clause-predicate_tops : goal.known-requires-clause-predicate_tops
-known-requires-clause-predicate_tops g c = subst (λ fs. AreSlotTops c.args.types.now fs c.in_ok-declared.declared.tops.predicates) (sym c.in_ok-declared.ensures.predicates) c.in_ok-declared.ensures.predicate_tops
-
-pub known-requires-clause-function_tops : goal.known-requires-clause-function_tops
-known-requires-clause-function_tops g c = subst (λ fs. AreSlotTops c.args.types.now fs c.in_ok-declared.declared.tops.functions) (sym c.in_ok-declared.ensures.functions) c.in_ok-declared.ensures.function_tops
 
 pub of-requires-clause-predicates : goal.of-requires-clause-predicates
 of-requires-clause-predicates g c = (no_repeats (domain_view c.args.domain.now) c.requires.named.1.0).0
@@ -35,16 +31,13 @@ of-requires-clause-predicates g c = (no_repeats (domain_view c.args.domain.now) 
 pub of-requires-clause-functions : goal.of-requires-clause-functions
 of-requires-clause-functions g c = (no_repeats (domain_view c.args.domain.now) c.requires.named.1.0).1
 
-pub known-requires-clause-predicate_types : goal.known-requires-clause-predicate_types
-known-requires-clause-predicate_types g c =
-    let d = domain_view c.args.domain.now in
-    rw (c.requires.types, c.in_ok-declared.ensures.predicates) (predicate_types d c.requires.named)
+pub known-known-requires-clause-slots : goal.known-known-requires-clause-slots
+known-known-requires-clause-slots g c = rw (c.in_ok-declared.ensures.predicates, c.in_ok-declared.ensures.functions) c.in_ok-declared.ensures.slots
 
-pub known-requires-clause-function_types : goal.known-requires-clause-function_types
-known-requires-clause-function_types g c =
-    let d = domain_view c.args.domain.now in
-    rw (c.requires.types, c.in_ok-declared.ensures.functions) (function_types d c.requires.named)
+pub known-known-requires-clause-types : goal.known-known-requires-clause-types
+known-known-requires-clause-types g c =
+    rw (c.requires.types, c.in_ok-declared.ensures.predicates, c.in_ok-declared.ensures.functions) (slot_types (domain_view c.args.domain.now) c.requires.named)
 
-pub known-requires-clause-single : goal.known-requires-clause-single
-known-requires-clause-single g c =
+pub known-known-requires-clause-single : goal.known-known-requires-clause-single
+known-known-requires-clause-single g c =
     single_constants (domain_view c.args.domain.now) c.args.types.now (map object_in c.args.constants.now.objects.entries) c.args.constants.now.spans.items c.requires.named c.requires.types c.requires.constants c.requires.listed.spans

@@ -1,4 +1,5 @@
-use Rattle.std.proofs.Common.{◌++◌, map, sym, subst, ◌∙◌}
+use Rattle.std.proofs.Common.{◌++◌, map, take, ◌∙◌, arith}
+use Rattle.std.proofs.lemmas.List.{length-map, take_all}
 use Rattle.pddl_domain.specs.Domains.{domain_view}
 use Rattle.pddl_problem.specs.Problems.{problem_view}
 use Rattle.pddl_task.specs.Names.{firsts}
@@ -6,8 +7,7 @@ use Rattle.pddl_task.specs.Settings.{objects_of}
 use Rattle.pddl_task.specs.Linked.{fault_in}
 use Rattle.pddl_search.specs.Claims.{HoldsValues}
 use Rattle.pddl_types.specs.KnownNames.{signature_in, object_in}
-use Rattle.pddl_types.specs.TypeSpans.{AreSlotTops}
-use Rattle.pddl_link.proofs.NamedWell.{in_the_domain, predicate_types, function_types, single_constants, single_objects}
+use Rattle.pddl_link.proofs.NamedWell.{in_the_domain, slot_types, single_objects}
 use Rattle.pddl_names.specs.FaultParts.{joined, domain_uses, problem_uses, use_rules}
 use Rattle.pddl_names.proofs.FoundParts.{found_parts, second_kept}
 use Rattle.pddl_names.proofs.RuleParts.{uses_stand}
@@ -18,14 +18,18 @@ use Rattle.pddl_link.proofs.linked.look_at_uses.Goals as goal
 pub look_at_domain_uses-used-requires : goal.look_at_domain_uses-used-requires
 look_at_domain_uses-used-requires g c =
     let d = domain_view c.args.domain.now in
-    c.known-inner.ensures ∙ setting_by_parts d c.args.types.now.declared (map signature_in c.args.tables.now.declared.predicates.entries) (map signature_in c.args.tables.now.declared.functions.entries) (map object_in c.args.constants.now.objects.entries) (firsts d.constants)
+    let listed = c.args.listed.now in
+    let declared = c.args.tables.now.declared in
+    c.known-inner.ensures ∙ setting_by_parts d c.args.types.now.declared (map signature_in declared.predicates.entries) (map signature_in declared.functions.entries) (take listed.constants (map object_in listed.objects.entries)) (firsts d.constants)
     c.requires.types c.requires.predicates c.requires.functions c.requires.constants
 
 pub look_at_problem_uses-requires-clause-known : goal.look_at_problem_uses-requires-clause-known
 look_at_problem_uses-requires-clause-known g c =
     let d = domain_view c.args.domain.now in
-    c.known-outer.ensures ∙ setting_by_parts d c.args.types.now.declared (map signature_in c.args.tables.now.declared.predicates.entries) (map signature_in c.args.tables.now.declared.functions.entries) (map object_in c.args.listed.now.objects.entries) (objects_of d (problem_view c.args.problem.now))
-    c.requires.types c.requires.predicates c.requires.functions c.requires.objects
+    let declared = c.args.tables.now.declared in
+    let objects = map object_in c.args.listed.now.objects.entries in
+    c.known-outer.ensures ∙ setting_by_parts d c.args.types.now.declared (map signature_in declared.predicates.entries) (map signature_in declared.functions.entries) (take c.len.result objects) (objects_of d (problem_view c.args.problem.now))
+    c.requires.types c.requires.predicates c.requires.functions (take_all c.len.result objects (omega (arith, length-map c.args.listed.now.objects.entries object_in, c.len.ensures)) ∙ c.requires.objects)
 
 pub look_at_problem_uses-requires-clause-size : goal.look_at_problem_uses-requires-clause-size
 look_at_problem_uses-requires-clause-size g c = c.goal_size-size.ensures
@@ -41,54 +45,37 @@ returns-clause-verdict g c =
     verdict_of (joined (domain_uses d ++ problem_uses d p)) (map (fault_in d p) use_rules) c.lower.result (uses_stand d p)
     (found_parts (domain_uses d) (problem_uses d p) c.look_at_domain_uses-used.result c.look_at_problem_uses.result c.lower.result c.lower.ensures.found c.look_at_domain_uses-used.ensures c.look_at_problem_uses.ensures.found)
 
-pub known-inner-requires-clause-predicate_tops : goal.known-inner-requires-clause-predicate_tops
-known-inner-requires-clause-predicate_tops g c = subst (λ fs. AreSlotTops c.args.types.now fs c.args.tables.now.declared.tops.predicates) (sym c.requires.predicates) c.requires.predicate_tops
+pub known-inner-requires-clause-slots : goal.known-inner-requires-clause-slots
+known-inner-requires-clause-slots g c = rw (c.requires.predicates, c.requires.functions) c.requires.slots
 
-pub known-inner-requires-clause-function_tops : goal.known-inner-requires-clause-function_tops
-known-inner-requires-clause-function_tops g c = subst (λ fs. AreSlotTops c.args.types.now fs c.args.tables.now.declared.tops.functions) (sym c.requires.functions) c.requires.function_tops
+pub known-outer-requires-clause-slots : goal.known-outer-requires-clause-slots
+known-outer-requires-clause-slots g c = rw (c.requires.predicates, c.requires.functions) c.requires.slots
 
-pub known-outer-requires-clause-predicate_tops : goal.known-outer-requires-clause-predicate_tops
-known-outer-requires-clause-predicate_tops g c = subst (λ fs. AreSlotTops c.args.types.now fs c.args.tables.now.declared.tops.predicates) (sym c.requires.predicates) c.requires.predicate_tops
-
-pub known-outer-requires-clause-function_tops : goal.known-outer-requires-clause-function_tops
-known-outer-requires-clause-function_tops g c = subst (λ fs. AreSlotTops c.args.types.now fs c.args.tables.now.declared.tops.functions) (sym c.requires.functions) c.requires.function_tops
-
-pub known-inner-requires-clause-predicate_types : goal.known-inner-requires-clause-predicate_types
-known-inner-requires-clause-predicate_types g c =
+pub known-inner-requires-clause-types : goal.known-inner-requires-clause-types
+known-inner-requires-clause-types g c =
     let d = domain_view c.args.domain.now in
-    rw (c.requires.types, c.requires.predicates) (predicate_types d (in_the_domain d (problem_view c.args.problem.now) c.requires.named))
+    rw (c.requires.types, c.requires.predicates, c.requires.functions) (slot_types d (in_the_domain d (problem_view c.args.problem.now) c.requires.named))
 
-pub known-inner-requires-clause-function_types : goal.known-inner-requires-clause-function_types
-known-inner-requires-clause-function_types g c =
+pub known-outer-requires-clause-types : goal.known-outer-requires-clause-types
+known-outer-requires-clause-types g c =
     let d = domain_view c.args.domain.now in
-    rw (c.requires.types, c.requires.functions) (function_types d (in_the_domain d (problem_view c.args.problem.now) c.requires.named))
-
-pub known-outer-requires-clause-predicate_types : goal.known-outer-requires-clause-predicate_types
-known-outer-requires-clause-predicate_types g c =
-    let d = domain_view c.args.domain.now in
-    rw (c.requires.types, c.requires.predicates) (predicate_types d (in_the_domain d (problem_view c.args.problem.now) c.requires.named))
-
-pub known-outer-requires-clause-function_types : goal.known-outer-requires-clause-function_types
-known-outer-requires-clause-function_types g c =
-    let d = domain_view c.args.domain.now in
-    rw (c.requires.types, c.requires.functions) (function_types d (in_the_domain d (problem_view c.args.problem.now) c.requires.named))
+    rw (c.requires.types, c.requires.predicates, c.requires.functions) (slot_types d (in_the_domain d (problem_view c.args.problem.now) c.requires.named))
 
 pub known-inner-requires-clause-single : goal.known-inner-requires-clause-single
 known-inner-requires-clause-single g c =
-    let d = domain_view c.args.domain.now in
-    single_constants d c.args.types.now (map object_in c.args.constants.now.objects.entries) c.args.constants.now.spans.items (in_the_domain d (problem_view c.args.problem.now) c.requires.named) c.requires.types
-    c.requires.constants c.requires.constants_listed.spans
+    let listed = c.args.listed.now in
+    single_objects (domain_view c.args.domain.now) (problem_view c.args.problem.now) c.args.types.now (map object_in listed.objects.entries) listed.spans.items c.requires.named c.requires.types c.requires.objects c.requires.listed.spans
 
 pub known-outer-requires-clause-single : goal.known-outer-requires-clause-single
 known-outer-requires-clause-single g c =
-    single_objects (domain_view c.args.domain.now) (problem_view c.args.problem.now) c.args.types.now (map object_in c.args.listed.now.objects.entries) c.args.listed.now.spans.items c.requires.named c.requires.types
-    c.requires.objects c.requires.objects_listed.spans
+    let listed = c.args.listed.now in
+    single_objects (domain_view c.args.domain.now) (problem_view c.args.problem.now) c.args.types.now (map object_in listed.objects.entries) listed.spans.items c.requires.named c.requires.types c.requires.objects c.requires.listed.spans
 
 pub invariant_of-fitting : goal.invariant_of-fitting
 invariant_of-fitting g c =
+    let listed = c.args.listed.now in
     record {
-      objects = c.requires.objects_listed;
-      single = single_objects (domain_view c.args.domain.now) (problem_view c.args.problem.now) c.args.types.now (map object_in c.args.listed.now.objects.entries) c.args.listed.now.spans.items
-          c.requires.named c.requires.types c.requires.objects c.requires.objects_listed.spans;
+      objects = c.requires.listed;
+      single = single_objects (domain_view c.args.domain.now) (problem_view c.args.problem.now) c.args.types.now (map object_in listed.objects.entries) listed.spans.items c.requires.named c.requires.types c.requires.objects c.requires.listed.spans;
       ordered = c.requires.ordered;
     }

@@ -1,8 +1,9 @@
-use Rattle.std.proofs.Common.{subst}
+use Rattle.std.proofs.Common.{[], sym, subst}
 use Rattle.pddl_domain.specs.Actions.{action_view}
 use Rattle.pddl_domain.specs.Domains.{domain_view}
 use Rattle.pddl_types.specs.KnownNames.{action_signature}
-use Rattle.pddl_types.specs.TypeSpans.{AreSlotTops}
+use Rattle.pddl_types.specs.ToldTops.{AreSlotTops}
+use Rattle.pddl_types.proofs.NumberedTops.{slots_none}
 use Rattle.pddl_types.proofs.Views.{seen_of}
 use Rattle.pddl_sizes.specs.ObjectOrders.{IsOrderOf}
 use Rattle.pddl_linked_task.proofs.OnceNamed.{no_repeats}
@@ -16,7 +17,7 @@ of-requires-2-clause-functions g c = (no_repeats (domain_view c.args.domain.now)
 
 pub returns-clause-parameters : goal.returns-clause-parameters
 returns-clause-parameters g c =
-    subst (λ fs. AreSlotTops c.args.types.now fs c.in_ok-parameters.parameters) (seen_of action_signature action_view c.deref-2.ensures.value) c.in_ok-parameters.ensures
+    subst (λ fs. AreSlotTops c.args.types.now fs c.add.new.self) (seen_of action_signature action_view c.deref-2.ensures.value) (c.in_ok-add.ensures [] (subst (AreSlotTops c.args.types.now []) (sym c.new-parameters.ensures) (slots_none c.args.types.now)))
 
 pub returns-clause-ordered : goal.returns-clause-ordered
 returns-clause-ordered g c = subst (λ spans. ∥ IsOrderOf spans c.in_ok-order.order ∥₁) c.deref.ensures.value c.in_ok-order.ensures

@@ -1,4 +1,4 @@
-use Rattle.std.proofs.Common.{[], ◌∷◌, ◌++◌, ◌+◌, drop, map, Ok, refl, ap, subst}
+use Rattle.std.proofs.Common.{[], ◌∷◌, ◌++◌, ◌+◌, map, ap, subst}
 use Rattle.std.specs.List.{flat_map}
 use Rattle.std.proofs.lemmas.List.{drop_all}
 use Rattle.pddl_domain.specs.Actions.{action_view}
@@ -18,7 +18,7 @@ pub loop-action-init : goal.loop-action-init
 loop-action-init g c = record {
   seen = [];
   same = λ n. ap (λ ks. is_in (texts ks) n) c.new-seen.ensures.empty;
-  so_far = up_to_none [] (action_faults c.args.types.now.declared [] (map action_view c.args.actions.now)) (Ok tt) refl;
+  so_far = up_to_none;
 }
 
 pub loop-action-preserved : goal.loop-action-preserved
@@ -34,17 +34,14 @@ loop-action-preserved g c =
       seen = before.seen ++ a.name ∷ [];
       same = same_more c.loop-action.seen.keys c.insert_full.new.self.keys c.as_bytes-name.result before.seen a.name c.as_bytes-name.ensures.value before.same c.in_ok-is_new.ensures.keys;
       so_far =
-          up_to_more [] (action_faults ts before.seen (map action_view (drop i all))) (numbered 24 words ++ bound) (action_faults ts (before.seen ++ a.name ∷ []) (map action_view (drop (i + 1) all)))
-          (action_faults ts [] (map action_view all)) c.loop-action.found c.lower-found.result
-          (ap (action_faults ts before.seen) (views_drop action_view all i a c.loop-action-test.true c.action-item.is))
-          (λ xs h. c.lower-found.ensures.found xs (numbered 24 words ++ bound) h (c.lower.ensures.found (numbered 24 words) bound
+          up_to_more (numbered 24 words ++ bound) c.lower.result (ap (action_faults ts before.seen) (views_drop action_view all i a c.loop-action-test.true c.action-item.is)) c.lower-found.ensures.found
+          (c.lower.ensures.found (numbered 24 words) bound
           (passed_found 24 words c.once.result (subst (λ ws. Passes 24 ws c.once.result) (word_is c.loop-action.seen.keys c.as_bytes-name.result before.seen a.name c.in_ok-is_new.is_new c.as_bytes-name.ensures.value before.same c.in_ok-is_new.ensures.added) c.once.ensures))
-          (c.search_action-bound.ensures [] refl))) before.so_far;
+          c.search_action-bound.ensures.found) before.so_far;
     }
 
 pub returns : goal.returns
 returns g c =
     let ts = c.args.types.now.declared in
     let all = c.args.actions.now in
-    up_to_all [] (action_faults ts c.loop-action.invariant.seen (map action_view (drop c.loop-action.action-index all))) (action_faults ts [] (map action_view all)) c.loop-action.found
-    (ap (λ xs. action_faults ts c.loop-action.invariant.seen (map action_view xs)) (drop_all c.loop-action.action-index all c.loop-action-test.false)) c.loop-action.invariant.so_far
+    up_to_all (ap (λ xs. action_faults ts c.loop-action.invariant.seen (map action_view xs)) (drop_all c.loop-action.action-index all c.loop-action-test.false)) c.loop-action.invariant.so_far

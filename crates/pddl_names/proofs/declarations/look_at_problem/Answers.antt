@@ -19,5 +19,5 @@ returns g c =
     found_parts (used ∷ []) (bound ∷ single ∷ []) c.known-used.result c.lower.result c.lower-2.result c.lower-2.ensures.found
     (passed_part 23 c.known-used.result refl c.known-used.ensures)
     (found_parts (bound ∷ []) (single ∷ []) c.search_problem-bound.result c.object_types.result c.lower.result c.lower.ensures.found
-    (one_part bound c.search_problem-bound.result c.search_problem-bound.ensures)
+    (one_part bound c.search_problem-bound.result c.search_problem-bound.ensures.found)
     (passed_part 25 c.object_types.result (ap (λ xs. object_types (map typed_view xs)) c.deref.ensures.value) c.object_types.ensures))

@@ -1,4 +1,4 @@
-use Rattle.std.proofs.Common.{[], ◌∷◌, refl, subst}
+use Rattle.std.proofs.Common.{[], ◌∷◌, refl, ◌∙◌, subst}
 use Rattle.std.specs.List.{flat_map}
 use Rattle.pddl_domain.specs.Domains.{domain_view}
 use Rattle.pddl_task.specs.Places.{domain_places}
@@ -16,5 +16,5 @@ returns g c =
     let used = λ (s : Setting). flat_map (use_faults s) (domain_places d) in
     let fluents = numbered 32 (object_fluents d) in
     found_parts (used (in_domain d) ∷ []) (fluents ∷ []) c.search_domain-used.result c.object_fluents.result c.lower.result c.lower.ensures.found
-    (subst (λ s. IsFound (joined (used s ∷ [])) c.search_domain-used.result) c.requires (one_part _ c.search_domain-used.result c.search_domain-used.ensures))
+    (subst (λ s. IsFound (joined (used s ∷ [])) c.search_domain-used.result) (c.of-uses.ensures.known ∙ c.requires) (one_part _ c.search_domain-used.result c.search_domain-used.ensures.found))
     (passed_part 32 c.object_fluents.result refl c.object_fluents.ensures)

@@ -1,4 +1,4 @@
-use Rattle.std.proofs.Common.{[], ◌∷◌, map, refl, ap, subst}
+use Rattle.std.proofs.Common.{[], ◌∷◌, map, refl, ap, ◌∙◌, subst}
 use Rattle.std.specs.Prelude.{OnOk}
 use Rattle.std.specs.List.{flat_map}
 use Rattle.pddl_domain.specs.Domains.{domain_view}
@@ -24,7 +24,7 @@ returns-clause-found g c =
     let size = numbered 35 (large_goals d p) in
     let costs = numbered 31 (cost_values p) in
     found_parts (used (in_problem d p) ∷ []) (claims ∷ metrics ∷ size ∷ costs ∷ []) c.search_problem-used.result c.lower-3.result c.lower-4.result c.lower-4.ensures.found
-    (subst (λ s. IsFound (joined (used s ∷ [])) c.search_problem-used.result) c.requires.known (one_part _ c.search_problem-used.result c.search_problem-used.ensures))
+    (subst (λ s. IsFound (joined (used s ∷ [])) c.search_problem-used.result) (c.of-uses.ensures.known ∙ c.requires.known) (one_part _ c.search_problem-used.result c.search_problem-used.ensures.found))
     (found_parts (claims ∷ []) (metrics ∷ size ∷ costs ∷ []) c.contradictions-claimed.result c.lower-2.result c.lower-3.result c.lower-3.ensures.found
     (passed_part 29 c.contradictions-claimed.result (ap (λ is. clashing contradicts [] (map init_view is)) c.deref.ensures.value) c.contradictions-claimed.ensures)
     (found_parts (metrics ∷ []) (size ∷ costs ∷ []) c.metric-metric.result c.lower.result c.lower-2.result c.lower-2.ensures.found

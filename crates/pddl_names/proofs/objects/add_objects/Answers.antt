@@ -15,6 +15,7 @@ loop-number-init g c = record {
   lists = λ before none is. listed_start before c.args.objects.now.items (map object_in c.args.listed.now.objects.entries) none is;
   spans = c.requires.listed;
   met = c.requires.met;
+  constants = refl;
   last = λ j x next. absurd (omega (arith, next));
 }
 
@@ -33,6 +34,7 @@ loop-number-preserved g c =
           (c.in_ok-list_object.ensures.right ∙ ap not c.if-not-branch.false);
       spans = c.in_ok-list_object.ensures.spans c.args.types.now l.invariant.spans here.0 c.if-not-branch.false;
       met = c.in_ok-list_object.ensures.met c.if-not-branch.false;
+      constants = c.list_object.ensures.constants ∙ l.invariant.constants;
       last = λ j y next there.
           let group = c.in_ok-group.ensures.group y (ap (slice_get (map typed_view xs)) (omega (arith, next)) ∙ there) in
           (group.0, subst (λ (types : HashSet _ _). type_of_number types.keys c.in_ok-group.group.number ≡ Some y.of) (sym c.in_ok-list_object.ensures.kept) group.1);

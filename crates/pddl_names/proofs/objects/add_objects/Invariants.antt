@@ -14,5 +14,6 @@ invariant-loop-number g l = record {
   lists : (before : List TypedValue) → retyped [] before ≡ [] → map object_in l.fn.listed.objects.entries ≡ firsts before → ListedUpTo before l.objects.items l.number (map object_in l.listed.objects.entries);
   spans : AreListed l.types l.listed;
   met : AreMet (map object_in l.listed.objects.entries) l.met;
+  constants : l.listed.constants ≡ l.fn.listed.constants;
   last : (j : ℕ) (x : TypedValue) → suc j ≡ l.number → slice_get (map typed_view l.objects.items) j ≡ Some x → IsGroupOf l.types l.met x.of l.group;
 }

@@ -3,7 +3,7 @@ use Rattle.std.specs.Map.{lookup}
 use Rattle.pddl_formula.specs.TypedLists.{typed_view}
 use Rattle.pddl_types.specs.KnownNames.{AreNamed, object_in}
 use Rattle.pddl_types.specs.TypeSpans.{HaveEach, IsOnlySpan}
-use Rattle.pddl_types.proofs.ListedObjects.{each_more}
+use Rattle.pddl_types.proofs.HeldEach.{each_more}
 use Rattle.pddl_names.specs.MetTypes.{IsMetAt, AreMet}
 use Rattle.pddl_names.proofs.MetTypes.{known_type, same_by_numbers}
 use Rattle.pddl_names.proofs.ObjectTables.{put_there, named_entry, odds_there, kept_there, odds_new, last_new}

@@ -7,15 +7,15 @@ use Rattle.pddl_formula.specs.TypedLists.{typed_view}
 use Rattle.pddl_task.specs.Names.{word_if}
 use Rattle.pddl_task.specs.Faults.{unknown_term, some_misfit}
 use Rattle.pddl_faults.specs.declared.fault.LinkFault.TheVariants as link
-use Rattle.pddl_faults.specs.Parts.{terms_in}
-use Rattle.pddl_faults.specs.Scopes.{bound_of}
-use Rattle.pddl_types.specs.Settings.{setting_of}
+use Rattle.pddl_search.specs.Parts.{terms_in}
+use Rattle.pddl_search.specs.Scopes.{bound_of}
+use Rattle.pddl_names.specs.Uses.{setting_in}
 use Rattle.pddl_names.proofs.UseFaults.{first_found, second_found, third_found, has_word, has_no_word}
 use Rattle.pddl_names.proofs.uses.look_at_terms.Goals as goal
 
-pub returns-in_err-all_fit : goal.returns-in_err-all_fit
-returns-in_err-all_fit g c =
-    let s = setting_of c.args.known.now in
+pub returns-in_err-all_fit-clause-found : goal.returns-in_err-all_fit-clause-found
+returns-in_err-all_fit-clause-found g c =
+    let s = setting_in c.args.uses.now in
     let b = bound_of c.args.scope.now in
     let n = c.args.symbol.now in
     let ts = terms_in c.args.terms.now in
@@ -23,9 +23,9 @@ returns-in_err-all_fit g c =
     let p = err_from_is_err_and c.from_residual.result c.from_residual.ensures.1 in
     rw (p.1, p.2) (first_found (flat_map (unknown_term s b) ts) (word_if (not (length ts == length slots)) n) (word_if (some_misfit s b ts slots) n) c.in_err-all_fit.field-0.0 c.in_err-all_fit.ensures.passes)
 
-pub returns-then-len-slots : goal.returns-then-len-slots
-returns-then-len-slots g c =
-    let s = setting_of c.args.known.now in
+pub returns-then-len-slots-clause-found : goal.returns-then-len-slots-clause-found
+returns-then-len-slots-clause-found g c =
+    let s = setting_in c.args.uses.now in
     let b = bound_of c.args.scope.now in
     let n = c.args.symbol.now in
     let ts = terms_in c.args.terms.now in
@@ -34,9 +34,9 @@ returns-then-len-slots g c =
     second_found (flat_map (unknown_term s b) ts) (word_if (not (length ts == length slots)) n) (word_if (some_misfit s b ts slots) n) (link.Arity c.args.symbol)
     c.in_ok-all_fit.ensures.passes (refl, has_word (not (length ts == length slots)) (length ts == length slots) n refl other)
 
-pub returns-else-all_fit : goal.returns-else-all_fit
-returns-else-all_fit g c =
-    let s = setting_of c.args.known.now in
+pub returns-else-all_fit-clause-found : goal.returns-else-all_fit-clause-found
+returns-else-all_fit-clause-found g c =
+    let s = setting_in c.args.uses.now in
     let b = bound_of c.args.scope.now in
     let n = c.args.symbol.now in
     let ts = terms_in c.args.terms.now in

@@ -1,66 +1,52 @@
-use Rattle.std.proofs.Common.{◌++◌, ◌+◌, drop, map, ap, sym, ◌∙◌, refl}
-use Rattle.std.proofs.Math.Logic.{∥∥₁_map}
-use Rattle.pddl_formula.specs.TypedLists.{typed_view}
+use Rattle.std.proofs.Common.{rules, arith, List, map, refl, ap}
+use Rattle.std.proofs.lemmas.Grind.{common_steps}
+use Rattle.std.proofs.lemmas.List.{drop_all}
 use Rattle.pddl_formula.specs.Formulas.{formula_view, formulas_of}
-use Rattle.pddl_task.specs.Places.{at, binds, binding}
-use Rattle.pddl_faults.specs.Scopes.{bound_of}
-use Rattle.pddl_faults.proofs.FoundFaults.{found_same, found_in_two, up_to_none, up_to_more}
-use Rattle.pddl_search.specs.Walks.{faults_in, faults_in_all}
-use Rattle.pddl_search.proofs.Walks.{faults_imply, faults_exists, faults_forall, faults_left}
+use Rattle.pddl_formula.specs.declared.formula.Formula.{Formula}
+use Rattle.pddl_formula.specs.declared.formula.Formula.TheFolds as formula_folds
+use Rattle.pddl_search.specs.Scopes.{bound_of}
+use Rattle.pddl_search.proofs.BoundTypes.{kept_then, kept_in_scope, kept_inside}
+use Rattle.pddl_faults.proofs.FoundFaults.{up_to_none, up_to_more, up_to_all}
+use Rattle.pddl_search.specs.Walks.{faults_in_all}
+use Rattle.pddl_search.proofs.Walks.{faults_imply, faults_left}
 use Rattle.pddl_search.proofs.search.+formulas.Goals as goal
 
-pub search_formula-returns-in-Imply : goal.search_formula-returns-in-Imply
-search_formula-returns-in-Imply g t c = λ before h.
-    let w = g.S.Search.found c.args.within.now.search.now in
-    let b = bound_of c.args.within.now.scope.now in
-    let left = faults_in w (formula_view c.deref-in-Imply.result.now) b in
-    let right = faults_in w (formula_view c.deref-in-Imply-2.result.now) b in
-    found_in_two before left right (faults_in w (formula_view c.args.formula.now) b) c.search_formula-in-Imply.result
-    (faults_imply w b c.args.formula.now c.in-Imply.first c.in-Imply.second c.deref-in-Imply.result.now c.deref-in-Imply-2.result.now c.in-Imply.is c.deref-in-Imply.ensures c.deref-in-Imply-2.ensures)
-    (c.search_formula-in-Imply.ensures (before ++ left) (c.search_formula-so_far.ensures before h))
+pub search_formula-search_formula-requires-in-Imply : goal.search_formula-search_formula-requires-in-Imply
+search_formula-search_formula-requires-in-Imply g t c = search (rules, formula_folds.the_lemmas, kept_in_scope c.args.scope.now c.search_formula-first.ensures.kept c.requires)
 
-pub search_formula-returns-in-Exists : goal.search_formula-returns-in-Exists
-search_formula-returns-in-Exists g t c = λ before h.
-    let w = g.S.Search.found c.args.within.now.search.now in
-    let b = bound_of c.args.within.now.scope.now in
-    let xs = c.in-Exists.variables.items in
-    let inner = c.in-Exists.inner.value in
-    found_same (before ++ (w (at b (binds (map typed_view xs))) ++ faults_in w (formula_view inner) (binding (map typed_view xs) b))) (before ++ faults_in w (formula_view c.args.formula.now) b) c.search_quantified.result
-    (ap (λ fs. before ++ fs) (faults_exists w b c.args.formula.now c.in-Exists.variables c.in-Exists.inner xs inner (map typed_view xs) c.in-Exists.is refl refl refl)) (c.search_quantified.ensures before h)
-
-pub search_formula-returns-in-Forall : goal.search_formula-returns-in-Forall
-search_formula-returns-in-Forall g t c = λ before h.
-    let w = g.S.Search.found c.args.within.now.search.now in
-    let b = bound_of c.args.within.now.scope.now in
-    let xs = c.in-Forall.variables.items in
-    let inner = c.in-Forall.inner.value in
-    found_same (before ++ (w (at b (binds (map typed_view xs))) ++ faults_in w (formula_view inner) (binding (map typed_view xs) b))) (before ++ faults_in w (formula_view c.args.formula.now) b) c.search_quantified-in-Forall.result
-    (ap (λ fs. before ++ fs) (faults_forall w b c.args.formula.now c.in-Forall.variables c.in-Forall.inner xs inner (map typed_view xs) c.in-Forall.is refl refl refl)) (c.search_quantified-in-Forall.ensures before h)
-
-pub search_quantified-returns : goal.search_quantified-returns
-search_quantified-returns g t c = λ before h.
-    let w = g.S.Search.found c.args.within.now.search.now in
-    let b = bound_of c.args.within.now.scope.now in
-    let own = w (at b (binds (map typed_view c.args.variables.now.items))) in
-    let inside = faults_in w (formula_view c.deref.result.now) (binding c.in_ok-bound.bound.list b) in
-    found_in_two before own inside (own ++ faults_in w (formula_view c.args.inner.now.value) (binding (map typed_view c.args.variables.now.items) b)) c.search_formula.result
-    (ap (λ vs. own ++ faults_in w (formula_view c.args.inner.now.value) (binding vs b)) (sym c.in_ok-bound.ensures.list) ∙ ap (λ k. own ++ faults_in w (formula_view k) (binding c.in_ok-bound.bound.list b)) (sym c.deref.ensures))
-    (c.search_formula.ensures (before ++ own) (c.look-so_far.ensures before h))
+pub search_formula-returns-in-Imply-clause-found : goal.search_formula-returns-in-Imply-clause-found
+search_formula-returns-in-Imply-clause-found g t c =
+    rw (c.in-Imply.is, faults_imply (g.S.Search.found c.args.search.now) (bound_of c.args.scope.now) c.in-Imply.first c.in-Imply.second)
+    (c.lower.ensures.found _ _ (rw c.deref-in-Imply.ensures at c.search_formula-first.ensures.found) (rw (c.search_formula-first.ensures.kept.1, c.deref-in-Imply-2.ensures) at c.search_formula-in-Imply.ensures.found))
 
 pub search_formulas-loop-formula-init : goal.search_formulas-loop-formula-init
-search_formulas-loop-formula-init g t c = λ before h.
-    up_to_none before (faults_in_all (g.S.Search.found c.args.within.now.search.now) (formulas_of (map formula_view c.args.formulas.now.items)) (bound_of c.args.within.now.scope.now)) c.args.so_far h
+search_formulas-loop-formula-init g t c = record { kept = (λ xs numbers are. are, refl); found = up_to_none }
+
+pub search_formulas-search_formula-requires : goal.search_formulas-search_formula-requires
+search_formulas-search_formula-requires g t c = grind (arith, common_steps, formula_folds.the_lemmas, kept_in_scope c.args.scope.now c.loop-formula.invariant.kept c.requires)
 
 pub search_formulas-loop-formula-preserved : goal.search_formulas-loop-formula-preserved
-search_formulas-loop-formula-preserved g t c = λ before h.
-    let w = g.S.Search.found c.args.within.now.search.now in
-    let b = bound_of c.args.within.now.scope.now in
-    let all = c.args.formulas.now.items in
-    let i = c.loop-formula.formula-index in
-    up_to_more before (faults_in_all w (formulas_of (map formula_view (drop i all))) b) (faults_in w (formula_view c.formula-item.result) b) (faults_in_all w (formulas_of (map formula_view (drop (i + 1) all))) b)
-    (faults_in_all w (formulas_of (map formula_view all)) b) c.loop-formula.found c.search_formula-found.result
-    (faults_left w b all c.deref-formula-items.result.now i c.formula-item.result c.deref-formula-items.ensures.value c.loop-formula-test.true c.formula-item.is)
-    c.search_formula-found.ensures (c.loop-formula.invariant before h)
+search_formulas-loop-formula-preserved g t c = record {
+  kept = kept_then c.loop-formula.invariant.kept c.search_formula.ensures.kept;
+  found =
+      up_to_more _ _
+      (faults_left (g.S.Search.found c.args.search.now) (bound_of c.args.scope.now) c.args.formulas.now.items c.deref-formula-items.result.now c.loop-formula.formula-index c.formula-item.result c.deref-formula-items.ensures.value c.loop-formula-test.true c.formula-item.is)
+      c.lower-found.ensures.found (rw c.loop-formula.invariant.kept.1 at c.search_formula.ensures.found) c.loop-formula.invariant.found;
+}
 
-pub search_quantified-invariant_of-inside : goal.search_quantified-invariant_of-inside
-search_quantified-invariant_of-inside g t c = record { told = ∥∥₁_map c.args.within.now.told (λ outer. (c.in_ok-bound.ensures.told, outer)) }
+pub search_formulas-returns-clause-found : goal.search_formulas-returns-clause-found
+search_formulas-returns-clause-found g t c =
+    up_to_all (ap (λ (xs : List (Formula _)). faults_in_all (g.S.Search.found c.args.search.now) (formulas_of (map formula_view xs)) (bound_of c.args.scope.now))
+    (drop_all c.loop-formula.formula-index c.args.formulas.now.items (rw c.deref-formula-items.ensures.value at c.loop-formula-test.false))) c.loop-formula.invariant.found
+
+pub search_quantified-search_formula-requires : goal.search_quantified-search_formula-requires
+search_quantified-search_formula-requires g t c =
+    search (rules, kept_inside c.args.scope.now c.in_ok-bound.bound (kept_then c.look-own.ensures.kept c.numbers.ensures.kept) c.in_ok-bound.ensures c.in_ok-numbers.ensures.numbers c.requires)
+
+pub search_quantified-returns-clause-kept : goal.search_quantified-returns-clause-kept
+search_quantified-returns-clause-kept g t c = kept_then c.look-own.ensures.kept (kept_then c.numbers.ensures.kept c.search_formula.ensures.kept)
+
+pub search_quantified-returns-clause-found : goal.search_quantified-returns-clause-found
+search_quantified-returns-clause-found g t c =
+    c.lower.ensures.found _ _ c.look-own.ensures.found
+    (rw (c.numbers.ensures.kept.1, c.look-own.ensures.kept.1, c.deref.ensures, c.in_ok-bound.ensures) at c.search_formula.ensures.found)

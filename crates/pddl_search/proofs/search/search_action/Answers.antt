@@ -1,24 +1,26 @@
-use Rattle.std.proofs.Common.{[], ◌++◌, map, refl}
-use Rattle.std.specs.List.{flat_map}
+use Rattle.std.proofs.Common.{[], map}
+use Rattle.std.proofs.lemmas.List.Concat.{flat_map-append}
 use Rattle.pddl_formula.specs.TypedLists.{typed_view}
 use Rattle.pddl_formula.specs.Formulas.{formula_view}
 use Rattle.pddl_effect.specs.Effects.{effect_view}
-use Rattle.pddl_domain.specs.Actions.{action_view}
-use Rattle.pddl_task.specs.Places.{at, binds, binding, action_places}
-use Rattle.pddl_faults.proofs.FoundFaults.{found_in_two}
-use Rattle.pddl_search.specs.Walks.{faults_in, effect_faults}
-use Rattle.pddl_search.proofs.Walks.{faults_action}
+use Rattle.pddl_task.specs.Places.{binding, places_in, effect_places}
+use Rattle.pddl_search.specs.declared.scope.Scope.{Empty}
+use Rattle.pddl_search.proofs.BoundTypes.{kept_then, kept_inside}
 use Rattle.pddl_search.proofs.search.search_action.Goals as goal
 
-pub returns : goal.returns
-returns g c = λ before h.
+pub search_effect-effect-requires : goal.search_effect-effect-requires
+search_effect-effect-requires g c =
+    kept_inside {A = g.row.A.Denot} {B = g.row.B.Denot} Empty c.in_ok-parameters.parameters c.search_formula-precondition.ensures.kept c.in_ok-parameters.ensures (c.search_formula-precondition.ensures.kept.0 _ _ c.in_ok-numbers.ensures.numbers) ∣ tt ∣₁
+
+pub returns-clause-kept : goal.returns-clause-kept
+returns-clause-kept g c = kept_then c.look-own.ensures.kept (kept_then c.numbers.ensures.kept (kept_then c.search_formula-precondition.ensures.kept c.search_effect-effect.ensures.kept))
+
+pub returns-clause-found : goal.returns-clause-found
+returns-clause-found g c =
     let w = g.S.Search.found c.args.search.now in
     let a = c.args.action.now in
-    let b = binding c.in_ok-parameters.parameters.list [] in
-    let own = w (at [] (binds (map typed_view a.parameters.items))) in
-    let precondition = faults_in w (formula_view a.precondition) b in
-    let effect = effect_faults w (effect_view a.effect) b in
-    found_in_two before own (precondition ++ effect) (flat_map w (action_places (action_view a))) c.search_effect.result
-    (faults_action w a a.parameters.items a.parameters.items c.in_ok-parameters.parameters.list refl refl c.in_ok-parameters.ensures.list)
-    (found_in_two (before ++ own) precondition effect (precondition ++ effect) c.search_effect.result refl
-    (c.search_effect.ensures ((before ++ own) ++ precondition) (c.search_formula-so_far.ensures (before ++ own) (c.look-so_far.ensures before h))))
+    let b = binding (map typed_view a.parameters.items) [] in
+    rw (flat_map-append w (places_in (formula_view a.precondition) b) (effect_places (effect_view a.effect) b))
+    (c.lower-2.ensures.found _ _ c.look-own.ensures.found (c.lower.ensures.found _ _
+    (rw (c.numbers.ensures.kept.1, c.look-own.ensures.kept.1, c.in_ok-parameters.ensures) at c.search_formula-precondition.ensures.found)
+    (rw (c.search_formula-precondition.ensures.kept.1, c.numbers.ensures.kept.1, c.look-own.ensures.kept.1, c.in_ok-parameters.ensures) at c.search_effect-effect.ensures.found)))

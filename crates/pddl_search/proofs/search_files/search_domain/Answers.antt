@@ -1,28 +1,25 @@
-use Rattle.std.proofs.Common.{[], ◌+◌, ◌≤◌, List, drop, length, map, ap, subst}
+use Rattle.std.proofs.Common.{List, map, ap, subst}
 use Rattle.std.specs.List.{flat_map}
 use Rattle.std.proofs.lemmas.List.{drop_all}
 use Rattle.pddl_domain.specs.declared.domain.Action.{Action}
 use Rattle.pddl_domain.specs.Actions.{action_view}
 use Rattle.pddl_task.specs.Places.{action_places}
+use Rattle.pddl_faults.specs.Found.{IsFound}
+use Rattle.pddl_search.proofs.BoundTypes.{kept_then}
 use Rattle.pddl_faults.proofs.FoundFaults.{up_to_more, up_to_all}
 use Rattle.pddl_search.proofs.FileWalks.{places_left}
 use Rattle.pddl_search.proofs.search_files.search_domain.Goals as goal
 
 pub loop-action-preserved : goal.loop-action-preserved
-loop-action-preserved g c =
-    let w = g.S.Search.found c.args.search.now in
-    let all = c.args.domain.now.actions.items in
-    let i = c.loop-action.action-index in
-    up_to_more [] (flat_map w (flat_map action_places (map action_view (drop i all)))) (flat_map w (action_places (action_view c.action-item.result))) (flat_map w (flat_map action_places (map action_view (drop (i + 1) all))))
-    (flat_map w (flat_map action_places (map action_view all))) c.loop-action.found c.search_action-found.result
-    (places_left w action_view action_places all c.deref-action-items.result.now i c.action-item.result c.deref-action-items.ensures.value c.loop-action-test.true c.action-item.is)
-    c.search_action-found.ensures c.loop-action.invariant
+loop-action-preserved g c = record {
+  kept = kept_then c.loop-action.invariant.kept c.search_action.ensures.kept;
+  found =
+      up_to_more _ _
+      (places_left (g.S.Search.found c.args.search.now) action_view action_places c.args.domain.now.actions.items c.deref-action-items.result.now c.loop-action.action-index c.action-item.result c.deref-action-items.ensures.value c.loop-action-test.true c.action-item.is)
+      c.lower-found.ensures.found (subst (λ w. IsFound (flat_map w (action_places (action_view c.action-item.result))) c.search_action.result) c.loop-action.invariant.kept.1 c.search_action.ensures.found) c.loop-action.invariant.found;
+}
 
-pub returns : goal.returns
-returns g c =
-    let w = g.S.Search.found c.args.search.now in
-    let all = c.args.domain.now.actions.items in
-    let i = c.loop-action.action-index in
-    let past : length all ≤ i = subst (λ (xs : List (Action _)). length xs ≤ i) c.deref-action-items.ensures.value c.loop-action-test.false in
-    up_to_all [] (flat_map w (flat_map action_places (map action_view (drop i all)))) (flat_map w (flat_map action_places (map action_view all))) c.loop-action.found
-    (ap (λ (xs : List (Action _)). flat_map w (flat_map action_places (map action_view xs))) (drop_all i all past)) c.loop-action.invariant
+pub returns-clause-found : goal.returns-clause-found
+returns-clause-found g c =
+    up_to_all (ap (λ (xs : List (Action _)). flat_map (g.S.Search.found c.args.search.now) (flat_map action_places (map action_view xs)))
+    (drop_all c.loop-action.action-index c.args.domain.now.actions.items (rw c.deref-action-items.ensures.value at c.loop-action-test.false))) c.loop-action.invariant.found

@@ -1,10 +1,9 @@
-use Rattle.std.proofs.Common.{◌<◌, ◌≤◌, ◌*◌, ◌-◌, ◌∙◌, map, length, sym, ap, arith}
+use Rattle.std.proofs.Common.{◌<◌, ◌≤◌, ◌*◌, ◌-◌, ◌∙◌, [], get_or, map, length, sym, ap, arith}
 use Rattle.std.proofs.lemmas.List.{drop_all, length-map}
 use Rattle.std.proofs.lemmas.Option.{slice_get_past, slice_get-get_or}
 use Rattle.pddl_formula.specs.TypedLists.{typed_view}
 use Rattle.pddl_task.specs.GroundSize.{capped, quantifier_size}
 use Rattle.pddl_sizes.proofs.Capped.{within}
-use Rattle.pddl_types.proofs.SharedTypes.{item_at}
 use Rattle.pddl_sizes.proofs.Sizes.{size_more}
 use Rattle.pddl_sizes.proofs.size.quantifier_size.Goals as goal
 
@@ -29,7 +28,7 @@ loop-i-preserved g c =
     let l = c.loop-i in
     let items = c.args.variables.now.items in
     let all = map typed_view items in
-    let x = item_at all (l.i - 1) in
+    let x = get_or all (l.i - 1) (record { item = []; of = [] }) in
     let lt : l.i - 1 < length all = omega (arith, length-map items typed_view, c.loop-i-test.true, l.auto.i) in
     let at = slice_get-get_or all (l.i - 1) _ lt in
     record {

@@ -1,8 +1,7 @@
 use Rattle.std.proofs.Common.{◌≡◌, ◌-◌, map, subst, arith, ap, ◌∙◌}
 use Rattle.pddl_formula.specs.TypedLists.{typed_view}
 use Rattle.pddl_formula.specs.declared.type_names.Typed.{Typed}
-use Rattle.pddl_faults.proofs.ToldTypes.{type_at}
-use Rattle.pddl_types.proofs.SharedTypes.{of_next}
+use Rattle.pddl_types.proofs.SharedTypes.{of_next, type_at}
 use Rattle.pddl_names.specs.MetTypes.{IsGroupOf}
 use Rattle.pddl_names.proofs.met_types.MetTypes.group_at.Goals as goal
 

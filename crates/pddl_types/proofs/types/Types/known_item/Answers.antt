@@ -3,8 +3,7 @@ use Rattle.pddl_formula.specs.TypedLists.{typed_view}
 use Rattle.pddl_task.specs.Names.{Name, is_in}
 use Rattle.pddl_task.specs.Types.{types_of}
 use Rattle.pddl_faults.specs.Passes.{Passes}
-use Rattle.pddl_faults.proofs.ToldTypes.{type_at}
-use Rattle.pddl_types.proofs.SharedTypes.{of_next}
+use Rattle.pddl_types.proofs.SharedTypes.{of_next, type_at}
 use Rattle.pddl_types.proofs.types.Types.known_item.Goals as goal
 
 pub returns-then-shares : goal.returns-then-shares

@@ -1,8 +1,0 @@
-use Rattle.std.proofs.Common.{◌≡◌, take}
-use Rattle.pddl_formula.specs.TypedLists.{typed_view}
-use Rattle.pddl_faults.proofs.BoundTypes.{last_bound}
-use Rattle.pddl_faults.proofs.variables.last_number.Given as goal
-
--- the last variable of the name is among those that are left
-abbrev pub invariant-loop-i : goal.invariant-loop-i
-invariant-loop-i g l = last_bound typed_view l.name (take l.i l.variables) ≡ last_bound typed_view l.name l.variables

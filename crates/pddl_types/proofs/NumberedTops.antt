@@ -1,0 +1,107 @@
+-- Tops of types that are told by number.
+use Rattle.std.proofs.Common.{◌≡◌, ℕ, ◌+◌, ◌-◌, ◌<◌, ◌≤◌, List, [], ◌∷◌, ◌++◌, map, length, take, drop, refl, sym, ap, ◌∙◌, subst, arith}
+use Rattle.std.specs.Prelude.{All, Some, slice_get}
+use Rattle.std.specs.List.{slice_index_or}
+use Rattle.std.proofs.lemmas.List.{length-append, length-drop, take_all, take-append-le, drop-append-le, map-append, get_or_append_left}
+use Rattle.std.proofs.lemmas.List.Elements.{All-head, All-tail}
+use Rattle.std.proofs.lemmas.Option.{slice_get_within, get_or_from_slice_get}
+use Rattle.pddl_forest.specs.declared.spans.Span.{Span}
+use Rattle.pddl_formula.specs.TypedLists.{TypedValue}
+use Rattle.pddl_formula.specs.Groups.{HaveOneType}
+use Rattle.pddl_domain.specs.Declarations.{Signature}
+use Rattle.pddl_task.specs.Names.{Name}
+use Rattle.pddl_task.proofs.Lists.{some_at}
+use Rattle.pddl_types.specs.TypeSpans.{TypesValue, IsTold}
+use Rattle.pddl_types.specs.ToldTops.{run_of, IsRun, IsToldAt, AreToldAt, AreKept, SlotsValue, AreSlotTops}
+use Rattle.pddl_types.proofs.HeldEach.{both_more, each_none, each_next, each_still}
+use Rattle.pddl_types.proofs.SharedTypes.{of_next}
+
+-- ---- what stays told
+
+pub kept_self : (told : List (List Span)) → AreKept told told
+kept_self told k low = (low, refl)
+
+pub kept_then : (before between after : List (List Span)) → AreKept before between → AreKept between after → AreKept before after
+kept_then before between after first second k low =
+    let one = first k low in
+    let two = second k one.0 in
+    (two.0, two.1 ∙ one.1)
+
+pub kept_told : (t : TypesValue) (before after : List (List Span)) (names : List Name) (k : ℕ) → AreKept before after → IsToldAt t before names k → IsToldAt t after names k
+kept_told t before after names k kept told =
+    let still = kept k told.0 in
+    (still.0, subst (IsTold t names) (sym still.1) told.1)
+
+pub kept_all : (t : TypesValue) (before after : List (List Span)) (items : List TypedValue) (numbers : List ℕ) → AreKept before after → AreToldAt t before items numbers → AreToldAt t after items numbers
+kept_all t before after items numbers kept told = each_still (IsToldAt t before) (IsToldAt t after) items numbers (λ names k. kept_told t before after names k kept) told
+
+-- ---- runs of a buffer that grows
+
+module _ (items more : List Span) where
+  run_stays : (r : ℕ × ℕ) → IsRun (length items) r → run_of (items ++ more) r ≡ run_of items r
+  run_stays r is =
+      ap (take (r.1 - r.0)) (drop-append-le r.0 items more (omega (arith, is.0, is.1)))
+      ∙ take-append-le (r.1 - r.0) (drop r.0 items) more (omega (arith, is.0, is.1, length-drop r.0 items))
+
+  runs_stay : (runs : List (ℕ × ℕ)) → All (IsRun (length items)) runs → map (run_of (items ++ more)) runs ≡ map (run_of items) runs
+  runs_stay [] are = refl
+  runs_stay (r ∷ runs) are = rw (run_stays r (All-head (IsRun (length items)) r runs are), runs_stay runs (All-tail (IsRun (length items)) r runs are)) refl
+
+-- what runs tell, with some more of them
+pub runs_kept : (items after more : List Span) (runs now new : List (ℕ × ℕ)) (before : List (List Span)) → All (IsRun (length items)) runs → after ≡ items ++ more → now ≡ runs ++ new
+    → map (run_of items) runs ≡ before → AreKept before (map (run_of after) now)
+runs_kept items after more runs now new before are longer is told =
+    let last = map (run_of after) new in
+    let all : map (run_of after) now ≡ before ++ last =
+    ap (map (run_of after)) is ∙ map-append (run_of after) runs new ∙ ap (λ xs. map (run_of xs) runs ++ last) longer ∙ ap (λ rs. rs ++ last) (runs_stay items more runs are ∙ told) in
+    subst (AreKept before) (sym all) (λ k low. (omega (arith, length-append before last, low), get_or_append_left before last [] k low))
+
+-- ---- types of so many items
+
+-- their types are told at these numbers, and that of the last one at a number
+pub record AreToldUpTo (t : TypesValue) (told : List (List Span)) (list : List TypedValue) (count : ℕ) (numbers : List ℕ) (number : ℕ) : Type 0 where
+  pub each : AreToldAt t told (take count list) numbers
+  pub last : (x : TypedValue) → 0 < count → slice_get list (count - 1) ≡ Some x → IsToldAt t told x.of number
+
+module _ (t : TypesValue) (told : List (List Span)) (list : List TypedValue) where
+  pub told_none : (number : ℕ) → AreToldUpTo t told list 0 [] number
+  told_none number = record { each = each_none (IsToldAt t told); last = λ x some at. absurd (omega (arith, some)) }
+
+  -- the type of the next one is told at the number of the one before, where it is the same
+  pub told_shared : (count : ℕ) (numbers : List ℕ) (number : ℕ) → AreToldUpTo t told list count numbers number → 0 < count → HaveOneType list (count - 1) count
+      → (x : TypedValue) → slice_get list count ≡ Some x → IsToldAt t told x.of number
+  told_shared count numbers number so_far some one = of_next (λ names. IsToldAt t told names number) list (count - 1) count one (λ x. so_far.last x some)
+
+  -- with the next one
+  pub told_next : (new : List (List Span)) (count : ℕ) (numbers pushed : List ℕ) (number next : ℕ) → AreToldUpTo t told list count numbers number → AreKept told new → count < length list
+      → ((x : TypedValue) → slice_get list count ≡ Some x → IsToldAt t new x.of next) → pushed ≡ numbers ++ next ∷ [] → AreToldUpTo t new list (count + 1) pushed next
+  told_next new count numbers pushed number next so_far kept low is pushed_is = record {
+    each = subst (AreToldAt t new (take (count + 1) list)) (sym pushed_is)
+        (each_next (IsToldAt t new) list numbers count next low is (kept_all t told new (take count list) numbers kept so_far.each));
+    last = λ x some at. is x (ap (slice_get list) (omega arith) ∙ at);
+  }
+
+  pub told_all : (count : ℕ) (numbers : List ℕ) (number : ℕ) → length list ≤ count → AreToldUpTo t told list count numbers number → AreToldAt t told list numbers
+  told_all count numbers number past so_far = subst (λ items. AreToldAt t told items numbers) (take_all count list past) so_far.each
+
+-- ---- slots
+
+pub slots_none : (t : TypesValue) → AreSlotTops t [] (record { told = []; numbers = [] })
+slots_none t = record { many = refl; each = λ k f numbers at is. absurd (omega (arith, slice_get_within [] k f at)) }
+
+-- with one more name
+pub slots_next : (t : TypesValue) (signatures more : List Signature) (v new : SlotsValue) (f : Signature) (numbers : List ℕ) → AreSlotTops t signatures v → more ≡ signatures ++ f ∷ []
+    → AreKept v.told new.told → AreToldAt t new.told f.parameters numbers → new.numbers ≡ v.numbers ++ numbers ∷ [] → AreSlotTops t more new
+slots_next t signatures more v new f numbers are more_is kept told numbers_are = record {
+  many = omega (arith, ap length numbers_are, ap length more_is, length-append v.numbers (numbers ∷ []), length-append signatures (f ∷ []), are.many);
+  each = λ k h ns at is.
+      both_more (λ (s : Signature) ms. AreToldAt t new.told s.parameters ms) signatures v.numbers f numbers are.many told (λ i s ms here there. kept_all t v.told new.told s.parameters ms kept (are.each i s ms here there))
+      k h ns (ap (λ fs. slice_get fs k) (sym more_is) ∙ at) (ap (λ ms. slice_get ms k) (sym numbers_are) ∙ is);
+}
+
+-- the tops of a name's slots
+pub slots_at : (t : TypesValue) (signatures : List Signature) (v : SlotsValue) (k : ℕ) (f : Signature) → AreSlotTops t signatures v → slice_get signatures k ≡ Some f
+    → AreToldAt t v.told f.parameters (slice_index_or v.numbers k [])
+slots_at t signatures v k f are at =
+    let (numbers, is) = some_at v.numbers k (omega (arith, slice_get_within signatures k f at, are.many)) in
+    subst (AreToldAt t v.told f.parameters) (sym (get_or_from_slice_get v.numbers k numbers [] is)) (are.each k f numbers at is)

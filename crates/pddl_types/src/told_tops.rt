@@ -1,0 +1,98 @@
+//! The tops of types, told one after another.
+
+ghost use Rattle.std.specs.Prelude.{◌≡◌, [], map, IfOk};
+ghost use Rattle.std.specs.List.{slice_index_or};
+ghost use Rattle.pddl_formula.specs.TypedLists.{typed_view};
+ghost use Rattle.pddl_types.specs.ToldTops.{IsToldAt, AreToldAt, AreKept};
+
+use crate::types::Types;
+use pddl_forest::Span;
+use pddl_formula::{TypeNames, TypedList};
+use std::alloc::{AllocError, Allocator};
+use std::marker::Model;
+
+/// Tops of types in one buffer, those of each type by the number at which it was told.
+///
+/// Contracts see them as lists, type by type.
+#[derive(Drop)]
+pub struct ToldTops<'a, B: Allocator> {
+    tops: Vec<Span, &'a B>,
+    /// Where those of each type begin, and where they end.
+    runs: Vec<(usize, usize), &'a B>,
+}
+
+impl<'a, B: Allocator> Model for ToldTops<'a, B> {
+    ghost use Rattle.std.specs.Prelude.{List, map, length, All};
+    ghost use Rattle.pddl_forest.specs.declared.spans.Span.{Span};
+    ghost use Rattle.pddl_types.specs.ToldTops.{run_of, IsRun};
+
+    ghost Value = { List (List Span) };
+
+    ghost view = { λ t. map (run_of t.tops.items) t.runs.items };
+
+    ghost invariant = { λ t. All (IsRun (length t.tops.items)) t.runs.items };
+}
+
+impl<'a, B: Allocator> ToldTops<'a, B> {
+    /// Those of no types.
+    pub fn new(alloc: &'a B) -> ToldTops<'a, B>
+        ensures { result ≡ [] }
+    {
+        ToldTops {
+            tops: Vec::new(alloc),
+            runs: Vec::new(alloc),
+        }
+    }
+
+    /// The number of a type, of which its tops are told.
+    ///
+    /// Fails where memory for them is refused.
+    fn tell<'m, 't, A: Allocator, C: Allocator, N: Allocator>(
+        &mut self,
+        types: &Types<'m, 't, A, C>,
+        names: &TypeNames<N>,
+    ) -> Result<usize, AllocError>
+        ensures kept { AreKept self.old self.new }
+        ensures number { IfOk result (IsToldAt types.now self.new names.now) }
+    {
+        let start = self.tops.len();
+        let tops = types.tops(*self.tops.allocator(), names)?;
+        self.tops.extend_from_slice(&tops)?;
+        let number = self.runs.len();
+        self.runs.push((start, self.tops.len()))?;
+        Ok(number)
+    }
+
+    /// The numbers of the types of a list's items, each told once for a group.
+    ///
+    /// Fails where memory for them is refused.
+    pub fn tell_all<'m, 't, 'c, A: Allocator, C: Allocator, N: Allocator, D: Allocator>(
+        &mut self,
+        alloc: &'c D,
+        types: &Types<'m, 't, A, C>,
+        list: &TypedList<N>,
+    ) -> Result<Vec<usize, &'c D>, AllocError>
+        ensures kept { AreKept self.old self.new }
+        ensures numbers { IfOk result (λ numbers. AreToldAt types.now self.new (map typed_view list.now.items) numbers.items) }
+    {
+        let mut numbers = Vec::with_capacity(alloc, list.len())?;
+        let mut number = 0;
+        for place in 0..list.len() {
+            if !list.shares(place) {
+                number = self.tell(types, &list[place].types)?;
+            }
+            numbers.push(number)?;
+        }
+        Ok(numbers)
+    }
+
+    /// The tops of the type of a number, or none where no type has it.
+    pub fn at(&self, number: usize) -> &[Span]
+        ensures { result.now ≡ slice_index_or self.now number [] }
+    {
+        match self.runs.get(number) {
+            Some((start, end)) => &self.tops[*start..*end],
+            None => &[],
+        }
+    }
+}
