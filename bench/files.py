@@ -5,12 +5,13 @@ A plan has steps with three objects each: plain, timed, or with a comment before
 actions; a problem has many objects and a long `:init`.
 
 Usage: files.py plain|timed|comments|domain|problem MIB
-       files.py actions|items|parameters|variables|eithers|facts|spoken|seen|ring|rings|below|slots|named|named-facts|named-constants|named-objects|short|long N
+       files.py actions|items|parameters|variables|eithers|facts|spoken|crossed|crossed-goal|seen|ring|rings|below|slots|named|named-facts|named-constants|named-objects|short|long N
 
 The second form makes a domain with so many actions, or a problem of it with so many items in `:init` and two objects for each five of them: these link.
 So do a domain with an action of so many parameters, and a problem of it whose goal quantifies over so many variables of a type with one object, beside
 twice as many others; each variable is spoken of once. So do a domain of so many types with a slot and a parameter of an `either` of them all, a problem of it with an object
-of each and three facts for each, one whose goal speaks thirty times as often of a variable of that `either`, and a valid plan of a step for each. So do so many types below one whose name has five letters for each of them, and
+of each and three facts for each, one whose goal speaks thirty times as often of a variable of that `either`, and a valid plan of a step for each. So do so many types with as many predicates of a slot of an `either` of them all, and a problem
+of it whose goal has each of these of each of as many variables of such an `either`. So do so many types below one whose name has five letters for each of them, and
 so many types with a predicate of as many slots, and a quantifier of as many variables, each list before one `either` of them all. So do an action that speaks so many times of a parameter whose type has a name of as many letters,
 and a problem of it with so many facts of an object of that type; and a domain with so many constants of such a type, and a problem of it that lists them again. So many types in a chain, the last two of which are above themselves, do not, nor do so many in pairs, each the parent of the other. Or it makes a plan of so many steps, each with two objects of few letters, or with eight of many.
 """
@@ -145,6 +146,18 @@ def much_spoken(count):
             f"    (and {'(open ?v) (near ?v ?v) ' * (10 * count)}))))\n")
 
 
+def crossed_slots(count):
+    either = f"(either {numbered('t#', count)})"
+    predicates = " ".join(f"(p{number} ?x - {either})" for number in range(count))
+    return f"(define (domain crossed)\n  (:types {numbered('t#', count)})\n  (:predicates {predicates}))\n"
+
+
+def crossed_variables(count):
+    variables = " ".join(f"?v{number} - (either {numbered('t#', count)})" for number in range(count))
+    atoms = " ".join(f"(p{slot} ?v{variable})" for slot in range(count) for variable in range(count))
+    return f"(define (problem crossed-1)\n  (:domain crossed)\n  (:init)\n  (:goal (forall ({variables})\n    (and {atoms}))))\n"
+
+
 def many_seen(count):
     return "".join(f"(see o{number})\n" for number in range(count))
 
@@ -203,6 +216,8 @@ COUNTED = {
     "eithers": many_types,
     "facts": many_facts,
     "spoken": much_spoken,
+    "crossed": crossed_slots,
+    "crossed-goal": crossed_variables,
     "seen": many_seen,
     "ring": ring_of_types,
     "rings": rings_of_types,
