@@ -6,7 +6,7 @@ use crate::device::{DeviceFault, Sink, Source};
 use std::io::{Read, Write};
 
 /// A reader of the standard library as a `Source`. Any error of the reader is a failure.
-#[derive(Debug, Drop)]
+#[derive(Drop)]
 pub struct FromRead<R> {
     inner: R,
     failures: u64,
@@ -61,7 +61,7 @@ impl<R: Read> Source for FromRead<R> {
 /// takes no byte of a piece that has bytes.
 ///
 /// Over a `Vec<u8, A>` it takes each piece whole, or nothing of it where the growth is refused.
-#[derive(Debug, Drop)]
+#[derive(Drop)]
 pub struct ToWrite<W> {
     inner: W,
     failures: u64,

@@ -13,7 +13,6 @@ use std::rc::Rc;
 
 /// A declared type and its parent, which the types of a group share.
 #[derive(Drop)]
-#[derive_where(Debug)]
 pub struct DeclaredType<A: Allocator> {
     pub name: TypeName<A>,
     pub parent: Rc<TypeName<A>, A>,
@@ -26,7 +25,6 @@ pub struct DeclaredType<A: Allocator> {
 /// Types of one group follow each other and have one parent, so that its place is found once for the group and not for each type:
 /// [`DeclaredTypes::shares`] says which types have the parent of the one before. Contracts see the list of the types.
 #[derive(Drop)]
-#[derive_where(Debug)]
 pub struct DeclaredTypes<A: Allocator> {
     types: Vec<DeclaredType<A>, A>,
 }

@@ -8,7 +8,6 @@ use std::alloc::Allocator;
 
 /// A declared predicate and its parameters, which are variables (without `?`).
 #[derive(Drop)]
-#[derive_where(Debug)]
 pub struct DeclaredPredicate<A: Allocator> {
     pub predicate: Predicate<A>,
     pub parameters: TypedList<A>,
@@ -16,7 +15,6 @@ pub struct DeclaredPredicate<A: Allocator> {
 
 /// A declared function, its parameters, and the type of its result.
 #[derive(Drop)]
-#[derive_where(Debug)]
 pub struct DeclaredFunction<A: Allocator> {
     pub name: Name<A>,
     pub parameters: TypedList<A>,
@@ -25,7 +23,6 @@ pub struct DeclaredFunction<A: Allocator> {
 
 /// An action: its parameters, when it can be applied, and what it does.
 #[derive(Drop)]
-#[derive_where(Debug)]
 pub struct Action<A: Allocator> {
     pub name: Name<A>,
     pub parameters: TypedList<A>,
@@ -35,7 +32,6 @@ pub struct Action<A: Allocator> {
 
 /// A planning domain. Each list keeps the order of the file.
 #[derive(Drop)]
-#[derive_where(Debug)]
 pub struct Domain<A: Allocator> {
     pub name: Name<A>,
     /// The flags of `:requirements`, without their colons.

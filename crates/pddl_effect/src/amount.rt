@@ -12,7 +12,6 @@ use std::marker::Model;
 ///
 /// Contracts see it as its bytes.
 #[derive(Drop)]
-#[derive_where(Debug)]
 pub struct StaticFunction<A: Allocator> {
     name: Name<A>,
 }
@@ -59,7 +58,6 @@ impl<A: Allocator> StaticFunction<A> {
 
 /// A function and its arguments.
 #[derive(Drop)]
-#[derive_where(Debug)]
 pub struct FunctionTerm<A: Allocator> {
     pub function: StaticFunction<A>,
     pub terms: Vec<Term<A>, A>,
@@ -67,7 +65,6 @@ pub struct FunctionTerm<A: Allocator> {
 
 /// What an increase adds: a number, or the value of a function (Kovacs, `<f-exp>` under `:action-costs`).
 #[derive(Drop)]
-#[derive_where(Debug)]
 pub enum Amount<A: Allocator> {
     Number(Fixed),
     Function(FunctionTerm<A>),

@@ -7,7 +7,6 @@ use std::alloc::Allocator;
 /// What an action does to a state (Kovacs, `<effect>` with `:conditional-effects` and `:action-costs`; that effects nest
 /// freely is own).
 #[derive(Drop)]
-#[derive_where(Debug)]
 pub enum Effect<A: Allocator> {
     And(Vec<Effect<A>, A>),
     Forall(TypedList<A>, Box<Effect<A>, A>),

@@ -5,7 +5,7 @@ ghost use Rattle.std.specs.Prelude.{◌≡◌, ◌<◌, Some, false};
 use pddl_device::{DeviceFault, Source};
 
 /// A reader of a text, which gives at most so many bytes at a time and fails at one of its reads.
-#[derive(Debug, Drop)]
+#[derive(Drop)]
 pub struct FakeSource<'a> {
     text: &'a [u8],
     /// How many bytes the next read gives at most, and how many each read after it.

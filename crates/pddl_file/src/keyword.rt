@@ -49,7 +49,7 @@ impl SectionKeyword {
 }
 
 /// Which sections have stood so far.
-#[derive(Clone, Copy, Debug)]
+#[derive(Clone, Copy)]
 pub struct Seen {
     pub requirements: bool,
     pub types: bool,

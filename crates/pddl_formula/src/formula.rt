@@ -6,7 +6,6 @@ use std::alloc::Allocator;
 
 /// A condition on states (Kovacs, `<GD>` without preferences and comparisons).
 #[derive(Drop)]
-#[derive_where(Debug)]
 pub enum Formula<A: Allocator> {
     Atom(Atom<A>),
     Equal(Term<A>, Term<A>),

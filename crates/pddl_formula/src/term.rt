@@ -9,7 +9,6 @@ use std::marker::Model;
 
 /// A name or a variable (Kovacs, `<term>`). A variable is its name without `?`.
 #[derive(Drop)]
-#[derive_where(Debug)]
 pub enum Term<A: Allocator> {
     Name(Name<A>),
     Variable(Name<A>),
@@ -19,7 +18,6 @@ pub enum Term<A: Allocator> {
 ///
 /// Contracts see it as its bytes.
 #[derive(Drop)]
-#[derive_where(Debug)]
 pub struct Predicate<A: Allocator> {
     name: Name<A>,
 }
@@ -81,7 +79,6 @@ fn is_reserved(name: &[u8]) -> bool
 
 /// A predicate and its arguments.
 #[derive(Drop)]
-#[derive_where(Debug)]
 pub struct Atom<A: Allocator> {
     pub predicate: Predicate<A>,
     pub terms: Vec<Term<A>, A>,

@@ -18,7 +18,6 @@ use std::rc::Rc;
 ///
 /// Contracts see it as its bytes.
 #[derive(Drop)]
-#[derive_where(Debug)]
 pub struct TypeName<A: Allocator> {
     name: Name<A>,
 }
@@ -92,7 +91,6 @@ impl<A: Allocator> Hash for TypeName<A> {
 /// The names of a group of a typed list share it, so that a list takes memory for its text and not for each name's type. Contracts see it as
 /// the list of their bytes.
 #[derive(Drop)]
-#[derive_where(Debug)]
 pub struct TypeNames<A: Allocator> {
     names: Rc<Vec<TypeName<A>, A>, A>,
 }
@@ -179,7 +177,6 @@ fn know_type_names<A: Allocator>(names: &[TypeName<A>])
 
 /// A name and its type: an object, a constant or a variable (without `?`) of a typed list.
 #[derive(Drop)]
-#[derive_where(Debug)]
 pub struct Typed<A: Allocator> {
     pub name: Name<A>,
     pub types: TypeNames<A>,

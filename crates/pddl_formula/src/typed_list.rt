@@ -15,7 +15,6 @@ use std::ops::DerefSlice;
 /// Items of one group follow each other and have one type, so that what has to be known of it is found once for the group and not for each item:
 /// [`TypedList::shares`] says which items have the type of the one before. Contracts see the list of the items.
 #[derive(Drop)]
-#[derive_where(Debug)]
 pub struct TypedList<A: Allocator> {
     items: Vec<Typed<A>, A>,
 }

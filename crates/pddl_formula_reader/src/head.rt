@@ -11,7 +11,7 @@ use pddl_token::TokenKind;
 use std::alloc::Allocator;
 
 /// A word that is reserved for formulas and effects, another name, `=`, or none of these.
-#[derive(Clone, Copy, Debug)]
+#[derive(Clone, Copy)]
 pub enum Head {
     And,
     Or,

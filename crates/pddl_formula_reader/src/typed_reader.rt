@@ -20,7 +20,7 @@ use std::alloc::{AllocError, Allocator};
 use std::mem::replace;
 
 /// What a typed list lists.
-#[derive(Clone, Copy, Debug)]
+#[derive(Clone, Copy)]
 enum Sort {
     Names,
     Variables,

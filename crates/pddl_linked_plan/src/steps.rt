@@ -8,7 +8,7 @@ use std::alloc::{AllocError, Allocator};
 use std::marker::Model;
 
 /// A step of a linked plan, lent.
-#[derive(Clone, Copy, Debug)]
+#[derive(Clone, Copy)]
 pub struct LinkedStep<'s> {
     /// The number of its action, in the domain's order from 0.
     pub action: usize,

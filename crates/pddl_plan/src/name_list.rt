@@ -54,7 +54,6 @@ fn put_folded<A: Allocator>(text: &mut Vec<u8, A>, word: &[u8]) -> Result<(), Al
 ///
 /// Contracts see it as the list of the names' bytes.
 #[derive(Drop)]
-#[derive_where(Debug)]
 pub struct NameList<A: Allocator> {
     text: Vec<u8, A>,
     ends: Vec<u32, A>,

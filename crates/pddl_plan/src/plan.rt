@@ -12,7 +12,6 @@ use std::alloc::Allocator;
 ///
 /// It is made by a [`PlanBuilder`], and lends its steps.
 #[derive(Drop)]
-#[derive_where(Debug)]
 pub struct Plan<A: Allocator> {
     pub(crate) parts: PlanBuilder<A>,
 }

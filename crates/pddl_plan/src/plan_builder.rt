@@ -18,7 +18,6 @@ use std::marker::Model;
 /// The names of all steps stand side by side in one buffer. Beside its bytes a name takes four for its end, a step four for that
 /// of its names, and a timed one eight for its moment. What is not ended is of no step.
 #[derive(Drop)]
-#[derive_where(Debug)]
 pub struct PlanBuilder<A: Allocator> {
     names: NameList<A>,
     ends: Vec<u32, A>,

@@ -10,7 +10,6 @@ use std::marker::Model;
 ///
 /// Contracts see it as these names.
 #[derive(Drop)]
-#[derive_where(Debug)]
 pub struct Step<'p, A: Allocator> {
     names: &'p NameList<A>,
     start: usize,

@@ -4,7 +4,7 @@ use pddl_serial_plans::Order;
 use std::num::NonZeroU32;
 
 /// What is printed where a plan is accepted.
-#[derive(Clone, Copy, Debug)]
+#[derive(Clone, Copy)]
 pub enum Wanted {
     /// The line of a valid plan.
     Verdict,

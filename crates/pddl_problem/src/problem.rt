@@ -6,7 +6,6 @@ use std::alloc::Allocator;
 
 /// A predicate and the names of objects.
 #[derive(Drop)]
-#[derive_where(Debug)]
 pub struct Fact<A: Allocator> {
     pub predicate: Predicate<A>,
     pub objects: Vec<Name<A>, A>,
@@ -14,7 +13,6 @@ pub struct Fact<A: Allocator> {
 
 /// A function and the names of objects.
 #[derive(Drop)]
-#[derive_where(Debug)]
 pub struct GroundFunction<A: Allocator> {
     pub function: Name<A>,
     pub objects: Vec<Name<A>, A>,
@@ -22,7 +20,6 @@ pub struct GroundFunction<A: Allocator> {
 
 /// What an item of `:init` says: that a fact holds, that it does not, or the value of a function.
 #[derive(Drop)]
-#[derive_where(Debug)]
 pub enum InitItem<A: Allocator> {
     Holds(Fact<A>),
     Fails(Fact<A>),
@@ -30,7 +27,7 @@ pub enum InitItem<A: Allocator> {
 }
 
 /// What a metric wants of its function.
-#[derive(Clone, Copy, Debug)]
+#[derive(Clone, Copy)]
 pub enum Direction {
     Minimize,
     Maximize,
@@ -38,7 +35,6 @@ pub enum Direction {
 
 /// What makes a plan better than another.
 #[derive(Drop)]
-#[derive_where(Debug)]
 pub struct Metric<A: Allocator> {
     pub direction: Direction,
     pub function: GroundFunction<A>,
@@ -46,7 +42,6 @@ pub struct Metric<A: Allocator> {
 
 /// A planning problem. Each list keeps the order of the file.
 #[derive(Drop)]
-#[derive_where(Debug)]
 pub struct Problem<A: Allocator> {
     pub name: Name<A>,
     /// The name of the problem's domain.

@@ -5,7 +5,6 @@ use std::alloc::Allocator;
 
 /// A word that is no parenthesis, or a list of items with its span: from the first byte of its `(` to behind its `)`.
 #[derive(Drop)]
-#[derive_where(Debug)]
 pub enum Item<'t, A: Allocator> {
     Word(Token<'t>),
     List(Vec<Item<'t, A>, A>, Span),

@@ -12,7 +12,6 @@ use std::marker::Model;
 ///
 /// Contracts see it as its bytes.
 #[derive(Drop)]
-#[derive_where(Debug)]
 pub struct Name<A: Allocator> {
     text: Vec<u8, A>,
 }

@@ -43,7 +43,7 @@ pub enum TokenKind {
 
 /// A word of a text: what it is, its bytes, and where they stand. The bytes are as they stand in the text, in either letter
 /// case.
-#[derive(Clone, Copy, Debug)]
+#[derive(Clone, Copy)]
 pub struct Token<'a> {
     pub kind: TokenKind,
     pub text: &'a [u8],
@@ -52,7 +52,6 @@ pub struct Token<'a> {
 
 /// A word with a text of its own, in all else a [`Token`].
 #[derive(Drop)]
-#[derive_where(Debug)]
 pub struct Word<A: Allocator> {
     pub kind: TokenKind,
     pub text: Vec<u8, A>,

@@ -16,7 +16,7 @@ use pddl_token::{Fixed, Token, TokenKind, value_of};
 use std::alloc::{AllocError, Allocator};
 
 /// What stands between the last whole step of a plan and the next word.
-#[derive(Clone, Copy, Debug)]
+#[derive(Clone, Copy)]
 pub enum Place {
     /// Nothing.
     Between,
@@ -31,7 +31,7 @@ pub enum Place {
 }
 
 /// Where words were read to, and how many of them end with the last step that was ended, if one was.
-#[derive(Clone, Copy, Debug)]
+#[derive(Clone, Copy)]
 struct Reach {
     place: Place,
     ended: Option<usize>,

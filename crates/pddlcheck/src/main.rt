@@ -48,7 +48,7 @@ fn cannot_open(rt: &impl Eprint, path: &str) -> u8
 }
 
 /// Why a job was not carried out.
-#[derive(Clone, Copy, Debug)]
+#[derive(Clone, Copy)]
 enum NotDone<'p> {
     /// The file at a path does not open.
     CannotOpen(&'p str),
