@@ -5,10 +5,10 @@ use Rattle.std.specs.List.{flat_map}
 use Rattle.std.specs.Str.{bytes_eq}
 use Rattle.pddl_token.specs.Trees.{Tree, leaf, node}
 use Rattle.pddl_token.specs.TreeWords.{IsKeyword}
-use Rattle.pddl_tree.specs.Inner.TreeReading.{name_at, keyword_by, is_keyword_at}
+use Rattle.pddl_items.specs.Inner.TreeReading.{name_at, keyword_by, is_keyword_at}
 use Rattle.pddl_token.proofs.Options.{map_some, bind_some, test_cases}
-use Rattle.pddl_tree.proofs.Fronts.{both_some}
-use Rattle.pddl_tree.proofs.Readers.{name_reads, keyword_sound}
+use Rattle.pddl_items.proofs.Fronts.{both_some}
+use Rattle.pddl_items.proofs.Readers.{name_reads, keyword_sound}
 use Rattle.pddl_formula.specs.TypedLists.{TypedValue}
 use Rattle.pddl_formula.specs.Formulas.{FormulaValue, conjunction, no_formulas}
 use Rattle.pddl_formula_reader.specs.Inner.Reading.{variables_at, condition_at}

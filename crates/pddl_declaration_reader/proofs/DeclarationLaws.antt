@@ -3,10 +3,10 @@ use Rattle.std.proofs.Common.{◌≡◌, ℕ, false, List, [], ◌∷◌, refl, 
 use Rattle.std.specs.Prelude.{Option, Some, option_map}
 use Rattle.pddl_token.specs.Trees.{Tree, leaf, node, list_of}
 use Rattle.pddl_token.specs.TreeWords.{list, SpellsName}
-use Rattle.pddl_tree.specs.Inner.TreeReading.{name_at, is_dash}
+use Rattle.pddl_items.specs.Inner.TreeReading.{name_at, is_dash}
 use Rattle.pddl_token.proofs.Options.{map_some, bind_some}
-use Rattle.pddl_tree.proofs.TreeLists.{list_of_trees_of, trees_of_list_of}
-use Rattle.pddl_tree.proofs.Readers.{Reads, name_reads}
+use Rattle.pddl_items.proofs.TreeLists.{list_of_trees_of, trees_of_list_of}
+use Rattle.pddl_items.proofs.Readers.{Reads, name_reads}
 use Rattle.pddl_formula.specs.Terms.{IsPredicate}
 use Rattle.pddl_formula.specs.TypedLists.{TypedValue, IsTypeName, IsType, AreTypedVariables}
 use Rattle.pddl_formula_reader.specs.Inner.Reading.{predicate_at, type_name_at, type_at, typed_variables}

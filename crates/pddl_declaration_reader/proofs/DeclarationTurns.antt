@@ -4,12 +4,12 @@ use Rattle.std.specs.Prelude.{Option, Some, None, Result, Ok, IfOk, option_map}
 use Rattle.std.proofs.lemmas.List.{map_push}
 use Rattle.pddl_build.specs.Results.{PushesFound}
 use Rattle.pddl_build.proofs.Parts.{pushed_some, pushed_none}
-use Rattle.pddl_text.specs.declared.item.Item.{Item}
+use Rattle.pddl_items.specs.declared.item.Item.{Item}
 use Rattle.pddl_token.specs.Trees.{Tree}
 use Rattle.pddl_token.specs.TreeWords.{list}
-use Rattle.pddl_tree.specs.ItemTrees.{item_tree, item_trees}
-use Rattle.pddl_tree.specs.Inner.TreeReading.{is_dash}
-use Rattle.pddl_tree.proofs.TreeLists.{list_of_trees_of}
+use Rattle.pddl_items.specs.ItemTrees.{item_tree, item_trees}
+use Rattle.pddl_items.specs.Inner.TreeReading.{is_dash}
+use Rattle.pddl_items.proofs.TreeLists.{list_of_trees_of}
 use Rattle.pddl_formula.specs.TypedLists.{TypedValue}
 use Rattle.pddl_formula_reader.specs.Inner.Reading.{type_at, typed_variables, typed_from}
 use Rattle.pddl_formula_reader.proofs.TypedTurns.{item_fails, item_done}

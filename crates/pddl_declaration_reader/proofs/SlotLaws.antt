@@ -4,11 +4,10 @@ use Rattle.std.specs.Bool.{then_some}
 use Rattle.std.specs.Prelude.{Option, Some, None, option_map, option_and_then}
 use Rattle.std.specs.List.{flat_map}
 use Rattle.std.specs.Option.{option_zip}
-use Rattle.pddl_text.specs.declared.item.Item.{Item}
+use Rattle.pddl_items.specs.declared.item.Item.{Item}
 use Rattle.pddl_token.specs.Trees.{Tree}
-use Rattle.pddl_tree.specs.ItemTrees.{item_tree, item_trees}
-use Rattle.pddl_tree.specs.Inner.PlanReading.{both}
-use Rattle.pddl_tree.specs.Inner.TreeReading.{name_at}
+use Rattle.pddl_items.specs.ItemTrees.{item_tree, item_trees}
+use Rattle.pddl_items.specs.Inner.TreeReading.{both, name_at}
 use Rattle.pddl_formula.specs.TypedLists.{TypedValue}
 use Rattle.pddl_formula.specs.Formulas.{FormulaValue, conjunction, no_formulas}
 use Rattle.pddl_effect.specs.Effects.{EffectValue, conjunction as all_effects, no_effects}

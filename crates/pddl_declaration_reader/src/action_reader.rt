@@ -2,7 +2,7 @@
 
 ghost use Rattle.std.specs.Prelude.{◌≡◌, [], IfOk, map, option_map};
 ghost use Rattle.std.specs.Bool.{then_some};
-ghost use Rattle.pddl_tree.specs.ItemTrees.{item_tree, item_trees};
+ghost use Rattle.pddl_items.specs.ItemTrees.{item_tree, item_trees};
 ghost use Rattle.pddl_formula.specs.TypedLists.{typed_view};
 ghost use Rattle.pddl_formula.specs.Formulas.{conjunction, no_formulas, formula_view};
 ghost use Rattle.pddl_effect.specs.Effects.{conjunction as all_effects, no_effects, effect_view};
@@ -17,8 +17,8 @@ use pddl_domain::Action;
 use pddl_effect::Effect;
 use pddl_effect_reader::whole_effect_of;
 use pddl_formula::{Formula, TypedList};
-use pddl_formula_reader::{condition_of, is_keyword_item, name_of, variables_of};
-use pddl_text::Item;
+use pddl_formula_reader::{condition_of, variables_of};
+use pddl_items::{Item, is_keyword_item, name_of};
 use pddl_token::Name;
 use std::alloc::{AllocError, Allocator};
 

@@ -1,9 +1,9 @@
 //! Declarations read from items.
 
-ghost use Rattle.std.specs.Prelude.{◌≡◌, ◌∷◌, ◌++◌, [], false, Err, IsTrue, IfOk, OnOk, MatchResult, Some, codes, map, option_map};
+ghost use Rattle.std.specs.Prelude.{◌≡◌, ◌++◌, [], false, Err, IsTrue, IfOk, OnOk, MatchResult, Some, codes, map, option_map};
 ghost use Rattle.std.specs.Bool.{then_some};
-ghost use Rattle.pddl_tree.specs.ItemTrees.{item_tree, item_trees};
-ghost use Rattle.pddl_tree.specs.Inner.TreeReading.{all_of};
+ghost use Rattle.pddl_items.specs.ItemTrees.{item_tree, item_trees};
+ghost use Rattle.pddl_items.specs.Inner.TreeReading.{all_of};
 ghost use Rattle.pddl_formula.specs.TypedLists.{of_type};
 ghost use Rattle.pddl_formula_reader.specs.Inner.Reading.{type_name_at, type_at, typed_from};
 ghost use Rattle.pddl_domain.specs.Declarations.{number, type_view, predicate_view, function_view};
@@ -13,11 +13,8 @@ ghost use Rattle.pddl_declaration_reader.specs.Inner.DeclarationReading.{predica
 use pddl_build::{if_right, list_if_right, push_found};
 use pddl_domain::{DeclaredFunction, DeclaredPredicate, DeclaredTypes};
 use pddl_formula::{TypeName, TypeNames, TypedList};
-use pddl_formula_reader::{
-    is_dash, name_of, predicate_of, type_called, type_name_called, type_name_of, type_of,
-    typed_variables_of,
-};
-use pddl_text::Item;
+use pddl_formula_reader::{predicate_of, type_called, type_name_called, type_name_of, type_of, typed_variables_of};
+use pddl_items::{Item, is_dash, name_of};
 use pddl_token::Name;
 use std::alloc::{AllocError, Allocator};
 use std::mem::replace;

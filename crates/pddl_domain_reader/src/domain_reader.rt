@@ -1,7 +1,7 @@
 //! Domains read from texts.
 
 ghost use Rattle.std.specs.Prelude.{◌≡◌, ◌≢◌, ◌≤◌, ℕ, List, [], Some, length, IfOk, IfErr, MatchResult};
-ghost use Rattle.pddl_text.specs.Items.{items_view};
+ghost use Rattle.pddl_items.specs.Items.{items_view};
 ghost use Rattle.pddl_scan.specs.declared.fault.TextFault.TheVariants.{Memory};
 ghost use Rattle.pddl_file.specs.declared.fault.FileFault.{FileFault};
 ghost use Rattle.pddl_file.specs.declared.fault.FileFault.TheVariants.{Text};
@@ -18,7 +18,8 @@ use pddl_file::FileFault;
 use pddl_formula::TypedList;
 use pddl_scan::LONGEST;
 use pddl_sections::open_file;
-use pddl_text::{Item, items_of};
+use pddl_items::Item;
+use pddl_text::items_of;
 use pddl_token::Name;
 use std::alloc::Allocator;
 

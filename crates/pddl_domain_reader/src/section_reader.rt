@@ -2,8 +2,8 @@
 
 ghost use Rattle.std.specs.Prelude.{◌≡◌, Some, IfOk, IfErr, OnOk};
 ghost use Rattle.pddl_build.specs.Found.{AppendsFound};
-ghost use Rattle.pddl_text.specs.Items.{item_view, items_view};
-ghost use Rattle.pddl_tree.specs.ItemTrees.{item_tree, item_trees};
+ghost use Rattle.pddl_items.specs.Items.{item_view, items_view};
+ghost use Rattle.pddl_items.specs.ItemTrees.{item_tree, item_trees};
 ghost use Rattle.pddl_sections.specs.Inner.Verdicts.{turn};
 ghost use Rattle.pddl_file.specs.Inner.FileReading.{StopsAt, RefusesSections};
 ghost use Rattle.pddl_domain.specs.Domains.{domain_view};
@@ -19,7 +19,7 @@ use pddl_file::{FileFault, SectionKeyword, Seen, flags_of, head_keyword_of, keyw
 use pddl_formula::TypedList;
 use pddl_formula_reader::typed_names_of;
 use pddl_sections::span_of;
-use pddl_text::Item;
+use pddl_items::Item;
 use std::alloc::{AllocError, Allocator};
 
 /// Puts typed names behind those of a list, if there are some to put there; true exactly where there are.

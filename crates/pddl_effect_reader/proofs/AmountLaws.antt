@@ -6,12 +6,11 @@ use Rattle.pddl_token.specs.declared.token.TokenKind.{TokenKind}
 use Rattle.pddl_token.specs.declared.token.TokenKind.TheVariants.{Open, Close, Name, Variable, Keyword, Number, Dash, Equal, Colon, Bracket, Compare, Arithmetic}
 use Rattle.pddl_token.specs.Number.{value_of}
 use Rattle.pddl_token.specs.Trees.{Tree, leaf, node, list_of}
-use Rattle.pddl_tree.specs.Inner.PlanReading.{moment_by}
+use Rattle.pddl_items.specs.Inner.TreeReading.{moment_by, name_at, all_of}
 use Rattle.pddl_token.specs.TreeWords.{list, IsWord, SpellsNumber}
-use Rattle.pddl_tree.specs.Inner.TreeReading.{name_at, all_of}
 use Rattle.pddl_token.proofs.Options.{map_some, bind_some, if_some, unless_some}
-use Rattle.pddl_tree.proofs.TreeLists.{list_of_trees_of, trees_of_list_of}
-use Rattle.pddl_tree.proofs.Readers.{Reads, name_reads, equal_bytes, other_bytes, word_sound, word_complete, each_sound, each_complete}
+use Rattle.pddl_items.proofs.TreeLists.{list_of_trees_of, trees_of_list_of}
+use Rattle.pddl_items.proofs.Readers.{Reads, name_reads, equal_bytes, other_bytes, word_sound, word_complete, each_sound, each_complete}
 use Rattle.pddl_formula.specs.Terms.{TermValue, IsTerm}
 use Rattle.pddl_formula_reader.specs.Inner.Reading.{term_at}
 use Rattle.pddl_formula_reader.proofs.TermLaws.{term_reads}

@@ -3,9 +3,9 @@ use Rattle.std.proofs.Common.{◌≡◌, ◌-◌, ◌<◌, ℕ, List, [], ◌∷
 use Rattle.std.specs.Prelude.{Option, Some, None, option_map, option_and_then}
 use Rattle.std.specs.Option.{option_zip}
 use Rattle.std.proofs.lemmas.List.{take_all}
-use Rattle.pddl_text.specs.declared.item.Item.{Item}
-use Rattle.pddl_tree.specs.ItemTrees.{item_tree, item_trees}
-use Rattle.pddl_tree.specs.Inner.TreeReading.{name_at, all_of}
+use Rattle.pddl_items.specs.declared.item.Item.{Item}
+use Rattle.pddl_items.specs.ItemTrees.{item_tree, item_trees}
+use Rattle.pddl_items.specs.Inner.TreeReading.{name_at, all_of}
 use Rattle.pddl_formula.specs.Terms.{TermValue}
 use Rattle.pddl_formula_reader.specs.Inner.Reading.{term_at}
 use Rattle.pddl_effect.specs.StaticNames.{static_function_of}

@@ -4,11 +4,11 @@ use Rattle.std.specs.Prelude.{Option, Some, None, option_map}
 use Rattle.pddl_token.specs.Spelling.{Word}
 use Rattle.pddl_token.specs.Trees.{Tree, Trees, leaf, node, no_trees, tree, trees_of, list_of}
 use Rattle.pddl_token.specs.TreeWords.{list, IsWord}
-use Rattle.pddl_tree.specs.Inner.TreeReading.{all_of}
+use Rattle.pddl_items.specs.Inner.TreeReading.{all_of}
 use Rattle.pddl_token.proofs.Options.{map_some, bind_some}
-use Rattle.pddl_tree.proofs.Fronts.{both_some}
-use Rattle.pddl_tree.proofs.TreeLists.{list_of_trees_of, trees_of_list_of}
-use Rattle.pddl_tree.proofs.Readers.{Reads}
+use Rattle.pddl_items.proofs.Fronts.{both_some}
+use Rattle.pddl_items.proofs.TreeLists.{list_of_trees_of, trees_of_list_of}
+use Rattle.pddl_items.proofs.Readers.{Reads}
 use Rattle.pddl_formula_reader.specs.declared.head.Head.{Head}
 use Rattle.pddl_formula_reader.specs.declared.head.Head.TheVariants as heads
 use Rattle.pddl_formula.specs.Terms.{IsAtom}

@@ -2,13 +2,13 @@
 use Rattle.std.proofs.Common.{◌≡◌, ◌≤◌, ◌<◌, List, [], ◌∷◌, map, length, get_or, Vec, refl, sym, ap, ap₂, arith}
 use Rattle.std.specs.Prelude.{Bool, Some, None, if◌then◌else◌}
 use Rattle.pddl_token.specs.declared.token.Span.{Span}
-use Rattle.pddl_text.specs.declared.item.Item.{Item}
-use Rattle.pddl_text.specs.declared.item.Item.TheVariants.{List as Group}
+use Rattle.pddl_items.specs.declared.item.Item.{Item}
+use Rattle.pddl_items.specs.declared.item.Item.TheVariants.{List as Group}
 use Rattle.pddl_token.specs.Spelling.{Word}
 use Rattle.pddl_token.specs.Trees.{Tree, leaf}
 use Rattle.pddl_token.specs.TreeWords.{list}
-use Rattle.pddl_tree.specs.ItemTrees.{item_tree, item_trees}
-use Rattle.pddl_tree.proofs.TreeLists.{item_tree_list}
+use Rattle.pddl_items.specs.ItemTrees.{item_tree, item_trees}
+use Rattle.pddl_items.proofs.TreeLists.{item_tree_list}
 use Rattle.pddl_formula_reader.specs.declared.head.Head.{Head}
 use Rattle.pddl_formula_reader.specs.Inner.Reading.{atom_at, head_at, behind, only}
 use Rattle.pddl_effect.specs.declared.effect.Effect.{Effect}

@@ -13,9 +13,9 @@ use Rattle.pddl_token.specs.Trees.{Tree, leaf, node, list_of}
 use Rattle.pddl_token.proofs.Tests.{both_true}
 use Rattle.pddl_token.specs.Names.{folded, is_name, is_first_byte, is_later_byte}
 use Rattle.pddl_token.specs.TreeWords.{list, SpellsName, Each}
-use Rattle.pddl_tree.specs.Inner.TreeReading.{is_word_at}
-use Rattle.pddl_tree.proofs.Readers.{equal_bytes, other_bytes, word_sound, word_complete}
-use Rattle.pddl_tree.proofs.TreeLists.{list_of_trees_of, trees_of_list_of}
+use Rattle.pddl_items.specs.Inner.TreeReading.{is_word_at}
+use Rattle.pddl_items.proofs.Readers.{equal_bytes, other_bytes, word_sound, word_complete}
+use Rattle.pddl_items.proofs.TreeLists.{list_of_trees_of, trees_of_list_of}
 use Rattle.pddl_formula.specs.Terms.{TermValue, name, variable, IsTerm}
 use Rattle.pddl_effect.specs.Effects.{AmountValue, number, function, IsAmount, IsTotalCost, IsIncrease}
 use Rattle.pddl_effect_reader.specs.Inner.EffectReading.{is_cost_list, is_total_cost_at}

@@ -3,10 +3,10 @@ use Rattle.std.proofs.Common.{◌≡◌, ℕ, ◌+◌, ◌-◌, ◌≤◌, ◌<�
 use Rattle.std.specs.Prelude.{Bool, true, false, ◌&&◌}
 use Rattle.std.specs.List.{list_all}
 use Rattle.std.proofs.lemmas.List.{take_all}
-use Rattle.pddl_text.specs.declared.item.Item.{Item}
+use Rattle.pddl_items.specs.declared.item.Item.{Item}
 use Rattle.pddl_token.specs.Trees.{Tree}
-use Rattle.pddl_tree.specs.ItemTrees.{item_tree, item_trees}
-use Rattle.pddl_tree.specs.Inner.TreeReading.{is_word_at}
+use Rattle.pddl_items.specs.ItemTrees.{item_tree, item_trees}
+use Rattle.pddl_items.specs.Inner.TreeReading.{is_word_at}
 use Rattle.pddl_formula_reader.proofs.Turns.{trees_from, trees_end}
 use Rattle.pddl_effect_reader.specs.Inner.EffectReading.{is_cost_list, is_total_cost_at}
 use Rattle.pddl_effect_reader.specs.Inner.IncreaseTests.{is_term_at, is_static_at, is_call_list, is_amount_at, is_cost_and_amount, is_increase_at}

@@ -2,8 +2,8 @@
 
 ghost use Rattle.std.specs.Prelude.{◌≡◌, ℕ, [], IfOk, MatchOption, option_map, option_and_then};
 ghost use Rattle.pddl_build.specs.Results.{map_found, both_of};
-ghost use Rattle.pddl_tree.specs.ItemTrees.{item_tree, item_trees};
-ghost use Rattle.pddl_tree.specs.Inner.TreeReading.{name_at};
+ghost use Rattle.pddl_items.specs.ItemTrees.{item_tree, item_trees};
+ghost use Rattle.pddl_items.specs.Inner.TreeReading.{name_at};
 ghost use Rattle.pddl_token.specs.TreeWords.{SpellsNumber};
 ghost use Rattle.pddl_formula_reader.specs.Inner.Reading.{term_at};
 ghost use Rattle.pddl_effect.specs.Effects.{FunctionTermValue, AmountValue, function_term_view, amount_view, IsFunctionTerm, IsAmount};
@@ -13,8 +13,8 @@ ghost use Rattle.pddl_effect_reader.specs.Inner.EffectReading.{call_of_list, sta
 use pddl_build::both;
 use pddl_effect::{Amount, FunctionTerm, StaticFunction};
 use pddl_formula::Term;
-use pddl_formula_reader::{name_of, terms_of};
-use pddl_text::Item;
+use pddl_formula_reader::terms_of;
+use pddl_items::{Item, name_of};
 use pddl_token::{Fixed, TokenKind, value_of};
 use std::alloc::{AllocError, Allocator};
 

@@ -2,8 +2,8 @@
 
 ghost use Rattle.std.specs.Prelude.{◌≡◌, [], Option, Some, IfOk, MatchOption, map, option_map};
 ghost use Rattle.pddl_token.specs.Trees.{Tree};
-ghost use Rattle.pddl_tree.specs.ItemTrees.{item_tree, item_trees};
-ghost use Rattle.pddl_tree.specs.Inner.TreeReading.{all_of};
+ghost use Rattle.pddl_items.specs.ItemTrees.{item_tree, item_trees};
+ghost use Rattle.pddl_items.specs.Inner.TreeReading.{all_of};
 ghost use Rattle.pddl_build.specs.Results.{map_found, both_of, Pushed};
 ghost use Rattle.pddl_formula_reader.specs.Inner.Reading.{atom_at, behind, only};
 ghost use Rattle.pddl_effect.specs.declared.effect.Effect.TheVariants as cases;
@@ -16,7 +16,7 @@ use pddl_build::{both, boxed, pushed};
 use pddl_effect::{Amount, Effect};
 use pddl_formula::{Atom, Formula, TypedList};
 use pddl_formula_reader::{Head, atom_of, atom_of_list, formula_of, head_of, variables_of};
-use pddl_text::Item;
+use pddl_items::Item;
 use std::alloc::{AllocError, Allocator};
 
 /// What an effect stands under.

@@ -5,13 +5,12 @@ ghost use Rattle.std.specs.Char.{to_ascii_lowercase};
 ghost use Rattle.std.specs.List.{list_all};
 ghost use Rattle.pddl_token.specs.Names.{is_first_byte, is_later_byte};
 ghost use Rattle.pddl_token.specs.TreeWords.{list};
-ghost use Rattle.pddl_tree.specs.ItemTrees.{item_tree, item_trees};
+ghost use Rattle.pddl_items.specs.ItemTrees.{item_tree, item_trees};
 ghost use Rattle.pddl_effect.specs.Effects.{AmountValue, IsTotalCost, IsIncrease};
 ghost use Rattle.pddl_effect_reader.specs.Inner.EffectReading.{is_cost_list, is_total_cost_at};
 ghost use Rattle.pddl_effect_reader.specs.Inner.IncreaseTests.{is_name_text, is_variable_text, is_static_text, is_term_at, is_static_at, is_call_list, is_amount_at, is_cost_and_amount, is_increase_at};
 
-use pddl_formula_reader::{is_word, is_word_item};
-use pddl_text::Item;
+use pddl_items::{Item, is_word, is_word_item};
 use pddl_token::{TokenKind, value_of};
 use std::alloc::Allocator;
 

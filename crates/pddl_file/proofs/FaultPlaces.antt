@@ -3,9 +3,8 @@ use Rattle.std.proofs.Common.{◌≡◌, ℕ, ◌≤◌, List, [], ◌∷◌, �
 use Rattle.std.specs.Prelude.{Some}
 use Rattle.pddl_token.specs.declared.token.Span.{Span}
 use Rattle.pddl_token.specs.Trees.{Placed, placed_leaf, placed_node, PlacedList, no_placed, placed_tree, placed_of}
-use Rattle.pddl_text.proofs.FaultPlaces.{StartsIn, AllStartIn, items_inside, IsInside, text_inside}
-use Rattle.pddl_tree.specs.PlanFaults.{span_of}
-use Rattle.pddl_tree.proofs.FaultPlaces.{starts_by, rest_of}
+use Rattle.pddl_text.proofs.FaultPlaces.{StartsIn, AllStartIn, items_inside, IsInside, text_inside, starts_by, rest_of}
+use Rattle.pddl_items.specs.Items.{span_of}
 use Rattle.pddl_sections.specs.Sections.{Rules, lists_in, lists_in_all, FirstMarked}
 use Rattle.pddl_sections.specs.Files.{IsOpened, HeadFault, nothing, other, several}
 use Rattle.pddl_file.specs.declared.keyword.SectionKeyword.{SectionKeyword}

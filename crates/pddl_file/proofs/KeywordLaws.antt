@@ -10,8 +10,8 @@ use Rattle.pddl_token.specs.Trees.{Tree, leaf, node, trees_of, list_of}
 use Rattle.pddl_token.specs.Names.{folded, is_name, name_of}
 use Rattle.pddl_token.specs.TreeWords.{list, IsKeyword}
 use Rattle.pddl_token.proofs.Options.{if_some, test_cases}
-use Rattle.pddl_tree.proofs.TreeLists.{list_of_trees_of, trees_of_list_of}
-use Rattle.pddl_tree.proofs.Readers.{Reads, same_bytes, name_of_some, name_of_is}
+use Rattle.pddl_items.proofs.TreeLists.{list_of_trees_of, trees_of_list_of}
+use Rattle.pddl_items.proofs.Readers.{Reads, same_bytes, name_of_some, name_of_is}
 use Rattle.pddl_file.specs.Keywords.{key_text, IsHeaded, IsSingle}
 use Rattle.pddl_file.specs.Flags.{IsFlag}
 use Rattle.pddl_file.specs.Inner.WordReading.{flag_name, flag_by, flag_at, key_of, key_by, head_key, list_key, key_at, nothing_seen, has_seen, with_seen}

@@ -9,8 +9,8 @@ use Rattle.pddl_token.specs.Trees.{Tree, leaf, node, list_of}
 use Rattle.pddl_token.specs.Names.{folded}
 use Rattle.pddl_token.specs.TreeWords.{list, IsWord}
 use Rattle.pddl_token.proofs.Options.{if_some, test_cases}
-use Rattle.pddl_tree.proofs.TreeLists.{list_of_trees_of, trees_of_list_of}
-use Rattle.pddl_tree.proofs.Readers.{Reads, same_bytes}
+use Rattle.pddl_items.proofs.TreeLists.{list_of_trees_of, trees_of_list_of}
+use Rattle.pddl_items.proofs.Readers.{Reads, same_bytes}
 use Rattle.pddl_effect.specs.Effects.{AmountValue, IsIncrease}
 use Rattle.pddl_effect_reader.specs.Inner.EffectReading.{increase_of}
 use Rattle.pddl_effect_reader.proofs.AmountLaws.{increase_sound, increase_complete}

@@ -2,11 +2,10 @@
 use Rattle.std.proofs.Common.{◌≡◌, ℕ, ◌+◌, ◌<◌, ◌≤◌, Bool, true, false, List, [], ◌∷◌, ◌++◌, length, get_or, drop, Option, Some, None, Ok, Err, sym, ap, ◌∙◌}
 use Rattle.std.specs.Prelude.{if◌then◌else◌}
 use Rattle.pddl_token.specs.declared.token.Span.{Span}
-use Rattle.pddl_text.specs.declared.item.Item.{Item}
+use Rattle.pddl_items.specs.declared.item.Item.{Item}
 use Rattle.pddl_token.specs.Trees.{Placed}
-use Rattle.pddl_text.specs.Items.{item_view, items_view}
-use Rattle.pddl_tree.specs.ItemTrees.{item_tree}
-use Rattle.pddl_tree.specs.PlanFaults.{span_of}
+use Rattle.pddl_items.specs.Items.{item_view, items_view, span_of}
+use Rattle.pddl_items.specs.ItemTrees.{item_tree}
 use Rattle.pddl_sections.specs.Sections.{SectionFault, faulty, unsupported, twice}
 use Rattle.pddl_sections.specs.Files.{IsOpened, HeadFault}
 use Rattle.pddl_sections.specs.Inner.Verdicts.{Readers, Turn, stop, go, Verdict, fine, bad, turn, refused, verdict}

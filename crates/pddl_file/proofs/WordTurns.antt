@@ -5,18 +5,18 @@ use Rattle.std.specs.Prelude.{IsTrue, MatchOption, ◌↔◌, flat_map, not, if�
 use Rattle.pddl_token.specs.declared.token.Span.{Span}
 use Rattle.pddl_token.specs.declared.token.TokenKind.{TokenKind}
 use Rattle.pddl_token.specs.declared.token.TokenKind.TheVariants.{Open, Close, Name, Variable, Keyword, Number, Dash, Equal, Colon, Bracket, Compare, Arithmetic}
-use Rattle.pddl_text.specs.declared.item.Item.{Item}
-use Rattle.pddl_text.specs.declared.item.Item.TheVariants.{List as Group, Word as Leaf}
+use Rattle.pddl_items.specs.declared.item.Item.{Item}
+use Rattle.pddl_items.specs.declared.item.Item.TheVariants.{List as Group, Word as Leaf}
 use Rattle.pddl_token.specs.declared.token.Token.{Token}
 use Rattle.pddl_token.specs.Spelling.{view}
 use Rattle.pddl_token.specs.Trees.{Tree, leaf, unplaced}
-use Rattle.pddl_text.specs.Items.{item_view, items_view}
+use Rattle.pddl_items.specs.Items.{item_view, items_view}
 use Rattle.pddl_token.specs.Names.{folded}
 use Rattle.pddl_token.specs.TreeWords.{list, IsWord}
-use Rattle.pddl_tree.specs.ItemTrees.{item_tree, item_trees}
-use Rattle.pddl_tree.specs.Inner.TreeReading.{is_word_at, word_by}
-use Rattle.pddl_tree.proofs.Readers.{word_sound}
-use Rattle.pddl_tree.proofs.TreeLists.{list_of_trees_of, item_tree_list, item_tree_word}
+use Rattle.pddl_items.specs.ItemTrees.{item_tree, item_trees}
+use Rattle.pddl_items.specs.Inner.TreeReading.{is_word_at, word_by}
+use Rattle.pddl_items.proofs.Readers.{word_sound}
+use Rattle.pddl_items.proofs.TreeLists.{list_of_trees_of, item_tree_list, item_tree_word}
 use Rattle.pddl_effect.specs.Effects.{AmountValue, IsIncrease}
 use Rattle.pddl_effect_reader.specs.Inner.EffectReading.{increase_of}
 use Rattle.pddl_effect_reader.proofs.AmountLaws.{increase_sound}

@@ -1,11 +1,11 @@
 //! Flags of `:requirements`.
 
 ghost use Rattle.std.specs.Prelude.{◌≡◌, IfOk, map, option_map};
-ghost use Rattle.pddl_tree.specs.ItemTrees.{item_tree, item_trees};
-ghost use Rattle.pddl_tree.specs.Inner.TreeReading.{all_of};
+ghost use Rattle.pddl_items.specs.ItemTrees.{item_tree, item_trees};
+ghost use Rattle.pddl_items.specs.Inner.TreeReading.{all_of};
 ghost use Rattle.pddl_file.specs.Inner.WordReading.{flag_name, flag_at};
 
-use pddl_text::Item;
+use pddl_items::Item;
 use pddl_token::{Name, TokenKind};
 use std::alloc::{AllocError, Allocator};
 

@@ -2,12 +2,11 @@
 
 ghost use Rattle.std.specs.Prelude.{◌≡◌, MatchOption};
 ghost use Rattle.pddl_token.specs.Names.{folded};
-ghost use Rattle.pddl_tree.specs.ItemTrees.{item_tree, item_trees};
+ghost use Rattle.pddl_items.specs.ItemTrees.{item_tree, item_trees};
 ghost use Rattle.pddl_file.specs.Keywords.{key_text, IsHeaded};
 ghost use Rattle.pddl_file.specs.Inner.WordReading.{key_of, head_key, list_key, key_at, nothing_seen, has_seen, with_seen};
 
-use pddl_formula_reader::is_word;
-use pddl_text::Item;
+use pddl_items::{Item, is_word};
 use pddl_token::TokenKind;
 use std::alloc::Allocator;
 

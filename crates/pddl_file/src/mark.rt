@@ -1,17 +1,16 @@
 //! Words by which lists are refused.
 
 ghost use Rattle.std.specs.Prelude.{◌≡◌, flat_map};
-ghost use Rattle.pddl_text.specs.Items.{item_view, items_view};
+ghost use Rattle.pddl_items.specs.Items.{item_view, items_view};
 ghost use Rattle.pddl_token.specs.Names.{folded};
-ghost use Rattle.pddl_tree.specs.ItemTrees.{item_trees};
+ghost use Rattle.pddl_items.specs.ItemTrees.{item_trees};
 ghost use Rattle.pddl_sections.specs.Sections.{lists_in};
 ghost use Rattle.pddl_sections.specs.Inner.Verdicts.{first_mark};
 ghost use Rattle.pddl_file.specs.Marks.{mark_word};
 ghost use Rattle.pddl_file.specs.Inner.WordReading.{plain_mark, is_number_first, list_mark, mark_in};
 
 use pddl_effect_reader::is_increase;
-use pddl_formula_reader::{is_word, is_word_item};
-use pddl_text::Item;
+use pddl_items::{Item, is_word, is_word_item};
 use pddl_token::{Span, TokenKind};
 use std::alloc::Allocator;
 

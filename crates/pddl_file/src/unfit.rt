@@ -2,9 +2,8 @@
 
 ghost use Rattle.std.specs.Prelude.{◌≡◌, ◌≢◌};
 ghost use Rattle.pddl_scan.specs.declared.fault.TextFault.TheVariants.{Memory};
-ghost use Rattle.pddl_text.specs.Items.{item_view};
-ghost use Rattle.pddl_tree.specs.ItemTrees.{item_tree};
-ghost use Rattle.pddl_tree.specs.PlanFaults.{span_of};
+ghost use Rattle.pddl_items.specs.Items.{item_view, span_of};
+ghost use Rattle.pddl_items.specs.ItemTrees.{item_tree};
 ghost use Rattle.pddl_sections.specs.Sections.{lists_in};
 ghost use Rattle.pddl_sections.specs.Inner.Verdicts.{first_mark, refusal};
 ghost use Rattle.pddl_file.specs.declared.fault.FileFault.TheVariants.{Text};
@@ -15,7 +14,7 @@ use crate::fault::FileFault;
 use crate::keyword::{SectionKeyword, keyword_of};
 use crate::mark::first_marked;
 use pddl_sections::span_of;
-use pddl_text::Item;
+use pddl_items::Item;
 use std::alloc::Allocator;
 
 /// What a section that fits no rule is refused as (own): where a list in it is refused by name, the word and the span of the

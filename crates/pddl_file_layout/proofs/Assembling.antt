@@ -5,8 +5,8 @@ use Rattle.std.specs.List.{flat_map}
 use Rattle.pddl_token.specs.declared.token.Span.{Span}
 use Rattle.pddl_token.specs.Trees.{Tree, Placed, placed_leaf, placed_node, placed_of, erased, all_erased}
 use Rattle.pddl_token.specs.TreeWords.{list, Each, IsWord}
-use Rattle.pddl_tree.specs.Inner.PlanReading.{placed_items}
-use Rattle.pddl_tree.proofs.TreeLists.{all_erased_list}
+use Rattle.pddl_items.specs.Inner.TreeReading.{placed_items}
+use Rattle.pddl_items.proofs.TreeLists.{all_erased_list}
 use Rattle.pddl_sections.specs.Sections.{AnyOf, AllOf}
 use Rattle.pddl_sections.specs.Files.{IsTitle, IsOpened}
 use Rattle.pddl_sections.proofs.FileLaws.{placed_of_items}

@@ -11,7 +11,7 @@ use Rattle.pddl_token.specs.Trees.{Tree}
 use Rattle.pddl_token.proofs.NumberTexts.{reads_as_it}
 use Rattle.pddl_token.specs.Names.{folded, is_first_byte, is_later_byte, is_name}
 use Rattle.pddl_token.specs.TreeWords.{list, IsWord, SpellsName, SpellsVariable, Each}
-use Rattle.pddl_tree.proofs.Readers.{equal_bytes}
+use Rattle.pddl_items.proofs.Readers.{equal_bytes}
 use Rattle.pddl_formula.specs.Reserved.{reserved, is_none_of, is_predicate, is_type_name, is_type}
 use Rattle.pddl_formula.specs.Terms.{TermValue, name, variable, AtomValue, IsTerm, IsPredicate, IsAtom}
 use Rattle.pddl_formula.specs.TypedLists.{WithType, TypedValue, IsTypeName, IsType, primitive, either, IsTypedList, untyped, typed, object, AreTypedNames, AreTypedVariables, IsVariableList}

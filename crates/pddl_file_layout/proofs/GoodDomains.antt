@@ -5,7 +5,7 @@ use Rattle.std.proofs.lemmas.Bool.{and_from}
 use Rattle.pddl_token.specs.Trees.{Tree, leaf, node, Placed, erased}
 use Rattle.pddl_token.specs.Names.{is_name}
 use Rattle.pddl_token.specs.TreeWords.{Each}
-use Rattle.pddl_tree.proofs.Readers.{each_good}
+use Rattle.pddl_items.proofs.Readers.{each_good}
 use Rattle.pddl_formula.specs.Reserved.{is_predicate, is_type_name, is_type}
 use Rattle.pddl_formula.specs.TypedLists.{IsTypeName, IsType}
 use Rattle.pddl_formula.specs.Formulas.{conjunction, no_formulas}

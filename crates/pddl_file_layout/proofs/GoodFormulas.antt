@@ -11,7 +11,7 @@ use Rattle.pddl_token.proofs.Tests.{both_true}
 use Rattle.pddl_token.proofs.Values.{value_in_range}
 use Rattle.pddl_token.specs.Names.{is_name}
 use Rattle.pddl_token.specs.TreeWords.{SpellsName, SpellsVariable, SpellsNumber}
-use Rattle.pddl_tree.proofs.Readers.{other_bytes, each_good}
+use Rattle.pddl_items.proofs.Readers.{other_bytes, each_good}
 use Rattle.pddl_formula.specs.Reserved.{reserved, is_none_of, is_predicate, is_type_name, is_type}
 use Rattle.pddl_formula.specs.Terms.{TermValue, name, variable, AtomValue, IsTerm, IsPredicate, IsAtom}
 use Rattle.pddl_formula.specs.TypedLists.{WithType, TypedValue, IsTypeName, IsType, primitive, either, OfType, IsTypedList, untyped, typed, object, IsVariableList}

@@ -7,7 +7,7 @@ use Rattle.pddl_token.specs.Number.{largest}
 use Rattle.pddl_token.specs.Trees.{Tree, Placed, erased}
 use Rattle.pddl_token.specs.Names.{is_name}
 use Rattle.pddl_token.specs.TreeWords.{SpellsName, Each}
-use Rattle.pddl_tree.proofs.Readers.{each_good}
+use Rattle.pddl_items.proofs.Readers.{each_good}
 use Rattle.pddl_formula.specs.Reserved.{is_predicate}
 use Rattle.pddl_file.specs.Flags.{IsFlag}
 use Rattle.pddl_problem.specs.Inits.{GroundValue, InitValue, holds, fails, value, MetricValue, IsFact, IsGroundFunction, IsInit}

@@ -5,11 +5,11 @@ use Rattle.std.proofs.lemmas.List.{map_push}
 use Rattle.std.specs.Bool.{then_some}
 use Rattle.pddl_build.specs.Results.{right_of, PushesFound, Pushed}
 use Rattle.pddl_build.proofs.Parts.{pushed_some, pushed_none}
-use Rattle.pddl_text.specs.declared.item.Item.{Item}
+use Rattle.pddl_items.specs.declared.item.Item.{Item}
 use Rattle.pddl_token.specs.Trees.{Tree}
-use Rattle.pddl_tree.specs.ItemTrees.{item_tree, item_trees}
-use Rattle.pddl_tree.specs.Inner.TreeReading.{all_of}
-use Rattle.pddl_tree.proofs.Fronts.{with_front, front_none}
+use Rattle.pddl_items.specs.ItemTrees.{item_tree, item_trees}
+use Rattle.pddl_items.specs.Inner.TreeReading.{all_of}
+use Rattle.pddl_items.proofs.Fronts.{with_front, front_none}
 use Rattle.pddl_formula_reader.proofs.Turns.{each_on, each_stop, each_end}
 
 -- the list, seen as one of X, is filled with the value of the item at this place

@@ -3,11 +3,11 @@ use Rattle.std.proofs.Common.{◌≡◌, ℕ, List, [], ◌∷◌, map, refl, sy
 use Rattle.std.specs.Prelude.{Option, Some, None, option_map}
 use Rattle.pddl_token.specs.Trees.{Tree, Trees, no_trees, tree, leaf, node, trees_of, list_of}
 use Rattle.pddl_token.specs.TreeWords.{list, IsWord}
-use Rattle.pddl_tree.specs.Inner.TreeReading.{all_of}
+use Rattle.pddl_items.specs.Inner.TreeReading.{all_of}
 use Rattle.pddl_token.proofs.Options.{map_some, bind_some}
-use Rattle.pddl_tree.proofs.Fronts.{both_some}
-use Rattle.pddl_tree.proofs.TreeLists.{list_of_trees_of, trees_of_list_of}
-use Rattle.pddl_tree.proofs.Readers.{Reads}
+use Rattle.pddl_items.proofs.Fronts.{both_some}
+use Rattle.pddl_items.proofs.TreeLists.{list_of_trees_of, trees_of_list_of}
+use Rattle.pddl_items.proofs.Readers.{Reads}
 use Rattle.pddl_formula.specs.Terms.{IsTerm}
 use Rattle.pddl_formula.specs.TypedLists.{TypedValue, IsVariableList}
 use Rattle.pddl_formula.specs.Formulas.{FormulaValue, FormulaValues, atom, equal, negation, implication, conjunction, disjunction, existential, universal, no_formulas, formula, formulas_of, IsFormula, AreFormulas, IsCondition}

@@ -8,7 +8,7 @@ use Rattle.pddl_token.specs.Spelling.{Word}
 use Rattle.pddl_token.specs.Trees.{Tree, leaf, node}
 use Rattle.pddl_token.specs.Names.{folded}
 use Rattle.pddl_token.specs.TreeWords.{IsWord, IsEqualSign, IsNoneOf}
-use Rattle.pddl_tree.proofs.Readers.{same_bytes, equal_bytes, other_bytes}
+use Rattle.pddl_items.proofs.Readers.{same_bytes, equal_bytes, other_bytes}
 use Rattle.pddl_formula.specs.Reserved.{reserved}
 use Rattle.pddl_formula_reader.specs.Inner.Reading.{word_head, head_by, head_at}
 use Rattle.pddl_formula_reader.specs.declared.head.Head.{Head}

@@ -7,12 +7,11 @@ use Rattle.pddl_token.specs.declared.token.TokenKind.TheVariants.{Open, Close, N
 use Rattle.pddl_token.specs.Spelling.{Word}
 use Rattle.pddl_token.specs.Trees.{Tree, leaf, node, list_of}
 use Rattle.pddl_token.specs.Names.{name_of}
-use Rattle.pddl_tree.specs.Inner.PlanReading.{name_by}
+use Rattle.pddl_items.specs.Inner.TreeReading.{name_by, name_at, variable_name, variable_by, all_of}
 use Rattle.pddl_token.specs.TreeWords.{list, SpellsName, Each, IsNoneOf}
-use Rattle.pddl_tree.specs.Inner.TreeReading.{name_at, variable_name, variable_by, all_of}
 use Rattle.pddl_token.proofs.Options.{map_some, bind_some, if_some}
-use Rattle.pddl_tree.proofs.TreeLists.{list_of_trees_of, trees_of_list_of}
-use Rattle.pddl_tree.proofs.Readers.{Reads, name_reads, variable_reads, equal_bytes, other_bytes, each_sound, each_complete}
+use Rattle.pddl_items.proofs.TreeLists.{list_of_trees_of, trees_of_list_of}
+use Rattle.pddl_items.proofs.Readers.{Reads, name_reads, variable_reads, equal_bytes, other_bytes, each_sound, each_complete}
 use Rattle.pddl_formula.specs.Reserved.{reserved, is_none_of, predicate_of}
 use Rattle.pddl_formula.specs.Terms.{TermValue, name, variable, AtomValue, IsTerm, IsPredicate, IsAtom}
 use Rattle.pddl_formula_reader.specs.Inner.Reading.{term_by, term_at, predicate_at, atom_of, atom_of_list, atom_at}

@@ -2,14 +2,13 @@
 use Rattle.std.proofs.Common.{◌≡◌, ℕ, ◌+◌, ◌-◌, ◌<◌, ◌≤◌, List, [], ◌∷◌, ◌++◌, length, get_or, take, drop, map, refl, sym, ap, ◌∙◌, arith, add-one, drop-cons}
 use Rattle.std.specs.Prelude.{Option, Some, None, option_and_then, if◌then◌else◌, codes}
 use Rattle.std.proofs.lemmas.List.{append-nil, drop_all, take_all}
-use Rattle.pddl_text.specs.declared.item.Item.{Item}
+use Rattle.pddl_items.specs.declared.item.Item.{Item}
 use Rattle.pddl_token.specs.Trees.{Tree}
 use Rattle.pddl_token.specs.TreeWords.{list}
-use Rattle.pddl_tree.specs.ItemTrees.{item_tree, item_trees}
-use Rattle.pddl_tree.specs.Inner.PlanReading.{both}
-use Rattle.pddl_tree.specs.Inner.TreeReading.{all_of, is_word_at}
-use Rattle.pddl_tree.proofs.Fronts.{with_front, front_more}
-use Rattle.pddl_tree.proofs.TreeLists.{list_of_trees_of}
+use Rattle.pddl_items.specs.ItemTrees.{item_tree, item_trees}
+use Rattle.pddl_items.specs.Inner.TreeReading.{both, all_of, is_word_at}
+use Rattle.pddl_items.proofs.Fronts.{with_front, front_more}
+use Rattle.pddl_items.proofs.TreeLists.{list_of_trees_of}
 use Rattle.pddl_formula.specs.Reserved.{type_of}
 use Rattle.pddl_formula_reader.specs.Inner.Reading.{atom_at, atom_of, atom_of_list, type_at, type_name_at, either_of, variables_at, typed_variables}
 

@@ -3,12 +3,12 @@ use Rattle.std.proofs.Common.{◌≡◌, ◌-◌, ◌≤◌, ◌<◌, List, [], 
 use Rattle.std.specs.Prelude.{Option, Some, None, option_map, option_and_then}
 use Rattle.std.specs.Option.{option_zip}
 use Rattle.std.proofs.lemmas.List.{take_all}
-use Rattle.pddl_text.specs.declared.item.Item.{Item}
+use Rattle.pddl_items.specs.declared.item.Item.{Item}
 use Rattle.pddl_token.specs.Spelling.{Word}
 use Rattle.pddl_token.specs.Trees.{Tree, leaf, trees_of}
 use Rattle.pddl_token.specs.TreeWords.{list}
-use Rattle.pddl_tree.specs.ItemTrees.{item_tree, item_trees}
-use Rattle.pddl_tree.proofs.TreeLists.{list_of_trees_of}
+use Rattle.pddl_items.specs.ItemTrees.{item_tree, item_trees}
+use Rattle.pddl_items.proofs.TreeLists.{list_of_trees_of}
 use Rattle.pddl_formula.specs.Formulas.{FormulaValue, atom}
 use Rattle.pddl_formula.specs.TypedLists.{TypedValue}
 use Rattle.pddl_formula_reader.specs.Inner.Reading.{term_at, atom_of_list, equality_of, head_at, formula_by, behind, only, two, quantified, variables_at, formula_at, formulas_at, formula_of_list, condition_at}

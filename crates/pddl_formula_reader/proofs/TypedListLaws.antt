@@ -4,10 +4,10 @@ use Rattle.std.specs.Prelude.{Option, Some, option_map, option_and_then}
 use Rattle.std.specs.Str.{bytes_eq}
 use Rattle.pddl_token.specs.Trees.{Tree, leaf, node, list_of}
 use Rattle.pddl_token.specs.TreeWords.{list, IsWord, IsDash, SpellsName, SpellsVariable, Each}
-use Rattle.pddl_tree.specs.Inner.TreeReading.{name_at, variable_at, is_word_at, is_dash, all_of}
+use Rattle.pddl_items.specs.Inner.TreeReading.{name_at, variable_at, is_word_at, is_dash, all_of}
 use Rattle.pddl_token.proofs.Options.{map_some, bind_some, if_some, unless_some, test_cases}
-use Rattle.pddl_tree.proofs.TreeLists.{list_of_trees_of, trees_of_list_of}
-use Rattle.pddl_tree.proofs.Readers.{Reads, name_reads, variable_reads, equal_bytes, other_bytes, word_sound, word_complete, dash_sound, dash_complete, each_sound, each_complete}
+use Rattle.pddl_items.proofs.TreeLists.{list_of_trees_of, trees_of_list_of}
+use Rattle.pddl_items.proofs.Readers.{Reads, name_reads, variable_reads, equal_bytes, other_bytes, word_sound, word_complete, dash_sound, dash_complete, each_sound, each_complete}
 use Rattle.pddl_formula.specs.Reserved.{type_name_of, type_of}
 use Rattle.pddl_formula.specs.TypedLists.{WithType, TypedValue, IsTypeName, IsType, primitive, either, OfType, IsGroup, IsTypedList, untyped, typed, object, AreTypedNames, AreTypedVariables, IsVariableList, of_type}
 use Rattle.pddl_formula_reader.specs.Inner.Reading.{type_name_at, either_of, type_at, nonempty, typed_from, typed_list, typed_names, typed_variables, variables_at}

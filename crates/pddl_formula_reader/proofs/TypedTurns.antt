@@ -4,10 +4,10 @@ use Rattle.std.specs.Prelude.{Bool, Option, Some, None, Result, Ok, Err, IfOk, M
 use Rattle.std.specs.Bool.{then_some}
 use Rattle.pddl_build.specs.Results.{PushesFound}
 use Rattle.pddl_build.proofs.Parts.{pushed_some, pushed_none}
-use Rattle.pddl_text.specs.declared.item.Item.{Item}
+use Rattle.pddl_items.specs.declared.item.Item.{Item}
 use Rattle.pddl_token.specs.Trees.{Tree}
-use Rattle.pddl_tree.specs.ItemTrees.{item_tree, item_trees}
-use Rattle.pddl_tree.specs.Inner.TreeReading.{is_dash}
+use Rattle.pddl_items.specs.ItemTrees.{item_tree, item_trees}
+use Rattle.pddl_items.specs.Inner.TreeReading.{is_dash}
 use Rattle.pddl_formula.specs.TypedLists.{WithType, of_type}
 use Rattle.pddl_formula_reader.specs.Inner.Reading.{nonempty, typed_from}
 use Rattle.pddl_formula_reader.proofs.Turns.{trees_from, trees_end}

@@ -2,8 +2,8 @@
 
 ghost use Rattle.std.specs.Prelude.{◌≡◌, [], Option, Some, IfOk, map, option_map};
 ghost use Rattle.std.specs.Option.{option_zip};
-ghost use Rattle.pddl_tree.specs.ItemTrees.{item_tree, item_trees};
-ghost use Rattle.pddl_tree.specs.Inner.TreeReading.{all_of};
+ghost use Rattle.pddl_items.specs.ItemTrees.{item_tree, item_trees};
+ghost use Rattle.pddl_items.specs.Inner.TreeReading.{all_of};
 ghost use Rattle.pddl_build.specs.Results.{map_found, both_of, Pushed};
 ghost use Rattle.pddl_formula.specs.declared.formula.Formula.TheVariants as cases;
 ghost use Rattle.pddl_formula.specs.Formulas.{FormulaValue, formula_view, negation, implication};
@@ -14,7 +14,7 @@ use crate::term_reader::{atom_of_list, term_of};
 use crate::typed_reader::variables_of;
 use pddl_build::{both, both_in_boxes, boxed, pushed};
 use pddl_formula::{Atom, Formula, Term, TypedList};
-use pddl_text::Item;
+use pddl_items::Item;
 use std::alloc::{AllocError, Allocator};
 
 /// How variables are bound.

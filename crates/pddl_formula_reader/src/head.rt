@@ -1,12 +1,11 @@
 //! What the first item of a list says of the list.
 
 ghost use Rattle.std.specs.Prelude.{◌≡◌};
-ghost use Rattle.std.specs.Str.{bytes_eq};
 ghost use Rattle.pddl_token.specs.Names.{folded};
-ghost use Rattle.pddl_tree.specs.ItemTrees.{item_tree};
+ghost use Rattle.pddl_items.specs.ItemTrees.{item_tree};
 ghost use Rattle.pddl_formula_reader.specs.Inner.Reading.{head_at, word_head};
 
-use pddl_text::Item;
+use pddl_items::{Item, is_word};
 use pddl_token::TokenKind;
 use std::alloc::Allocator;
 
@@ -62,12 +61,4 @@ fn word_head(text: &[u8]) -> Head
     } else {
         Head::Name
     }
-}
-
-/// Whether a text is the word, letter case aside.
-pub fn is_word(text: &[u8], word: &[u8]) -> bool
-    requires { folded word.now ≡ word.now }
-    ensures { result ≡ bytes_eq (folded text.now) word.now }
-{
-    text.eq_ignore_ascii_case(word)
 }

@@ -2,7 +2,7 @@
 
 ghost use Rattle.std.specs.Prelude.{◌≡◌, ◌↔◌, ℕ, List, Some, true};
 ghost use Rattle.pddl_token.specs.Trees.{Tree};
-ghost use Rattle.pddl_tree.specs.Inner.TreeReading.{name_at, variable_at, is_word_at, is_keyword_at, is_dash};
+ghost use Rattle.pddl_items.specs.Inner.TreeReading.{name_at, variable_at, is_word_at, is_keyword_at, is_dash};
 ghost use Rattle.pddl_token.specs.TreeWords.{IsWord, IsKeyword, IsDash, IsEqualSign, SpellsName, SpellsVariable};
 ghost use Rattle.pddl_formula_reader.specs.declared.head.Head.TheVariants as heads;
 ghost use Rattle.pddl_formula.specs.Terms.{TermValue, AtomValue, IsTerm, IsPredicate, IsAtom};

@@ -10,15 +10,15 @@ mod term_reader;
 mod typed_reader;
 
 pub use formula_reader::{condition_of, formula_of};
-pub use head::{Head, head_of, is_word};
+pub use head::{Head, head_of};
 pub use laws::{
     formulas_as_spelled, heads_as_spelled, one_formula, terms_as_spelled, typed_lists_as_spelled,
     words_as_spelled,
 };
 pub use term_reader::{
-    atom_of, atom_of_list, name_of, names_of, predicate_of, term_of, terms_of, variable_of,
+    atom_of, atom_of_list, names_of, predicate_of, term_of, terms_of, variable_of,
 };
 pub use typed_reader::{
-    is_dash, is_keyword_item, is_word_item, type_called, type_name_called, type_name_of, type_of,
+    type_called, type_name_called, type_name_of, type_of,
     typed_names_of, typed_variables_of, variables_of,
 };

@@ -3,34 +3,16 @@
 ghost use Rattle.std.specs.Prelude.{◌≡◌, ◌++◌, IfOk, map, option_map};
 ghost use Rattle.std.specs.Bool.{then_some};
 ghost use Rattle.pddl_build.specs.Results.{map_found};
-ghost use Rattle.pddl_tree.specs.ItemTrees.{item_tree, item_trees};
-ghost use Rattle.pddl_tree.specs.Inner.TreeReading.{name_at, variable_at, variable_name, all_of};
+ghost use Rattle.pddl_items.specs.ItemTrees.{item_tree, item_trees};
+ghost use Rattle.pddl_items.specs.Inner.TreeReading.{name_at, variable_at, variable_name, all_of};
 ghost use Rattle.pddl_formula.specs.Terms.{term_view, atom_view};
 ghost use Rattle.pddl_formula_reader.specs.Inner.Reading.{term_at, predicate_at, atom_of_list, atom_at};
 
 use pddl_build::{list_if_right, push_found};
 use pddl_formula::{Atom, Predicate, Term};
-use pddl_text::Item;
+use pddl_items::{Item, name_of};
 use pddl_token::{Name, TokenKind};
 use std::alloc::{AllocError, Allocator};
-
-/// The name that an item spells, or `None` where it spells none (Kovacs, `<name>`).
-///
-/// Fails where memory for the name is refused.
-pub fn name_of<'a, B: Allocator>(
-    alloc: &'a B,
-    item: &Item<'_, &'a B>,
-) -> Result<Option<Name<&'a B>>, AllocError>
-    ensures { IfOk result (λ name. name ≡ name_at (item_tree item.now)) }
-{
-    match item {
-        Item::Word(token) => match token.kind {
-            TokenKind::Name => Name::new(alloc, token.text),
-            _ => Ok(None),
-        },
-        Item::List(_, _) => Ok(None),
-    }
-}
 
 /// The names that some items spell, one each, or `None` where one of them spells none.
 ///

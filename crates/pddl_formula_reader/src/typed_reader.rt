@@ -1,20 +1,19 @@
 //! Types and typed lists read from items.
 
-ghost use Rattle.std.specs.Prelude.{◌≡◌, [], ◌∷◌, ◌++◌, false, IsTrue, IfOk, OnOk, Err, MatchResult, Some, map, option_map, option_and_then};
+ghost use Rattle.std.specs.Prelude.{◌≡◌, [], ◌∷◌, ◌++◌, false, IsTrue, IfOk, Err, MatchResult, Some, map, option_map, option_and_then};
 ghost use Rattle.std.specs.Bool.{then_some};
-ghost use Rattle.pddl_token.specs.Names.{folded, name_of as name_in};
-ghost use Rattle.pddl_tree.specs.ItemTrees.{item_tree, item_trees};
-ghost use Rattle.pddl_tree.specs.Inner.TreeReading.{all_of, is_word_at, is_keyword_at, is_dash};
+ghost use Rattle.pddl_token.specs.Names.{name_of as name_in};
+ghost use Rattle.pddl_items.specs.ItemTrees.{item_tree, item_trees};
+ghost use Rattle.pddl_items.specs.Inner.TreeReading.{all_of, is_dash};
 ghost use Rattle.pddl_formula.specs.Reserved.{type_of, type_name_of};
 ghost use Rattle.pddl_formula.specs.TypedLists.{object, typed_view, of_type};
 ghost use Rattle.pddl_formula_reader.specs.Inner.Reading.{type_name_at, either_of, type_at, typed_from, typed_list, typed_names, typed_variables, variables_at};
 ghost use Rattle.pddl_formula_reader.specs.Inner.Sorts.{item_at};
 
-use crate::head::is_word;
-use crate::term_reader::{name_of, variable_of};
+use crate::term_reader::variable_of;
 use pddl_build::{if_right, list_if_right, push_found};
 use pddl_formula::{TypeName, TypeNames, TypedList};
-use pddl_text::Item;
+use pddl_items::{Item, is_dash, is_word_item, name_of};
 use pddl_token::{Name, TokenKind};
 use std::alloc::{AllocError, Allocator};
 use std::mem::replace;
@@ -24,44 +23,6 @@ use std::mem::replace;
 enum Sort {
     Names,
     Variables,
-}
-
-/// Whether an item is a word of the grammar, letter case aside.
-pub fn is_word_item<A: Allocator>(item: &Item<'_, A>, word: &[u8]) -> bool
-    requires { folded word.now ≡ word.now }
-    ensures { result ≡ is_word_at word.now (item_tree item.now) }
-{
-    match item {
-        Item::Word(token) => match token.kind {
-            TokenKind::Name => is_word(token.text, word),
-            _ => false,
-        },
-        Item::List(_, _) => false,
-    }
-}
-
-/// Whether an item is a keyword, which begins with `:`, letter case aside.
-pub fn is_keyword_item<A: Allocator>(item: &Item<'_, A>, keyword: &[u8]) -> bool
-    requires { folded keyword.now ≡ keyword.now }
-    ensures { result ≡ is_keyword_at keyword.now (item_tree item.now) }
-{
-    match item {
-        Item::Word(token) => match token.kind {
-            TokenKind::Keyword => is_word(token.text, keyword),
-            _ => false,
-        },
-        Item::List(_, _) => false,
-    }
-}
-
-/// Whether an item is `-`.
-pub fn is_dash<A: Allocator>(item: &Item<'_, A>) -> bool
-    ensures { result ≡ is_dash (item_tree item.now) }
-{
-    match item {
-        Item::Word(token) => matches!(token.kind, TokenKind::Dash),
-        Item::List(_, _) => false,
-    }
 }
 
 /// The primitive type that an item spells, or `None` where it spells none (Kovacs, `<primitive-type>`).

@@ -3,10 +3,10 @@ use Rattle.std.proofs.Common.{◌≡◌, ℕ, List, [], ◌∷◌, map, refl, ap
 use Rattle.std.specs.Prelude.{Some, option_map}
 use Rattle.pddl_token.specs.Trees.{Tree, leaf, node, list_of}
 use Rattle.pddl_token.specs.TreeWords.{list, SpellsName, IsWord, Each}
-use Rattle.pddl_tree.specs.Inner.TreeReading.{name_at, is_word_at, all_of}
+use Rattle.pddl_items.specs.Inner.TreeReading.{name_at, is_word_at, all_of}
 use Rattle.pddl_token.proofs.Options.{map_some, bind_some, test_cases}
-use Rattle.pddl_tree.proofs.TreeLists.{list_of_trees_of, trees_of_list_of}
-use Rattle.pddl_tree.proofs.Readers.{Reads, name_reads, word_sound, each_sound, each_complete}
+use Rattle.pddl_items.proofs.TreeLists.{list_of_trees_of, trees_of_list_of}
+use Rattle.pddl_items.proofs.Readers.{Reads, name_reads, word_sound, each_sound, each_complete}
 use Rattle.pddl_formula_reader.specs.declared.head.Head.{Head}
 use Rattle.pddl_formula_reader.specs.declared.head.Head.TheVariants as heads
 use Rattle.pddl_formula.specs.Terms.{IsPredicate}

@@ -2,12 +2,12 @@
 use Rattle.std.proofs.Common.{◌≡◌, ℕ, ◌≤◌, ◌<◌, List, [], ◌∷◌, map, Option, Some, None, length, get_or, drop, refl, sym, ap, ◌∙◌, arith}
 use Rattle.std.specs.Prelude.{option_map, option_and_then}
 use Rattle.std.specs.Option.{option_zip}
-use Rattle.pddl_text.specs.declared.item.Item.{Item}
+use Rattle.pddl_items.specs.declared.item.Item.{Item}
 use Rattle.pddl_token.specs.Trees.{Tree}
 use Rattle.pddl_token.specs.TreeWords.{list}
-use Rattle.pddl_tree.specs.ItemTrees.{item_tree, item_trees}
-use Rattle.pddl_tree.specs.Inner.TreeReading.{name_at, all_of}
-use Rattle.pddl_tree.proofs.TreeLists.{list_of_trees_of}
+use Rattle.pddl_items.specs.ItemTrees.{item_tree, item_trees}
+use Rattle.pddl_items.specs.Inner.TreeReading.{name_at, all_of}
+use Rattle.pddl_items.proofs.TreeLists.{list_of_trees_of}
 use Rattle.pddl_formula_reader.proofs.TurnsOfFormulas.{made_of_two}
 use Rattle.pddl_effect_reader.specs.Inner.EffectReading.{call_of_list, number_at}
 use Rattle.pddl_problem.specs.declared.problem.Direction.{Direction}

@@ -1,8 +1,8 @@
 -- What is read of lists of one item.
 use Rattle.std.proofs.Common.{◌≡◌, ◌≤◌, ◌<◌, List, [], ◌∷◌, map, Option, length, get_or, refl, sym, ap, ◌∙◌, arith}
-use Rattle.pddl_text.specs.declared.item.Item.{Item}
+use Rattle.pddl_items.specs.declared.item.Item.{Item}
 use Rattle.pddl_token.specs.Trees.{Tree}
-use Rattle.pddl_tree.specs.ItemTrees.{item_tree, item_trees}
+use Rattle.pddl_items.specs.ItemTrees.{item_tree, item_trees}
 use Rattle.pddl_formula_reader.specs.Inner.Reading.{only}
 
 one_tree : {A : Type 0} (xs : List (Item A)) (d : Item A) → 1 ≤ length xs → length xs < 2 → item_trees xs ≡ item_tree (get_or xs 0 d) ∷ []

@@ -1,9 +1,9 @@
 //! Items of `:init` and metrics read from items.
 
-ghost use Rattle.std.specs.Prelude.{◌≡◌, ◌++◌, [], IfOk, map, option_map, codes};
+ghost use Rattle.std.specs.Prelude.{◌≡◌, ◌++◌, [], IfOk, map, option_map};
 ghost use Rattle.std.specs.Bool.{then_some};
-ghost use Rattle.pddl_tree.specs.ItemTrees.{item_tree, item_trees};
-ghost use Rattle.pddl_tree.specs.Inner.TreeReading.{name_at, all_of};
+ghost use Rattle.pddl_items.specs.ItemTrees.{item_tree, item_trees};
+ghost use Rattle.pddl_items.specs.Inner.TreeReading.{name_at, all_of};
 ghost use Rattle.pddl_formula_reader.specs.Inner.Reading.{only};
 ghost use Rattle.pddl_effect_reader.specs.Inner.EffectReading.{call_of_list};
 ghost use Rattle.pddl_problem.specs.Inits.{holds, fails, fact_view, function_view, init_view, metric_view};
@@ -11,9 +11,9 @@ ghost use Rattle.pddl_init_reader.specs.Inner.InitReading.{fact_of_list, fact_at
 
 use pddl_build::{both, list_if_right, push_found};
 use pddl_effect_reader::number_of;
-use pddl_formula_reader::{Head, head_of, is_word_item, name_of, names_of, predicate_of};
+use pddl_formula_reader::{Head, head_of, names_of, predicate_of};
 use pddl_problem::{Direction, Fact, GroundFunction, InitItem, Metric};
-use pddl_text::Item;
+use pddl_items::{Item, is_word_item, name_of};
 use std::alloc::{AllocError, Allocator};
 
 /// The fact of a list of these items, or `None` where they are none: a predicate and names of objects.

@@ -3,7 +3,7 @@
 ghost use Rattle.std.specs.Prelude.{◌≡◌, ◌↔◌, List, Some, map};
 ghost use Rattle.pddl_token.specs.Trees.{Tree};
 ghost use Rattle.pddl_token.specs.TreeWords.{Each};
-ghost use Rattle.pddl_tree.specs.Inner.TreeReading.{all_of};
+ghost use Rattle.pddl_items.specs.Inner.TreeReading.{all_of};
 ghost use Rattle.pddl_problem.specs.Inits.{InitValue, MetricValue, IsInit, AreMetric};
 ghost use Rattle.pddl_init_reader.specs.Inner.InitReading.{init_at, metric_of};
 

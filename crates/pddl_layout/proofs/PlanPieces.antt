@@ -28,7 +28,7 @@ use Rattle.pddl_tree.specs.PlanTexts.{SpellsPlan}
 use Rattle.pddl_token.specs.TreeWords.{SpellsName, SpellsNumber, Each}
 use Rattle.pddl_token.proofs.FoldedNames.{name_folded}
 use Rattle.pddl_plan_reader.proofs.PlanTextLaws.{one_plan}
-use Rattle.pddl_tree.proofs.Readers.{each_good}
+use Rattle.pddl_items.proofs.Readers.{each_good}
 use Rattle.pddl_layout.specs.PlanLayout.{spaced, plain_line, timed_line, plan_text}
 
 -- ---- names

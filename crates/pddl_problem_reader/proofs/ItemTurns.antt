@@ -1,12 +1,12 @@
 -- The sections that items are, in the words of the code.
 use Rattle.std.proofs.Common.{◌≡◌, ◌≤◌, List, [], ◌∷◌, length, get_or, drop, refl, sym, ap, ◌∙◌, arith}
 use Rattle.std.specs.Prelude.{false, Option, Some, None, option_map}
-use Rattle.pddl_text.specs.declared.item.Item.{Item}
+use Rattle.pddl_items.specs.declared.item.Item.{Item}
 use Rattle.pddl_token.specs.Trees.{Tree}
 use Rattle.pddl_token.specs.TreeWords.{list}
-use Rattle.pddl_tree.specs.ItemTrees.{item_tree, item_trees}
-use Rattle.pddl_text.specs.Items.{item_view}
-use Rattle.pddl_tree.proofs.TreeLists.{list_of_trees_of}
+use Rattle.pddl_items.specs.ItemTrees.{item_tree, item_trees}
+use Rattle.pddl_items.specs.Items.{item_view}
+use Rattle.pddl_items.proofs.TreeLists.{list_of_trees_of}
 use Rattle.pddl_token.proofs.Options.{map_some}
 use Rattle.pddl_sections.specs.Inner.Verdicts.{turn}
 use Rattle.pddl_file.specs.declared.keyword.SectionKeyword.{SectionKeyword}

@@ -3,10 +3,10 @@ use Rattle.std.proofs.Common.{◌≡◌, List, [], ◌∷◌, map, refl, sym, ap
 use Rattle.std.specs.Prelude.{Option, Some, None, option_map}
 use Rattle.pddl_token.specs.Trees.{Tree, leaf, node, list_of}
 use Rattle.pddl_token.specs.TreeWords.{list, SpellsName}
-use Rattle.pddl_tree.specs.Inner.TreeReading.{name_at, all_of}
+use Rattle.pddl_items.specs.Inner.TreeReading.{name_at, all_of}
 use Rattle.pddl_token.proofs.Options.{map_some}
-use Rattle.pddl_tree.proofs.TreeLists.{list_of_trees_of, trees_of_list_of}
-use Rattle.pddl_tree.proofs.Readers.{Reads, name_reads, each_sound, each_complete}
+use Rattle.pddl_items.proofs.TreeLists.{list_of_trees_of, trees_of_list_of}
+use Rattle.pddl_items.proofs.Readers.{Reads, name_reads, each_sound, each_complete}
 use Rattle.pddl_formula.specs.Formulas.{IsCondition}
 use Rattle.pddl_formula_reader.specs.Inner.Reading.{typed_names, condition_at, only}
 use Rattle.pddl_formula_reader.proofs.TypedListLaws.{names_sound, names_complete}

@@ -4,10 +4,10 @@ use Rattle.std.specs.Prelude.{is_some}
 use Rattle.std.specs.List.{flat_map}
 use Rattle.std.proofs.lemmas.List.{append-nil}
 use Rattle.std.proofs.lemmas.Grind.{flat_map-append}
-use Rattle.pddl_text.specs.declared.item.Item.{Item}
-use Rattle.pddl_text.specs.Items.{item_view, items_view}
+use Rattle.pddl_items.specs.declared.item.Item.{Item}
+use Rattle.pddl_items.specs.Items.{item_view, items_view}
 use Rattle.pddl_token.specs.Trees.{Tree, Placed}
-use Rattle.pddl_tree.specs.ItemTrees.{item_tree}
+use Rattle.pddl_items.specs.ItemTrees.{item_tree}
 use Rattle.pddl_token.proofs.Options.{test_cases}
 use Rattle.pddl_sections.specs.Inner.Verdicts.{Verdict, verdict, go, key_turn, turn}
 use Rattle.pddl_sections.specs.Inner.Answers.{first_missing}

@@ -1,7 +1,7 @@
 //! Problems read from texts.
 
 ghost use Rattle.std.specs.Prelude.{◌≡◌, ◌≢◌, ◌≤◌, ℕ, List, Some, None, IfOk, IfErr, MatchResult, length, option_map, codes};
-ghost use Rattle.pddl_text.specs.Items.{items_view};
+ghost use Rattle.pddl_items.specs.Items.{items_view};
 ghost use Rattle.pddl_scan.specs.declared.fault.TextFault.TheVariants.{Memory};
 ghost use Rattle.pddl_sections.specs.Inner.Answers.{first_missing, file_answer};
 ghost use Rattle.pddl_file.specs.declared.fault.FileFault.{FileFault};
@@ -20,7 +20,8 @@ use pddl_formula::TypedList;
 use pddl_problem::Problem;
 use pddl_scan::LONGEST;
 use pddl_sections::open_file;
-use pddl_text::{Item, items_of};
+use pddl_items::Item;
+use pddl_text::items_of;
 use pddl_token::Name;
 use std::alloc::Allocator;
 

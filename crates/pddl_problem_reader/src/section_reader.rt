@@ -1,9 +1,9 @@
 //! Sections of a problem read from items.
 
 ghost use Rattle.std.specs.Prelude.{◌≡◌, [], Some, None, IfOk, IfErr, OnOk, map, option_map};
-ghost use Rattle.pddl_text.specs.Items.{item_view, items_view};
-ghost use Rattle.pddl_tree.specs.ItemTrees.{item_tree, item_trees};
-ghost use Rattle.pddl_tree.specs.Inner.TreeReading.{name_at};
+ghost use Rattle.pddl_items.specs.Items.{item_view, items_view};
+ghost use Rattle.pddl_items.specs.ItemTrees.{item_tree, item_trees};
+ghost use Rattle.pddl_items.specs.Inner.TreeReading.{name_at};
 ghost use Rattle.pddl_formula.specs.Formulas.{formula_view};
 ghost use Rattle.pddl_formula_reader.specs.Inner.Reading.{condition_at, only};
 ghost use Rattle.pddl_sections.specs.Inner.Verdicts.{turn, verdict};
@@ -18,10 +18,10 @@ use crate::section::Slots;
 use pddl_build::{set_found, set_list};
 use pddl_file::{FileFault, SectionKeyword, Seen, flags_of, head_keyword_of, keyword_of, refusal};
 use pddl_formula::Formula;
-use pddl_formula_reader::{condition_of, name_of, typed_names_of};
+use pddl_formula_reader::{condition_of, typed_names_of};
 use pddl_init_reader::{inits_of, metric_of};
 use pddl_sections::span_of;
-use pddl_text::Item;
+use pddl_items::{Item, name_of};
 use pddl_token::Name;
 use std::alloc::{AllocError, Allocator};
 

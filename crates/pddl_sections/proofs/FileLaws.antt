@@ -5,12 +5,10 @@ use Rattle.std.proofs.lemmas.Bool.{false_from_ne_true}
 use Rattle.pddl_token.specs.declared.token.Span.{Span}
 use Rattle.pddl_token.specs.Trees.{Tree, leaf, node, list_of, Placed, placed_leaf, placed_node, PlacedList, no_placed, placed_tree, placed_of, erased}
 use Rattle.pddl_token.specs.TreeWords.{list}
-use Rattle.pddl_tree.specs.Inner.TreeReading.{is_word_at, name_at}
-use Rattle.pddl_tree.specs.Inner.PlanReading.{placed_items}
-use Rattle.pddl_tree.specs.PlanFaults.{span_of}
-use Rattle.pddl_tree.proofs.TreeLists.{list_of_trees_of, trees_of_list_of}
-use Rattle.pddl_tree.proofs.PlanSteps.{items_back}
-use Rattle.pddl_tree.proofs.Readers.{name_reads, word_sound, word_complete}
+use Rattle.pddl_items.specs.Inner.TreeReading.{is_word_at, name_at, placed_items}
+use Rattle.pddl_items.specs.Items.{span_of}
+use Rattle.pddl_items.proofs.TreeLists.{list_of_trees_of, trees_of_list_of, items_back}
+use Rattle.pddl_items.proofs.Readers.{name_reads, word_sound, word_complete}
 use Rattle.pddl_token.proofs.Options.{map_some, if_some}
 use Rattle.pddl_sections.specs.Sections.{Rules, AllOf}
 use Rattle.pddl_sections.specs.Inner.Verdicts.{Readers, Verdict, fine, bad, verdict}

@@ -3,15 +3,13 @@ use Rattle.std.proofs.Common.{◌≡◌, ℕ, ◌<◌, ◌≤◌, true, List, []
 use Rattle.std.specs.Prelude.{codes}
 use Rattle.std.proofs.lemmas.List.{take_all, length-drop}
 use Rattle.pddl_token.specs.declared.token.Span.{Span}
-use Rattle.pddl_text.specs.declared.item.Item.{Item}
-use Rattle.pddl_text.specs.declared.item.Item.TheVariants.{List as Group}
+use Rattle.pddl_items.specs.declared.item.Item.{Item}
+use Rattle.pddl_items.specs.declared.item.Item.TheVariants.{List as Group}
 use Rattle.pddl_token.specs.Trees.{Placed}
-use Rattle.pddl_text.specs.Items.{item_view, items_view}
-use Rattle.pddl_tree.specs.ItemTrees.{item_tree, item_trees}
-use Rattle.pddl_tree.specs.Inner.TreeReading.{is_word_at, name_at}
-use Rattle.pddl_tree.specs.PlanFaults.{span_of}
-use Rattle.pddl_tree.proofs.TreeLists.{list_of_trees_of, item_tree_list}
-use Rattle.pddl_tree.proofs.PlanSteps.{item_view_list, items_back}
+use Rattle.pddl_items.specs.Items.{item_view, items_view, span_of}
+use Rattle.pddl_items.specs.ItemTrees.{item_tree, item_trees}
+use Rattle.pddl_items.specs.Inner.TreeReading.{is_word_at, name_at}
+use Rattle.pddl_items.proofs.TreeLists.{list_of_trees_of, item_tree_list, item_view_list, items_back}
 use Rattle.pddl_sections.specs.Files.{IsOpened, HeadFault, nothing, other, several}
 use Rattle.pddl_sections.specs.Inner.Answers.{title_of, title_at, opening_of, opening_at}
 use Rattle.pddl_sections.proofs.FileLaws.{opens_sound, no_opening}

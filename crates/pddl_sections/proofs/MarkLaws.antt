@@ -2,10 +2,10 @@
 use Rattle.std.proofs.Common.{◌≡◌, ◌⊎◌, inl, inr, List, [], ◌∷◌, ◌++◌, Option, Some, None, refl, sym, ap, ◌∙◌}
 use Rattle.pddl_token.specs.declared.token.Span.{Span}
 use Rattle.pddl_token.specs.Trees.{Tree, Placed, erased}
-use Rattle.pddl_tree.specs.PlanFaults.{span_of}
+use Rattle.pddl_items.specs.Items.{span_of}
 use Rattle.pddl_sections.specs.Sections.{Rules, AnyOf, HasMark}
 use Rattle.pddl_sections.specs.Inner.Verdicts.{mark_or, first_mark}
-use Rattle.pddl_tree.proofs.Readers.{Reads}
+use Rattle.pddl_items.proofs.Readers.{Reads}
 
 pub none_of : {A : Type 0} (o : Option A) → ((x : A) → o ≡ Some x → ⊥) → o ≡ None
 none_of None h = refl

@@ -3,9 +3,9 @@ use Rattle.std.proofs.Common.{◌≡◌, ◌⊎◌, inl, inr, List, [], ◌∷�
 use Rattle.std.proofs.lemmas.Bool.{false_from_ne_true}
 use Rattle.pddl_token.specs.declared.token.Span.{Span}
 use Rattle.pddl_token.specs.Trees.{Tree, Placed, erased}
-use Rattle.pddl_tree.specs.PlanFaults.{span_of}
+use Rattle.pddl_items.specs.Items.{span_of}
 use Rattle.pddl_token.specs.TreeWords.{Each}
-use Rattle.pddl_tree.proofs.Readers.{Reads}
+use Rattle.pddl_items.proofs.Readers.{Reads}
 use Rattle.pddl_token.proofs.Options.{test_cases}
 use Rattle.pddl_sections.specs.Sections.{Rules, SectionFault, faulty, unsupported, twice, AnyOf, Repeats, Fits, IsFault, FirstFault, lists_in}
 use Rattle.pddl_sections.specs.Inner.Verdicts.{Readers, Verdict, fine, bad, Turn, stop, go, refusal, first_mark, refused, part_turn, key_turn, turn, after_turn, verdict}

@@ -4,15 +4,13 @@ use Rattle.std.specs.Prelude.{flat_map}
 use Rattle.std.proofs.lemmas.List.{drop_all}
 use Rattle.pddl_token.specs.declared.token.Span.{Span}
 use Rattle.pddl_token.specs.declared.token.Token.{Token}
-use Rattle.pddl_text.specs.declared.item.Item.{Item}
-use Rattle.pddl_text.specs.declared.item.Item.TheVariants.{List as Group, Word}
+use Rattle.pddl_items.specs.declared.item.Item.{Item}
+use Rattle.pddl_items.specs.declared.item.Item.TheVariants.{List as Group, Word}
 use Rattle.pddl_token.specs.Trees.{Tree, Placed, placed_of, trees_of, erased, all_erased}
-use Rattle.pddl_text.specs.Items.{item_view, items_view}
+use Rattle.pddl_items.specs.Items.{item_view, items_view, span_of}
 use Rattle.pddl_token.specs.TreeWords.{list}
-use Rattle.pddl_tree.specs.ItemTrees.{item_tree, item_trees}
-use Rattle.pddl_tree.specs.PlanFaults.{span_of}
-use Rattle.pddl_tree.proofs.TreeLists.{all_erased_list, items_erased}
-use Rattle.pddl_tree.proofs.PlanSteps.{item_view_list, item_view_word, view_from}
+use Rattle.pddl_items.specs.ItemTrees.{item_tree, item_trees}
+use Rattle.pddl_items.proofs.TreeLists.{all_erased_list, items_erased, item_view_list, item_view_word, view_from}
 use Rattle.pddl_sections.specs.Sections.{SectionFault, twice, lists_in, lists_in_all}
 use Rattle.pddl_sections.specs.Inner.Verdicts.{Readers, Verdict, fine, bad, stop, go, key_turn, turn, after_turn, refused, verdict, first_mark, mark_or}
 

@@ -5,7 +5,7 @@ use Rattle.std.specs.Prelude.{◌≡◌, ℕ, List, [], ◌∷◌, ◌++◌, map
 use Rattle.pddl_token.specs.declared.token.Span.{Span}
 use Rattle.pddl_token.specs.Trees.{Tree, Placed, placed_node, placed_of, erased}
 use Rattle.pddl_token.specs.TreeWords.{list, IsWord, SpellsName}
-use Rattle.pddl_tree.specs.PlanFaults.{span_of}
+use Rattle.pddl_items.specs.Items.{span_of}
 use Rattle.pddl_sections.specs.Sections.{Rules, SectionFault, Fits, FirstFault, AnyOf, AllOf}
 
 -- `(WORD NAME)`

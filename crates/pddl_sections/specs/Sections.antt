@@ -5,7 +5,7 @@ use Rattle.std.specs.Prelude.{◌≡◌, ◌⊎◌, List, [], ◌∷◌, ◌++�
 use Rattle.pddl_token.specs.declared.token.Span.{Span}
 use Rattle.pddl_token.specs.Trees.{Tree, Placed, placed_leaf, placed_node, PlacedList, no_placed, placed_tree, erased}
 use Rattle.pddl_token.specs.TreeWords.{Each}
-use Rattle.pddl_tree.specs.PlanFaults.{span_of}
+use Rattle.pddl_items.specs.Items.{span_of}
 
 -- what holds, holds of one of these
 abbrev pub AnyOf : {A : Type 0} → (A → Type 0) → List A → Type 0

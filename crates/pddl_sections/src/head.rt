@@ -1,16 +1,14 @@
 //! The head of a file: its name, and where its sections begin.
 
 ghost use Rattle.std.specs.Prelude.{◌≡◌, List, IfOk, MatchResult, option_map};
-ghost use Rattle.pddl_text.specs.Items.{item_view, items_view};
+ghost use Rattle.pddl_items.specs.Items.{item_view, items_view, span_of};
 ghost use Rattle.pddl_token.specs.Names.{folded};
-ghost use Rattle.pddl_tree.specs.ItemTrees.{item_tree, item_trees};
-ghost use Rattle.pddl_tree.specs.Inner.TreeReading.{is_word_at, name_at};
-ghost use Rattle.pddl_tree.specs.PlanFaults.{span_of};
+ghost use Rattle.pddl_items.specs.ItemTrees.{item_tree, item_trees};
 ghost use Rattle.pddl_sections.specs.Files.{IsOpened, HeadFault};
 ghost use Rattle.pddl_sections.specs.Inner.Answers.{title_of, title_at, opening_of, opening_at};
 ghost use Rattle.pddl_sections.specs.Openings.{opening_view};
 
-use pddl_text::Item;
+use pddl_items::{Item, is_word_item, name_of};
 use pddl_token::{Name, Span, TokenKind};
 use std::alloc::{AllocError, Allocator};
 
@@ -85,7 +83,7 @@ fn opening_of<'i, 't, A: Allocator, B: Allocator>(
     let [first, title, sections @ ..] = items else {
         return Ok(None);
     };
-    if !is_word(first, b"define") {
+    if !is_word_item(first, b"define") {
         return Ok(None);
     }
     let Some(name) = title_at(alloc, word, title)? else {
@@ -121,38 +119,8 @@ fn title_of<A: Allocator, B: Allocator>(
     let [first, second] = items else {
         return Ok(None);
     };
-    if !is_word(first, word) {
+    if !is_word_item(first, word) {
         return Ok(None);
     }
-    name_at(alloc, second)
-}
-
-/// Whether an item is a word, which is in lower case.
-fn is_word<A: Allocator>(item: &Item<'_, A>, word: &[u8]) -> bool
-    requires { folded word.now ≡ word.now }
-    ensures { result ≡ is_word_at word.now (item_tree item.now) }
-{
-    match item {
-        Item::Word(token) => match token.kind {
-            TokenKind::Name => token.text.eq_ignore_ascii_case(word),
-            _ => false,
-        },
-        Item::List(_, _) => false,
-    }
-}
-
-/// The name that an item is.
-fn name_at<A: Allocator, B: Allocator>(
-    alloc: B,
-    item: &Item<'_, A>,
-) -> Result<Option<Name<B>>, AllocError>
-    ensures { IfOk result (λ name. name ≡ name_at (item_tree item.now)) }
-{
-    match item {
-        Item::Word(token) => match token.kind {
-            TokenKind::Name => Name::new(alloc, token.text),
-            _ => Ok(None),
-        },
-        Item::List(_, _) => Ok(None),
-    }
+    name_of(alloc, second)
 }

@@ -10,6 +10,7 @@ use Rattle.pddl_text.specs.Spans.{IsSlice}
 use Rattle.pddl_scan.specs.Faults.{IsLongestNumber}
 use Rattle.pddl_scan.specs.Places.{text_place}
 use Rattle.pddl_token.specs.Trees.{Placed, placed_leaf, placed_node, PlacedList, no_placed, placed_tree, placed_of}
+use Rattle.pddl_items.specs.Items.{span_of}
 use Rattle.pddl_text.specs.Lists.{AreItems, none, plain, nested, IsUnopened, IsTooDeep, IsFirstMisplaced}
 use Rattle.pddl_text.specs.Texts.{HasItems, TextStands}
 use Rattle.pddl_scan.proofs.Numbers.{number_nonempty}
@@ -111,3 +112,12 @@ text_inside (Unclosed place) text at stands e =
     let starts = one_of (StartsBy (length text)) unclosed.before unclosed.opening unclosed.after (subst (All (StartsBy (length text))) unclosed.words_are (words_start stands.words text stands.spells)) in
     let same : place ≡ at = cc (e) in
     subst (IsInside text) same (omega (arith, starts, unclosed.starts_at), omega (arith, starts, unclosed.starts_at, stands.within))
+
+pub starts_by : (n : ℕ) (item : Placed) → StartsIn n item → (span_of item).start ≤ n
+starts_by n (placed_leaf w) starts = starts
+starts_by n (placed_node span items) starts = starts.0
+
+-- what starts in a text, of items behind others
+pub rest_of : (n : ℕ) (before after : List Placed) → AllStartIn n (placed_of (before ++ after)) → AllStartIn n (placed_of after)
+rest_of n [] after starts = starts
+rest_of n (item ∷ before) after starts = rest_of n before after starts.1

@@ -5,15 +5,15 @@ use Rattle.std.proofs.lemmas.Bool.Decides.{nat_tests}
 use Rattle.std.proofs.lemmas.List.{append_assoc, length-append, map_push, map-append, take_more, take_all, take-append-drop}
 use Rattle.pddl_token.specs.declared.token.TokenKind.TheVariants.{Open, Close}
 use Rattle.pddl_token.specs.declared.token.Span.{Span}
-use Rattle.pddl_text.specs.declared.item.Item.{Item}
-use Rattle.pddl_text.specs.declared.item.OpenList.{OpenList}
-use Rattle.pddl_text.specs.declared.item.Item.TheOpen.{Item-F}
-use Rattle.pddl_text.specs.declared.item.Item.TheVariants.{List as Group, rolls-List}
-use Rattle.pddl_text.specs.declared.item.Item.TheFolds.{fold-roll-Item}
+use Rattle.pddl_items.specs.declared.item.Item.{Item}
+use Rattle.pddl_text.specs.declared.nesting.OpenList.{OpenList}
+use Rattle.pddl_items.specs.declared.item.Item.TheOpen.{Item-F}
+use Rattle.pddl_items.specs.declared.item.Item.TheVariants.{List as Group, rolls-List}
+use Rattle.pddl_items.specs.declared.item.Item.TheFolds.{fold-roll-Item}
 use Rattle.pddl_token.specs.declared.token.Token.{Token}
 use Rattle.pddl_token.specs.Spelling.{PlacedWord, view}
 use Rattle.pddl_token.specs.Trees.{Placed, placed_node, placed_of}
-use Rattle.pddl_text.specs.Items.{item_step, item_view, items_view}
+use Rattle.pddl_items.specs.Items.{item_step, item_view, items_view}
 use Rattle.pddl_text.specs.Inner.Nesting.{Opened, next_nest, opened_view, stack_of, nest_of}
 
 -- a pushed list is the innermost

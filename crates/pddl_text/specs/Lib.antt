@@ -1,6 +1,5 @@
 pub mod Spans
 pub mod StandsFor
-pub mod Items
 pub mod Lists
 pub mod Texts
 pub mod Pieces

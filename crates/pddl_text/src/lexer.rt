@@ -5,7 +5,6 @@ ghost use Rattle.pddl_scan.specs.declared.fault.TextFault.TheVariants.{Memory, T
 ghost use Rattle.pddl_token.specs.Spelling.{PlacedWord, Spells, view};
 ghost use Rattle.pddl_text.specs.Spans.{IsSlice, EndsBefore};
 ghost use Rattle.pddl_scan.specs.Faults.{AreValued, Stands};
-ghost use Rattle.pddl_scan.specs.Inner.Reading.{Reads};
 
 use pddl_scan::{LONGEST, Next, TextFault, next_part};
 use pddl_token::{Span, Token};

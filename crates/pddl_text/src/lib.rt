@@ -9,7 +9,6 @@
 //! on these definitions, for the crates above: a text has at most one reading and at most one fault, and texts that are written in canonical form read back.
 #![tactic(auto)]
 
-mod item;
 mod lexer;
 mod nesting;
 mod pieces;
@@ -18,7 +17,6 @@ mod places;
 mod plan_lexer;
 mod texts;
 
-pub use item::Item;
 pub use lexer::{lex, one_spelling};
 pub use nesting::{DEEPEST, list_fault_behind, lists, one_nesting};
 pub use pieces::{levels_as_read, pieces_read_back, tree_reads_back};

@@ -5,15 +5,22 @@ ghost use Rattle.pddl_scan.specs.declared.fault.TextFault.{TextFault};
 ghost use Rattle.pddl_scan.specs.declared.fault.TextFault.TheVariants.{Memory};
 ghost use Rattle.pddl_token.specs.Spelling.{PlacedWord, view};
 ghost use Rattle.pddl_token.specs.Trees.{Placed, placed_leaf};
-ghost use Rattle.pddl_text.specs.Items.{items_view};
+ghost use Rattle.pddl_items.specs.Items.{items_view};
 ghost use Rattle.pddl_text.specs.Lists.{AreItems, deepest, ListStands};
 ghost use Rattle.pddl_text.specs.Inner.Nesting.{nest_of, next_nest, IsRefused};
 
-use crate::item::{Item, OpenList};
+use pddl_items::Item;
 use pddl_scan::TextFault;
 use pddl_token::{Span, Token, TokenKind};
 use std::alloc::Allocator;
 use std::mem;
+
+/// A list whose end has not come: the items before its innermost opening, and that opening's place.
+#[derive(Drop)]
+pub struct OpenList<'t, A: Allocator> {
+    pub items: Vec<Item<'t, A>, A>,
+    pub start: u32,
+}
 
 /// The deepest level of a list; an outermost list has level 1. Own.
 pub const DEEPEST: usize = 128;

@@ -1,6 +1,6 @@
 //! Lines and columns.
 
-ghost use Rattle.std.specs.Prelude.{◌≡◌, ◌≤◌, ◌↔◌, length, take, IfSome, IsSome};
+ghost use Rattle.std.specs.Prelude.{◌≤◌, ◌↔◌, length, take, IfSome, IsSome};
 ghost use Rattle.pddl_text.specs.Positions.{IsBehind};
 
 use pddl_scan::LONGEST;

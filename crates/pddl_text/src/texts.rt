@@ -4,10 +4,10 @@ ghost use Rattle.std.specs.Prelude.{◌≡◌, ◌≢◌, List, ℕ, IfOk, IfErr
 ghost use Rattle.pddl_scan.specs.declared.fault.TextFault.{TextFault};
 ghost use Rattle.pddl_scan.specs.declared.fault.TextFault.TheVariants.{Memory};
 ghost use Rattle.pddl_token.specs.Trees.{Tree, Placed};
-ghost use Rattle.pddl_text.specs.Items.{items_view};
+ghost use Rattle.pddl_items.specs.Items.{items_view};
 ghost use Rattle.pddl_text.specs.Texts.{HasItems, ReadsAs, TextStands};
 
-use crate::item::Item;
+use pddl_items::Item;
 use crate::lexer::lex;
 use crate::nesting::lists;
 use pddl_scan::TextFault;

@@ -1,24 +1,16 @@
 -- A fault of a plan file stands in its text.
-use Rattle.std.proofs.Common.{◌≡◌, ℕ, ◌≤◌, List, [], ◌∷◌, ◌++◌, length, refl, sym, ap, subst, ◌∙◌, arith}
+use Rattle.std.proofs.Common.{◌≡◌, ℕ, ◌≤◌, List, [], ◌∷◌, length, refl, sym, ap, subst, ◌∙◌, arith}
 use Rattle.std.specs.Prelude.{Some}
 use Rattle.pddl_token.specs.declared.token.Span.{Span}
 use Rattle.pddl_token.specs.Trees.{Placed, placed_leaf, placed_node, placed_of}
 use Rattle.pddl_text.specs.Texts.{HasItems}
-use Rattle.pddl_text.proofs.FaultPlaces.{StartsIn, AllStartIn, items_inside, IsInside, text_inside}
+use Rattle.pddl_text.proofs.FaultPlaces.{AllStartIn, items_inside, IsInside, text_inside, starts_by, rest_of}
 use Rattle.pddl_tree.specs.declared.fault.ReadFault.{ReadFault}
 use Rattle.pddl_tree.specs.declared.fault.ReadFault.TheVariants as faults
 use Rattle.pddl_tree.specs.Places.{fault_place}
-use Rattle.pddl_tree.specs.PlanFaults.{StepKind, alone, at_moments, other_kind, span_of, Follows, IsNext, IsNextBracket, IsReached}
+use Rattle.pddl_tree.specs.PlanFaults.{StepKind, alone, at_moments, other_kind, Follows, IsNext, IsNextBracket, IsReached}
+use Rattle.pddl_items.specs.Items.{span_of}
 use Rattle.pddl_tree.specs.PlanTexts.{PlanStands}
-
-pub starts_by : (n : ℕ) (item : Placed) → StartsIn n item → (span_of item).start ≤ n
-starts_by n (placed_leaf w) starts = starts
-starts_by n (placed_node span items) starts = starts.0
-
--- what starts in a text, of items behind others
-pub rest_of : (n : ℕ) (before after : List Placed) → AllStartIn n (placed_of (before ++ after)) → AllStartIn n (placed_of after)
-rest_of n [] after starts = starts
-rest_of n (item ∷ before) after starts = rest_of n before after starts.1
 
 -- the first of the items behind others
 pub next_inside : (text : List ℕ) (kind : StepKind) (before after items : List Placed) (span : Span) → HasItems text items → IsReached kind before after items → IsNext span after → IsInside text span.start

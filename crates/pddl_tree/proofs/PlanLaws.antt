@@ -14,8 +14,10 @@ use Rattle.pddl_tree.specs.declared.fault.ReadFault.{ReadFault}
 use Rattle.pddl_tree.specs.declared.fault.ReadFault.TheVariants as faults
 use Rattle.pddl_token.specs.Names.{folded, is_name}
 use Rattle.pddl_plan.specs.Plans.{StepValue, TimedValue, PlanValue, plain, timed, IsStep, IsColon, IsTimed, AreTimed, AreSteps, at_moments as with_moments}
-use Rattle.pddl_tree.specs.PlanFaults.{StepKind, alone, at_moments, other_kind, span_of, Follows, NoneFollows, IsNext, IsNextBracket, IsReached, IsMixed, IsDuration, IsNoStep}
-use Rattle.pddl_tree.specs.Inner.PlanReading.{name_by, name_at, both, names_at, step_of, placed_items, step_at, moment_by, moment_at, colon_by, is_colon, timed_of, timed_by, timed_at, bracket_by, is_bracket, no_step, timed_span, plain_fault, timed_fault, is_behind, where_some, plain_from, timed_from, plan_at, plan_behind}
+use Rattle.pddl_tree.specs.PlanFaults.{StepKind, alone, at_moments, other_kind, Follows, NoneFollows, IsNext, IsNextBracket, IsReached, IsMixed, IsDuration, IsNoStep}
+use Rattle.pddl_items.specs.Items.{span_of}
+use Rattle.pddl_tree.specs.Inner.PlanReading.{name_at, names_at, step_of, step_at, moment_at, colon_by, is_colon, timed_of, timed_by, timed_at, bracket_by, is_bracket, no_step, timed_span, plain_fault, timed_fault, is_behind, where_some, plain_from, timed_from, plan_at, plan_behind}
+use Rattle.pddl_items.specs.Inner.TreeReading.{name_by, both, placed_items, moment_by}
 use Rattle.pddl_token.specs.TreeWords.{SpellsName, SpellsNumber, Each}
 use Rattle.pddl_tree.proofs.PlanSteps.{plain_some, plain_none, timed_some, timed_none}
 

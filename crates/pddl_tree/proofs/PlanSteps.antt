@@ -1,42 +1,21 @@
 -- Items as the code goes over them, and steps read from them.
-use Rattle.std.proofs.Common.{◌≡◌, ℕ, ◌+◌, ◌<◌, ◌≤◌, Bool, true, false, List, [], ◌∷◌, ◌++◌, length, get_or, drop, Vec, refl, sym, ap, subst, ◌∙◌, add-one, arith, drop-cons}
+use Rattle.std.proofs.Common.{◌≡◌, ℕ, ◌+◌, ◌<◌, ◌≤◌, Bool, true, false, List, [], ◌∷◌, ◌++◌, length, get_or, drop, refl, sym, ap, subst, ◌∙◌, arith}
 use Rattle.std.specs.Prelude.{Option, Some, None, Result, Ok, Err, is_some, ◌&&◌, option_map}
 use Rattle.std.proofs.lemmas.Bool.{cond_both}
 use Rattle.std.proofs.lemmas.List.{append-nil, append_assoc, length-append, drop-map, drop-drop, length-map, length-drop}
-use Rattle.pddl_token.specs.declared.token.Span.{Span}
-use Rattle.pddl_token.specs.declared.token.Token.{Token}
-use Rattle.pddl_text.specs.declared.item.Item.{Item}
-use Rattle.pddl_text.specs.declared.item.Item.TheOpen.{Item-F}
-use Rattle.pddl_text.specs.declared.item.Item.TheVariants.{List as Group, Word, rolls-List, rolls-Word}
-use Rattle.pddl_text.specs.declared.item.Item.TheFolds.{fold-roll-Item}
-use Rattle.pddl_token.specs.Spelling.{view}
-use Rattle.pddl_token.specs.Trees.{Placed, placed_leaf, placed_node, placed_of}
-use Rattle.pddl_text.specs.Items.{item_step, item_view, items_view}
+use Rattle.pddl_items.specs.declared.item.Item.{Item}
+use Rattle.pddl_token.specs.Trees.{Placed}
+use Rattle.pddl_items.specs.Items.{item_view, items_view, span_of}
 use Rattle.pddl_tree.specs.declared.fault.ReadFault.{ReadFault}
 use Rattle.pddl_plan.specs.Plans.{StepValue, TimedValue, PlanValue, plain, timed, step_of_names}
 use Rattle.pddl_plan.specs.NameLists.{AddsName}
 use Rattle.pddl_plan.specs.Building.{Building, AddsWord, AddsNames}
 use Rattle.pddl_tree.specs.Inner.StepNames.{names_of_step, AddsTimed}
-use Rattle.pddl_tree.specs.PlanFaults.{span_of}
-use Rattle.pddl_tree.specs.Inner.PlanReading.{moment_at, is_colon, timed_span, both, name_at, names_at, placed_items, step_of, step_at, is_bracket, no_step, timed_at, plain_fault, timed_fault, is_behind, where_some, plain_from, timed_from, Refuses}
-use Rattle.pddl_tree.proofs.Fronts.{with_front, front_more, front_none}
+use Rattle.pddl_tree.specs.Inner.PlanReading.{moment_at, is_colon, timed_span, name_at, names_at, step_of, step_at, is_bracket, no_step, timed_at, plain_fault, timed_fault, is_behind, where_some, plain_from, timed_from, Refuses}
+use Rattle.pddl_items.specs.Inner.TreeReading.{both}
+use Rattle.pddl_items.proofs.TreeLists.{view_from}
+use Rattle.pddl_items.proofs.Fronts.{with_front, front_more, front_none}
 use Rattle.pddl_plan.proofs.GotNames.{GotName}
-
--- ---- items as the code holds them
-
--- the items from a place on: the one there, and those behind it
-pub view_from : {A : Type 0} (xs : List (Item A)) (i : ℕ) (d : Item A) → i < length xs → items_view (drop i xs) ≡ item_view (get_or xs i d) ∷ items_view (drop (i + 1) xs)
-view_from xs i d lt = rw (add-one, drop-cons xs i d) refl
-
-pub item_view_list : {A : Type 0} (inner : Vec (Item A) A) (span : Span) → item_view (Group inner span) ≡ placed_node span (placed_of (items_view inner.items))
-item_view_list inner span = ap item_view (sym (rolls-List inner span)) ∙ fold-roll-Item _ Placed item_step (Item-F.List inner span)
-
-pub item_view_word : (A : Type 0) (token : Token) → item_view {A = A} (Word token) ≡ placed_leaf (view token)
-item_view_word A token = ap (item_view {A = A}) (sym (rolls-Word token)) ∙ fold-roll-Item _ Placed item_step (Item-F.Word token)
-
-pub items_back : (items : List Placed) → placed_items (placed_of items) ≡ items
-items_back [] = refl
-items_back (item ∷ items) = ap (λ (t : List Placed). item ∷ t) (items_back items)
 
 -- ---- names
 

@@ -17,7 +17,7 @@ use Rattle.pddl_token.specs.TreeWords.{SpellsName, Each}
 use Rattle.pddl_tree.specs.Inner.StepWords.{AreNames, AreBuilt, AreStepWords, ReadsTo, ReadsOn, ReadsWords, HasMoved}
 use Rattle.pddl_tree.proofs.BuiltSteps.{plain_pushed, moment_pushed, moments_pushed}
 use Rattle.pddl_plan.proofs.GotNames.{GotName}
-use Rattle.pddl_tree.proofs.Readers.{name_of_some}
+use Rattle.pddl_items.proofs.Readers.{name_of_some}
 
 -- ---- names
 

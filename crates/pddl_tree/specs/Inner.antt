@@ -2,4 +2,3 @@
 pub mod StepNames
 pub mod PlanReading
 pub mod StepWords
-pub mod TreeReading

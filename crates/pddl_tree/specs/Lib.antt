@@ -1,4 +1,3 @@
-pub mod ItemTrees
 pub mod Places
 pub mod PlanFaults
 pub mod PlanTexts

@@ -2,7 +2,7 @@
 use Rattle.std.specs.Prelude.{◌≡◌, ◌≢◌, List, [], ◌∷◌, ◌++◌, map}
 use Rattle.pddl_token.specs.declared.token.TokenKind.TheVariants.{Bracket}
 use Rattle.pddl_token.specs.declared.token.Span.{Span}
-use Rattle.pddl_token.specs.Trees.{Placed, placed_leaf, placed_node, erased}
+use Rattle.pddl_token.specs.Trees.{Placed, placed_leaf, erased}
 use Rattle.pddl_plan.specs.Plans.{StepValue, TimedValue, IsStep, IsTimed, AreTimed}
 use Rattle.pddl_token.specs.TreeWords.{Each}
 
@@ -15,11 +15,6 @@ pub data StepKind : Type 0 where
 abbrev pub other_kind : StepKind → StepKind
 other_kind alone = at_moments
 other_kind at_moments = alone
-
--- from an item's first byte to its last
-abbrev pub span_of : Placed → Span
-span_of (placed_leaf w) = w.span
-span_of (placed_node span items) = span
 
 -- the items are whole steps of one kind
 abbrev pub AreWhole : StepKind → List Placed → Type 0

@@ -1,17 +1,16 @@
 //! Steps read from items, behind the steps that a plan has.
 
 ghost use Rattle.std.specs.Prelude.{◌≡◌, ◌<◌, ◌+◌, [], length, IfOk, OnOk, IfErr, Ok, option_map};
-ghost use Rattle.pddl_text.specs.Items.{item_view, items_view};
+ghost use Rattle.pddl_items.specs.Items.{item_view, items_view, span_of};
 ghost use Rattle.pddl_plan.specs.Building.{nothing_built, AddsWord, AddsNames};
 ghost use Rattle.pddl_plan.specs.Plans.{built_plan, steps_built, timed_built};
 ghost use Rattle.pddl_tree.specs.Inner.StepNames.{names_of_step, AddsTimed};
-ghost use Rattle.pddl_tree.specs.PlanFaults.{span_of};
 ghost use Rattle.pddl_tree.specs.Inner.PlanReading.{name_at, names_at, step_of, step_at, moment_at, is_colon, is_bracket, timed_at, no_step, timed_span, plain_fault, timed_fault, plain_from, timed_from, plan_at, plan_from, Refuses};
 
 use crate::fault::ReadFault;
 use pddl_plan::PlanBuilder;
 use pddl_scan::TextFault;
-use pddl_text::Item;
+use pddl_items::Item;
 use pddl_token::{Fixed, Span, TokenKind, value_of};
 use std::alloc::{AllocError, Allocator};
 

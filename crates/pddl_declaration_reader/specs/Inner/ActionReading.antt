@@ -2,8 +2,7 @@
 use Rattle.std.specs.Prelude.{ℕ, List, [], ◌∷◌, Option, Some, None, option_map, option_and_then, if◌then◌else◌, codes}
 use Rattle.std.specs.List.{flat_map}
 use Rattle.pddl_token.specs.Trees.{Tree}
-use Rattle.pddl_tree.specs.Inner.PlanReading.{both}
-use Rattle.pddl_tree.specs.Inner.TreeReading.{name_at, is_keyword_at}
+use Rattle.pddl_items.specs.Inner.TreeReading.{both, name_at, is_keyword_at}
 use Rattle.pddl_formula.specs.Formulas.{conjunction, no_formulas}
 use Rattle.pddl_formula_reader.specs.Inner.Reading.{variables_at, condition_at}
 use Rattle.pddl_effect.specs.Effects.{conjunction as all_effects, no_effects}

@@ -1,7 +1,7 @@
 -- The predicates, functions and types that trees declare, computed from the trees, for the readers above. What they mean stands in Declarations.
 use Rattle.std.specs.Prelude.{ℕ, List, [], ◌∷◌, Option, None, option_map, option_and_then, codes}
 use Rattle.pddl_token.specs.Trees.{Tree, leaf, node, list_of}
-use Rattle.pddl_tree.specs.Inner.TreeReading.{name_at}
+use Rattle.pddl_items.specs.Inner.TreeReading.{name_at}
 use Rattle.pddl_formula_reader.specs.Inner.Reading.{predicate_at, type_name_at, type_at, typed_list, typed_variables}
 use Rattle.pddl_domain.specs.Declarations.{TypeValue, Signature, FunctionValue, number}
 

@@ -2,7 +2,7 @@
 use Rattle.std.specs.Prelude.{ℕ, List, [], ◌∷◌, map, Option, Some, None, option_map}
 use Rattle.std.specs.List.{flat_map}
 use Rattle.pddl_token.specs.Trees.{Tree, leaf, node, list_of}
-use Rattle.pddl_tree.specs.Inner.TreeReading.{all_of}
+use Rattle.pddl_items.specs.Inner.TreeReading.{all_of}
 use Rattle.pddl_formula_reader.specs.Inner.Reading.{typed_names}
 use Rattle.pddl_sections.specs.Inner.Verdicts.{Readers}
 use Rattle.pddl_file.specs.declared.keyword.SectionKeyword.{SectionKeyword}

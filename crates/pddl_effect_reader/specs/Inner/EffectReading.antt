@@ -1,8 +1,7 @@
 -- The effects that trees spell, computed from the trees: what the readers answer, for the readers above. What it means stands in Effects.
 use Rattle.std.specs.Prelude.{ℕ, List, [], ◌∷◌, map, Bool, false, Option, Some, None, option_map, option_and_then, if◌then◌else◌, codes}
 use Rattle.pddl_token.specs.Trees.{Tree, Trees, leaf, node, no_trees, tree, list_of}
-use Rattle.pddl_tree.specs.Inner.PlanReading.{moment_by}
-use Rattle.pddl_tree.specs.Inner.TreeReading.{name_at, is_word_at, all_of}
+use Rattle.pddl_items.specs.Inner.TreeReading.{moment_by, name_at, is_word_at, all_of}
 use Rattle.pddl_formula_reader.specs.declared.head.Head.{Head}
 use Rattle.pddl_formula_reader.specs.declared.head.Head.TheVariants as heads
 use Rattle.pddl_formula.specs.Terms.{TermValue}

@@ -8,7 +8,7 @@ use Rattle.pddl_token.specs.declared.token.TokenKind.TheVariants.{Name, Variable
 use Rattle.pddl_token.specs.Number.{value_of}
 use Rattle.pddl_token.specs.Trees.{Tree, leaf, node, list_of}
 use Rattle.pddl_token.specs.Names.{folded, is_first_byte, is_later_byte}
-use Rattle.pddl_tree.specs.Inner.TreeReading.{is_word_at}
+use Rattle.pddl_items.specs.Inner.TreeReading.{is_word_at}
 use Rattle.pddl_effect_reader.specs.Inner.EffectReading.{is_total_cost_at}
 
 -- a name, letter case aside

@@ -6,7 +6,7 @@ use Rattle.pddl_token.specs.declared.token.TokenKind.{TokenKind}
 use Rattle.pddl_token.specs.declared.token.TokenKind.TheVariants.{Name, Variable, Equal}
 use Rattle.pddl_token.specs.Trees.{Tree, Trees, leaf, node, no_trees, tree, list_of}
 use Rattle.pddl_token.specs.Names.{folded, name_of}
-use Rattle.pddl_tree.specs.Inner.TreeReading.{name_at, variable_name, variable_at, is_word_at, is_dash, all_of}
+use Rattle.pddl_items.specs.Inner.TreeReading.{name_at, variable_name, variable_at, is_word_at, is_dash, all_of}
 use Rattle.pddl_formula_reader.specs.declared.formula_reader.Quantifier.{Quantifier}
 use Rattle.pddl_formula_reader.specs.declared.formula_reader.Quantifier.TheVariants as quantifiers
 use Rattle.pddl_formula_reader.specs.declared.head.Head.{Head}

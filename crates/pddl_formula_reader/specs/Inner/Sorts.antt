@@ -1,7 +1,7 @@
 -- What typed lists of names with types list. No public contract names this.
 use Rattle.std.specs.Prelude.{ℕ, List, Option}
 use Rattle.pddl_token.specs.Trees.{Tree}
-use Rattle.pddl_tree.specs.Inner.TreeReading.{name_at, variable_at}
+use Rattle.pddl_items.specs.Inner.TreeReading.{name_at, variable_at}
 use Rattle.pddl_formula_reader.specs.declared.typed_reader.Sort.{Sort}
 use Rattle.pddl_formula_reader.specs.declared.typed_reader.Sort.TheVariants.{Names, Variables}
 

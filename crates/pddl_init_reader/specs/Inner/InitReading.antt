@@ -1,7 +1,7 @@
 -- The items of `:init` and the metrics that trees spell, computed from the trees, for the readers above. What they mean stands in Inits.
 use Rattle.std.specs.Prelude.{ℕ, List, [], ◌∷◌, map, Option, Some, None, option_map, option_and_then, if◌then◌else◌, codes}
 use Rattle.pddl_token.specs.Trees.{Tree, leaf, node, list_of}
-use Rattle.pddl_tree.specs.Inner.TreeReading.{name_at, is_word_at, all_of}
+use Rattle.pddl_items.specs.Inner.TreeReading.{name_at, is_word_at, all_of}
 use Rattle.pddl_formula_reader.specs.declared.head.Head.{Head}
 use Rattle.pddl_formula_reader.specs.declared.head.Head.TheVariants as heads
 use Rattle.pddl_formula_reader.specs.Inner.Reading.{predicate_at, head_at, only}

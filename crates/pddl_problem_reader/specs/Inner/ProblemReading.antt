@@ -1,7 +1,7 @@
 -- The sections of a problem, computed from trees. No public contract names these.
 use Rattle.std.specs.Prelude.{List, [], ◌∷◌, map, Option, Some, None, option_map}
 use Rattle.pddl_token.specs.Trees.{Tree, leaf, node, list_of}
-use Rattle.pddl_tree.specs.Inner.TreeReading.{name_at, all_of}
+use Rattle.pddl_items.specs.Inner.TreeReading.{name_at, all_of}
 use Rattle.pddl_formula_reader.specs.Inner.Reading.{typed_names, condition_at, only}
 use Rattle.pddl_sections.specs.Inner.Verdicts.{Readers}
 use Rattle.pddl_file.specs.declared.keyword.SectionKeyword.{SectionKeyword}

@@ -3,7 +3,8 @@
 use pddl_commands::Outcome;
 use pddl_row_driver::{Lines, add_text_fault};
 use pddl_scan::TextFault;
-use pddl_text::{Item, items_of, lex, lists};
+use pddl_items::Item;
+use pddl_text::{items_of, lex, lists};
 use pddl_token::Token;
 use std::alloc::Allocator;
 

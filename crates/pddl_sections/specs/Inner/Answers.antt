@@ -2,9 +2,8 @@
 use Rattle.std.specs.Prelude.{ℕ, List, [], ◌∷◌, Bool, Option, Some, None, Result, Ok, Err, if◌then◌else◌, option_map, codes}
 use Rattle.pddl_token.specs.declared.token.Span.{Span}
 use Rattle.pddl_token.specs.Trees.{Tree, leaf, node, list_of, Placed, placed_leaf, placed_node, erased}
-use Rattle.pddl_tree.specs.Inner.TreeReading.{is_word_at, name_at}
-use Rattle.pddl_tree.specs.Inner.PlanReading.{placed_items}
-use Rattle.pddl_tree.specs.PlanFaults.{span_of}
+use Rattle.pddl_items.specs.Inner.TreeReading.{is_word_at, name_at, placed_items}
+use Rattle.pddl_items.specs.Items.{span_of}
 use Rattle.pddl_sections.specs.Inner.Verdicts.{Readers, Verdict, fine, bad, verdict}
 use Rattle.pddl_sections.specs.Files.{FileFault, head, at_section, missing}
 

@@ -2,7 +2,7 @@
 use Rattle.std.specs.Prelude.{List, [], ◌∷◌, ◌++◌, Bool, Option, Some, None, if◌then◌else◌}
 use Rattle.pddl_token.specs.declared.token.Span.{Span}
 use Rattle.pddl_token.specs.Trees.{Tree, Placed, erased}
-use Rattle.pddl_tree.specs.PlanFaults.{span_of}
+use Rattle.pddl_items.specs.Items.{span_of}
 use Rattle.pddl_sections.specs.Sections.{SectionFault, faulty, unsupported, twice, lists_in}
 
 -- the readers of one section, and S, which keywords were seen

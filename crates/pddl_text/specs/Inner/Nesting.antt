@@ -4,11 +4,11 @@ use Rattle.pddl_token.specs.declared.token.TokenKind.{TokenKind}
 use Rattle.pddl_token.specs.declared.token.TokenKind.TheVariants.{Open, Close}
 use Rattle.pddl_scan.specs.declared.fault.TextFault.{TextFault}
 use Rattle.pddl_scan.specs.declared.fault.TextFault.TheVariants as faults
-use Rattle.pddl_text.specs.declared.item.OpenList.{OpenList}
-use Rattle.pddl_text.specs.declared.item.Item.{Item}
+use Rattle.pddl_text.specs.declared.nesting.OpenList.{OpenList}
+use Rattle.pddl_items.specs.declared.item.Item.{Item}
 use Rattle.pddl_token.specs.Spelling.{PlacedWord}
 use Rattle.pddl_token.specs.Trees.{Placed, placed_leaf, placed_node, placed_of}
-use Rattle.pddl_text.specs.Items.{items_view}
+use Rattle.pddl_items.specs.Items.{items_view}
 use Rattle.pddl_text.specs.Lists.{deepest}
 
 -- an open list: the items before its opening, and the opening's place

@@ -1,33 +1,20 @@
 -- Reading steps from the left. No public contract names these.
 use Rattle.std.specs.Prelude.{◌≡◌, ℕ, List, [], ◌∷◌, ◌++◌, Bool, true, false, ◌&&◌, if◌then◌else◌, is_some, Option, Some, None, Result, Ok, Err}
 use Rattle.pddl_token.specs.declared.token.TokenKind.{TokenKind}
-use Rattle.pddl_token.specs.declared.token.TokenKind.TheVariants.{Name, Number, Colon, Bracket}
+use Rattle.pddl_token.specs.declared.token.TokenKind.TheVariants.{Number, Colon, Bracket}
 use Rattle.pddl_token.specs.declared.token.Span.{Span}
-use Rattle.pddl_token.specs.Number.{value_of}
-use Rattle.pddl_token.specs.Trees.{Placed, placed_leaf, placed_node, PlacedList, no_placed, placed_tree}
+use Rattle.pddl_token.specs.Trees.{Placed, placed_leaf, placed_node}
 use Rattle.pddl_scan.specs.declared.fault.TextFault.TheVariants.{Memory}
 use Rattle.pddl_tree.specs.declared.fault.ReadFault.{ReadFault}
 use Rattle.pddl_tree.specs.declared.fault.ReadFault.TheVariants as faults
-use Rattle.pddl_token.specs.Names.{name_of}
 use Rattle.pddl_plan.specs.Building.{Building}
 use Rattle.pddl_plan.specs.Plans.{StepValue, TimedValue, PlanValue, plain, timed, at_moments, steps_built}
-use Rattle.pddl_tree.specs.PlanFaults.{span_of}
-
--- the name that a word of a kind is
-abbrev pub name_by : TokenKind → List ℕ → Option (List ℕ)
-name_by Name text = name_of text
-name_by _ text = None
+use Rattle.pddl_items.specs.Items.{span_of}
 
 -- the name that an item is
 abbrev pub name_at : Placed → Option (List ℕ)
 name_at (placed_leaf w) = name_by w.kind w.text
 name_at (placed_node span items) = None
-
--- a name, before others
-abbrev pub both : {A : Type 0} → Option A → Option (List A) → Option (List A)
-both None xs = None
-both (Some x) None = None
-both (Some x) (Some xs) = Some (x ∷ xs)
 
 -- the names that some items are, each of them
 abbrev pub names_at : List Placed → Option (List (List ℕ))
@@ -40,20 +27,10 @@ step_of None = None
 step_of (Some []) = None
 step_of (Some (action ∷ objects)) = Some (record { action = action; objects = objects })
 
--- the items of a list
-abbrev pub placed_items : PlacedList → List Placed
-placed_items no_placed = []
-placed_items (placed_tree item items) = item ∷ placed_items items
-
 -- the step that an item is
 abbrev pub step_at : Placed → Option StepValue
 step_at (placed_leaf w) = None
 step_at (placed_node span items) = step_of (names_at (placed_items items))
-
--- the number that a word of a kind is
-abbrev pub moment_by : TokenKind → List ℕ → Option ℕ
-moment_by Number text = value_of text
-moment_by _ text = None
 
 -- the number that an item is
 abbrev pub moment_at : Placed → Option ℕ

@@ -1,8 +1,8 @@
 use Rattle.std.proofs.Common.{◌≡◌, Some, IfOk, refl, ap, ◌∙◌}
 use Rattle.std.specs.Prelude.{option_map}
 use Rattle.std.specs.Option.{option_zip}
-use Rattle.pddl_tree.specs.ItemTrees.{item_tree}
-use Rattle.pddl_tree.specs.Inner.TreeReading.{name_at}
+use Rattle.pddl_items.specs.ItemTrees.{item_tree}
+use Rattle.pddl_items.specs.Inner.TreeReading.{name_at}
 use Rattle.pddl_build.specs.Results.{both_of}
 use Rattle.pddl_build.proofs.Parts.{both_reads}
 use Rattle.pddl_build.proofs.FoundParts.{read_itself}

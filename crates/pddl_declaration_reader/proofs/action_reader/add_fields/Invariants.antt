@@ -1,5 +1,5 @@
 use Rattle.std.proofs.Common.{◌≡◌, length}
-use Rattle.pddl_tree.specs.ItemTrees.{item_trees}
+use Rattle.pddl_items.specs.ItemTrees.{item_trees}
 use Rattle.pddl_declaration_reader.specs.Inner.Slots.{slots_view, slots_from}
 use Rattle.pddl_declaration_reader.proofs.action_reader.add_fields.Given as goal
 

@@ -1,4 +1,4 @@
-use Rattle.pddl_tree.specs.ItemTrees.{item_trees}
+use Rattle.pddl_items.specs.ItemTrees.{item_trees}
 use Rattle.pddl_build.proofs.FoundParts.{right_part}
 use Rattle.pddl_declaration_reader.specs.Inner.Slots.{slots_view, no_slots, slots_from}
 use Rattle.pddl_declaration_reader.proofs.action_reader.slots_of.Goals as goal

@@ -1,5 +1,5 @@
 use Rattle.std.proofs.Common.{◌≡◌, drop, map, false}
-use Rattle.pddl_tree.specs.ItemTrees.{item_trees}
+use Rattle.pddl_items.specs.ItemTrees.{item_trees}
 use Rattle.pddl_formula_reader.specs.Inner.Reading.{type_at, typed_from}
 use Rattle.pddl_domain.specs.Declarations.{number, function_view}
 use Rattle.pddl_declaration_reader.specs.Inner.Signatures.{signature_view}

@@ -1,7 +1,7 @@
 use Rattle.std.proofs.Common.{◌≡◌, ◌<◌, true, false, [], length, map, arith, codes}
 use Rattle.std.proofs.lemmas.List.{nil_from_length}
-use Rattle.pddl_tree.specs.ItemTrees.{item_tree}
-use Rattle.pddl_tree.specs.Inner.TreeReading.{is_dash}
+use Rattle.pddl_items.specs.ItemTrees.{item_tree}
+use Rattle.pddl_items.specs.Inner.TreeReading.{is_dash}
 use Rattle.pddl_formula_reader.specs.Inner.Reading.{type_name_at}
 use Rattle.pddl_formula_reader.proofs.Turns.{there}
 use Rattle.pddl_formula_reader.proofs.TypedTurns.{type_stops, type_adds, dash_fails, dash_done, item_stops, item_adds, end_fails, end_done, added_last}

@@ -1,5 +1,5 @@
 use Rattle.std.proofs.Common.{◌≡◌, drop, map, false, codes}
-use Rattle.pddl_tree.specs.ItemTrees.{item_trees}
+use Rattle.pddl_items.specs.ItemTrees.{item_trees}
 use Rattle.pddl_formula_reader.specs.Inner.Reading.{type_name_at, typed_from}
 use Rattle.pddl_domain.specs.Declarations.{type_view}
 use Rattle.pddl_declaration_reader.proofs.declaration_reader.add_declared_types.Given as goal

@@ -1,5 +1,5 @@
-use Rattle.pddl_tree.specs.ItemTrees.{item_trees}
-use Rattle.pddl_tree.proofs.TreeLists.{item_tree_list}
+use Rattle.pddl_items.specs.ItemTrees.{item_trees}
+use Rattle.pddl_items.proofs.TreeLists.{item_tree_list}
 use Rattle.pddl_declaration_reader.proofs.DeclarationTurns.{predicate_list}
 use Rattle.pddl_declaration_reader.proofs.declaration_reader.declared_predicate_of.Goals as goal
 

@@ -1,8 +1,8 @@
 use Rattle.std.proofs.Common.{map, ap, ◌∙◌}
 use Rattle.std.proofs.lemmas.List.{map_push}
-use Rattle.pddl_tree.specs.ItemTrees.{item_tree, item_trees}
-use Rattle.pddl_tree.specs.Inner.TreeReading.{all_of}
-use Rattle.pddl_tree.proofs.Fronts.{with_front, front_none}
+use Rattle.pddl_items.specs.ItemTrees.{item_tree, item_trees}
+use Rattle.pddl_items.specs.Inner.TreeReading.{all_of}
+use Rattle.pddl_items.proofs.Fronts.{with_front, front_none}
 use Rattle.pddl_formula_reader.proofs.Turns.{each_on, each_stop, each_end}
 use Rattle.pddl_domain.specs.Declarations.{predicate_view}
 use Rattle.pddl_declaration_reader.specs.Inner.DeclarationReading.{predicate_signature_at}

@@ -1,5 +1,5 @@
 use Rattle.std.proofs.Common.{map, refl, sym, ◌∙◌}
-use Rattle.pddl_tree.specs.Inner.TreeReading.{name_at}
+use Rattle.pddl_items.specs.Inner.TreeReading.{name_at}
 use Rattle.pddl_sections.proofs.Heads.{rest_is}
 use Rattle.pddl_formula.specs.TypedLists.{typed_view}
 use Rattle.pddl_declaration_reader.specs.Inner.DeclarationReading.{function_of_list}

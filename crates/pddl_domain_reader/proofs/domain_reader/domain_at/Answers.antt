@@ -1,5 +1,5 @@
 use Rattle.std.proofs.Common.{[], codes}
-use Rattle.pddl_text.specs.Items.{items_view}
+use Rattle.pddl_items.specs.Items.{items_view}
 use Rattle.pddl_file.specs.Inner.FileReading.{RefusesSections, RefusesFile}
 use Rattle.pddl_file.proofs.SectionTurns.{head_refused, sections_refused}
 use Rattle.pddl_domain.specs.Domains.{domain_view}

@@ -1,7 +1,7 @@
 use Rattle.std.proofs.Common.{[]}
 use Rattle.pddl_build.proofs.Parts.{made_reads}
 use Rattle.pddl_build.proofs.FoundParts.{made_fails}
-use Rattle.pddl_text.specs.Items.{items_view}
+use Rattle.pddl_items.specs.Items.{items_view}
 use Rattle.pddl_file.specs.Inner.FileReading.{RefusesSections}
 use Rattle.pddl_domain.specs.Domains.{domain_view}
 use Rattle.pddl_domain_reader.specs.Inner.DomainReading.{domain_of}

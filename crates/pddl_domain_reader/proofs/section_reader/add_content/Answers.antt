@@ -1,5 +1,5 @@
 use Rattle.std.proofs.Common.{refl}
-use Rattle.pddl_tree.specs.ItemTrees.{item_trees}
+use Rattle.pddl_items.specs.ItemTrees.{item_trees}
 use Rattle.pddl_build.proofs.FoundParts.{pushed_part}
 use Rattle.pddl_domain.specs.Actions.{action_view}
 use Rattle.pddl_domain.specs.Domains.{domain_view}

@@ -1,5 +1,5 @@
-use Rattle.pddl_tree.specs.ItemTrees.{item_trees}
-use Rattle.pddl_tree.proofs.TreeLists.{item_tree_list}
+use Rattle.pddl_items.specs.ItemTrees.{item_trees}
+use Rattle.pddl_items.proofs.TreeLists.{item_tree_list}
 use Rattle.pddl_domain_reader.proofs.DomainTurns.{part_at_list}
 use Rattle.pddl_domain_reader.proofs.section_reader.add_item.Goals as goal
 

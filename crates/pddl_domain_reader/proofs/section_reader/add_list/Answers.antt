@@ -1,6 +1,6 @@
 use Rattle.std.proofs.Common.{sym, ap, subst, ◌∙◌, Option}
 use Rattle.std.specs.Prelude.{IfOk}
-use Rattle.pddl_tree.specs.ItemTrees.{item_tree}
+use Rattle.pddl_items.specs.ItemTrees.{item_tree}
 use Rattle.pddl_sections.proofs.Heads.{rest_is}
 use Rattle.pddl_file.specs.Inner.WordReading.{head_key}
 use Rattle.pddl_domain.specs.Domains.{domain_view}

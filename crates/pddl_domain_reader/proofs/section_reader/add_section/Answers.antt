@@ -1,6 +1,6 @@
 use Rattle.std.proofs.Common.{sym, ◌∙◌}
 use Rattle.pddl_file.proofs.SectionTurns.{no_key_stops, twice_stops, unfit_stops}
-use Rattle.pddl_tree.specs.ItemTrees.{item_tree}
+use Rattle.pddl_items.specs.ItemTrees.{item_tree}
 use Rattle.pddl_domain.specs.Domains.{domain_view}
 use Rattle.pddl_domain_reader.specs.Inner.DomainReading.{part_at, domain_readers}
 use Rattle.pddl_domain_reader.proofs.DomainTurns.{none_added, some_added}

@@ -1,6 +1,6 @@
 use Rattle.std.proofs.Common.{◌<◌, ◌≤◌, length, arith}
 use Rattle.std.proofs.lemmas.Result.{err_from_is_err_and}
-use Rattle.pddl_text.specs.Items.{items_view}
+use Rattle.pddl_items.specs.Items.{items_view}
 use Rattle.pddl_file.proofs.SectionTurns.{sections_stop}
 use Rattle.pddl_domain.specs.Domains.{domain_view}
 use Rattle.pddl_domain_reader.specs.Inner.DomainReading.{domain_readers}

@@ -1,5 +1,5 @@
 use Rattle.std.proofs.Common.{drop}
-use Rattle.pddl_text.specs.Items.{items_view}
+use Rattle.pddl_items.specs.Items.{items_view}
 use Rattle.pddl_domain.specs.Domains.{domain_view}
 use Rattle.pddl_domain_reader.specs.Inner.Sections.{domain_verdict}
 use Rattle.pddl_domain_reader.proofs.DomainTurns.{AddsSoFar}

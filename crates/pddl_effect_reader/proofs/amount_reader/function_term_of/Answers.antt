@@ -1,4 +1,4 @@
-use Rattle.pddl_tree.specs.ItemTrees.{item_tree}
+use Rattle.pddl_items.specs.ItemTrees.{item_tree}
 use Rattle.pddl_token.proofs.Options.{exact_result}
 use Rattle.pddl_effect.specs.Effects.{function_term_view, IsFunctionTerm}
 use Rattle.pddl_effect_reader.specs.Inner.EffectReading.{function_term_at}

@@ -1,7 +1,7 @@
 use Rattle.std.proofs.Common.{map}
 use Rattle.std.specs.Prelude.{IfOk}
-use Rattle.pddl_tree.specs.ItemTrees.{item_trees}
-use Rattle.pddl_tree.specs.Inner.TreeReading.{all_of}
+use Rattle.pddl_items.specs.ItemTrees.{item_trees}
+use Rattle.pddl_items.specs.Inner.TreeReading.{all_of}
 use Rattle.pddl_formula_reader.specs.Inner.Reading.{behind}
 use Rattle.pddl_formula_reader.proofs.Fills.{SoFar}
 use Rattle.pddl_effect.specs.Effects.{effect_view}

@@ -1,6 +1,6 @@
 use Rattle.std.proofs.Common.{arith}
 use Rattle.pddl_build.proofs.Parts.{found_reads}
-use Rattle.pddl_tree.specs.ItemTrees.{item_tree}
+use Rattle.pddl_items.specs.ItemTrees.{item_tree}
 use Rattle.pddl_formula.specs.Terms.{atom_view}
 use Rattle.pddl_formula_reader.specs.Inner.Reading.{atom_at}
 use Rattle.pddl_effect.specs.declared.effect.Effect.TheVariants as cases

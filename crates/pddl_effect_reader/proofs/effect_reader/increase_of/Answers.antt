@@ -1,6 +1,6 @@
 use Rattle.std.proofs.Common.{refl, arith}
 use Rattle.pddl_build.proofs.Parts.{found_reads}
-use Rattle.pddl_tree.specs.ItemTrees.{item_tree}
+use Rattle.pddl_items.specs.ItemTrees.{item_tree}
 use Rattle.pddl_effect.specs.declared.effect.Effect.TheVariants as cases
 use Rattle.pddl_effect.specs.Effects.{increase, amount_view, effect_view}
 use Rattle.pddl_effect_reader.specs.Inner.EffectReading.{amount_at}

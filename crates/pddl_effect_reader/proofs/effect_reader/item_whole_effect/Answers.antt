@@ -2,8 +2,8 @@ use Rattle.std.proofs.Common.{◌≡◌, ◌<◌, length, refl, ap, ◌∙◌, a
 use Rattle.std.proofs.lemmas.List.{length-map, nil_from_length}
 use Rattle.pddl_token.specs.Spelling.{view}
 use Rattle.pddl_token.specs.Trees.{unplaced}
-use Rattle.pddl_tree.specs.ItemTrees.{item_tree, item_trees}
-use Rattle.pddl_tree.proofs.TreeLists.{item_tree_list, item_tree_word}
+use Rattle.pddl_items.specs.ItemTrees.{item_tree, item_trees}
+use Rattle.pddl_items.proofs.TreeLists.{item_tree_list, item_tree_word}
 use Rattle.pddl_effect_reader.specs.Inner.EffectReading.{whole_effect_at, effect_at}
 use Rattle.pddl_effect_reader.proofs.EffectTurns.{whole_effect_at_empty, whole_effect_at_list, whole_effect_at_leaf}
 use Rattle.pddl_effect_reader.proofs.effect_reader.item_whole_effect.Goals as goal

@@ -1,7 +1,7 @@
 use Rattle.std.proofs.Common.{map, refl}
 use Rattle.pddl_build.specs.Results.{both_of}
 use Rattle.pddl_build.proofs.Parts.{found_reads, both_reads, boxed_reads}
-use Rattle.pddl_tree.specs.ItemTrees.{item_tree}
+use Rattle.pddl_items.specs.ItemTrees.{item_tree}
 use Rattle.pddl_formula.specs.TypedLists.{typed_view}
 use Rattle.pddl_formula.specs.Formulas.{formula_view}
 use Rattle.pddl_formula_reader.specs.Inner.Reading.{variables_at, formula_at}

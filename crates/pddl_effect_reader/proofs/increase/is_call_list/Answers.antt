@@ -1,6 +1,6 @@
 use Rattle.std.proofs.Common.{◌-◌, length, take, drop, true, false, refl, arith}
 use Rattle.std.specs.List.{list_all}
-use Rattle.pddl_tree.specs.ItemTrees.{item_trees}
+use Rattle.pddl_items.specs.ItemTrees.{item_trees}
 use Rattle.pddl_effect_reader.specs.Inner.IncreaseTests.{is_term_at}
 use Rattle.pddl_effect_reader.proofs.IncreaseTurns.{call_tested, no_call}
 use Rattle.pddl_effect_reader.proofs.increase.is_call_list.Goals as goal

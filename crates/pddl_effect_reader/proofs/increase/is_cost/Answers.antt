@@ -1,5 +1,5 @@
-use Rattle.pddl_tree.specs.ItemTrees.{item_trees}
-use Rattle.pddl_tree.proofs.TreeLists.{item_tree_list}
+use Rattle.pddl_items.specs.ItemTrees.{item_trees}
+use Rattle.pddl_items.proofs.TreeLists.{item_tree_list}
 use Rattle.pddl_effect_reader.proofs.IncreaseTestLaws.{cost_of_list}
 use Rattle.pddl_effect_reader.proofs.increase.is_cost.Goals as goal
 

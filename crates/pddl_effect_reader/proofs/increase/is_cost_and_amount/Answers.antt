@@ -1,5 +1,5 @@
 use Rattle.std.proofs.Common.{true, false, refl, arith}
-use Rattle.pddl_tree.specs.ItemTrees.{item_tree}
+use Rattle.pddl_items.specs.ItemTrees.{item_tree}
 use Rattle.pddl_effect_reader.specs.Inner.IncreaseTests.{is_amount_at}
 use Rattle.pddl_effect_reader.proofs.IncreaseTurns.{two_tested, too_few, too_many}
 use Rattle.pddl_effect_reader.proofs.increase.is_cost_and_amount.Goals as goal

@@ -1,7 +1,7 @@
 use Rattle.std.proofs.Common.{IsTrue, subst, sym}
 use Rattle.std.specs.Prelude.{◌↔◌}
 use Rattle.pddl_token.specs.TreeWords.{list}
-use Rattle.pddl_tree.specs.ItemTrees.{item_trees}
+use Rattle.pddl_items.specs.ItemTrees.{item_trees}
 use Rattle.pddl_effect.specs.Effects.{AmountValue, IsIncrease}
 use Rattle.pddl_effect_reader.proofs.IncreaseTestLaws.{increase_tells}
 use Rattle.pddl_effect_reader.proofs.increase.is_increase.Goals as goal

@@ -1,5 +1,5 @@
 use Rattle.std.proofs.Common.{◌-◌, length, take, drop, true, false, refl, arith}
-use Rattle.pddl_tree.specs.ItemTrees.{item_trees}
+use Rattle.pddl_items.specs.ItemTrees.{item_trees}
 use Rattle.pddl_effect_reader.specs.Inner.IncreaseTests.{is_cost_and_amount}
 use Rattle.pddl_effect_reader.proofs.IncreaseTurns.{head_tested, none_tested}
 use Rattle.pddl_effect_reader.proofs.increase.is_increase_list.Goals as goal

@@ -1,6 +1,6 @@
 use Rattle.std.proofs.Common.{IsTrue, subst, sym}
 use Rattle.std.specs.Prelude.{◌↔◌}
-use Rattle.pddl_tree.specs.ItemTrees.{item_tree}
+use Rattle.pddl_items.specs.ItemTrees.{item_tree}
 use Rattle.pddl_effect.specs.Effects.{IsTotalCost}
 use Rattle.pddl_effect_reader.proofs.IncreaseTestLaws.{cost_tells}
 use Rattle.pddl_effect_reader.proofs.increase.is_total_cost.Goals as goal

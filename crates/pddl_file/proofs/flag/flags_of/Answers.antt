@@ -1,5 +1,5 @@
 use Rattle.std.proofs.Common.{◌<◌, length, sym, ap, ◌∙◌, arith}
-use Rattle.pddl_tree.specs.ItemTrees.{item_tree}
+use Rattle.pddl_items.specs.ItemTrees.{item_tree}
 use Rattle.pddl_formula_reader.proofs.Turns.{each_on}
 use Rattle.pddl_file.specs.Inner.WordReading.{flag_at}
 use Rattle.pddl_file.proofs.flag.flags_of.Goals as goal

@@ -1,7 +1,7 @@
 use Rattle.std.proofs.Common.{◌≡◌, drop, map}
-use Rattle.pddl_tree.specs.ItemTrees.{item_trees}
-use Rattle.pddl_tree.specs.Inner.TreeReading.{all_of}
-use Rattle.pddl_tree.proofs.Fronts.{with_front}
+use Rattle.pddl_items.specs.ItemTrees.{item_trees}
+use Rattle.pddl_items.specs.Inner.TreeReading.{all_of}
+use Rattle.pddl_items.proofs.Fronts.{with_front}
 use Rattle.pddl_file.specs.Inner.WordReading.{flag_at}
 use Rattle.pddl_file.proofs.flag.flags_of.Given as goal
 

@@ -1,5 +1,5 @@
 use Rattle.std.proofs.Common.{sym, ap, ◌∙◌}
-use Rattle.pddl_tree.specs.ItemTrees.{item_tree, item_trees}
+use Rattle.pddl_items.specs.ItemTrees.{item_tree, item_trees}
 use Rattle.pddl_file.specs.Inner.WordReading.{list_key, key_at}
 use Rattle.pddl_file.proofs.WordTurns.{key_of_list, key_tells}
 use Rattle.pddl_file.proofs.keyword.keyword_of.Goals as goal

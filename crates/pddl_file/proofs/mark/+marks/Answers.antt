@@ -1,7 +1,7 @@
 use Rattle.std.proofs.Common.{◌≤◌, ◌∙◌, ap, sym, length, arith}
 use Rattle.std.specs.Prelude.{flat_map}
-use Rattle.pddl_text.specs.Items.{item_view, items_view}
-use Rattle.pddl_tree.specs.ItemTrees.{item_trees}
+use Rattle.pddl_items.specs.Items.{item_view, items_view}
+use Rattle.pddl_items.specs.ItemTrees.{item_trees}
 use Rattle.pddl_sections.specs.Sections.{lists_in}
 use Rattle.pddl_sections.specs.Inner.Verdicts.{first_mark}
 use Rattle.pddl_sections.proofs.Turns.{mark_end, mark_here, mark_later}

@@ -1,6 +1,6 @@
 use Rattle.std.proofs.Common.{◌≡◌}
 use Rattle.std.specs.Prelude.{flat_map}
-use Rattle.pddl_text.specs.Items.{items_view}
+use Rattle.pddl_items.specs.Items.{items_view}
 use Rattle.pddl_sections.specs.Sections.{lists_in}
 use Rattle.pddl_sections.specs.Inner.Verdicts.{first_mark}
 use Rattle.pddl_sections.proofs.Turns.{lists_from}

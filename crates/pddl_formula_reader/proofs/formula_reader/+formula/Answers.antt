@@ -1,8 +1,8 @@
 use Rattle.std.proofs.Common.{map, sym, ◌∙◌, refl, arith}
 use Rattle.pddl_token.specs.Spelling.{view}
 use Rattle.pddl_token.specs.Trees.{unplaced}
-use Rattle.pddl_tree.specs.ItemTrees.{item_tree, item_trees}
-use Rattle.pddl_tree.proofs.TreeLists.{item_tree_list, item_tree_word}
+use Rattle.pddl_items.specs.ItemTrees.{item_tree, item_trees}
+use Rattle.pddl_items.proofs.TreeLists.{item_tree_list, item_tree_word}
 use Rattle.pddl_formula.specs.Formulas.{formula_view, atom, conjunction, disjunction, formulas_of}
 use Rattle.pddl_formula_reader.specs.Inner.Reading.{formula_at, quantifying}
 use Rattle.pddl_formula.specs.Terms.{atom_view}

@@ -3,8 +3,8 @@ use Rattle.pddl_formula_reader.specs.Inner.Reading.{formula_at, behind}
 use Rattle.pddl_formula_reader.proofs.Fills.{SoFar}
 use Rattle.std.proofs.Common.{map}
 use Rattle.std.specs.Prelude.{IfOk}
-use Rattle.pddl_tree.specs.ItemTrees.{item_trees}
-use Rattle.pddl_tree.specs.Inner.TreeReading.{all_of}
+use Rattle.pddl_items.specs.ItemTrees.{item_trees}
+use Rattle.pddl_items.specs.Inner.TreeReading.{all_of}
 use Rattle.pddl_formula_reader.proofs.formula_reader.+formula.Given as goal
 
 -- those so far, if there are any, and those of the items that are left

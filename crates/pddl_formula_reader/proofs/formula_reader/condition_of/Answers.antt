@@ -2,8 +2,8 @@ use Rattle.std.proofs.Common.{◌≡◌, ◌<◌, length, refl, ap, ◌∙◌, a
 use Rattle.std.proofs.lemmas.List.{length-map}
 use Rattle.pddl_token.specs.Spelling.{view}
 use Rattle.pddl_token.specs.Trees.{unplaced}
-use Rattle.pddl_tree.specs.ItemTrees.{item_tree, item_trees}
-use Rattle.pddl_tree.proofs.TreeLists.{item_tree_list, item_tree_word}
+use Rattle.pddl_items.specs.ItemTrees.{item_tree, item_trees}
+use Rattle.pddl_items.proofs.TreeLists.{item_tree_list, item_tree_word}
 use Rattle.pddl_formula_reader.specs.Inner.Reading.{condition_at, formula_at}
 use Rattle.pddl_formula_reader.proofs.TurnsOfFormulas.{condition_at_list, condition_at_leaf}
 use Rattle.pddl_formula_reader.proofs.formula_reader.condition_of.Goals as goal

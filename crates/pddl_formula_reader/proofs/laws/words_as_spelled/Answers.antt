@@ -1,4 +1,4 @@
-use Rattle.pddl_tree.proofs.Readers.{name_reads, variable_reads, word_sound, word_complete, keyword_sound, keyword_complete, dash_sound, dash_complete}
+use Rattle.pddl_items.proofs.Readers.{name_reads, variable_reads, word_sound, word_complete, keyword_sound, keyword_complete, dash_sound, dash_complete}
 use Rattle.pddl_formula_reader.proofs.laws.words_as_spelled.Goals as goal
 
 pub returns : goal.returns

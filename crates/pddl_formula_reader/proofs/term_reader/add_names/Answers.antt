@@ -1,6 +1,6 @@
 use Rattle.std.proofs.Common.{refl, arith}
 use Rattle.pddl_build.proofs.Parts.{plain_reads}
-use Rattle.pddl_tree.specs.Inner.TreeReading.{name_at}
+use Rattle.pddl_items.specs.Inner.TreeReading.{name_at}
 use Rattle.pddl_formula_reader.proofs.Turns.{each_end}
 use Rattle.pddl_formula_reader.proofs.Fills.{fill_on, fill_stop}
 use Rattle.pddl_formula_reader.proofs.term_reader.add_names.Goals as goal

@@ -1,7 +1,7 @@
 use Rattle.std.proofs.Common.{◌≡◌, drop, map}
-use Rattle.pddl_tree.specs.ItemTrees.{item_trees}
-use Rattle.pddl_tree.specs.Inner.TreeReading.{all_of}
-use Rattle.pddl_tree.proofs.Fronts.{with_front}
+use Rattle.pddl_items.specs.ItemTrees.{item_trees}
+use Rattle.pddl_items.specs.Inner.TreeReading.{all_of}
+use Rattle.pddl_items.proofs.Fronts.{with_front}
 use Rattle.pddl_formula.specs.Terms.{term_view}
 use Rattle.pddl_formula_reader.specs.Inner.Reading.{term_at}
 use Rattle.pddl_formula_reader.proofs.term_reader.add_terms.Given as goal

@@ -1,6 +1,6 @@
 use Rattle.std.proofs.Common.{map, ap}
-use Rattle.pddl_tree.specs.ItemTrees.{item_trees}
-use Rattle.pddl_tree.specs.Inner.TreeReading.{all_of, name_at}
+use Rattle.pddl_items.specs.ItemTrees.{item_trees}
+use Rattle.pddl_items.specs.Inner.TreeReading.{all_of, name_at}
 use Rattle.pddl_formula_reader.proofs.Fills.{filled}
 use Rattle.pddl_formula_reader.proofs.term_reader.names_of.Goals as goal
 

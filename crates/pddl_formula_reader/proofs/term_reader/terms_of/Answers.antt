@@ -1,6 +1,6 @@
 use Rattle.std.proofs.Common.{map, ap}
-use Rattle.pddl_tree.specs.ItemTrees.{item_trees}
-use Rattle.pddl_tree.specs.Inner.TreeReading.{all_of}
+use Rattle.pddl_items.specs.ItemTrees.{item_trees}
+use Rattle.pddl_items.specs.Inner.TreeReading.{all_of}
 use Rattle.pddl_formula_reader.specs.Inner.Reading.{term_at}
 use Rattle.pddl_formula.specs.Terms.{term_view}
 use Rattle.pddl_formula_reader.proofs.Fills.{filled}

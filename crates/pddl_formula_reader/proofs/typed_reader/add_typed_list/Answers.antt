@@ -1,7 +1,7 @@
 use Rattle.std.proofs.Common.{◌≡◌, ◌<◌, true, false, [], length, map, arith}
 use Rattle.std.proofs.lemmas.List.{nil_from_length}
-use Rattle.pddl_tree.specs.ItemTrees.{item_tree}
-use Rattle.pddl_tree.specs.Inner.TreeReading.{is_dash}
+use Rattle.pddl_items.specs.ItemTrees.{item_tree}
+use Rattle.pddl_items.specs.Inner.TreeReading.{is_dash}
 use Rattle.pddl_formula.specs.TypedLists.{object, typed_view}
 use Rattle.pddl_formula_reader.specs.Inner.Reading.{type_at}
 use Rattle.pddl_formula_reader.specs.Inner.Sorts.{item_at}

@@ -1,5 +1,5 @@
 use Rattle.std.proofs.Common.{◌≡◌, drop, map, false}
-use Rattle.pddl_tree.specs.ItemTrees.{item_trees}
+use Rattle.pddl_items.specs.ItemTrees.{item_trees}
 use Rattle.pddl_formula.specs.TypedLists.{object, typed_view}
 use Rattle.pddl_formula_reader.specs.Inner.Reading.{type_at, typed_from}
 use Rattle.pddl_formula_reader.specs.Inner.Sorts.{item_at}

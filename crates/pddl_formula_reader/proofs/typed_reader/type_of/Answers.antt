@@ -1,5 +1,5 @@
-use Rattle.pddl_tree.specs.ItemTrees.{item_trees}
-use Rattle.pddl_tree.proofs.TreeLists.{item_tree_list}
+use Rattle.pddl_items.specs.ItemTrees.{item_trees}
+use Rattle.pddl_items.proofs.TreeLists.{item_tree_list}
 use Rattle.pddl_formula_reader.proofs.Turns.{type_at_list}
 use Rattle.pddl_formula_reader.proofs.typed_reader.type_of.Goals as goal
 

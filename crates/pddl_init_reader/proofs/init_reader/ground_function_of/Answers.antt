@@ -1,5 +1,5 @@
-use Rattle.pddl_tree.specs.ItemTrees.{item_trees}
-use Rattle.pddl_tree.proofs.TreeLists.{item_tree_list}
+use Rattle.pddl_items.specs.ItemTrees.{item_trees}
+use Rattle.pddl_items.proofs.TreeLists.{item_tree_list}
 use Rattle.pddl_init_reader.proofs.InitTurns.{ground_at_list}
 use Rattle.pddl_init_reader.proofs.init_reader.ground_function_of.Goals as goal
 

@@ -1,7 +1,7 @@
 use Rattle.std.proofs.Common.{List, Some, None, map, sym, ◌∙◌}
 use Rattle.std.specs.Prelude.{option_map}
 use Rattle.pddl_token.specs.Trees.{Tree}
-use Rattle.pddl_tree.specs.Inner.TreeReading.{name_at, all_of}
+use Rattle.pddl_items.specs.Inner.TreeReading.{name_at, all_of}
 use Rattle.pddl_sections.proofs.Heads.{rest_is}
 use Rattle.pddl_effect_reader.specs.Inner.EffectReading.{call_of_list}
 use Rattle.pddl_init_reader.specs.Inner.InitReading.{ground_call}

@@ -1,4 +1,4 @@
-use Rattle.pddl_tree.proofs.Readers.{each_sound, each_complete}
+use Rattle.pddl_items.proofs.Readers.{each_sound, each_complete}
 use Rattle.pddl_problem.specs.Inits.{IsInit}
 use Rattle.pddl_init_reader.specs.Inner.InitReading.{init_at}
 use Rattle.pddl_init_reader.proofs.InitLaws.{init_reads}

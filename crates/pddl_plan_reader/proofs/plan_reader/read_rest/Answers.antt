@@ -1,7 +1,7 @@
 use Rattle.std.proofs.Common.{◌≡◌, ap, sym, subst, ◌∙◌, map, List, arith}
 use Rattle.std.specs.Prelude.{Ok}
 use Rattle.pddl_token.specs.Spelling.{PlacedWord, view}
-use Rattle.pddl_text.specs.Items.{items_view}
+use Rattle.pddl_items.specs.Items.{items_view}
 use Rattle.pddl_text.specs.Lists.{AreItems, ListStands}
 use Rattle.pddl_plan.specs.Plans.{built_plan}
 use Rattle.pddl_tree.specs.Inner.PlanReading.{plan_from, Refuses}

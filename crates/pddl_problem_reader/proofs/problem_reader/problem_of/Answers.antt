@@ -1,6 +1,6 @@
 use Rattle.std.proofs.Common.{codes}
 use Rattle.std.proofs.lemmas.Result.{err_from_is_err_and}
-use Rattle.pddl_text.specs.Items.{items_view}
+use Rattle.pddl_items.specs.Items.{items_view}
 use Rattle.pddl_sections.specs.Files.{IsOpened}
 use Rattle.pddl_file.proofs.SectionTurns.{head_refused}
 use Rattle.pddl_problem.specs.Problems.{problem_view}

@@ -1,5 +1,5 @@
 use Rattle.std.proofs.Common.{arith}
-use Rattle.pddl_tree.specs.Inner.TreeReading.{name_at}
+use Rattle.pddl_items.specs.Inner.TreeReading.{name_at}
 use Rattle.pddl_init_reader.proofs.OneItem.{one_read}
 use Rattle.pddl_problem_reader.proofs.section_reader.domain_of.Goals as goal
 

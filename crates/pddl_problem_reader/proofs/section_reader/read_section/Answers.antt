@@ -1,6 +1,6 @@
 use Rattle.std.proofs.Common.{sym, ◌∙◌}
 use Rattle.pddl_file.proofs.SectionTurns.{no_key_stops, twice_stops, unfit_stops}
-use Rattle.pddl_tree.specs.ItemTrees.{item_tree}
+use Rattle.pddl_items.specs.ItemTrees.{item_tree}
 use Rattle.pddl_problem_reader.specs.Inner.ProblemReading.{part_at, problem_readers}
 use Rattle.pddl_problem_reader.specs.Inner.Slots.{slots_view}
 use Rattle.pddl_problem_reader.proofs.ItemTurns.{none_filled, some_filled}

@@ -1,6 +1,6 @@
 use Rattle.std.proofs.Common.{◌<◌, ◌≤◌, [], length, arith}
 use Rattle.std.proofs.lemmas.Result.{err_from_is_err_and}
-use Rattle.pddl_text.specs.Items.{items_view}
+use Rattle.pddl_items.specs.Items.{items_view}
 use Rattle.pddl_sections.specs.Inner.Verdicts.{verdict}
 use Rattle.pddl_file.specs.Inner.WordReading.{nothing_seen}
 use Rattle.pddl_file.proofs.SectionTurns.{sections_stop}

@@ -1,5 +1,5 @@
 use Rattle.std.proofs.Common.{[], drop}
-use Rattle.pddl_text.specs.Items.{items_view}
+use Rattle.pddl_items.specs.Items.{items_view}
 use Rattle.pddl_sections.specs.Inner.Verdicts.{verdict}
 use Rattle.pddl_file.specs.Inner.WordReading.{nothing_seen}
 use Rattle.pddl_problem_reader.specs.Inner.ProblemReading.{problem_readers}

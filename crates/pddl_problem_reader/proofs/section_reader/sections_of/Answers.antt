@@ -1,7 +1,7 @@
 use Rattle.std.proofs.Common.{◌≡◌, [], None}
 use Rattle.pddl_build.proofs.Parts.{made_reads}
 use Rattle.pddl_build.proofs.FoundParts.{made_fails}
-use Rattle.pddl_text.specs.Items.{items_view}
+use Rattle.pddl_items.specs.Items.{items_view}
 use Rattle.pddl_sections.specs.Inner.Verdicts.{verdict}
 use Rattle.pddl_sections.specs.Inner.Answers.{first_missing}
 use Rattle.pddl_file.specs.Inner.WordReading.{nothing_seen}

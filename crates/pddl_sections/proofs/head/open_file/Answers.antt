@@ -1,7 +1,6 @@
 use Rattle.std.proofs.Common.{ap, sym, ◌∙◌, arith}
 use Rattle.std.specs.Prelude.{option_map}
-use Rattle.pddl_text.specs.Items.{item_view}
-use Rattle.pddl_tree.specs.PlanFaults.{span_of}
+use Rattle.pddl_items.specs.Items.{item_view, span_of}
 use Rattle.pddl_sections.specs.Inner.Answers.{opening_at}
 use Rattle.pddl_sections.specs.Openings.{opening_view}
 use Rattle.pddl_sections.proofs.Heads.{rest_is, no_item, other_item, one_item, second_item}

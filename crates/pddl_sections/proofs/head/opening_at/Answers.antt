@@ -1,7 +1,7 @@
 use Rattle.std.proofs.Common.{◌≡◌, ℕ, List, ap, sym, subst, ◌∙◌, Option}
 use Rattle.std.specs.Prelude.{IfOk, option_map}
 use Rattle.pddl_token.specs.Trees.{Placed}
-use Rattle.pddl_text.specs.Items.{item_view, items_view}
+use Rattle.pddl_items.specs.Items.{item_view, items_view}
 use Rattle.pddl_sections.specs.Inner.Answers.{opening_of, opening_at}
 use Rattle.pddl_sections.specs.Openings.{opening_view}
 use Rattle.pddl_sections.proofs.Heads.{opening_list}

@@ -1,6 +1,6 @@
 use Rattle.std.proofs.Common.{◌≡◌, ℕ, List, ap, sym, subst, ◌∙◌, Option}
 use Rattle.std.specs.Prelude.{IfOk}
-use Rattle.pddl_tree.specs.ItemTrees.{item_tree, item_trees}
+use Rattle.pddl_items.specs.ItemTrees.{item_tree, item_trees}
 use Rattle.pddl_sections.specs.Inner.Answers.{title_of, title_at}
 use Rattle.pddl_sections.proofs.Heads.{title_list}
 use Rattle.pddl_sections.proofs.head.title_at.Goals as goal

@@ -1,6 +1,6 @@
 use Rattle.std.proofs.Common.{◌<◌, length, ap, subst, arith}
 use Rattle.std.proofs.lemmas.List.{drop_all}
-use Rattle.pddl_text.specs.Items.{item_view, items_view}
+use Rattle.pddl_items.specs.Items.{item_view, items_view}
 use Rattle.pddl_plan.specs.Building.{AddsWord}
 use Rattle.pddl_tree.specs.Inner.PlanReading.{name_at, names_at}
 use Rattle.pddl_plan.proofs.GotNames.{got_name}

@@ -1,5 +1,5 @@
 use Rattle.std.proofs.Common.{drop}
-use Rattle.pddl_text.specs.Items.{items_view}
+use Rattle.pddl_items.specs.Items.{items_view}
 use Rattle.pddl_tree.specs.Inner.PlanReading.{names_at}
 use Rattle.pddl_tree.proofs.PlanSteps.{NamesSoFar}
 use Rattle.pddl_tree.proofs.plan_items.add_names.Given as goal

@@ -1,7 +1,7 @@
 use Rattle.std.proofs.Common.{◌<◌, [], ◌∷◌, ◌++◌, length, drop, sym, ap, ◌∙◌, refl, arith}
 use Rattle.std.specs.Prelude.{Ok, nat_lt}
 use Rattle.std.proofs.lemmas.List.{drop_all}
-use Rattle.pddl_text.specs.Items.{item_view, items_view}
+use Rattle.pddl_items.specs.Items.{item_view, items_view}
 use Rattle.pddl_plan.specs.Building.{Building}
 use Rattle.pddl_plan.specs.Plans.{plan_of, steps_built}
 use Rattle.pddl_tree.specs.Inner.PlanReading.{step_at, plain_fault}

@@ -1,5 +1,5 @@
 use Rattle.std.proofs.Common.{◌≡◌, [], drop}
-use Rattle.pddl_text.specs.Items.{items_view}
+use Rattle.pddl_items.specs.Items.{items_view}
 use Rattle.pddl_tree.specs.Inner.PlanReading.{plain_from}
 use Rattle.pddl_plan.specs.Plans.{steps_built}
 use Rattle.pddl_tree.proofs.plan_items.add_plain_steps.Given as goal

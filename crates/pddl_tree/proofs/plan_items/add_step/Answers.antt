@@ -1,5 +1,5 @@
-use Rattle.pddl_text.specs.Items.{items_view}
-use Rattle.pddl_tree.proofs.PlanSteps.{item_view_list, items_back}
+use Rattle.pddl_items.specs.Items.{items_view}
+use Rattle.pddl_items.proofs.TreeLists.{item_view_list, items_back}
 use Rattle.pddl_tree.proofs.plan_items.add_step.Goals as goal
 
 pub returns-in-List : goal.returns-in-List

@@ -1,7 +1,7 @@
 use Rattle.std.proofs.Common.{◌<◌, length, subst, arith}
 use Rattle.std.specs.Prelude.{IfOk}
 use Rattle.std.proofs.lemmas.List.{length-map}
-use Rattle.pddl_text.specs.Items.{item_view, items_view}
+use Rattle.pddl_items.specs.Items.{item_view, items_view}
 use Rattle.pddl_plan.specs.Building.{AddsNames}
 use Rattle.pddl_tree.proofs.PlanSteps.{step_names}
 use Rattle.pddl_tree.proofs.plan_items.add_step_of.Goals as goal

@@ -1,5 +1,5 @@
 use Rattle.std.proofs.Common.{refl, sym, ap, ◌∙◌}
-use Rattle.pddl_text.specs.Items.{item_view}
+use Rattle.pddl_items.specs.Items.{item_view}
 use Rattle.pddl_tree.specs.Inner.PlanReading.{moment_at, is_colon, step_at}
 use Rattle.pddl_tree.proofs.PlanSteps.{got_step, timed_added, timed_three}
 use Rattle.pddl_tree.proofs.plan_items.add_timed.Goals as goal

@@ -1,7 +1,7 @@
 use Rattle.std.proofs.Common.{◌≡◌, ◌<◌, [], ◌∷◌, ◌++◌, length, drop, sym, ap, ◌∙◌, refl, arith}
 use Rattle.std.specs.Prelude.{Ok, nat_lt}
 use Rattle.std.proofs.lemmas.List.{drop_all, length-append, length-map}
-use Rattle.pddl_text.specs.Items.{items_view}
+use Rattle.pddl_items.specs.Items.{items_view}
 use Rattle.pddl_plan.specs.Building.{Building}
 use Rattle.pddl_plan.specs.Plans.{step_of_names, steps_built, timed_built}
 use Rattle.pddl_tree.specs.Inner.PlanReading.{timed_at, timed_fault}

@@ -1,5 +1,5 @@
 use Rattle.std.proofs.Common.{◌≡◌, ◌+◌, ◌-◌, ◌*◌, [], drop, length}
-use Rattle.pddl_text.specs.Items.{items_view}
+use Rattle.pddl_items.specs.Items.{items_view}
 use Rattle.pddl_tree.specs.Inner.PlanReading.{timed_from}
 use Rattle.pddl_plan.specs.Plans.{timed_built}
 use Rattle.pddl_tree.proofs.plan_items.add_timed_steps.Given as goal

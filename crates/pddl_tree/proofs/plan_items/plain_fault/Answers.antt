@@ -1,5 +1,5 @@
 use Rattle.std.proofs.Common.{sym, ap, ◌∙◌}
-use Rattle.pddl_text.specs.Items.{item_view}
+use Rattle.pddl_items.specs.Items.{item_view}
 use Rattle.pddl_tree.specs.Inner.PlanReading.{no_step}
 use Rattle.pddl_tree.proofs.PlanSteps.{timed_test, no_timed_first}
 use Rattle.pddl_tree.proofs.plan_items.plain_fault.Goals as goal

@@ -1,6 +1,5 @@
 use Rattle.std.proofs.Common.{sym, ap, ◌∙◌}
-use Rattle.pddl_text.specs.Items.{item_view}
-use Rattle.pddl_tree.specs.PlanFaults.{span_of}
+use Rattle.pddl_items.specs.Items.{item_view, span_of}
 use Rattle.pddl_tree.proofs.PlanSteps.{span_over_three}
 use Rattle.pddl_tree.proofs.plan_items.timed_span.Goals as goal
 

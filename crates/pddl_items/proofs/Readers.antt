@@ -10,10 +10,9 @@ use Rattle.pddl_token.specs.declared.token.TokenKind.TheVariants.{Open, Close, N
 use Rattle.pddl_token.specs.Trees.{Tree, leaf, node}
 use Rattle.pddl_token.specs.Names.{folded, is_name, name_of}
 use Rattle.pddl_token.specs.TreeWords.{IsWord, IsKeyword, IsDash, SpellsName, SpellsVariable, Each}
-use Rattle.pddl_tree.specs.Inner.PlanReading.{name_by}
-use Rattle.pddl_tree.specs.Inner.TreeReading.{name_at, variable_name, variable_by, variable_at, word_by, is_word_at, keyword_by, is_keyword_at, dash_by, is_dash, all_of}
+use Rattle.pddl_items.specs.Inner.TreeReading.{name_by, name_at, variable_name, variable_by, variable_at, word_by, is_word_at, keyword_by, is_keyword_at, dash_by, is_dash, all_of}
 use Rattle.pddl_token.proofs.Options.{if_some}
-use Rattle.pddl_tree.proofs.Fronts.{both_some}
+use Rattle.pddl_items.proofs.Fronts.{both_some}
 
 -- A reader answers a value exactly where the relation has one, and then that one.
 pub record Reads {A : Type 0} (Spells : A → Tree → Type 0) (read : Tree → Option A) : Type 0 where

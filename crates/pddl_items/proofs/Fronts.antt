@@ -1,7 +1,7 @@
 -- Values read one after the other.
 use Rattle.std.proofs.Common.{◌≡◌, List, [], ◌∷◌, ◌++◌, ap, refl, append_assoc}
 use Rattle.std.specs.Prelude.{Option, Some, None, option_map}
-use Rattle.pddl_tree.specs.Inner.PlanReading.{both}
+use Rattle.pddl_items.specs.Inner.TreeReading.{both}
 
 -- the values so far, and those that are still to come
 abbrev pub with_front : {A : Type 0} → List A → Option (List A) → Option (List A)

@@ -9,10 +9,3 @@ pub enum Item<'t, A: Allocator> {
     Word(Token<'t>),
     List(Vec<Item<'t, A>, A>, Span),
 }
-
-/// A list whose end has not come: the items before its innermost opening, and that opening's place.
-#[derive(Drop)]
-pub struct OpenList<'t, A: Allocator> {
-    pub items: Vec<Item<'t, A>, A>,
-    pub start: u32,
-}

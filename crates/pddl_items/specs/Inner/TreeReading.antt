@@ -2,10 +2,15 @@
 use Rattle.std.specs.Prelude.{ℕ, List, [], ◌∷◌, ◌==◌, Bool, true, false, Option, Some, None, if◌then◌else◌}
 use Rattle.std.specs.Str.{bytes_eq}
 use Rattle.pddl_token.specs.declared.token.TokenKind.{TokenKind}
-use Rattle.pddl_token.specs.declared.token.TokenKind.TheVariants.{Name, Variable, Keyword, Dash}
-use Rattle.pddl_token.specs.Trees.{Tree, leaf, node}
+use Rattle.pddl_token.specs.declared.token.TokenKind.TheVariants.{Name, Variable, Keyword, Number, Dash}
+use Rattle.pddl_token.specs.Trees.{Tree, leaf, node, Placed, PlacedList, no_placed, placed_tree}
 use Rattle.pddl_token.specs.Names.{folded, name_of}
-use Rattle.pddl_tree.specs.Inner.PlanReading.{name_by, both}
+use Rattle.pddl_token.specs.Number.{value_of}
+
+-- the name that a word of a kind is
+abbrev pub name_by : TokenKind → List ℕ → Option (List ℕ)
+name_by Name text = name_of text
+name_by _ text = None
 
 -- the name that a tree is
 abbrev pub name_at : Tree → Option (List ℕ)
@@ -52,6 +57,22 @@ dash_by _ = false
 abbrev pub is_dash : Tree → Bool
 is_dash (leaf w) = dash_by w.kind
 is_dash (node ts) = false
+
+-- the number that a word of a kind is
+abbrev pub moment_by : TokenKind → List ℕ → Option ℕ
+moment_by Number text = value_of text
+moment_by _ text = None
+
+-- the items of a list
+abbrev pub placed_items : PlacedList → List Placed
+placed_items no_placed = []
+placed_items (placed_tree item items) = item ∷ placed_items items
+
+-- a value, before others
+abbrev pub both : {A : Type 0} → Option A → Option (List A) → Option (List A)
+both None xs = None
+both (Some x) None = None
+both (Some x) (Some xs) = Some (x ∷ xs)
 
 -- all the values, if there is none missing
 abbrev pub all_of : {A : Type 0} → List (Option A) → Option (List A)

@@ -1,8 +1,8 @@
 -- Items as trees without places.
 use Rattle.std.specs.Prelude.{List, map}
-use Rattle.pddl_text.specs.declared.item.Item.{Item}
+use Rattle.pddl_items.specs.declared.item.Item.{Item}
 use Rattle.pddl_token.specs.Trees.{Tree, erased}
-use Rattle.pddl_text.specs.Items.{item_view}
+use Rattle.pddl_items.specs.Items.{item_view}
 
 -- an item as a tree
 abbrev pub item_tree : {A : _} → Item A → Tree

@@ -1,0 +1,2 @@
+-- What the code and the proofs go by: second forms of what stands beside this folder, and how values are held.
+pub mod TreeReading
