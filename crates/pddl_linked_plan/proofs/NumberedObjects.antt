@@ -99,38 +99,38 @@ no_parameters task (number ∷ numbers) = refl
 which : (m n i : ℕ) → min m n ≤ i → (m ≤ i) ⊎ (n ≤ i)
 which m n i h = elim (cases_lt i m) as (λ _. (m ≤ i) ⊎ (n ≤ i)) [ inl k ↦ inr (omega (arith, h, k)) | inr k ↦ inl k ]
 
-module _ {X : Type 0} (task : TaskValue) (view : X → TypedValue) (numbers : List ℕ) (xs : List X) where
+module _ (task : TaskValue) (numbers : List ℕ) (xs : List TypedValue) where
   -- some of all does not fit where some of those from a place on does not
   abbrev pub IsLeft : ℕ → Type 0
-  IsLeft i = some_unfit task (drop i numbers) (map view (drop i xs)) ≡ some_unfit task numbers (map view xs)
+  IsLeft i = some_unfit task (drop i numbers) (drop i xs) ≡ some_unfit task numbers xs
 
-  front : (i : ℕ) (x : X) → i < length numbers → i < length xs
-      → some_unfit task (drop i numbers) (map view (drop i xs)) ≡ not (fits_number task (get_or numbers i 0) (view (get_or xs i x)).of) || some_unfit task (drop (i + 1) numbers) (map view (drop (i + 1) xs))
+  front : (i : ℕ) (x : TypedValue) → i < length numbers → i < length xs
+      → some_unfit task (drop i numbers) (drop i xs) ≡ not (fits_number task (get_or numbers i 0) (get_or xs i x).of) || some_unfit task (drop (i + 1) numbers) (drop (i + 1) xs)
   front i x h k = rw (add-one, drop-cons numbers i 0 h, drop-cons xs i x k) refl
 
-  at_place : (i last : ℕ) (x : X) (fitting : Bool) → last ≡ min (length numbers) (length xs) → i < last → x ≡ get_or xs i x → fitting ≡ fits_number task (get_or numbers i 0) (view x).of
-      → some_unfit task (drop i numbers) (map view (drop i xs)) ≡ not fitting || some_unfit task (drop (i + 1) numbers) (map view (drop (i + 1) xs))
+  at_place : (i last : ℕ) (x : TypedValue) (fitting : Bool) → last ≡ min (length numbers) (length xs) → i < last → x ≡ get_or xs i x → fitting ≡ fits_number task (get_or numbers i 0) x.of
+      → some_unfit task (drop i numbers) (drop i xs) ≡ not fitting || some_unfit task (drop (i + 1) numbers) (drop (i + 1) xs)
   at_place i last x fitting end low at is =
-      let rest = some_unfit task (drop (i + 1) numbers) (map view (drop (i + 1) xs)) in
+      let rest = some_unfit task (drop (i + 1) numbers) (drop (i + 1) xs) in
       front i x (omega (arith, end, low)) (omega (arith, end, low))
-      ∙ ap (λ y. not (fits_number task (get_or numbers i 0) (view y).of) || rest) (sym at) ∙ ap (λ b. not b || rest) (sym is)
+      ∙ ap (λ y. not (fits_number task (get_or numbers i 0) y.of) || rest) (sym at) ∙ ap (λ b. not b || rest) (sym is)
 
   -- the one at a place does not fit
-  pub unfit_there : (i last : ℕ) (x : X) (fitting : Bool) → last ≡ min (length numbers) (length xs) → i < last → x ≡ get_or xs i x → fitting ≡ fits_number task (get_or numbers i 0) (view x).of
-      → fitting ≡ false → IsLeft i → true ≡ some_unfit task numbers (map view xs)
+  pub unfit_there : (i last : ℕ) (x : TypedValue) (fitting : Bool) → last ≡ min (length numbers) (length xs) → i < last → x ≡ get_or xs i x → fitting ≡ fits_number task (get_or numbers i 0) x.of
+      → fitting ≡ false → IsLeft i → true ≡ some_unfit task numbers xs
   unfit_there i last x fitting end low at is off so_far =
-      sym (at_place i last x fitting end low at is ∙ ap (λ b. not b || some_unfit task (drop (i + 1) numbers) (map view (drop (i + 1) xs))) off) ∙ so_far
+      sym (at_place i last x fitting end low at is ∙ ap (λ b. not b || some_unfit task (drop (i + 1) numbers) (drop (i + 1) xs)) off) ∙ so_far
 
   -- it does, and those behind it are left
-  pub fits_there : (i last : ℕ) (x : X) (fitting : Bool) → last ≡ min (length numbers) (length xs) → i < last → x ≡ get_or xs i x → fitting ≡ fits_number task (get_or numbers i 0) (view x).of
+  pub fits_there : (i last : ℕ) (x : TypedValue) (fitting : Bool) → last ≡ min (length numbers) (length xs) → i < last → x ≡ get_or xs i x → fitting ≡ fits_number task (get_or numbers i 0) x.of
       → fitting ≡ true → IsLeft i → IsLeft (i + 1)
   fits_there i last x fitting end low at is on so_far =
-      sym (at_place i last x fitting end low at is ∙ ap (λ b. not b || some_unfit task (drop (i + 1) numbers) (map view (drop (i + 1) xs))) on) ∙ so_far
+      sym (at_place i last x fitting end low at is ∙ ap (λ b. not b || some_unfit task (drop (i + 1) numbers) (drop (i + 1) xs)) on) ∙ so_far
 
   -- none is left
-  pub all_fit : (i last : ℕ) → last ≡ min (length numbers) (length xs) → last ≤ i → IsLeft i → false ≡ some_unfit task numbers (map view xs)
+  pub all_fit : (i last : ℕ) → last ≡ min (length numbers) (length xs) → last ≤ i → IsLeft i → false ≡ some_unfit task numbers xs
   all_fit i last end past so_far = sym (at_end (which (length numbers) (length xs) i (omega (arith, end, past)))) ∙ so_far
     where
-      at_end : (length numbers ≤ i) ⊎ (length xs ≤ i) → some_unfit task (drop i numbers) (map view (drop i xs)) ≡ false
-      at_end (inl h) = ap (λ ns. some_unfit task ns (map view (drop i xs))) (drop_all i numbers h)
-      at_end (inr h) = ap (λ ys. some_unfit task (drop i numbers) (map view ys)) (drop_all i xs h) ∙ no_parameters task (drop i numbers)
+      at_end : (length numbers ≤ i) ⊎ (length xs ≤ i) → some_unfit task (drop i numbers) (drop i xs) ≡ false
+      at_end (inl h) = ap (λ ns. some_unfit task ns (drop i xs)) (drop_all i numbers h)
+      at_end (inr h) = ap (some_unfit task (drop i numbers)) (drop_all i xs h) ∙ no_parameters task (drop i numbers)

@@ -24,7 +24,7 @@ use Rattle.pddl_linked_plan.proofs.InitialAtoms.{known_in_range}
 use Rattle.pddl_linked_plan.proofs.SoundSteps.{steps_are_sound}
 use Rattle.pddl_plan_steps.specs.NumberedSteps.{number_of}
 use Rattle.pddl_plan_steps.specs.PlanSteps.{named_steps, initial_state, goal_of}
-use Rattle.pddl_valid.specs.AcceptedPlans.{AreHappeningsOf, OfHappenings, IsAcceptedPlan}
+use Rattle.pddl_plan_steps.specs.AcceptedPlans.{AreHappeningsOf, OfHappenings, IsAcceptedPlan}
 use Rattle.pddl_valid.specs.NamedClashes.{NamesLeast}
 use Rattle.pddl_commands.specs.declared.outcome.Outcome.{Outcome}
 use Rattle.pddl_plan_commands.specs.Printings.{Printing}

@@ -37,8 +37,8 @@ use Rattle.pddl_linked_plan.proofs.InitialAtoms.{known_in_range}
 use Rattle.pddl_linked_plan.proofs.SoundSteps.{steps_are_sound}
 use Rattle.pddl_plan_steps.specs.NumberedSteps.{number_of}
 use Rattle.pddl_plan_steps.specs.PlanSteps.{named_steps, initial_state}
-use Rattle.pddl_valid.specs.AcceptedPlans.{moments_in, AreHappeningsOf}
-use Rattle.pddl_valid.proofs.OnlyHappenings.{happenings_once}
+use Rattle.pddl_plan_steps.specs.AcceptedPlans.{moments_in, AreHappeningsOf}
+use Rattle.pddl_plan_steps.proofs.OnlyHappenings.{happenings_once}
 use Rattle.pddl_kind.specs.declared.Kind.TheVariants.{Domain, Problem, Plan}
 use Rattle.pddl_commands.specs.declared.outcome.Outcome.{Outcome}
 use Rattle.pddl_commands.specs.declared.outcome.Outcome.TheVariants.{Good, Invalid, Refused}

@@ -12,7 +12,7 @@ use Rattle.std.proofs.lemmas.List.Elements.{All-nil}
 use Rattle.pddl_happenings.specs.Happenings.{AreMoments, plain_happenings, steps_at}
 use Rattle.pddl_linked_plan.specs.LinkedLaws.{HaveAlikeMoments}
 use Rattle.pddl_linked_plan.specs.LinkedSteps.{LinkedStepValue}
-use Rattle.pddl_valid.specs.AcceptedPlans.{moments_in, AreHappeningsOf}
+use Rattle.pddl_plan_steps.specs.AcceptedPlans.{moments_in, AreHappeningsOf}
 
 less : (m n : ℕ) → m < n → nat_cmp m n ≡ Less
 less m n h = sym (nat_cmp_is m n Less h)

@@ -8,8 +8,8 @@ use pddl_commands::Outcome;
 use pddl_linked_plan::Steps;
 use pddl_linked_task::Task;
 use pddl_row_driver::Lines;
-use pddl_serial_plans::{ReplayFault, replay};
 use pddl_state::AtomStore;
+use pddl_valid::{ReplayFault, replay};
 use std::alloc::Allocator;
 
 /// Adds the numbers that a part of a line has to others.

@@ -1,2 +1,3 @@
 pub mod NumberedSteps
 pub mod PlanSteps
+pub mod AcceptedPlans

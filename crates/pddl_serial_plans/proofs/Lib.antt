@@ -1,6 +1,4 @@
-pub mod NamedRuns
 pub mod PickedSteps
 pub mod ScaledMoments
 pub mod NewPlans
-pub mod Replays
 mod AddedNames

@@ -34,9 +34,9 @@ use Rattle.pddl_serial.specs.Cuts.{cut_in_order}
 use Rattle.pddl_serial.specs.declared.turns.Order.{Order}
 use Rattle.pddl_serial.proofs.CutLists.{cut_is_split}
 use Rattle.pddl_serial.proofs.InTurn.{is_serial}
-use Rattle.pddl_valid.specs.AcceptedPlans.{AreHappeningsOf, IsAcceptedPlan, moments_in}
-use Rattle.pddl_valid.proofs.NamedPlans.{named_framed}
-use Rattle.pddl_valid.proofs.OnlyHappenings.{of_happenings}
+use Rattle.pddl_plan_steps.specs.AcceptedPlans.{AreHappeningsOf, IsAcceptedPlan, moments_in}
+use Rattle.pddl_plan_steps.proofs.NamedFrames.{named_framed}
+use Rattle.pddl_plan_steps.proofs.OnlyHappenings.{of_happenings}
 use Rattle.pddl_serial_plans.specs.NewPlans.{IsAcceptedOf, IsSerialPlan, IsSplitPlan}
 use Rattle.pddl_serial_plans.specs.NewSteps.{no_step, picked, at_moments, plain_plan, timed_plan}
 use Rattle.pddl_serial_plans.proofs.PickedSteps.{same_steps, all_picked, bare_twice, no_moments, at_bare, each_moment, their_moments, as_many_at, all_at_moments}

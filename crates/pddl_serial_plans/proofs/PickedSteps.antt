@@ -17,7 +17,7 @@ use Rattle.pddl_linked_plan.proofs.SoundSteps.{all_at}
 use Rattle.pddl_plan_steps.specs.PlanSteps.{idle, named_steps}
 use Rattle.pddl_task.proofs.Lists.{at_place}
 use Rattle.pddl_serial_plans.specs.NewSteps.{no_step, picked, at_moment, at_moments, timed_step}
-use Rattle.pddl_valid.specs.AcceptedPlans.{moments_in}
+use Rattle.pddl_plan_steps.specs.AcceptedPlans.{moments_in}
 
 -- ---- what they do
 

@@ -1,3 +1,2 @@
 pub mod NewSteps
 pub mod NewPlans
-pub mod SerialEnds

@@ -8,7 +8,7 @@ use Rattle.pddl_happenings.specs.Splits.{numbered, split_moments}
 use Rattle.pddl_meaning.specs.Worlds.{Atoms}
 use Rattle.pddl_linked_plan.specs.LinkedSteps.{LinkedStepValue, linked_steps, AreLinkedSteps}
 use Rattle.pddl_linked_plan.specs.StepFaults.{IsLinkedPlan}
-use Rattle.pddl_valid.specs.AcceptedPlans.{AreHappeningsOf, IsAcceptedPlan}
+use Rattle.pddl_plan_steps.specs.AcceptedPlans.{AreHappeningsOf, IsAcceptedPlan}
 use Rattle.pddl_serial_plans.specs.NewSteps.{picked, at_moments, plain_plan, timed_plan}
 
 -- What is accepted, as its happenings, its end and its cost, is that of a task and of steps.

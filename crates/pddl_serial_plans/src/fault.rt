@@ -1,8 +1,7 @@
-//! Why a plan is not split, and why a list is not executed to its end.
+//! Why a plan is not split.
 
 ghost use Rattle.std.specs.Prelude.{◌≡◌, Ok, IfOk, IsErrOf};
 ghost use Rattle.pddl_serial_plans.specs.declared.fault.SplitFault.TheVariants as splits;
-ghost use Rattle.pddl_serial_plans.specs.declared.fault.ReplayFault.TheVariants as replays;
 
 use std::alloc::{AllocError, AllocFailed};
 use thiserror::Error;
@@ -43,27 +42,5 @@ pub(crate) fn of_a_split<T: Drop>(made: Result<T, SplitFault>) -> Result<T, Allo
         Ok(made) => Ok(made),
         Err(SplitFault::Memory) => Err(AllocError),
         Err(SplitFault::NotASplit) => unreachable!(),
-    }
-}
-
-/// Why a list of step numbers is not executed to its end. Own.
-#[derive(Clone, Copy, Debug, Error)]
-pub enum ReplayFault {
-    /// 0: a growth was refused.
-    #[error("memory was refused")]
-    Memory,
-    /// 60: the list has not each step once, or one of a later happening before one of an earlier.
-    #[error("the list is no serialisation")]
-    NotASerialisation,
-    /// 62: the step at this place of the list, from 0, is the first whose precondition is false in the state before it.
-    #[error("a step's precondition is false")]
-    StepFails { place: usize },
-}
-
-impl From<AllocError> for ReplayFault {
-    ghost from_gives = { λ _ fault. fault ≡ replays.Memory };
-
-    fn from(_error: AllocError) -> ReplayFault {
-        ReplayFault::Memory
     }
 }

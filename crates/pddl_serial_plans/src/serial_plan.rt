@@ -10,12 +10,12 @@ ghost use Rattle.pddl_serial.specs.Orders.{in_order};
 ghost use Rattle.pddl_serial_plans.specs.NewPlans.{IsAcceptedOf, IsSerialPlan};
 
 use crate::named::add_steps;
+use pddl_judge::Accepted;
 use pddl_linked_plan::Steps;
 use pddl_linked_task::Task;
 use pddl_plan::{Plan, PlanBuilder};
 use pddl_serial::Order;
 use pddl_state::AtomStore;
-use pddl_valid::Accepted;
 use std::alloc::{AllocError, Allocator};
 
 /// The plain plan of an accepted plan's happenings in turn, the steps of each in file order or reversed.

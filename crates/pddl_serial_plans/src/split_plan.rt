@@ -14,12 +14,12 @@ ghost use Rattle.pddl_serial_plans.specs.NewSteps.{picked, at_moments, timed_pla
 
 use crate::fault::{SplitFault, of_a_split, or_memory};
 use crate::named::add_timed_steps;
+use pddl_judge::Accepted;
 use pddl_linked_plan::Steps;
 use pddl_linked_task::Task;
 use pddl_plan::{Plan, PlanBuilder};
 use pddl_serial::{NewPlan, Order, groups_of_at_most};
 use pddl_state::AtomStore;
-use pddl_valid::Accepted;
 use std::alloc::{AllocError, Allocator};
 
 /// The timed plan of steps by their numbers, in turn, each at its moment; of no steps it is plain.

@@ -3,6 +3,7 @@ use Rattle.std.specs.Prelude.{◌≡◌, ◌≢◌, List, [], ◌∷◌, ◌++�
 use Rattle.pddl_token.specs.declared.token.TokenKind.TheVariants.{Bracket}
 use Rattle.pddl_token.specs.declared.token.Span.{Span}
 use Rattle.pddl_token.specs.Trees.{Placed, placed_leaf, erased}
+use Rattle.pddl_items.specs.Items.{span_of}
 use Rattle.pddl_plan.specs.Plans.{StepValue, TimedValue, IsStep, IsTimed, AreTimed}
 use Rattle.pddl_token.specs.TreeWords.{Each}
 

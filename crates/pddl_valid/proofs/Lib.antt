@@ -1,4 +1,5 @@
-pub mod OnlyHappenings
 pub mod Clashes
 pub mod NamedPlans
 pub mod Verdicts
+pub mod NamedRuns
+pub mod Replays

@@ -1,8 +1,6 @@
 -- What is said of a linked plan by numbers holds of it by names.
-use Rattle.std.proofs.Common.{◌≡◌, ℕ, Bool, false, List, refl, sym, ap, ◌∙◌, subst}
-use Rattle.std.specs.Prelude.{Option, Some, None, slice_get}
-use Rattle.std.specs.Option.{option_map_or}
-use Rattle.pddl_domain.specs.Actions.{ActionValue}
+use Rattle.std.proofs.Common.{◌≡◌, ℕ, Bool, false, List, sym, ap, ◌∙◌, subst}
+use Rattle.std.specs.Prelude.{Option}
 use Rattle.pddl_domain.specs.Domains.{DomainValue}
 use Rattle.pddl_problem.specs.Inits.{GroundValue}
 use Rattle.pddl_problem.specs.Problems.{ProblemValue}
@@ -14,37 +12,22 @@ use Rattle.pddl_happenings.specs.Failures.{AtHappening, IsFirstClash, IsFirstUnr
 use Rattle.pddl_happenings.specs.Happenings.{HaveEachOnce}
 use Rattle.pddl_happenings.specs.NamedSteps.{by_name, DoAsNamed}
 use Rattle.pddl_happenings.specs.Serialisations.{Converges}
-use Rattle.pddl_happenings.specs.Steps.{Step, IsFramed}
+use Rattle.pddl_happenings.specs.Steps.{Step}
 use Rattle.pddl_happenings.proofs.ListedOnce.{is_distinct}
 use Rattle.pddl_happenings.proofs.NamedRuns.{accepted_named, end_alike, fine_alike, refused_named, unready_named}
 use Rattle.pddl_happenings.proofs.NewPlans.{converge}
-use Rattle.pddl_meaning.specs.Steps.{step_of}
 use Rattle.pddl_meaning.specs.Worlds.{Atoms}
-use Rattle.pddl_meaning.proofs.Frame.{steps_framed}
 use Rattle.pddl_judge.specs.Verdicts.{IsLeast}
-use Rattle.pddl_linked_plan.specs.LinkedLaws.{named_step}
 use Rattle.pddl_linked_plan.specs.LinkedSteps.{LinkedStepValue, AreLinkedSteps}
 use Rattle.pddl_linked_plan.proofs.SoundSteps.{steps_are_sound}
 use Rattle.pddl_plan_steps.specs.NumberedSteps.{number_of}
-use Rattle.pddl_plan_steps.specs.PlanSteps.{idle, named_steps, numbered_steps, initial_state, numbered_start, goal_of, numbered_goal}
+use Rattle.pddl_plan_steps.specs.PlanSteps.{named_steps, numbered_steps, initial_state, numbered_start, goal_of, numbered_goal}
 use Rattle.pddl_plan_steps.proofs.PlanSteps.{plan_as_named, start_as_named}
-use Rattle.pddl_valid.specs.AcceptedPlans.{AreHappeningsOf, OfHappenings, IsAcceptedPlan}
+use Rattle.pddl_plan_steps.specs.AcceptedPlans.{AreHappeningsOf, OfHappenings, IsAcceptedPlan}
 use Rattle.pddl_valid.specs.NamedClashes.{NamesLeast}
 use Rattle.pddl_valid.proofs.Clashes.{least_named}
-use Rattle.pddl_valid.proofs.OnlyHappenings.{of_happenings}
-
--- the steps by names do what depends only on what they read
-module _ (task : TaskValue) (steps : List LinkedStepValue) where
-  at_action : (s : LinkedStepValue) (o : Option ActionValue) → IsFramed (option_map_or (λ a. step_of task a (named_step task s).objects) o idle)
-  at_action s (Some a) = steps_framed task a (named_step task s).objects
-  at_action s None = record { ready = λ s t agree. refl; adds = λ s t agree x. refl; dels = λ s t agree x. refl; cost = λ s t agree. refl }
-
-  at_step : (o : Option LinkedStepValue) → IsFramed (option_map_or (λ s. option_map_or (λ a. step_of task a (named_step task s).objects) (slice_get task.actions s.action) idle) o idle)
-  at_step (Some s) = at_action s (slice_get task.actions s.action)
-  at_step None = record { ready = λ s t agree. refl; adds = λ s t agree x. refl; dels = λ s t agree x. refl; cost = λ s t agree. refl }
-
-  pub named_framed : (k : ℕ) → IsFramed (named_steps task steps k)
-  named_framed k = at_step (slice_get steps k)
+use Rattle.pddl_plan_steps.proofs.NamedFrames.{named_framed}
+use Rattle.pddl_plan_steps.proofs.OnlyHappenings.{of_happenings}
 
 -- A course of numbered steps with a goal and a start is that of a linked plan, and the happenings are the plan's.
 pub record IsCourseOf (d : DomainValue) (p : ProblemValue) (steps : List LinkedStepValue) (course : ℕ → Step AtomValue) (goal : (AtomValue → Bool) → Bool) (s : AtomValue → Bool) (at : List (Option ℕ)) (gs : List (List ℕ)) : Type 0 where

@@ -1,2 +1,2 @@
-pub mod AcceptedPlans
 pub mod NamedClashes
+pub mod SerialEnds

@@ -6,7 +6,7 @@ ghost use Rattle.pddl_happenings.specs.Happenings.{HaveEachOnce};
 ghost use Rattle.pddl_judge.specs.HappeningValues.{groups_of, moments_of};
 ghost use Rattle.pddl_linked_plan.specs.StepFaults.{most_steps};
 ghost use Rattle.pddl_linked_plan.specs.StepParts.{lent_step};
-ghost use Rattle.pddl_valid.specs.AcceptedPlans.{moments_in, AreHappeningsOf};
+ghost use Rattle.pddl_plan_steps.specs.AcceptedPlans.{moments_in, AreHappeningsOf};
 
 use pddl_judge::{Happening, plain_happenings, timed_happenings};
 use pddl_linked_plan::{LinkedStep, Steps};

@@ -12,7 +12,7 @@ ghost use Rattle.pddl_meaning.specs.Worlds.{Atoms};
 ghost use Rattle.pddl_linked_plan.specs.LinkedSteps.{AreLinkedSteps};
 ghost use Rattle.pddl_plan_steps.specs.NumberedSteps.{number_of};
 ghost use Rattle.pddl_plan_steps.specs.PlanSteps.{named_steps, initial_state, goal_of};
-ghost use Rattle.pddl_valid.specs.AcceptedPlans.{AreHappeningsOf, OfHappenings, IsAcceptedPlan};
+ghost use Rattle.pddl_plan_steps.specs.AcceptedPlans.{AreHappeningsOf, OfHappenings, IsAcceptedPlan};
 ghost use Rattle.pddl_valid.specs.NamedClashes.{NamesLeast};
 
 use crate::moments::happenings;

@@ -10,6 +10,7 @@ use Rattle.pddl_tree.specs.declared.fault.ReadFault.TheVariants as faults
 use Rattle.pddl_plan.specs.Building.{Building}
 use Rattle.pddl_plan.specs.Plans.{StepValue, TimedValue, PlanValue, plain, timed, at_moments, steps_built}
 use Rattle.pddl_items.specs.Items.{span_of}
+use Rattle.pddl_items.specs.Inner.TreeReading.{name_by, both, placed_items, moment_by}
 
 -- the name that an item is
 abbrev pub name_at : Placed → Option (List ℕ)

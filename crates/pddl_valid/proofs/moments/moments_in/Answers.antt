@@ -1,7 +1,7 @@
 use Rattle.std.proofs.Common.{rules, ◌≡◌, [], ◌∷◌, ◌++◌, take, sym, ap, ◌∙◌}
 use Rattle.pddl_linked_plan.specs.StepParts.{lent_step}
-use Rattle.pddl_valid.specs.AcceptedPlans.{moments_in}
-use Rattle.pddl_valid.proofs.OnlyHappenings.{moment_more}
+use Rattle.pddl_plan_steps.specs.AcceptedPlans.{moments_in}
+use Rattle.pddl_plan_steps.proofs.OnlyHappenings.{moment_more}
 use Rattle.pddl_valid.proofs.moments.moments_in.Goals as goal
 
 pub loop-k-preserved : goal.loop-k-preserved

@@ -1,5 +1,5 @@
 use Rattle.std.proofs.Common.{◌≡◌, take}
-use Rattle.pddl_valid.specs.AcceptedPlans.{moments_in}
+use Rattle.pddl_plan_steps.specs.AcceptedPlans.{moments_in}
 use Rattle.pddl_valid.proofs.moments.moments_in.Given as goal
 
 -- the moments so far

@@ -5,7 +5,7 @@ use Rattle.pddl_judge.specs.HappeningValues.{groups_of, moments_of}
 use Rattle.pddl_linked_plan.proofs.SoundSteps.{steps_are_sound}
 use Rattle.pddl_compiled_plan.specs.HeldPlans.{plan_course, plan_goal}
 use Rattle.pddl_plan_steps.specs.PlanSteps.{named_steps, initial_state}
-use Rattle.pddl_valid.specs.AcceptedPlans.{AreHappeningsOf}
+use Rattle.pddl_plan_steps.specs.AcceptedPlans.{AreHappeningsOf}
 use Rattle.pddl_valid.proofs.NamedPlans.{IsCourseOf, accepted, converges, unready, clashes, passes, off_goal, refused}
 use Rattle.pddl_valid.proofs.Verdicts.{accepted_so, accepted_both, refused_so, precondition_so, interference_so, goal_so}
 use Rattle.pddl_valid.proofs.verdict.validate.Goals as goal

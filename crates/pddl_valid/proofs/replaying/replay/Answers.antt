@@ -4,10 +4,10 @@ use Rattle.pddl_happenings.specs.Happenings.{HaveEachOnce}
 use Rattle.pddl_judge.specs.HappeningValues.{groups_of, moments_of}
 use Rattle.pddl_linked_plan.proofs.SoundSteps.{steps_are_sound}
 use Rattle.pddl_compiled_plan.specs.HeldPlans.{plan_course, plan_goal}
-use Rattle.pddl_valid.specs.AcceptedPlans.{AreHappeningsOf}
+use Rattle.pddl_plan_steps.specs.AcceptedPlans.{AreHappeningsOf}
 use Rattle.pddl_valid.proofs.NamedPlans.{IsCourseOf}
-use Rattle.pddl_serial_plans.proofs.Replays.{run_replayed}
-use Rattle.pddl_serial_plans.proofs.replaying.replay.Goals as goal
+use Rattle.pddl_valid.proofs.Replays.{run_replayed}
+use Rattle.pddl_valid.proofs.replaying.replay.Goals as goal
 
 pub happenings-requires : goal.happenings-requires
 happenings-requires g c =

@@ -15,8 +15,7 @@ use Rattle.pddl_happenings.proofs.Copies.{absent}
 use Rattle.pddl_happenings.specs.Happenings.{AreOfTimed, AreOfPlain, steps_at}
 use Rattle.pddl_linked_plan.specs.LinkedSteps.{LinkedStepValue}
 use Rattle.pddl_linked_plan.specs.LinkedLaws.{HaveAlikeMoments}
-use Rattle.pddl_judge.specs.HappeningValues.{HappeningValue, groups_of, moments_of}
-use Rattle.pddl_valid.specs.AcceptedPlans.{moments_in, AreHappeningsOf, OfHappenings}
+use Rattle.pddl_plan_steps.specs.AcceptedPlans.{moments_in, AreHappeningsOf, OfHappenings}
 
 -- ---- lists in rising order
 
@@ -120,23 +119,23 @@ none_timed [] some off = refl
 none_timed (s ∷ steps) some off = absurd (true≢false (sym some.0 ∙ off))
 
 -- of a plan without steps there are none
-no_happenings : (hs : List HappeningValue) → AreOfPlain 0 (moments_of hs) (groups_of hs) → AreOfTimed [] (moments_of hs) (groups_of hs)
+no_happenings : (at : List (Option ℕ)) (gs : List (List ℕ)) → length at ≡ length gs → AreOfPlain 0 at gs → AreOfTimed [] at gs
 unfolding IsStrictlySortedBy
-no_happenings [] plain = record {
+no_happenings [] gs long plain = record {
   moments = [];
   are = record { rising = tt; same = λ m. refl };
   moments_are = refl;
-  steps_are = refl;
+  steps_are = plain.steps_are;
 }
-no_happenings (h ∷ hs) plain = let more : h.steps ∷ groups_of hs ≡ [] = plain.steps_are in cc
+no_happenings (m ∷ at) gs long plain = let more : length (m ∷ at) ≡ 0 = long ∙ ap length plain.steps_are in absurd (cc more)
 
 pub timed_are : (steps : List LinkedStepValue) (at : List (Option ℕ)) (gs : List (List ℕ)) → first_has steps ≡ true → AreOfTimed (moments_in steps) at gs → AreHappeningsOf steps at gs
 timed_are steps at gs on are = record { timed = λ some. are; plain = λ none. absurd (true≢false (sym on ∙ first_timed steps none)) }
 
-pub plain_are : (steps : List LinkedStepValue) (hs : List HappeningValue) → first_has steps ≡ false → AreOfPlain (length steps) (moments_of hs) (groups_of hs) → AreHappeningsOf steps (moments_of hs) (groups_of hs)
-plain_are steps hs off are = record {
+pub plain_are : (steps : List LinkedStepValue) (at : List (Option ℕ)) (gs : List (List ℕ)) → length at ≡ length gs → first_has steps ≡ false → AreOfPlain (length steps) at gs → AreHappeningsOf steps at gs
+plain_are steps at gs long off are = record {
   timed = λ some.
       let empty : steps ≡ [] = none_timed steps some off in
-      subst (λ l. AreOfTimed (moments_in l) (moments_of hs) (groups_of hs)) (sym empty) (no_happenings hs (subst (λ l. AreOfPlain (length l) (moments_of hs) (groups_of hs)) empty are));
+      subst (λ l. AreOfTimed (moments_in l) at gs) (sym empty) (no_happenings at gs long (subst (λ l. AreOfPlain (length l) at gs) empty are));
   plain = λ none. are;
 }

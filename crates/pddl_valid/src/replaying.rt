@@ -3,16 +3,16 @@
 ghost use Rattle.std.specs.Prelude.{◌≡◌, Err, MatchResult};
 ghost use Rattle.pddl_linked_task.specs.LinkedTasks.{task_of_files};
 ghost use Rattle.pddl_linked_plan.specs.LinkedSteps.{AreLinkedSteps};
-ghost use Rattle.pddl_serial_plans.specs.SerialEnds.{IsReplayed, end_of};
-ghost use Rattle.pddl_serial_plans.specs.declared.fault.ReplayFault.TheVariants.{Memory};
+ghost use Rattle.pddl_valid.specs.SerialEnds.{IsReplayed, end_of};
+ghost use Rattle.pddl_valid.specs.declared.fault.ReplayFault.TheVariants.{Memory};
 
 use crate::fault::ReplayFault;
+use crate::moments::happenings;
 use pddl_linked_plan::Steps;
 use pddl_linked_task::Task;
 use pddl_serial::{End, Replayed};
 use pddl_state::AtomStore;
 use pddl_step::{compile_plan, initial_state};
-use pddl_valid::happenings;
 use std::alloc::{AllocError, Allocator};
 
 /// The end of a list that was executed, or why there is none.

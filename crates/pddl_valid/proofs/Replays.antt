@@ -20,10 +20,10 @@ use Rattle.pddl_serial.specs.declared.replaying.End.{End}
 use Rattle.pddl_serial.specs.declared.replaying.Replayed.{Replayed}
 use Rattle.pddl_serial.specs.declared.replaying.Replayed.TheVariants.{NotASerialisation, StepFails, Ended}
 use Rattle.pddl_valid.proofs.NamedPlans.{IsCourseOf, same, start, holds}
-use Rattle.pddl_serial_plans.specs.declared.fault.ReplayFault.{ReplayFault}
-use Rattle.pddl_serial_plans.specs.declared.fault.ReplayFault.TheVariants as replays
-use Rattle.pddl_serial_plans.specs.SerialEnds.{IsReplayed, IsSerialEnd, end_of}
-use Rattle.pddl_serial_plans.proofs.NamedRuns.{runs_named, fails_named}
+use Rattle.pddl_valid.specs.declared.fault.ReplayFault.{ReplayFault}
+use Rattle.pddl_valid.specs.declared.fault.ReplayFault.TheVariants as replays
+use Rattle.pddl_valid.specs.SerialEnds.{IsReplayed, IsSerialEnd, end_of}
+use Rattle.pddl_valid.proofs.NamedRuns.{runs_named, fails_named}
 
 module _ {d : DomainValue} {p : ProblemValue} {steps : List LinkedStepValue} {course : ℕ → Step AtomValue} {goal : (AtomValue → Bool) → Bool} {s : AtomValue → Bool} {at : List (Option ℕ)} {gs : List (List ℕ)}
     (run : IsCourseOf d p steps course goal s at gs) (order : List ℕ) where

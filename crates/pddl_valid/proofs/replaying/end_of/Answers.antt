@@ -2,10 +2,10 @@ use Rattle.std.proofs.Common.{rules, ◌≡◌, ap, sym, subst}
 use Rattle.std.specs.Prelude.{Result, Ok, Err, MatchResult}
 use Rattle.pddl_serial.specs.declared.replaying.End.{End}
 use Rattle.pddl_serial.specs.declared.replaying.Replayed.{Replayed}
-use Rattle.pddl_serial_plans.specs.declared.fault.ReplayFault.{ReplayFault}
-use Rattle.pddl_serial_plans.specs.declared.fault.ReplayFault.TheVariants.{Memory}
-use Rattle.pddl_serial_plans.specs.SerialEnds.{end_of}
-use Rattle.pddl_serial_plans.proofs.replaying.end_of.Goals as goal
+use Rattle.pddl_valid.specs.declared.fault.ReplayFault.{ReplayFault}
+use Rattle.pddl_valid.specs.declared.fault.ReplayFault.TheVariants.{Memory}
+use Rattle.pddl_valid.specs.SerialEnds.{end_of}
+use Rattle.pddl_valid.proofs.replaying.end_of.Goals as goal
 
 of_run : {A E : Type 0} (run : Result (Replayed A) E) (replayed : Replayed A) (end : Result (End A) ReplayFault) → run ≡ Ok replayed → end_of replayed ≡ end
     → MatchResult run (λ r. end ≡ end_of r) (λ e. end ≡ Err Memory)

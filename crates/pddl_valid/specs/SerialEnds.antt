@@ -10,12 +10,12 @@ use Rattle.pddl_happenings.specs.Serialisations.{IsSerialOrder, RunsSerially, Fa
 use Rattle.pddl_linked_plan.specs.LinkedSteps.{LinkedStepValue}
 use Rattle.pddl_plan_steps.specs.NumberedSteps.{number_of}
 use Rattle.pddl_plan_steps.specs.PlanSteps.{named_steps, initial_state}
-use Rattle.pddl_valid.specs.AcceptedPlans.{OfHappenings}
+use Rattle.pddl_plan_steps.specs.AcceptedPlans.{OfHappenings}
 use Rattle.pddl_serial.specs.declared.replaying.End.{End}
 use Rattle.pddl_serial.specs.declared.replaying.Replayed.{Replayed}
 use Rattle.pddl_serial.specs.declared.replaying.Replayed.TheVariants.{NotASerialisation, StepFails, Ended}
-use Rattle.pddl_serial_plans.specs.declared.fault.ReplayFault.{ReplayFault}
-use Rattle.pddl_serial_plans.specs.declared.fault.ReplayFault.TheVariants as replays
+use Rattle.pddl_valid.specs.declared.fault.ReplayFault.{ReplayFault}
+use Rattle.pddl_valid.specs.declared.fault.ReplayFault.TheVariants as replays
 
 -- the list is a serialisation of the plan's happenings
 abbrev pub IsSerialOrderOf : List LinkedStepValue → List ℕ → Type 0
