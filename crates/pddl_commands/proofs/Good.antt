@@ -1,27 +1,20 @@
 -- What is said of files that are good.
 use Rattle.std.proofs.Common.{◌≡◌, List, ℕ, sym, subst}
-use Rattle.std.specs.Prelude.{codes, Result, Ok, Err}
-use Rattle.std.specs.Result.{result_and}
+use Rattle.std.specs.Prelude.{codes, Result, Ok}
 use Rattle.pddl_domain.specs.Domains.{DomainValue}
 use Rattle.pddl_domain_reader.specs.DomainTexts.{SpellsDomain}
-use Rattle.pddl_problem.specs.Problems.{ProblemValue}
-use Rattle.pddl_task.specs.Linked.{faults, domain_faults, IsGood}
+use Rattle.pddl_task.specs.Linked.{domain_faults, IsGood}
 use Rattle.pddl_faults.specs.declared.fault.LinkFault.{LinkFault}
 use Rattle.pddl_faults.specs.Passes.{Verdict}
 use Rattle.pddl_file_layout.specs.DomainLayout.{domain_text}
 use Rattle.pddl_kind.specs.declared.Kind.TheVariants.{Domain, Plan}
 use Rattle.pddl_layout.specs.PlanLayout.{plan_text}
 use Rattle.pddl_plan.specs.Plans.{PlanValue}
-use Rattle.pddl_tree.specs.PlanTexts.{SpellsPlan}
-use Rattle.pddl_commands.specs.declared.outcome.Outcome.{Outcome}
-use Rattle.pddl_commands.specs.declared.outcome.Outcome.TheVariants.{Good}
+use Rattle.pddl_step_reader.specs.PlanTexts.{SpellsPlan}
+use Rattle.pddl_file_lines.specs.declared.outcome.Outcome.{Outcome}
+use Rattle.pddl_file_lines.specs.declared.outcome.Outcome.TheVariants.{Good}
 use Rattle.pddl_commands.specs.Checks.{good_line, IsDomainJudged}
 use Rattle.pddl_commands.specs.Formats.{IsFormatted}
-
--- what a verdict says holds of it without what goes with it
-pub verdict_alone : {T : Type 0} (d : DomainValue) (p : ProblemValue) (r : Result T LinkFault) (alone : Result (Unit {0}) LinkFault) → alone ≡ result_and r (Ok (tt {0})) → Verdict (faults d p) r → Verdict (faults d p) alone
-verdict_alone d p (Ok x) alone is h = subst (λ v. Verdict (faults d p) v) (sym is) h
-verdict_alone d p (Err e) alone is h = subst (λ v. Verdict (faults d p) v) (sym is) h
 
 -- a domain whose verdict is no fault is good
 pub good_by_verdict : {T : Type 0} (d : DomainValue) (r : Result T LinkFault) (x : T) → r ≡ Ok x → Verdict (domain_faults d) r → IsGood d

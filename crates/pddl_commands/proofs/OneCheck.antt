@@ -1,37 +1,21 @@
 -- Texts are checked in one way.
-use Rattle.std.proofs.Common.{◌≡◌, ℕ, List, [], refl, sym, subst, ◌∙◌, ◌⊎◌, inl, inr}
-use Rattle.std.specs.Prelude.{codes, None}
+use Rattle.std.proofs.Common.{◌≡◌, ℕ, List, refl, sym, ◌∙◌, inl}
 use Rattle.pddl_domain.specs.Domains.{DomainValue}
 use Rattle.pddl_domain_reader.specs.DomainTexts.{SpellsDomain}
-use Rattle.pddl_domain_reader.proofs.DomainTextLaws.{one_domain, no_fault_in_domain}
+use Rattle.pddl_domain_reader.proofs.DomainTextLaws.{one_domain}
 use Rattle.pddl_problem.specs.Problems.{ProblemValue}
 use Rattle.pddl_problem_reader.specs.ProblemTexts.{SpellsProblem}
-use Rattle.pddl_problem_reader.proofs.ProblemTexts.{one_problem, no_fault as no_fault_in_problem}
-use Rattle.pddl_task.specs.Linked.{Fault, faults, domain_faults, NoneStands}
-use Rattle.pddl_task.proofs.LowestFault.{one_lowest, none_stand}
+use Rattle.pddl_problem_reader.proofs.ProblemTexts.{one_problem}
+use Rattle.pddl_task.specs.Linked.{faults, domain_faults}
 use Rattle.pddl_kind.specs.declared.Kind.TheVariants.{Domain, Problem}
-use Rattle.pddl_commands.specs.declared.outcome.Outcome.{Outcome}
-use Rattle.pddl_commands.specs.declared.outcome.Outcome.TheVariants.{Good, Invalid, Refused}
-use Rattle.pddl_commands.specs.Lines.{link_fault_text, IsFaultLine}
-use Rattle.pddl_commands.specs.Formats.{IsRefused}
-use Rattle.pddl_commands.specs.Checks.{IsLinkRefused, IsDomainJudged, IsProblemJudged, ForProblem, IsDomainChecked, IsProblemChecked, AreAlike}
-use Rattle.pddl_commands.proofs.OneOutcome.{one_refused}
-
--- ---- one fault of linking
-
-pub one_fault : (fs : List Fault) (printed other : List ℕ) → IsLinkRefused fs printed → IsLinkRefused fs other → AreAlike printed other
-one_fault fs printed other p q =
-    let same = one_lowest fs p.number q.number p.word q.word p.lowest q.lowest in
-    inr (record {
-      number = p.number;
-      word = p.word;
-      other_word = q.word;
-      line = p.line;
-      other_line = subst (λ n. IsFaultLine (codes "link") [] (link_fault_text n q.word) None other) (sym same) q.line;
-    })
-
-pub good_or_refused : (fs : List Fault) (other : List ℕ) → NoneStands fs → IsLinkRefused fs other → ⊥
-good_or_refused fs other none q = none_stand fs q.number q.word none q.lowest.stands
+use Rattle.pddl_file_lines.specs.declared.outcome.Outcome.{Outcome}
+use Rattle.pddl_file_lines.specs.declared.outcome.Outcome.TheVariants.{Good, Invalid, Refused}
+use Rattle.pddl_file_lines.specs.Refusals.{IsRefused}
+use Rattle.pddl_file_lines.specs.LinkRefusals.{AreAlike}
+use Rattle.pddl_file_lines.specs.Judgements.{ForProblem}
+use Rattle.pddl_file_lines.proofs.OneRefusal.{one_refused, no_domain_refused, no_problem_refused, one_fault, good_or_refused}
+use Rattle.pddl_file_lines.proofs.OneAnswer.{one_answer}
+use Rattle.pddl_commands.specs.Checks.{IsDomainJudged, IsProblemJudged, IsDomainChecked, IsProblemChecked}
 
 -- ---- one answer for values
 
@@ -55,28 +39,6 @@ one_problem_judged d v printed other Refused Invalid p bad = absurd bad
 one_problem_judged d v printed other Invalid ended bad q = absurd bad
 
 -- ---- one answer for a text
-
--- a text is refused, or the value that it spells is judged
-abbrev pub Answers : {V : Type 0} → (V → List ℕ → Type 0) → (List ℕ → List ℕ → Type 0) → (V → List ℕ → Outcome → Type 0) → List ℕ → List ℕ → Outcome → Type 0
-Answers {V} Spells Refuses Judged text printed outcome = ((outcome ≡ Refused) × Refuses text printed) ⊎ ((v : V) × Spells v text × Judged v printed outcome)
-
-pub one_answer : {V : Type 0} (Spells : V → List ℕ → Type 0) (Refuses : List ℕ → List ℕ → Type 0) (Judged : V → List ℕ → Outcome → Type 0) (text : List ℕ)
-    → ((v w : V) → Spells v text → Spells w text → v ≡ w) → ((v : V) (line : List ℕ) → Spells v text → Refuses text line → ⊥)
-    → ((line more : List ℕ) → Refuses text line → Refuses text more → line ≡ more)
-    → ((v : V) (printed other : List ℕ) (outcome ended : Outcome) → Judged v printed outcome → Judged v other ended → AreAlike printed other × (outcome ≡ ended))
-    → (printed other : List ℕ) (outcome ended : Outcome) → Answers Spells Refuses Judged text printed outcome → Answers Spells Refuses Judged text other ended
-    → AreAlike printed other × (outcome ≡ ended)
-one_answer Spells Refuses Judged text one not_both line judged printed other outcome ended (inl (is, p)) (inl (same, q)) = (inl (line printed other p q), is ∙ sym same)
-one_answer Spells Refuses Judged text one not_both line judged printed other outcome ended (inl (is, p)) (inr (w, spells, q)) = absurd (not_both w printed spells p)
-one_answer Spells Refuses Judged text one not_both line judged printed other outcome ended (inr (v, spells, p)) (inl (same, q)) = absurd (not_both v other spells q)
-one_answer Spells Refuses Judged text one not_both line judged printed other outcome ended (inr (v, spells, p)) (inr (w, also, q)) =
-    judged v printed other outcome ended p (subst (λ x. Judged x other ended) (one w v also spells) q)
-
-pub no_domain_refused : (text : List ℕ) (d : DomainValue) (line : List ℕ) → SpellsDomain d text → IsRefused Domain text line → ⊥
-no_domain_refused text d line spells q = q.no_memory (no_fault_in_domain text q.fault d q.stands spells)
-
-pub no_problem_refused : (text : List ℕ) (v : ProblemValue) (line : List ℕ) → SpellsProblem v text → IsRefused Problem text line → ⊥
-no_problem_refused text v line spells q = q.no_memory (no_fault_in_problem text q.fault v q.stands spells)
 
 pub one_domain_outcome : (text printed other : List ℕ) (outcome ended : Outcome) → IsDomainChecked text printed outcome → IsDomainChecked text other ended
     → AreAlike printed other × (outcome ≡ ended)

@@ -5,17 +5,15 @@ ghost use Rattle.pddl_domain.specs.Domains.{domain_view};
 ghost use Rattle.pddl_problem.specs.Problems.{problem_view};
 ghost use Rattle.pddl_task.specs.Linked.{faults};
 ghost use Rattle.pddl_faults.specs.Passes.{Verdict};
-ghost use Rattle.pddl_commands.specs.Checks.{good_line, IsDomainJudged, IsProblemJudged, IsDomainChecked, ForProblem};
-ghost use Rattle.pddl_commands.specs.Inner.Faults.{IsLinkFaultLine};
+ghost use Rattle.pddl_file_lines.specs.Judgements.{ForProblem};
+ghost use Rattle.pddl_commands.specs.Checks.{good_line, IsDomainJudged, IsProblemJudged, IsDomainChecked};
 
-use crate::fault_names::link_fault_name;
-use crate::formatted::{Formatted, refused_domain, refused_problem};
-use crate::line::fault_line;
-use crate::outcome::Outcome;
 use pddl_domain::{Domain, let_go_domain};
 use pddl_domain_reader::read_domain;
 use pddl_faults::LinkFault;
+use pddl_file_lines::{Formatted, Outcome, refused_domain, refused_link, refused_problem};
 use pddl_link::{check_domain, link};
+use pddl_linked_task::let_go_task;
 use pddl_problem::{Problem, let_go_problem};
 use pddl_problem_reader::read_problem;
 use std::alloc::{AllocError, Allocator};
@@ -37,19 +35,6 @@ fn good_line<'a, B: Allocator>(
     Ok(line)
 }
 
-/// The line of a fault of linking.
-fn link_line<'a, B: Allocator>(
-    alloc: &'a B,
-    fault: &LinkFault,
-) -> Result<Vec<u8, &'a B>, AllocError>
-    ensures { IfOk result (λ line. IsLinkFaultLine fault.now line.items) }
-{
-    match fault {
-        LinkFault::Memory => Err(AllocError),
-        _ => fault_line(alloc, b"link", link_fault_name(fault)),
-    }
-}
-
 /// The line of a good domain or problem, and the outcome.
 fn good<'a, B: Allocator>(
     alloc: &'a B,
@@ -59,19 +44,6 @@ fn good<'a, B: Allocator>(
     ensures { IfOk result (λ answer. (answer.1 ≡ Outcome.Good) × (answer.0.items ≡ good_line word.now name.now)) }
 {
     Ok((good_line(alloc, word, name)?, Outcome::Good))
-}
-
-/// What is printed for a domain and a problem that do not link, or a domain that is not good alone, and the outcome.
-///
-/// Fails where memory is refused, and so for want of memory in linking.
-pub fn refused_link<'a, B: Allocator>(
-    alloc: &'a B,
-    fault: &LinkFault,
-) -> Result<Formatted<'a, B>, AllocError>
-    ensures refused { IfOk result (λ answer. answer.1 ≡ Outcome.Refused) }
-    ensures line { IfOk result (λ answer. IsLinkFaultLine fault.now answer.0.items) }
-{
-    Ok((link_line(alloc, fault)?, Outcome::Refused))
 }
 
 /// What is printed for a domain, and the outcome.
@@ -95,7 +67,7 @@ fn check_problem<'d, 'a, A: Allocator, B: Allocator>(
 ) -> Result<(), LinkFault<'d>>
     ensures { Verdict (faults (domain_view domain.now) (problem_view problem.now)) result }
 {
-    link(alloc, domain, problem).and(Ok(()))
+    link(alloc, domain, problem).map(let_go_task)
 }
 
 /// What is printed for a problem with its domain, and the outcome.

@@ -4,18 +4,19 @@ ghost use Rattle.std.specs.Prelude.{◌≡◌, ◌≢◌, ◌⊎◌, ℕ, List, 
 ghost use Rattle.std.specs.Io.KnownBytes.{Appends, Consumes, Keeps};
 ghost use Rattle.pddl_device.specs.Device.{AppendsBeginning, HasFailed};
 ghost use Rattle.pddl_domain.specs.Domains.{domain_view};
-ghost use Rattle.pddl_commands.specs.declared.outcome.Outcome.{Outcome};
-ghost use Rattle.pddl_commands.specs.Contents.{IsRead};
-ghost use Rattle.pddl_commands.specs.Formats.{IsLeft};
-ghost use Rattle.pddl_commands.specs.Checks.{ForProblem, IsProblemJudged, IsDomainChecked, IsProblemChecked, IsNoDomain, AreAlike};
+ghost use Rattle.pddl_file_lines.specs.declared.outcome.Outcome.{Outcome};
+ghost use Rattle.pddl_file_lines.specs.Contents.{IsLeft, IsNoDomain, IsRead};
+ghost use Rattle.pddl_file_lines.specs.LinkRefusals.{AreAlike};
+ghost use Rattle.pddl_file_lines.specs.Judgements.{ForProblem};
+ghost use Rattle.pddl_commands.specs.Checks.{IsProblemJudged, IsDomainChecked, IsProblemChecked};
 
 use crate::checked::{checked_domain, checked_problem};
-use crate::formatted::{Formatted, refused_domain};
-use crate::outcome::{Outcome, RunFault, or_memory};
-use crate::reading::{Content, read_file};
 use pddl_device::{Sink, Source, write_text};
 use pddl_domain::{Domain, let_go_domain};
 use pddl_domain_reader::read_domain;
+use pddl_file_lines::{
+    Content, Formatted, Outcome, RunFault, or_memory, read_file, refused_domain,
+};
 use pddl_kind::Kind;
 use std::alloc::Allocator;
 

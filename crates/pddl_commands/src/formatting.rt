@@ -4,15 +4,16 @@ ghost use Rattle.std.specs.Prelude.{◌≡◌, ℕ, List, true, IfOk, OnOk, IsEr
 ghost use Rattle.std.specs.Io.KnownBytes.{Appends, Consumes, Keeps};
 ghost use Rattle.pddl_device.specs.Device.{AppendsBeginning, HasFailed};
 ghost use Rattle.pddl_kind.specs.declared.Kind.{Kind};
-ghost use Rattle.pddl_commands.specs.declared.outcome.Outcome.{Outcome};
-ghost use Rattle.pddl_commands.specs.Contents.{IsRead};
-ghost use Rattle.pddl_commands.specs.Formats.{IsFormatted, IsLeft};
+ghost use Rattle.pddl_file_lines.specs.declared.outcome.Outcome.{Outcome};
+ghost use Rattle.pddl_file_lines.specs.Contents.{IsLeft, IsRead};
+ghost use Rattle.pddl_commands.specs.Formats.{IsFormatted};
 
-use crate::formatted::{Formatted, formatted_domain, formatted_plan, formatted_problem};
-use crate::outcome::{Outcome, RunFault, or_memory};
-use crate::plan_file::{PlanContent, read_plan_file};
-use crate::reading::{Content, read_file};
+use crate::formatted::{formatted_domain, formatted_plan, formatted_problem};
 use pddl_device::{Sink, Source, write_text};
+use pddl_file_lines::{
+    Content, Formatted, Outcome, PlanContent, RunFault, let_go_plan, or_memory, read_file,
+    read_plan_file,
+};
 use pddl_kind::Kind;
 use std::alloc::Allocator;
 
@@ -71,7 +72,11 @@ fn read_formatted_plan<'a, B: Allocator, S: Source>(
     ensures stands { (given : List ℕ) × Consumes (S.remaining source.old) (S.remaining source.new) given }
 {
     match read_plan_file(alloc, source)? {
-        PlanContent::Plan(plan) => or_memory(formatted_plan(alloc, &plan)),
+        PlanContent::Plan(plan) => {
+            let answer = formatted_plan(alloc, &plan);
+            let_go_plan(plan);
+            or_memory(answer)
+        }
         PlanContent::Refused(line) => Ok((line, Outcome::Refused)),
     }
 }

@@ -24,7 +24,7 @@ use Rattle.pddl_token.proofs.Values.{value_in_range}
 use Rattle.pddl_plan.specs.Building.{is_moment}
 use Rattle.pddl_token.specs.Names.{is_first_byte, is_later_byte, is_name}
 use Rattle.pddl_plan.specs.Plans.{StepValue, TimedValue, PlanValue, plain, timed, is_step, is_timed, is_plan, IsStep, AreTimed, AreSteps}
-use Rattle.pddl_tree.specs.PlanTexts.{SpellsPlan}
+use Rattle.pddl_step_reader.specs.PlanTexts.{SpellsPlan}
 use Rattle.pddl_token.specs.TreeWords.{SpellsName, SpellsNumber, Each}
 use Rattle.pddl_token.proofs.FoldedNames.{name_folded}
 use Rattle.pddl_plan_reader.proofs.PlanTextLaws.{one_plan}

@@ -2,7 +2,7 @@
 
 ghost use Rattle.std.specs.Prelude.{◌≡◌, ◌<◌, ◌≤◌, ◌↔◌, ℕ, List, IsTrue, IfOk, OnOk, OnErr, length, vec_len};
 ghost use Rattle.pddl_plan.specs.Plans.{PlanValue, plan_view, steps_of, is_plan};
-ghost use Rattle.pddl_tree.specs.PlanTexts.{SpellsPlan};
+ghost use Rattle.pddl_step_reader.specs.PlanTexts.{SpellsPlan};
 ghost use Rattle.std.specs.Io.KnownBytes.{Appends};
 ghost use Rattle.pddl_device.specs.Device.{AppendsBeginning, HasFailed};
 ghost use Rattle.pddl_layout.specs.Printing.{Prints};

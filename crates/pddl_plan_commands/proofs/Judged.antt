@@ -26,7 +26,7 @@ use Rattle.pddl_plan_steps.specs.NumberedSteps.{number_of}
 use Rattle.pddl_plan_steps.specs.PlanSteps.{named_steps, initial_state, goal_of}
 use Rattle.pddl_plan_steps.specs.AcceptedPlans.{AreHappeningsOf, OfHappenings, IsAcceptedPlan}
 use Rattle.pddl_valid.specs.NamedClashes.{NamesLeast}
-use Rattle.pddl_commands.specs.declared.outcome.Outcome.{Outcome}
+use Rattle.pddl_file_lines.specs.declared.outcome.Outcome.{Outcome}
 use Rattle.pddl_plan_commands.specs.Printings.{Printing}
 use Rattle.pddl_plan_commands.specs.PlanChecks.{IsLeastNamed, IsFirstFailure, AreStepsJudged}
 use Rattle.pddl_plan_commands.specs.Inner.ShownVerdicts.{failure_of, IsShown, IsVerdictOf}

@@ -3,7 +3,7 @@ use Rattle.std.proofs.Common.{◌≡◌, ℕ, List, subst}
 use Rattle.std.specs.Prelude.{Option, Some, None}
 use Rattle.pddl_problem.specs.Problems.{ProblemValue}
 use Rattle.pddl_problem_reader.specs.ProblemTexts.{SpellsProblem}
-use Rattle.pddl_commands.specs.Formats.{IsLeft}
+use Rattle.pddl_file_lines.specs.Contents.{IsLeft}
 use Rattle.pddl_plan_commands.specs.PlanChecks.{IsNoProblem}
 
 left_known : (remaining : Option (List ℕ)) (text known : List ℕ) → remaining ≡ Some known → IsLeft remaining text → text ≡ known

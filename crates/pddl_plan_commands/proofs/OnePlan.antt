@@ -6,8 +6,8 @@ use Rattle.std.specs.Ordering.{is_le, is_eq, ordering_reverse}
 use Rattle.std.specs.declared.cmp.Ordering.{Ordering}
 use Rattle.std.specs.declared.cmp.Ordering.TheVariants.{Less, Equal, Greater}
 use Rattle.pddl_plan.specs.Plans.{PlanValue}
-use Rattle.pddl_tree.specs.PlanTexts.{SpellsPlan}
-use Rattle.pddl_plan_reader.proofs.PlanTextLaws.{one_plan, no_fault_in_plan}
+use Rattle.pddl_step_reader.specs.PlanTexts.{SpellsPlan}
+use Rattle.pddl_plan_reader.proofs.PlanTextLaws.{one_plan}
 use Rattle.pddl_domain.specs.Domains.{DomainValue}
 use Rattle.pddl_domain_reader.specs.DomainTexts.{SpellsDomain}
 use Rattle.pddl_domain_reader.proofs.DomainTextLaws.{one_domain}
@@ -40,13 +40,14 @@ use Rattle.pddl_plan_steps.specs.PlanSteps.{named_steps, initial_state}
 use Rattle.pddl_plan_steps.specs.AcceptedPlans.{moments_in, AreHappeningsOf}
 use Rattle.pddl_plan_steps.proofs.OnlyHappenings.{happenings_once}
 use Rattle.pddl_kind.specs.declared.Kind.TheVariants.{Domain, Problem, Plan}
-use Rattle.pddl_commands.specs.declared.outcome.Outcome.{Outcome}
-use Rattle.pddl_commands.specs.declared.outcome.Outcome.TheVariants.{Good, Invalid, Refused}
-use Rattle.pddl_commands.specs.Formats.{IsRefused}
-use Rattle.pddl_commands.specs.Checks.{ForProblem, AreAlike}
-use Rattle.pddl_commands.proofs.FaultLines.{one_line}
-use Rattle.pddl_commands.proofs.OneCheck.{one_fault, good_or_refused, one_answer, no_domain_refused, no_problem_refused}
-use Rattle.pddl_commands.proofs.OneOutcome.{one_refused}
+use Rattle.pddl_file_lines.specs.declared.outcome.Outcome.{Outcome}
+use Rattle.pddl_file_lines.specs.declared.outcome.Outcome.TheVariants.{Good, Invalid, Refused}
+use Rattle.pddl_file_lines.specs.Refusals.{IsRefused}
+use Rattle.pddl_file_lines.specs.LinkRefusals.{AreAlike}
+use Rattle.pddl_file_lines.specs.Judgements.{ForProblem}
+use Rattle.pddl_file_lines.proofs.FaultLines.{one_line}
+use Rattle.pddl_file_lines.proofs.OneRefusal.{one_refused, no_domain_refused, no_problem_refused, no_plan_refused, one_fault, good_or_refused}
+use Rattle.pddl_file_lines.proofs.OneAnswer.{one_answer}
 use Rattle.pddl_plan_lines.specs.PlanLines.{step_fault_name}
 use Rattle.pddl_plan_commands.specs.Printings.{Printing}
 use Rattle.pddl_plan_commands.specs.PlanChecks.{IsStepRefused, IsValidPlan, Failure, unready, interference, off_goal, IsLeastNamed, IsFirstFailure, failure_line, IsInvalidPlan, AreStepsJudged, IsJudgedIn, IsPlanJudged, ForPlan, EndsInOneWay}
@@ -237,9 +238,6 @@ module _ (Prints : Printing) (one : PrintsOneText Prints) (d : DomainValue) (p :
   one_plan_judged plan printed other outcome ended (inr (linked, v)) (inr (also, w)) = let same = one_judged_in linked plan printed other outcome ended v w in (inl same.0, same.1)
 
 -- ---- one answer for texts
-
-no_plan_refused : (text : List ℕ) (plan : PlanValue) (line : List ℕ) → SpellsPlan plan text → IsRefused Plan text line → ⊥
-no_plan_refused text plan line spells q = q.no_memory (no_fault_in_plan text q.fault plan q.stands spells)
 
 module _ (Prints : Printing) (one : PrintsOneText Prints) where
   one_for_plan : (d : DomainValue) (p : ProblemValue) (plan printed other : List ℕ) (outcome ended : Outcome) → ForPlan (IsPlanJudged Prints d p) plan printed outcome → ForPlan (IsPlanJudged Prints d p) plan other ended

@@ -2,10 +2,9 @@
 use Rattle.std.proofs.Common.{◌≡◌, ℕ, true, List}
 use Rattle.std.specs.Prelude.{◌≢◌, ◌⊎◌}
 use Rattle.pddl_kind.specs.declared.Kind.TheVariants.{Domain, Problem, Plan}
-use Rattle.pddl_commands.specs.declared.outcome.Outcome.{Outcome}
-use Rattle.pddl_commands.specs.declared.outcome.Outcome.TheVariants.{Refused}
-use Rattle.pddl_commands.specs.Contents.{IsRead}
-use Rattle.pddl_commands.specs.Formats.{IsLeft}
+use Rattle.pddl_file_lines.specs.declared.outcome.Outcome.{Outcome}
+use Rattle.pddl_file_lines.specs.declared.outcome.Outcome.TheVariants.{Refused}
+use Rattle.pddl_file_lines.specs.Contents.{IsLeft, IsRead}
 use Rattle.pddl_plan_commands.specs.Printings.{Printing}
 use Rattle.pddl_plan_commands.specs.PlanChecks.{IsPlanChecked}
 use Rattle.pddl_plan_commands.specs.Runs.{Readers, IsText}

@@ -2,7 +2,7 @@
 use Rattle.std.specs.Prelude.{◌≡◌, ◌≢◌, ◌⊎◌, ℕ, true, false, List, [], codes, Option, Some, None, IfSome}
 use Rattle.std.specs.Ordering.{is_le}
 use Rattle.pddl_plan.specs.Plans.{PlanValue}
-use Rattle.pddl_tree.specs.PlanTexts.{SpellsPlan}
+use Rattle.pddl_step_reader.specs.PlanTexts.{SpellsPlan}
 use Rattle.pddl_domain.specs.Domains.{DomainValue}
 use Rattle.pddl_problem.specs.Inits.{GroundValue}
 use Rattle.pddl_problem.specs.Problems.{ProblemValue}
@@ -23,11 +23,12 @@ use Rattle.pddl_plan_steps.specs.NumberedSteps.{number_of}
 use Rattle.pddl_plan_steps.specs.PlanSteps.{named_steps, initial_state, goal_of}
 use Rattle.pddl_plan_steps.specs.AcceptedPlans.{AreHappeningsOf, OfHappenings, IsAcceptedPlan}
 use Rattle.pddl_kind.specs.declared.Kind.TheVariants.{Plan}
-use Rattle.pddl_commands.specs.declared.outcome.Outcome.{Outcome}
-use Rattle.pddl_commands.specs.declared.outcome.Outcome.TheVariants.{Good, Invalid, Refused}
-use Rattle.pddl_commands.specs.Lines.{IsFaultLine}
-use Rattle.pddl_commands.specs.Formats.{IsRefused}
-use Rattle.pddl_commands.specs.Checks.{IsLinkRefused, ForDomain, ForProblem, AreAlike}
+use Rattle.pddl_file_lines.specs.declared.outcome.Outcome.{Outcome}
+use Rattle.pddl_file_lines.specs.declared.outcome.Outcome.TheVariants.{Good, Invalid, Refused}
+use Rattle.pddl_file_lines.specs.Lines.{IsFaultLine}
+use Rattle.pddl_file_lines.specs.Refusals.{IsRefused}
+use Rattle.pddl_file_lines.specs.LinkRefusals.{IsLinkRefused, AreAlike}
+use Rattle.pddl_file_lines.specs.Judgements.{ForDomain, ForProblem}
 use Rattle.pddl_plan_lines.specs.PlanLines.{step_fault_name, unready_line, clash_line, goal_line}
 use Rattle.pddl_plan_commands.specs.Printings.{Printing}
 

@@ -3,13 +3,11 @@ use Rattle.std.specs.Prelude.{◌≡◌, ◌≢◌, ◌⊎◌, ℕ, List, Bool, 
 use Rattle.std.specs.Io.KnownBytes.{Appends, Consumes, Keeps}
 use Rattle.pddl_device.specs.Device.{AppendsBeginning, HasFailed}
 use Rattle.pddl_kind.specs.declared.Kind.TheVariants.{Domain, Problem, Plan}
-use Rattle.pddl_commands.specs.declared.outcome.Outcome.{Outcome}
-use Rattle.pddl_commands.specs.declared.outcome.Outcome.TheVariants.{Refused}
-use Rattle.pddl_commands.specs.declared.outcome.RunFault.{RunFault}
-use Rattle.pddl_commands.specs.declared.outcome.RunFault.TheVariants.{Memory, ReadFailed, WriteFailed}
-use Rattle.pddl_commands.specs.Contents.{IsRead}
-use Rattle.pddl_commands.specs.Formats.{IsLeft}
-use Rattle.pddl_commands.specs.Checks.{IsNoDomain}
+use Rattle.pddl_file_lines.specs.declared.outcome.Outcome.{Outcome}
+use Rattle.pddl_file_lines.specs.declared.outcome.Outcome.TheVariants.{Refused}
+use Rattle.pddl_file_lines.specs.declared.outcome.RunFault.{RunFault}
+use Rattle.pddl_file_lines.specs.declared.outcome.RunFault.TheVariants.{Memory, ReadFailed, WriteFailed}
+use Rattle.pddl_file_lines.specs.Contents.{IsLeft, IsNoDomain, IsRead}
 use Rattle.pddl_plan_commands.specs.Printings.{Printing}
 use Rattle.pddl_plan_commands.specs.PlanChecks.{IsPlanChecked, IsNoProblem}
 

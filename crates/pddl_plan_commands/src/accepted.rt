@@ -11,7 +11,7 @@ ghost use Rattle.pddl_plan.specs.Plans.{plan_view};
 ghost use Rattle.pddl_plan_commands.specs.Inner.WantedPrintings.{printing_of};
 
 use crate::wanted::Wanted;
-use pddl_commands::let_go_plan;
+use pddl_file_lines::let_go_plan;
 use pddl_layout::plan_text;
 use pddl_linked_plan::Steps;
 use pddl_linked_task::Task;

@@ -1,6 +1,6 @@
 //! The command that validates a plan with its domain and its problem.
 
-ghost use Rattle.std.specs.Prelude.{◌≡◌, ℕ};
+ghost use Rattle.std.specs.Prelude.{ℕ};
 ghost use Rattle.pddl_serial.specs.declared.turns.Order.{Order};
 ghost use Rattle.pddl_plan_commands.specs.PlanChecks.{EndsInOneWay};
 ghost use Rattle.pddl_plan_commands.specs.Printings.{IsVerdictLine, IsSerialText, IsSplitText};
@@ -8,8 +8,8 @@ ghost use Rattle.pddl_plan_commands.specs.Runs.{IsRun, reader, writer};
 
 use crate::running::run;
 use crate::wanted::Wanted;
-use pddl_commands::{Outcome, RunFault};
 use pddl_device::{Sink, Source};
+use pddl_file_lines::{Outcome, RunFault};
 use std::alloc::Allocator;
 
 /// Validates a plan with its domain and its problem, and writes the verdict, or the fault of a file.

@@ -5,23 +5,23 @@ ghost use Rattle.std.specs.Io.KnownBytes.{Consumes};
 ghost use Rattle.pddl_device.specs.Device.{HasFailed};
 ghost use Rattle.pddl_domain.specs.Domains.{domain_view};
 ghost use Rattle.pddl_problem.specs.Problems.{problem_view};
-ghost use Rattle.pddl_commands.specs.declared.outcome.Outcome.{Outcome};
-ghost use Rattle.pddl_commands.specs.Contents.{IsRead};
-ghost use Rattle.pddl_commands.specs.Formats.{IsLeft};
-ghost use Rattle.pddl_commands.specs.Checks.{ForProblem, IsNoDomain};
+ghost use Rattle.pddl_file_lines.specs.declared.outcome.Outcome.{Outcome};
+ghost use Rattle.pddl_file_lines.specs.Contents.{IsLeft, IsNoDomain, IsRead};
+ghost use Rattle.pddl_file_lines.specs.Judgements.{ForProblem};
 ghost use Rattle.pddl_plan_commands.specs.PlanChecks.{IsPlanJudged, ForPlan, IsPlanChecked, IsNoProblem};
 ghost use Rattle.pddl_plan_commands.specs.Inner.WantedPrintings.{printing_of};
 
 use crate::judging::judged_plan;
 use crate::wanted::Wanted;
-use pddl_commands::{
-    Content, Formatted, Kind, Outcome, PlanContent, RunFault, let_go_domain, let_go_plan,
-    let_go_problem, or_memory, read_file, read_plan_file, refused_domain, refused_problem,
-};
 use pddl_device::Source;
-use pddl_domain::Domain;
+use pddl_domain::{Domain, let_go_domain};
 use pddl_domain_reader::read_domain;
-use pddl_problem::Problem;
+use pddl_file_lines::{
+    Content, Formatted, Outcome, PlanContent, RunFault, let_go_plan, or_memory, read_file,
+    read_plan_file, refused_domain, refused_problem,
+};
+use pddl_kind::Kind;
+use pddl_problem::{Problem, let_go_problem};
 use pddl_problem_reader::read_problem;
 use std::alloc::Allocator;
 

@@ -5,8 +5,8 @@ ghost use Rattle.pddl_plan_commands.specs.Inner.WantedPrintings.{printing_of};
 
 use crate::reading::read_each;
 use crate::wanted::Wanted;
-use pddl_commands::{Outcome, RunFault};
 use pddl_device::{Sink, Source, write_text};
+use pddl_file_lines::{Outcome, RunFault};
 use std::alloc::Allocator;
 
 /// Reads a domain, a problem and a plan, and writes what is printed for them.

@@ -1,13 +1,13 @@
 //! The commands that print serial forms of a plan.
 
-ghost use Rattle.std.specs.Prelude.{◌≡◌, ◌<◌};
+ghost use Rattle.std.specs.Prelude.{◌<◌};
 ghost use Rattle.pddl_plan_commands.specs.Printings.{IsSerialText, IsSplitText};
 ghost use Rattle.pddl_plan_commands.specs.Runs.{IsRun, reader, writer};
 
 use crate::running::run;
 use crate::wanted::Wanted;
-use pddl_commands::{Outcome, RunFault};
 use pddl_device::{Sink, Source};
+use pddl_file_lines::{Outcome, RunFault};
 use pddl_serial_plans::Order;
 use std::alloc::Allocator;
 use std::num::NonZeroU32;

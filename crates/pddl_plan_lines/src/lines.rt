@@ -10,7 +10,7 @@ ghost use Rattle.pddl_linked_plan.specs.NumberedAtoms.{named_atom, IsInRange};
 ghost use Rattle.pddl_task.specs.Tasks.{predicate_names, object_names};
 ghost use Rattle.pddl_plan_lines.specs.PlanLines.{valid_line, unready_line, atom_text, clash_words, clash_line, goal_line};
 
-use pddl_commands::push_number;
+use pddl_file_lines::push_number;
 use pddl_linked_task::Task;
 use pddl_state::Atom;
 use std::alloc::{AllocError, Allocator};

@@ -2,12 +2,12 @@
 
 ghost use Rattle.std.specs.Prelude.{◌≡◌, ◌≢◌, ◌+◌, ◌++◌, [], None, codes, IfOk};
 ghost use Rattle.std.specs.Fmt.{decimal};
-ghost use Rattle.pddl_commands.specs.Lines.{IsFaultLine};
+ghost use Rattle.pddl_file_lines.specs.Lines.{IsFaultLine};
 ghost use Rattle.pddl_plan_link.specs.declared.fault.StepFault.TheVariants as link;
 ghost use Rattle.pddl_plan_lines.specs.PlanLines.{step_fault_name};
 
 use itoa::Buffer;
-use pddl_commands::{FaultName, Formatted, Outcome, fault_line};
+use pddl_file_lines::{FaultName, Formatted, Outcome, fault_line};
 use pddl_plan_link::StepFault;
 use std::alloc::{AllocError, Allocator};
 

@@ -1,6 +1,6 @@
 //! Atoms.
 
-use pddl_commands::Outcome;
+use pddl_file_lines::Outcome;
 use pddl_linked_plan::initial_atoms;
 use pddl_linked_task::Task;
 use pddl_row_driver::Lines;

@@ -6,7 +6,7 @@ ghost use Rattle.pddl_linked_plan.specs.LinkedSteps.{AreLinkedSteps};
 
 use crate::atoms::add_set;
 use crate::listed::Asked;
-use pddl_commands::Outcome;
+use pddl_file_lines::Outcome;
 use pddl_judge::Course;
 use pddl_linked_plan::Steps;
 use pddl_linked_task::Task;

@@ -2,8 +2,8 @@
 
 use crate::listed::Listed;
 use crate::{atoms, plan};
-use pddl_commands::{Outcome, RunFault};
 use pddl_device::Sink;
+use pddl_file_lines::{Outcome, RunFault};
 use pddl_linked_task::Task;
 use pddl_row_driver::{Files, Lines, Memory, OfTask, add_task, write_lines};
 use std::alloc::Allocator;

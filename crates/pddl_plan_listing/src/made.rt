@@ -12,7 +12,7 @@ use crate::listed::Made;
 use crate::replays::add_numbers;
 use crate::steps::add_step_fault;
 use pddl_bit_store::BitStore;
-use pddl_commands::{Outcome, let_go_plan};
+use pddl_file_lines::{Outcome, let_go_plan};
 use pddl_layout::plan_text;
 use pddl_linked_plan::Steps;
 use pddl_linked_task::Task;

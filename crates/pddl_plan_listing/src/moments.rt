@@ -1,6 +1,6 @@
 //! Happenings.
 
-use pddl_commands::Outcome;
+use pddl_file_lines::Outcome;
 use pddl_linked_plan::Steps;
 use pddl_row_driver::Lines;
 use pddl_valid::{Happening, happenings};

@@ -7,7 +7,7 @@ use crate::listed::OfPlan;
 use crate::moments::add_happenings;
 use crate::steps::{add_step_fault, add_steps};
 use crate::stores::{Over, add_over_both, add_replays};
-use pddl_commands::{Outcome, let_go_plan};
+use pddl_file_lines::{Outcome, let_go_plan};
 use pddl_linked_plan::Steps;
 use pddl_linked_task::Task;
 use pddl_plan::Plan;

@@ -4,7 +4,7 @@ ghost use Rattle.pddl_linked_task.specs.LinkedTasks.{task_of_files};
 ghost use Rattle.pddl_linked_plan.specs.LinkedSteps.{AreLinkedSteps};
 
 use crate::ends::add_end;
-use pddl_commands::Outcome;
+use pddl_file_lines::Outcome;
 use pddl_linked_plan::Steps;
 use pddl_linked_task::Task;
 use pddl_row_driver::Lines;

@@ -1,6 +1,6 @@
 //! Steps of linked plans, and why a plan is not linked.
 
-use pddl_commands::Outcome;
+use pddl_file_lines::Outcome;
 use pddl_linked_plan::{LinkedStep, Steps};
 use pddl_plan_link::StepFault;
 use pddl_row_driver::Lines;

@@ -9,7 +9,7 @@ use crate::listed::Stored;
 use crate::made::add_made;
 use crate::replays::add_replay;
 use pddl_bit_store::BitStore;
-use pddl_commands::Outcome;
+use pddl_file_lines::Outcome;
 use pddl_linked_plan::Steps;
 use pddl_linked_task::Task;
 use pddl_row_driver::{Lines, text_of};

@@ -7,13 +7,13 @@ use Rattle.pddl_token.specs.Trees.{Placed}
 use Rattle.pddl_text.specs.Texts.{HasItems, TextStands}
 use Rattle.pddl_text.proofs.TextItems.{one_items}
 use Rattle.pddl_text.proofs.TextFaults.{one_text_fault, no_fault_in_items}
-use Rattle.pddl_tree.specs.declared.fault.ReadFault.{ReadFault}
-use Rattle.pddl_tree.specs.declared.fault.ReadFault.TheVariants as faults
+use Rattle.pddl_step_reader.specs.declared.fault.ReadFault.{ReadFault}
+use Rattle.pddl_step_reader.specs.declared.fault.ReadFault.TheVariants as faults
 use Rattle.pddl_plan.specs.Plans.{PlanValue}
-use Rattle.pddl_tree.specs.PlanTexts.{SpellsPlan, PlanStands, without_near}
-use Rattle.pddl_tree.specs.Inner.PlanReading.{plan_at, Refuses}
-use Rattle.pddl_tree.proofs.FaultPlaces.{next_inside}
-use Rattle.pddl_tree.proofs.PlanLaws.{plan_complete, plan_sound, ItemsStand, fault_sound, mixed_complete, duration_complete, no_step_complete}
+use Rattle.pddl_step_reader.specs.PlanTexts.{SpellsPlan, PlanStands, without_near}
+use Rattle.pddl_step_reader.specs.Inner.PlanReading.{plan_at, Refuses}
+use Rattle.pddl_step_reader.proofs.FaultPlaces.{next_inside}
+use Rattle.pddl_step_reader.proofs.PlanLaws.{plan_complete, plan_sound, ItemsStand, fault_sound, mixed_complete, duration_complete, no_step_complete}
 
 pub one_plan : (text : List ℕ) (plan other : PlanValue) → SpellsPlan plan text → SpellsPlan other text → plan ≡ other
 one_plan text plan other p q =

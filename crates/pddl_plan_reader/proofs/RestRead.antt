@@ -11,19 +11,19 @@ use Rattle.pddl_text.specs.Lists.{AreItems, ListStands}
 use Rattle.pddl_text.specs.Texts.{HasItems, TextStands}
 use Rattle.pddl_text.proofs.Nests.{items_append}
 use Rattle.pddl_text.proofs.FaultsBehind.{fault_behind}
-use Rattle.pddl_tree.specs.declared.fault.ReadFault.{ReadFault}
-use Rattle.pddl_tree.specs.declared.fault.ReadFault.TheVariants as faults
-use Rattle.pddl_tree.specs.declared.plan_words.Place.{Place}
-use Rattle.pddl_tree.specs.declared.plan_words.Place.TheVariants.{Between}
+use Rattle.pddl_step_reader.specs.declared.fault.ReadFault.{ReadFault}
+use Rattle.pddl_step_reader.specs.declared.fault.ReadFault.TheVariants as faults
+use Rattle.pddl_step_reader.specs.declared.plan_words.Place.{Place}
+use Rattle.pddl_step_reader.specs.declared.plan_words.Place.TheVariants.{Between}
 use Rattle.pddl_plan.specs.Building.{Building, nothing_built, without_names}
 use Rattle.pddl_plan.specs.Plans.{PlanValue, step_of_names, IsStep, AreTimed, plan_of, built_plan, steps_built, timed_built}
-use Rattle.pddl_tree.specs.PlanTexts.{SpellsPlan, PlanStands}
+use Rattle.pddl_step_reader.specs.PlanTexts.{SpellsPlan, PlanStands}
 use Rattle.pddl_token.specs.TreeWords.{Each}
-use Rattle.pddl_tree.specs.Inner.PlanReading.{plan_at, plan_from, Refuses}
-use Rattle.pddl_tree.specs.Inner.StepWords.{AreBuilt, AreStepWords, ReadsTo, HasMoved}
-use Rattle.pddl_tree.proofs.BuiltSteps.{some_timed, plan_is_timed}
-use Rattle.pddl_tree.proofs.StepsRead.{same_steps}
-use Rattle.pddl_tree.proofs.PlanLaws.{plan_through}
+use Rattle.pddl_step_reader.specs.Inner.PlanReading.{plan_at, plan_from, Refuses}
+use Rattle.pddl_step_reader.specs.Inner.StepWords.{AreBuilt, AreStepWords, ReadsTo, HasMoved}
+use Rattle.pddl_step_reader.proofs.BuiltSteps.{some_timed, plan_is_timed}
+use Rattle.pddl_step_reader.proofs.StepsRead.{same_steps}
+use Rattle.pddl_step_reader.proofs.PlanLaws.{plan_through}
 use Rattle.pddl_plan_reader.proofs.PlanTextLaws.{one_plan, no_fault_in_plan, read_spells, refused_stands}
 
 -- what was read of a text: words of whole steps, and the others

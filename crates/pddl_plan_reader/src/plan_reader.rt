@@ -5,17 +5,17 @@ ghost use Rattle.pddl_scan.specs.declared.fault.TextFault.TheVariants.{Memory, T
 ghost use Rattle.pddl_token.specs.Spelling.{PlacedWord, Spells};
 ghost use Rattle.pddl_scan.specs.Faults.{AreValued, Stands};
 ghost use Rattle.pddl_text.specs.StandsFor.{IsGoing};
-ghost use Rattle.pddl_tree.specs.declared.fault.ReadFault.{ReadFault};
-ghost use Rattle.pddl_tree.specs.declared.fault.ReadFault.TheVariants.{Text};
+ghost use Rattle.pddl_step_reader.specs.declared.fault.ReadFault.{ReadFault};
+ghost use Rattle.pddl_step_reader.specs.declared.fault.ReadFault.TheVariants.{Text};
 ghost use Rattle.pddl_plan.specs.Plans.{PlanValue, plan_view, built_plan};
-ghost use Rattle.pddl_tree.specs.PlanTexts.{SpellsPlan, PlanStands, without_near};
-ghost use Rattle.pddl_tree.specs.Places.{fault_place};
-ghost use Rattle.pddl_tree.specs.Inner.StepWords.{AreStepWords, ReadsTo};
+ghost use Rattle.pddl_step_reader.specs.PlanTexts.{SpellsPlan, PlanStands, without_near};
+ghost use Rattle.pddl_step_reader.specs.Places.{fault_place};
+ghost use Rattle.pddl_step_reader.specs.Inner.StepWords.{AreStepWords, ReadsTo};
 
 use pddl_plan::{Plan, PlanBuilder};
 use pddl_scan::{LONGEST, TextFault, WordList};
 use pddl_text::{PlanLexer, lists};
-use pddl_tree::{Place, ReadFault, add_steps, read_on};
+use pddl_step_reader::{Place, ReadFault, add_steps, read_on};
 use std::alloc::Allocator;
 
 /// The plan that a text spells which comes in pieces: what [`read_plan`] answers for the whole, however it is cut.

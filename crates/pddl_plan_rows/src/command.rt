@@ -1,7 +1,7 @@
 //! What rows of plans run.
 
-use pddl_commands::{Outcome, RunFault};
 use pddl_fakes::FakeSink;
+use pddl_file_lines::{Outcome, RunFault};
 use pddl_plan_commands::{check, serial, serial_groups};
 use pddl_plan_listing::{Asked, Listed, Made, OfPlan, Stored, list};
 use pddl_row_driver::{Files, Memory, Sources};

@@ -1,12 +1,12 @@
 //! Faults of texts.
 
 use crate::lines::Lines;
-use pddl_commands::Outcome;
 use pddl_faults::LinkFault;
 use pddl_file::FileFault;
+use pddl_file_lines::Outcome;
 use pddl_scan::TextFault;
 use pddl_token::Span;
-use pddl_tree::ReadFault;
+use pddl_step_reader::ReadFault;
 use std::alloc::Allocator;
 
 /// Adds the line of a fault.

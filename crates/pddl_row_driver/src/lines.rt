@@ -1,8 +1,8 @@
 //! Lines of words that are separated by blanks.
 
 use crate::row::Memory;
-use pddl_commands::{Outcome, RunFault};
 use pddl_device::{Sink, write_text};
+use pddl_file_lines::{Outcome, RunFault};
 use pddl_token::Span;
 use std::alloc::{AllocError, Allocator};
 use std::fmt::{Debug, Display};

@@ -2,7 +2,7 @@
 
 use crate::row::Row;
 use crate::trouble::Trouble;
-use pddl_commands::{Outcome, RunFault};
+use pddl_file_lines::{Outcome, RunFault};
 use std::str;
 
 /// The most bytes of a text that are shown.

@@ -2,8 +2,8 @@
 
 use crate::running::Sources;
 use crate::spelled::begun;
-use pddl_commands::{Outcome, RunFault};
 use pddl_fakes::{FakeSink, Refusing};
+use pddl_file_lines::{Outcome, RunFault};
 use std::alloc::Global;
 
 /// Memory of which a growth may be refused.

@@ -3,8 +3,8 @@
 use crate::report::{report, report_given};
 use crate::row::{Command, Files, Memory, Row};
 use crate::trouble::{Setting, Trouble};
-use pddl_commands::{Outcome, RunFault, status};
 use pddl_fakes::{FakeSink, FakeSource, Refusing};
+use pddl_file_lines::{Outcome, RunFault, status};
 use std::alloc::Global;
 
 /// What a run shows.

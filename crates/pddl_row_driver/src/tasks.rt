@@ -3,12 +3,12 @@
 use crate::faults::{add_file_fault, add_link_fault};
 use crate::lines::Lines;
 use crate::row::Files;
-use pddl_commands::{Outcome, let_go_domain, let_go_problem, let_go_task};
-use pddl_domain::Domain;
+use pddl_domain::{Domain, let_go_domain};
 use pddl_domain_reader::read_domain;
+use pddl_file_lines::Outcome;
 use pddl_link::link;
-use pddl_linked_task::Task;
-use pddl_problem::Problem;
+use pddl_linked_task::{Task, let_go_task};
+use pddl_problem::{Problem, let_go_problem};
 use pddl_problem_reader::read_problem;
 use std::alloc::Allocator;
 

@@ -2,8 +2,10 @@
 
 use crate::layouts::{Layout, write_file, write_read};
 use crate::listing::{Value, list};
-use pddl_commands::{Kind, Outcome, RunFault, check_domain_file, check_problem_file, format};
+use pddl_commands::{check_domain_file, check_problem_file, format};
 use pddl_fakes::FakeSink;
+use pddl_file_lines::{Outcome, RunFault};
+use pddl_kind::Kind;
 use pddl_row_driver::{Files, Memory, Sources};
 use std::alloc::Global;
 

@@ -1,11 +1,14 @@
 //! Files that are read and written, and their canonical texts, by the calls below `format`.
 
-use pddl_commands::{Kind, Outcome, RunFault, let_go_domain, let_go_plan, let_go_problem};
 use pddl_device::{Sink, Source, SourceFault, WriteFault, read_all, write_text};
+use pddl_domain::let_go_domain;
 use pddl_domain_reader::read_domain;
 use pddl_file_layout::{domain_text, problem_text, write_domain, write_problem};
+use pddl_file_lines::{Outcome, RunFault, let_go_plan};
+use pddl_kind::Kind;
 use pddl_layout::{plan_text, write_plan};
 use pddl_plan_reader::read_plan;
+use pddl_problem::let_go_problem;
 use pddl_problem_reader::read_problem;
 use pddl_row_driver::text_of;
 use std::alloc::{AllocError, Allocator};

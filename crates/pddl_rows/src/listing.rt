@@ -11,8 +11,9 @@ mod values;
 mod words;
 
 use crate::command::Listing;
-use pddl_commands::{Kind, Outcome, RunFault};
 use pddl_device::Sink;
+use pddl_file_lines::{Outcome, RunFault};
+use pddl_kind::Kind;
 use pddl_row_driver::{Files, Lines, Memory, add_task, write_lines};
 use std::alloc::Allocator;
 pub use values::Value;

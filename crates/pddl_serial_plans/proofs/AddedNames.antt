@@ -5,7 +5,7 @@ use Rattle.std.specs.Result.{result_and}
 use Rattle.std.proofs.lemmas.List.{append-nil, length-append, length-map}
 use Rattle.pddl_plan.specs.Building.{Building, with_names}
 use Rattle.pddl_plan.specs.Plans.{StepValue, TimedValue, plain, timed, step_of_names, at_moments, plan_of, built_plan, timed_built}
-use Rattle.pddl_tree.specs.Inner.StepNames.{names_of_step}
+use Rattle.pddl_step_reader.specs.Inner.StepNames.{names_of_step}
 use Rattle.pddl_task.specs.Tasks.{TaskValue}
 use Rattle.pddl_linked_plan.specs.LinkedSteps.{LinkedStepValue}
 use Rattle.pddl_serial_plans.specs.NewSteps.{timed_step, timed_plan}

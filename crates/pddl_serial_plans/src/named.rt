@@ -3,7 +3,7 @@
 ghost use Rattle.std.specs.Prelude.{◌≡◌, ◌<◌, ◌≤◌, ◌*◌, All, map, length, OnOk};
 ghost use Rattle.pddl_plan.specs.Building.{nothing_built, with_names};
 ghost use Rattle.pddl_plan.specs.Plans.{built_plan};
-ghost use Rattle.pddl_tree.specs.Inner.StepNames.{names_of_step};
+ghost use Rattle.pddl_step_reader.specs.Inner.StepNames.{names_of_step};
 ghost use Rattle.pddl_task.specs.Tasks.{object_names};
 ghost use Rattle.pddl_linked_task.specs.LinkedTasks.{task_of_files};
 ghost use Rattle.pddl_linked_plan.specs.LinkedSteps.{AreLinkedSteps};

@@ -11,10 +11,10 @@ ghost use Rattle.clap.specs.declared.error.kind.ErrorKind.TheVariants.{DisplayHe
 mod input;
 
 use input::{Opened, open};
-use pddl_commands::{
-    Kind, Outcome, RunFault, check_domain_file, check_problem_file, format, status,
-};
+use pddl_commands::{check_domain_file, check_problem_file, format};
 use pddl_device::{FromRead, Sink, Source, ToWrite};
+use pddl_file_lines::{Outcome, RunFault, status};
+use pddl_kind::Kind;
 use pddl_plan_commands::{Order, check, serial, serial_groups};
 use pddl_words::{Job, parse_words, words_status};
 use std::alloc::Allocator;

@@ -12,8 +12,8 @@ use Rattle.pddl_meaning.specs.Worlds.{Atoms}
 use Rattle.pddl_linked_plan.specs.LinkedSteps.{LinkedStepValue}
 use Rattle.pddl_linked_plan.specs.NumberedAtoms.{named_atom}
 use Rattle.pddl_serial_plans.specs.NewPlans.{IsAcceptedOf}
-use Rattle.pddl_commands.specs.declared.outcome.Outcome.{Outcome}
-use Rattle.pddl_commands.specs.declared.outcome.Outcome.TheVariants.{Good, Invalid}
+use Rattle.pddl_file_lines.specs.declared.outcome.Outcome.{Outcome}
+use Rattle.pddl_file_lines.specs.declared.outcome.Outcome.TheVariants.{Good, Invalid}
 use Rattle.pddl_plan_commands.specs.Printings.{Printing}
 use Rattle.pddl_plan_commands.specs.PlanChecks.{Failure, unready, interference, off_goal, failure_line}
 

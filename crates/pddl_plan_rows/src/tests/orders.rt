@@ -1,7 +1,7 @@
 //! A thousand plans, each run in a random order of its steps within each moment: all end as the plans do.
 
-use pddl_commands::Outcome;
 use pddl_fakes::FakeSink;
+use pddl_file_lines::Outcome;
 use pddl_plan_listing::{Listed, OfPlan, Stored, list};
 use pddl_row_driver::{Files, Memory};
 use std::alloc::{AllocError, Global};

@@ -2,7 +2,7 @@
 
 use super::numbers::past_objects;
 use crate::command::Asked;
-use pddl_commands::Outcome;
+use pddl_file_lines::Outcome;
 use pddl_formula::{TypeName, TypeNames};
 use pddl_linked_task::Task;
 use pddl_row_driver::{Lines, text_of};

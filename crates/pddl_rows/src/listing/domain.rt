@@ -1,9 +1,11 @@
 //! Domains.
 
 use super::types::{add_typed, add_types};
-use pddl_commands::{Outcome, let_go_domain};
-use pddl_domain::{Action, DeclaredFunction, DeclaredPredicate, DeclaredType, Domain};
+use pddl_domain::{
+    Action, DeclaredFunction, DeclaredPredicate, DeclaredType, Domain, let_go_domain,
+};
 use pddl_domain_reader::read_domain;
+use pddl_file_lines::Outcome;
 use pddl_row_driver::{Lines, add_file_fault};
 use pddl_token::Name;
 use std::alloc::Allocator;

@@ -1,6 +1,6 @@
 //! The numbers of what a task names.
 
-use pddl_commands::Outcome;
+use pddl_file_lines::Outcome;
 use pddl_linked_task::Task;
 use pddl_row_driver::Lines;
 use std::alloc::Allocator;

@@ -1,11 +1,11 @@
 //! Plans.
 
-use pddl_commands::{Outcome, let_go_plan};
+use pddl_file_lines::{Outcome, let_go_plan};
 use pddl_plan::{Plan, Step};
 use pddl_plan_reader::{PlanReader, read_plan};
 use pddl_row_driver::{Lines, add_read_fault};
 use pddl_scan::TextFault;
-use pddl_tree::ReadFault;
+use pddl_step_reader::ReadFault;
 use std::alloc::Allocator;
 
 /// Adds the names of a step to the line.

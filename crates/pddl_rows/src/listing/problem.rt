@@ -2,8 +2,8 @@
 
 use super::domain::{add_name, add_requirements};
 use super::types::add_typed;
-use pddl_commands::{Outcome, let_go_problem};
-use pddl_problem::{Direction, InitItem, Metric, Problem};
+use pddl_file_lines::Outcome;
+use pddl_problem::{Direction, InitItem, Metric, Problem, let_go_problem};
 use pddl_problem_reader::read_problem;
 use pddl_row_driver::{Lines, add_file_fault};
 use pddl_token::Name;

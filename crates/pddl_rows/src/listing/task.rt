@@ -3,7 +3,7 @@
 use super::answers::add_answers;
 use super::numbers::add_numbers;
 use crate::command::Listed;
-use pddl_commands::Outcome;
+use pddl_file_lines::Outcome;
 use pddl_linked_task::Task;
 use pddl_row_driver::{Files, Lines, OfTask};
 use std::alloc::Allocator;

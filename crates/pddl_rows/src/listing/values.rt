@@ -1,6 +1,6 @@
 //! Numbers, places and names.
 
-use pddl_commands::Outcome;
+use pddl_file_lines::Outcome;
 use pddl_row_driver::{Lines, text_of};
 use pddl_text::{Pos, position};
 use pddl_token::{Fixed, Name, value_of};

@@ -1,6 +1,6 @@
 //! Words and items of texts.
 
-use pddl_commands::Outcome;
+use pddl_file_lines::Outcome;
 use pddl_row_driver::{Lines, add_text_fault};
 use pddl_scan::TextFault;
 use pddl_items::Item;

@@ -5,7 +5,7 @@ use pddl_plan::Plan;
 use pddl_plan_reader::{PlanReader, read_plan};
 use pddl_scan::{LONGEST, TextFault};
 use pddl_text::PlanLexer;
-use pddl_tree::ReadFault;
+use pddl_step_reader::ReadFault;
 use std::alloc::{Allocator, Global};
 use std::test::Fail;
 

@@ -1,5 +1,5 @@
 use Rattle.std.specs.Prelude.{codes}
-use Rattle.pddl_commands.proofs.FaultLines.{five_pieces}
+use Rattle.pddl_file_lines.proofs.FaultLines.{five_pieces}
 use Rattle.pddl_commands.proofs.checked.good_line.Goals as goal
 
 pub returns : goal.returns

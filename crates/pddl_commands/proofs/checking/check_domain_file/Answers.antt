@@ -1,7 +1,7 @@
 use Rattle.std.proofs.Common.{subst, refl, rules}
 use Rattle.std.specs.Io.KnownBytes.{Appends}
 use Rattle.pddl_device.specs.Device.{AppendsBeginning}
-use Rattle.pddl_commands.proofs.Left.{keeps_itself}
+use Rattle.pddl_file_lines.proofs.Left.{keeps_itself}
 use Rattle.pddl_commands.proofs.checking.check_domain_file.Goals as goal
 
 pub returns-in_err-printed-clause-memory : goal.returns-in_err-printed-clause-memory

@@ -1,7 +1,7 @@
 use Rattle.std.proofs.Common.{◌≡◌, ℕ, List, ◌++◌, length, sym, ap, subst, ◌∙◌, arith}
 use Rattle.std.specs.Prelude.{Some}
 use Rattle.pddl_plan.specs.Plans.{plan_view}
-use Rattle.pddl_tree.specs.PlanTexts.{SpellsPlan}
+use Rattle.pddl_step_reader.specs.PlanTexts.{SpellsPlan}
 use Rattle.pddl_layout.specs.PlanLayout.{plan_text}
 use Rattle.pddl_layout.proofs.PlanPieces.{plan_reads_back}
 use Rattle.pddl_layout.proofs.plan.plan_text.Goals as goal

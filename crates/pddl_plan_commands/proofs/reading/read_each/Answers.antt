@@ -3,11 +3,11 @@ use Rattle.std.proofs.lemmas.Result.{IfOk-weaker, on_ok_weaker}
 use Rattle.pddl_domain.specs.Domains.{domain_view}
 use Rattle.pddl_domain_reader.specs.DomainTexts.{SpellsDomain, DomainStands}
 use Rattle.pddl_kind.specs.declared.Kind.TheVariants.{Domain}
-use Rattle.pddl_commands.specs.declared.outcome.RunFault.TheVariants.{ReadFailed, WriteFailed}
-use Rattle.pddl_commands.specs.Contents.{IsContent}
-use Rattle.pddl_commands.specs.Formats.{IsRefused}
-use Rattle.pddl_commands.proofs.Left.{some_left, no_domain_left, stands_still}
-use Rattle.pddl_commands.proofs.Made.{if_made, only_memory, on_any}
+use Rattle.pddl_file_lines.specs.declared.outcome.RunFault.TheVariants.{ReadFailed, WriteFailed}
+use Rattle.pddl_file_lines.specs.Contents.{IsContent}
+use Rattle.pddl_file_lines.specs.Refusals.{IsRefused}
+use Rattle.pddl_file_lines.proofs.Left.{some_left, no_domain_left, stands_still}
+use Rattle.pddl_file_lines.proofs.Made.{if_made, only_memory, on_any}
 use Rattle.pddl_plan_commands.proofs.reading.read_each.Goals as goal
 
 pub refused_domain-requires : goal.refused_domain-requires

@@ -1,8 +1,8 @@
 use Rattle.std.proofs.Common.{subst, inl, inr}
 use Rattle.pddl_plan.specs.Plans.{plan_view}
-use Rattle.pddl_commands.specs.declared.outcome.RunFault.TheVariants.{ReadFailed, WriteFailed}
-use Rattle.pddl_commands.specs.Contents.{IsPlanContent}
-use Rattle.pddl_commands.proofs.Made.{if_made, only_memory, on_any}
+use Rattle.pddl_file_lines.specs.declared.outcome.RunFault.TheVariants.{ReadFailed, WriteFailed}
+use Rattle.pddl_file_lines.specs.Contents.{IsPlanContent}
+use Rattle.pddl_file_lines.proofs.Made.{if_made, only_memory, on_any}
 use Rattle.pddl_plan_commands.proofs.reading.read_plan_checked.Goals as goal
 
 pub returns-in-Plan : goal.returns-in-Plan

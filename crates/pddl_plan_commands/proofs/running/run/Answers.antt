@@ -2,7 +2,7 @@ use Rattle.std.proofs.Common.{refl, rules, subst}
 use Rattle.std.specs.Io.KnownBytes.{Appends}
 use Rattle.pddl_device.specs.Device.{AppendsBeginning}
 use Rattle.pddl_plan_commands.specs.Inner.WantedPrintings.{printing_of}
-use Rattle.pddl_commands.proofs.Left.{keeps_itself}
+use Rattle.pddl_file_lines.proofs.Left.{keeps_itself}
 use Rattle.pddl_plan_commands.proofs.Runs.{is_text}
 use Rattle.pddl_plan_commands.proofs.running.run.Goals as goal
 

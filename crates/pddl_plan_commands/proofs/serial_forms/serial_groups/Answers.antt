@@ -1,8 +1,8 @@
 use Rattle.std.proofs.Common.{◌≡◌, ℕ, subst}
 use Rattle.std.specs.Prelude.{Result, MatchOption}
 use Rattle.std.specs.Int.NonZero.{non_zero_u32_get}
-use Rattle.pddl_commands.specs.declared.outcome.Outcome.{Outcome}
-use Rattle.pddl_commands.specs.declared.outcome.RunFault.{RunFault}
+use Rattle.pddl_file_lines.specs.declared.outcome.Outcome.{Outcome}
+use Rattle.pddl_file_lines.specs.declared.outcome.RunFault.{RunFault}
 use Rattle.pddl_serial.specs.declared.turns.Order.{Order}
 use Rattle.pddl_plan_commands.specs.Printings.{IsSplitText}
 use Rattle.pddl_plan_commands.specs.Runs.{Readers, Writer, IsRun}

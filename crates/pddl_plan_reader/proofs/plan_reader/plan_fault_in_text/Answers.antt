@@ -1,4 +1,4 @@
-use Rattle.pddl_tree.proofs.FaultPlaces as places
+use Rattle.pddl_step_reader.proofs.FaultPlaces as places
 use Rattle.pddl_plan_reader.proofs.plan_reader.plan_fault_in_text.Goals as goal
 
 pub returns : goal.returns

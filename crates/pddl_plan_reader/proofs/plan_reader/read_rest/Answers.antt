@@ -4,8 +4,8 @@ use Rattle.pddl_token.specs.Spelling.{PlacedWord, view}
 use Rattle.pddl_items.specs.Items.{items_view}
 use Rattle.pddl_text.specs.Lists.{AreItems, ListStands}
 use Rattle.pddl_plan.specs.Plans.{built_plan}
-use Rattle.pddl_tree.specs.Inner.PlanReading.{plan_from, Refuses}
-use Rattle.pddl_tree.proofs.StepsRead.{no_elements}
+use Rattle.pddl_step_reader.specs.Inner.PlanReading.{plan_from, Refuses}
+use Rattle.pddl_step_reader.proofs.StepsRead.{no_elements}
 use Rattle.pddl_plan_reader.proofs.RestRead.{IsReadTo, none_left, list_stands, left_read, rest_spells, rest_stands, ok_with, err_with}
 use Rattle.pddl_plan_reader.proofs.plan_reader.read_rest.Goals as goal
 

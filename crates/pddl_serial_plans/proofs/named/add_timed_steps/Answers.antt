@@ -2,7 +2,7 @@ use Rattle.std.proofs.Common.{length, map, sym, ap, ap₂, ◌∙◌, arith}
 use Rattle.std.proofs.lemmas.List.{take_all}
 use Rattle.pddl_plan.specs.Building.{Building}
 use Rattle.pddl_plan.specs.Plans.{TimedValue, step_of_names, timed_built}
-use Rattle.pddl_tree.proofs.BuiltSteps.{moment_pushed, moments_pushed}
+use Rattle.pddl_step_reader.proofs.BuiltSteps.{moment_pushed, moments_pushed}
 use Rattle.pddl_linked_task.specs.LinkedTasks.{task_of_files}
 use Rattle.pddl_linked_plan.specs.LinkedLaws.{named_step}
 use Rattle.pddl_linked_plan.specs.StepParts.{lent_step}

@@ -2,7 +2,7 @@ use Rattle.std.proofs.Common.{◌++◌, subst, arith}
 use Rattle.std.specs.Prelude.{IfErr}
 use Rattle.pddl_text.proofs.AllGiven.{none_since}
 use Rattle.pddl_plan.specs.Plans.{plan_view}
-use Rattle.pddl_tree.specs.PlanTexts.{PlanStands}
+use Rattle.pddl_step_reader.specs.PlanTexts.{PlanStands}
 use Rattle.pddl_plan_reader.proofs.RestRead.{answers_only, err_with}
 use Rattle.pddl_plan_reader.proofs.plan_reader.PlanReader+ref+B.finish.Goals as goal
 
