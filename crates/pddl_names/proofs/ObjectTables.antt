@@ -1,12 +1,12 @@
 -- Names with their types, one after another, beside a table of each at its first place.
-use Rattle.std.proofs.Common.{◌≡◌, ℕ, ◌+◌, ◌<◌, Bool, true, false, ◌&&◌, ◌||◌, not, cond, List, [], ◌∷◌, ◌++◌, map, filter, length, get_or, take, drop, Option, Some, None, refl, ap, sym, ◌∙◌, subst, true≢false, bytes_eq, if◌then◌else◌}
+use Rattle.std.proofs.Common.{◌≡◌, ℕ, ◌+◌, ◌<◌, ◌≤◌, Bool, true, false, ◌&&◌, ◌||◌, not, cond, List, [], ◌∷◌, ◌++◌, map, filter, length, get_or, take, drop, Option, Some, None, refl, ap, sym, ◌∙◌, subst, true≢false, bytes_eq, if◌then◌else◌}
 use Rattle.std.specs.Prelude.{Contains, unwrap_or, option_map, is_some}
 use Rattle.std.specs.Borrow.{Bor}
 use Rattle.std.specs.Cmp.Lexicographic.{bytes_decides, pointwise_decides, nat_list_eq_equiv}
 use Rattle.std.specs.List.{list_any}
 use Rattle.std.specs.Map.{lookup}
 use Rattle.std.proofs.Math.Seq.{take-append_seam}
-use Rattle.std.proofs.lemmas.List.{append_assoc}
+use Rattle.std.proofs.lemmas.List.{append_assoc, drop_all, take_all}
 use Rattle.std.proofs.lemmas.List.Elements.{filter-append}
 use Rattle.indexmap.specs.IndexMap.{insert_entry}
 use Rattle.pddl_formula.specs.TypedLists.{TypedValue, typed_view}
@@ -293,3 +293,11 @@ module _ {A : Type 0} (before : List TypedValue) (xs : List (Typed A)) (i : ℕ)
         rest = seen_good typed_view (λ y. y.item) (λ s y. list_any (clash y) s) retyped (λ s y ys. refl) before xs i x (retyped before (map typed_view xs)) h at l.rest
             (told seen (typed_view x) l.told ∙ agrees);
       }
+
+-- all of them
+pub listed_all : {A : Type 0} (before : List TypedValue) (xs : List (Typed A)) (i : ℕ) (es : List TypedValue) → length xs ≤ i → ListedUpTo before xs i es
+    → (retyped before (map typed_view xs) ≡ []) × (es ≡ firsts (before ++ map typed_view xs))
+listed_all before xs i es past l = (
+  sym l.rest ∙ ap (λ ys. retyped (seen_at typed_view before xs i) (map typed_view ys)) (drop_all i xs past),
+  l.kept ∙ ap (λ ys. firsts (before ++ map typed_view ys)) (take_all i xs past),
+)

@@ -1,6 +1,6 @@
 //! What is declared and bound: types that are not known, names that stand twice, and objects with several types.
 
-ghost use Rattle.std.specs.Prelude.{[], map};
+ghost use Rattle.std.specs.Prelude.{◌≡◌, [], map};
 ghost use Rattle.std.specs.List.{flat_map};
 ghost use Rattle.pddl_domain.specs.Actions.{action_view};
 ghost use Rattle.pddl_domain.specs.Domains.{domain_view};
@@ -47,15 +47,16 @@ fn look_at_types<'m, 'a, A: Allocator, B: Allocator>(
     lower(constants, lower(predicates, functions))
 }
 
-/// The lowest fault of actions: names that stand twice, and what is bound in them.
-fn look_at_actions<'m, 'a, A: Allocator, B: Allocator>(
+/// The lowest fault of actions: names that stand twice, and what is bound in them. Their names are put into an empty set.
+fn look_at_each<'m, 'a, A: Allocator, B: Allocator>(
     alloc: &'a B,
     types: &Types<'m, 'a, A, B>,
+    seen: &mut IndexSet<&'m [u8], Hashed, &'a B>,
     actions: &'m [Action<A>],
 ) -> Result<(), LinkFault<'m>>
+    requires { seen.old.keys ≡ [] }
     ensures { IsFound (action_faults types.now.declared [] (map action_view actions.now)) result }
 {
-    let mut seen: IndexSet<&'m [u8], Hashed, &'a B> = IndexSet::new(alloc);
     let mut found = Ok(());
     for action in actions {
         let name = action.name.as_bytes();
@@ -64,6 +65,18 @@ fn look_at_actions<'m, 'a, A: Allocator, B: Allocator>(
         found = lower(found, lower(once(is_new, name), bound));
     }
     found
+}
+
+/// The lowest fault of actions.
+fn look_at_actions<'m, 'a, A: Allocator, B: Allocator>(
+    alloc: &'a B,
+    types: &Types<'m, 'a, A, B>,
+    actions: &'m [Action<A>],
+) -> Result<(), LinkFault<'m>>
+    ensures { IsFound (action_faults types.now.declared [] (map action_view actions.now)) result }
+{
+    let mut seen = IndexSet::new(alloc);
+    look_at_each(alloc, types, &mut seen, actions)
 }
 
 /// The lowest fault of types and names in a domain, but for constants with two types.

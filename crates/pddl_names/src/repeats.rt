@@ -55,14 +55,14 @@ impl<A: Allocator> Named for Typed<A> {
     }
 }
 
-/// The first of these names that stands before it too.
-fn first_repeat<'d, 'a, N: Named, B: Allocator>(
-    alloc: &'a B,
+/// The first of these names that stands before it too; each is put into an empty set.
+fn repeat_among<'d, 'a, N: Named, B: Allocator>(
+    seen: &mut IndexSet<&'d [u8], Hashed, &'a B>,
     items: &'d [N],
 ) -> Result<Option<&'d [u8]>, AllocError>
+    requires { seen.old.keys ≡ [] }
     ensures { IfOk result (λ found. MatchOption found (repeated [] (map N.name items.now) ≡ []) (λ word. Contains (repeated [] (map N.name items.now)) word.now)) }
 {
-    let mut seen: IndexSet<&'d [u8], Hashed, &'a B> = IndexSet::new(alloc);
     for item in items {
         let name = item.text();
         let (_, is_new) = seen.insert_full(name)?;
@@ -71,6 +71,17 @@ fn first_repeat<'d, 'a, N: Named, B: Allocator>(
         }
     }
     Ok(None)
+}
+
+/// The first of these names that stands before it too.
+fn first_repeat<'d, 'a, N: Named, B: Allocator>(
+    alloc: &'a B,
+    items: &'d [N],
+) -> Result<Option<&'d [u8]>, AllocError>
+    ensures { IfOk result (λ found. MatchOption found (repeated [] (map N.name items.now) ≡ []) (λ word. Contains (repeated [] (map N.name items.now)) word.now)) }
+{
+    let mut seen = IndexSet::new(alloc);
+    repeat_among(&mut seen, items)
 }
 
 /// No type is declared twice.

@@ -129,9 +129,9 @@ module _ {before after : List TypedValue → List ℕ → Type 0} {found now : P
   kept_in_scope scope kept all = ∥∥₁_map all (numbered_still before after scope kept.0)
 
   -- and with them a list's that were given behind them
-  pub kept_inside : {A B : Type 0} (scope : Scope A B) (bound : BoundValue) {list : List TypedValue} {numbers : List ℕ} → IsKept before after found now → bound ≡ record { list = list; numbers = numbers } → after list numbers
-      → ∥ AllNumbered before scope ∥₁ → ∥ after bound.list bound.numbers × AllNumbered after scope ∥₁
-  kept_inside scope bound kept is are all = ∥∥₁_map all (λ outer. (subst (λ (v : BoundValue). after v.list v.numbers) (sym is) are, numbered_still before after scope kept.0 outer))
+  pub kept_inside : {A B : Type 0} (scope : Scope A B) (bound : BoundValue) → IsKept before after found now → after bound.list bound.numbers → ∥ AllNumbered before scope ∥₁
+      → ∥ after bound.list bound.numbers × AllNumbered after scope ∥₁
+  kept_inside scope bound kept are all = ∥∥₁_map all (λ outer. (are, numbered_still before after scope kept.0 outer))
 
 -- a variable in scope is one of a list whose types have these numbers
 pub record IsNumberedIn (are_numbers : List TypedValue → List ℕ → Type 0) (x : TypedValue) (number : ℕ) : Type 0 where

@@ -4,4 +4,3 @@ pub mod FileWalks
 pub mod InitClaims
 pub mod SeenItems
 pub mod Walks
-pub mod LentNames

@@ -1,6 +1,6 @@
 //! Predicates and functions of objects, as keys of tables.
 
-ghost use Rattle.std.specs.Prelude.{◌≡◌, ◌++◌, map};
+ghost use Rattle.std.specs.Prelude.{◌≡◌, ◌<◌, ◌++◌, map, length, get_or};
 ghost use Rattle.std.proofs.Common.{ap};
 ghost use Rattle.std.specs.Cmp.{partial_equiv_from_equiv};
 ghost use Rattle.std.specs.Hash as fed;
@@ -59,76 +59,57 @@ impl<'d, A: Allocator> Ground<'d, A> {
     }
 }
 
+impl<'d, A: Allocator> LentNames<'d, A> {
+    /// How many there are.
+    fn len(&self) -> usize
+        ensures { result ≡ length (names_in self.now) }
+    {
+        match self {
+            LentNames::Listed(names) => names.len(),
+            LentNames::Asked(names) => names.len(),
+        }
+    }
+
+    /// The name of a number from 0.
+    fn at(&self, number: usize) -> &'d [u8]
+        requires { number < length (names_in self.now) }
+        ensures { result.now ≡ get_or (names_in self.now) number result.now }
+    {
+        match self {
+            LentNames::Listed(names) => {
+                let names = *names;
+                names[number].as_bytes()
+            }
+            LentNames::Asked(names) => {
+                let names = *names;
+                names[number]
+            }
+        }
+    }
+}
+
 /// Whether two lists have the same names in the same order.
-fn same_names<A: Allocator>(first: &[Name<A>], second: &[Name<A>]) -> bool
-    ensures { result ≡ same_names first.now second.now }
-{
-    if first.len() != second.len() {
-        return false;
-    }
-    for i in 0..first.len() {
-        if first[i].as_bytes() != second[i].as_bytes() {
-            return false;
-        }
-    }
-    true
-}
-
-/// Whether a list has the same names in the same order as one of names by themselves.
-fn has_names<A: Allocator>(first: &[Name<A>], second: &[&[u8]]) -> bool
-    ensures { result ≡ same_names first.now (map (λ n. n.now) second.now) }
-{
-    if first.len() != second.len() {
-        return false;
-    }
-    for i in 0..first.len() {
-        if first[i].as_bytes() != second[i] {
-            return false;
-        }
-    }
-    true
-}
-
-/// Whether two lists have the same names in the same order, however they are lent.
-fn are_same<A: Allocator>(first: &LentNames<A>, second: &LentNames<A>) -> bool
+fn same_names<A: Allocator>(first: &LentNames<A>, second: &LentNames<A>) -> bool
     ensures { result ≡ same_names (names_in first.now) (names_in second.now) }
 {
-    match first {
-        LentNames::Listed(names) => match second {
-            LentNames::Listed(others) => same_names(*names, *others),
-            LentNames::Asked(others) => has_names(*names, *others),
-        },
-        LentNames::Asked(names) => match second {
-            LentNames::Listed(others) => has_names(*others, *names),
-            LentNames::Asked(others) => *names == *others,
-        },
+    if first.len() != second.len() {
+        return false;
     }
+    for i in 0..first.len() {
+        if first.at(i) != second.at(i) {
+            return false;
+        }
+    }
+    true
 }
 
 /// Feeds names to a hasher.
-fn hash_names<A: Allocator, H: Hasher>(names: &[Name<A>], state: &mut H)
-    ensures { state.new ≡ fold H.write state.old (fed.slice (fed.slice fed.u8) names.now) }
-{
-    state.write_usize(names.len());
-    for name in names {
-        name.as_bytes().hash(state);
-    }
-}
-
-/// Feeds names by themselves to a hasher, as those of a list are.
-fn hash_words<H: Hasher>(words: &[&[u8]], state: &mut H)
-    ensures { state.new ≡ fold H.write state.old (fed.slice (fed.slice fed.u8) (map (λ n. n.now) words.now)) }
-{
-    words.hash(state);
-}
-
-/// Feeds names to a hasher, however they are lent.
-fn hash_lent<A: Allocator, H: Hasher>(names: &LentNames<A>, state: &mut H)
+fn hash_names<A: Allocator, H: Hasher>(names: &LentNames<A>, state: &mut H)
     ensures { state.new ≡ fold H.write state.old (fed.slice (fed.slice fed.u8) (names_in names.now)) }
 {
-    match names {
-        LentNames::Listed(names) => hash_names(*names, state),
-        LentNames::Asked(words) => hash_words(*words, state),
+    state.write_usize(names.len());
+    for i in 0..names.len() {
+        names.at(i).hash(state);
     }
 }
 
@@ -138,7 +119,7 @@ impl<'d, A: Allocator> PartialEq for Ground<'d, A> {
     ghost laws = { partial_equiv_from_equiv ground_equiv };
 
     fn eq(&self, other: &Ground<'d, A>) -> bool {
-        self.name == other.name && are_same(&self.objects, &other.objects)
+        self.name == other.name && same_names(&self.objects, &other.objects)
     }
 }
 
@@ -153,6 +134,6 @@ impl<'d, A: Allocator> Hash for Ground<'d, A> {
 
     fn hash<H: Hasher>(&self, state: &mut H) {
         self.name.hash(state);
-        hash_lent(&self.objects, state);
+        hash_names(&self.objects, state);
     }
 }

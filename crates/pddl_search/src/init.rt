@@ -91,6 +91,25 @@ fn some_failure<A: Allocator>(init: &[InitItem<A>]) -> bool
     false
 }
 
+/// Adds what is said of atoms. None of them holds and fails.
+fn literals_agree<'d, 'a, A: Allocator, B: Allocator>(
+    said: &mut IndexMap<Ground<'d, A>, bool, Hashed, &'a B>,
+    init: &'d [InitItem<A>],
+) -> Result<(), LinkFault<'d>>
+    requires { said.old.entries ≡ [] }
+    ensures { Passes 29 (clashing contradicts [] (map init_view init.now)) result }
+{
+    for item in init {
+        if let Some((atom, holds)) = literal(item) {
+            let before = said.insert(atom, holds)?.unwrap_or(holds);
+            if holds != before {
+                return Err(LinkFault::InitContradiction(name_of(item)));
+            }
+        }
+    }
+    Ok(())
+}
+
 /// No atom holds and fails. Where no atom fails, nothing is looked up.
 pub fn contradictions<'d, 'a, A: Allocator, B: Allocator>(
     alloc: &'a B,
@@ -101,16 +120,8 @@ pub fn contradictions<'d, 'a, A: Allocator, B: Allocator>(
     if !some_failure(init) {
         return Ok(());
     }
-    let mut said: IndexMap<Ground<'d, A>, bool, Hashed, &'a B> = IndexMap::new(alloc);
-    for item in init {
-        if let Some((atom, holds)) = literal(item) {
-            let before = said.insert(atom, holds)?.unwrap_or(holds);
-            if holds != before {
-                return Err(LinkFault::InitContradiction(name_of(item)));
-            }
-        }
-    }
-    Ok(())
+    let mut said = IndexMap::new(alloc);
+    literals_agree(&mut said, init)
 }
 
 /// Adds the values of functions of objects. None of them has two, and `total-cost` starts at none but 0.

@@ -2,7 +2,7 @@
 //!
 //! Each function answers the lowest of the faults that stand in its part.
 
-ghost use Rattle.std.specs.Prelude.{◌++◌, map};
+ghost use Rattle.std.specs.Prelude.{◌≡◌, ◌++◌, map, IfOk};
 ghost use Rattle.std.specs.List.{flat_map};
 ghost use Rattle.pddl_formula.specs.Terms.{term_view, atom_view};
 ghost use Rattle.pddl_formula.specs.TypedLists.{typed_view};
@@ -21,7 +21,7 @@ use pddl_domain::Action;
 use pddl_effect::{Amount, Effect};
 use pddl_faults::{LinkFault, lower};
 use pddl_formula::{Atom, Formula, Term, TypedList};
-use std::alloc::Allocator;
+use std::alloc::{AllocError, Allocator};
 
 /// Searches an atom.
 fn search_atom<'d, A: Allocator, B: Allocator, S: Search<A, B>>(
@@ -38,7 +38,7 @@ fn search_atom<'d, A: Allocator, B: Allocator, S: Search<A, B>>(
 }
 
 /// Searches a function of terms.
-pub fn search_call<'d, A: Allocator, B: Allocator, S: Search<A, B>>(
+fn search_call<'d, A: Allocator, B: Allocator, S: Search<A, B>>(
     search: &mut S,
     scope: &Scope<A, B>,
     function: &'d [u8],
@@ -50,6 +50,21 @@ pub fn search_call<'d, A: Allocator, B: Allocator, S: Search<A, B>>(
 {
     let part = Part::Calls(function, Terms::Any(terms));
     search.look(&part, scope)
+}
+
+/// The variables of a list, with the numbers of their types.
+///
+/// Fails where memory is refused.
+fn bound_by<'d, 'a, A: Allocator, B: Allocator, S: Search<A, B>>(
+    alloc: &'a B,
+    search: &mut S,
+    list: &'d TypedList<A>,
+) -> Result<Variables<'d, 'a, A, B>, AllocError>
+    ensures kept { IsKept (S.are_numbers search.old) (S.are_numbers search.new) (S.found search.old) (S.found search.new) }
+    ensures bound { IfOk result (λ bound. (bound.list ≡ map typed_view list.now.items) × S.are_numbers search.new bound.list bound.numbers) }
+{
+    let numbers = search.numbers(alloc, list)?;
+    Variables::of(alloc, list, numbers)
 }
 
 /// Searches a formula.
@@ -98,8 +113,7 @@ fn search_quantified<'d, 'a, A: Allocator, B: Allocator, S: Search<A, B>>(
         ++ faults_in (S.found search.old) (formula_view inner.now.value) (binding (map typed_view variables.now.items) (bound_of scope.now))) result }
 {
     let own = search.look(&Part::Binds(variables), scope);
-    let numbers = search.numbers(alloc, variables)?;
-    let bound = Variables::of(alloc, variables, numbers)?;
+    let bound = bound_by(alloc, search, variables)?;
     let inside = Scope::Inside(&bound, &*scope);
     lower(own, search_formula(alloc, search, &inside, inner))
 }
@@ -186,8 +200,7 @@ fn search_each<'d, 'a, A: Allocator, B: Allocator, S: Search<A, B>>(
         ++ effect_faults (S.found search.old) (effect_view inner.now.value) (binding (map typed_view variables.now.items) (bound_of scope.now))) result }
 {
     let own = search.look(&Part::Binds(variables), scope);
-    let numbers = search.numbers(alloc, variables)?;
-    let bound = Variables::of(alloc, variables, numbers)?;
+    let bound = bound_by(alloc, search, variables)?;
     let inside = Scope::Inside(&bound, &*scope);
     lower(own, search_effect(alloc, search, &inside, inner))
 }
@@ -221,8 +234,7 @@ pub fn search_action<'d, 'a, A: Allocator, B: Allocator, S: Search<A, B>>(
     ensures found { IsFound (flat_map (S.found search.old) (action_places (action_view action.now))) result }
 {
     let own = search.look(&Part::Binds(&action.parameters), &Scope::Empty);
-    let numbers = search.numbers(alloc, &action.parameters)?;
-    let parameters = Variables::of(alloc, &action.parameters, numbers)?;
+    let parameters = bound_by(alloc, search, &action.parameters)?;
     let inside = Scope::Inside(&parameters, &Scope::Empty);
     let precondition = search_formula(alloc, search, &inside, &action.precondition);
     let effect = search_effect(alloc, search, &inside, &action.effect);

@@ -1,18 +1,19 @@
 //! One search over all places of a domain, or of a problem.
 
-ghost use Rattle.std.specs.Prelude.{map, option_map};
+ghost use Rattle.std.specs.Prelude.{[], map, option_map};
 ghost use Rattle.std.specs.List.{flat_map};
 ghost use Rattle.pddl_domain.specs.Domains.{domain_view};
 ghost use Rattle.pddl_problem.specs.Inits.{init_view, metric_view};
 ghost use Rattle.pddl_problem.specs.Problems.{problem_view};
-ghost use Rattle.pddl_task.specs.Places.{init_places, metric_places, domain_places, problem_places};
+ghost use Rattle.pddl_task.specs.Places.{at, init_places, metric_places, domain_places, problem_places};
 ghost use Rattle.pddl_faults.specs.Found.{IsFound};
+ghost use Rattle.pddl_search.specs.Parts.{part_in};
 ghost use Rattle.pddl_search.specs.Scopes.{IsKept};
 
 use crate::part::{Part, Terms};
 use crate::passes::is_taken;
 use crate::scope::{Scope, Search};
-use crate::search::{search_action, search_call, search_formula};
+use crate::search::{search_action, search_formula};
 use pddl_domain::Domain;
 use pddl_faults::{LinkFault, lower};
 use pddl_problem::{InitItem, Metric, Problem};
@@ -34,26 +35,39 @@ pub fn search_domain<'d, 'a, A: Allocator, B: Allocator, S: Search<A, B>>(
     found
 }
 
+/// The lowest of the faults that stand at a place outside all quantifiers.
+fn look_outside<'d, 'a, A: Allocator, B: Allocator + 'a, S: Search<A, B>>(
+    search: &mut S,
+    part: &Part<'d, A>,
+) -> Result<(), LinkFault<'d>>
+    ensures kept { IsKept (S.are_numbers search.old) (S.are_numbers search.new) (S.found search.old) (S.found search.new) }
+    ensures found { IsFound (S.found search.old (at [] (part_in part.now))) result }
+{
+    let outside: Scope<'_, 'd, 'a, A, B> = Scope::Empty;
+    search.look(part, &outside)
+}
+
 /// Searches an item of `:init`; a literal that fails is looked at like one that holds.
-fn search_item<'d, 'a, A: Allocator, B: Allocator + 'a, S: Search<A, B>>(
+fn search_item<'d, A: Allocator, B: Allocator, S: Search<A, B>>(
     search: &mut S,
     item: &'d InitItem<A>,
 ) -> Result<(), LinkFault<'d>>
     ensures kept { IsKept (S.are_numbers search.old) (S.are_numbers search.new) (S.found search.old) (S.found search.new) }
     ensures found { IsFound (flat_map (S.found search.old) (init_places (init_view item.now))) result }
 {
-    let outside: Scope<'_, 'd, 'a, A, B> = Scope::Empty;
     match item {
         InitItem::Holds(fact) | InitItem::Fails(fact) => {
             let says = Part::Says(fact.predicate.as_bytes(), Terms::Objects(&fact.objects));
-            search.look(&says, &outside)
+            look_outside(search, &says)
         }
         InitItem::Value(call, amount) => {
             let function = call.function.as_bytes();
             let calls = Part::Calls(function, Terms::Objects(&call.objects));
-            let called = search.look(&calls, &outside);
-            let counts = Part::Counts(function, *amount);
-            lower(called, search.look(&counts, &outside))
+            let called = look_outside(search, &calls);
+            lower(
+                called,
+                look_outside(search, &Part::Counts(function, *amount)),
+            )
         }
     }
 }
@@ -74,7 +88,7 @@ fn search_init<'d, A: Allocator, B: Allocator, S: Search<A, B>>(
 }
 
 /// Searches a metric; nothing is looked for in one that is not taken.
-fn search_metric<'d, 'a, A: Allocator, B: Allocator + 'a, S: Search<A, B>>(
+fn search_metric<'d, A: Allocator, B: Allocator, S: Search<A, B>>(
     search: &mut S,
     metric: &'d Option<Metric<A>>,
 ) -> Result<(), LinkFault<'d>>
@@ -85,8 +99,8 @@ fn search_metric<'d, 'a, A: Allocator, B: Allocator + 'a, S: Search<A, B>>(
         None => Ok(()),
         Some(metric) => {
             if is_taken(metric) {
-                let outside: Scope<'_, 'd, 'a, A, B> = Scope::Empty;
-                search_call(search, &outside, b"total-cost".as_slice(), &[])
+                let calls = Part::Calls(b"total-cost".as_slice(), Terms::Any(&[]));
+                look_outside(search, &calls)
             } else {
                 Ok(())
             }

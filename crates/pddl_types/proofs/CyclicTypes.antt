@@ -167,9 +167,9 @@ module _ {X : Type 0} (view : X → TypeValue) (xs : List X) (rows : List Row) (
       cc
 
   -- and is above itself where its place lies on a way round
-  pub told_at : (qs : List ℕ) (place : ℕ) (told : Bool) → qs ≡ parents_in rows → position (λ k. bytes_eq q.now k.now) (keys_of rows) ≡ Some place → IsTrue told ↔ IsOnRound qs place → is_cyclic (pairs (map view xs)) (view x).item ≡ told
+  pub told_at : (qs : List ℕ) (place : ℕ) (told : Bool) → qs ≡ parents_in rows → Some place ≡ position (λ k. bytes_eq q.now k.now) (keys_of rows) → IsTrue told ↔ IsOnRound qs place → is_cyclic (pairs (map view xs)) (view x).item ≡ told
   told_at qs place told same at tells =
-      let found = found_place rows q place at in
+      let found = found_place rows q place (sym at) in
       told_cyclic (map view xs) rows h (view x) place told declares found.0 (found.1 ∙ named) (subst (λ rs. IsTrue told ↔ IsOnRound rs place) same tells)
 
 -- those that pass a test, of what is left of a list

@@ -2,7 +2,7 @@
 use Rattle.std.proofs.Common.{◌≡◌, ℕ, ◌+◌, ◌-◌, ◌<◌, ◌≤◌, List, [], ◌∷◌, ◌++◌, map, length, take, drop, refl, sym, ap, ◌∙◌, subst, arith}
 use Rattle.std.specs.Prelude.{All, Some, slice_get}
 use Rattle.std.specs.List.{slice_index_or}
-use Rattle.std.proofs.lemmas.List.{length-append, length-drop, take_all, take-append-le, drop-append-le, map-append, get_or_append_left}
+use Rattle.std.proofs.lemmas.List.{length-append, length-map, length-drop, take_all, drop_all, take-append-le, drop-append-le, map-append, get_or_append_left, get_or_push}
 use Rattle.std.proofs.lemmas.List.Elements.{All-head, All-tail}
 use Rattle.std.proofs.lemmas.Option.{slice_get_within, get_or_from_slice_get}
 use Rattle.pddl_forest.specs.declared.spans.Span.{Span}
@@ -55,6 +55,22 @@ runs_kept items after more runs now new before are longer is told =
     let all : map (run_of after) now ≡ before ++ last =
     ap (map (run_of after)) is ∙ map-append (run_of after) runs new ∙ ap (λ xs. map (run_of xs) runs ++ last) longer ∙ ap (λ rs. rs ++ last) (runs_stay items more runs are ∙ told) in
     subst (AreKept before) (sym all) (λ k low. (omega (arith, length-append before last, low), get_or_append_left before last [] k low))
+
+-- what was put there is told by a run behind all others
+pub run_told : (items after more : List Span) (runs now : List (ℕ × ℕ)) (r : ℕ × ℕ) (number : ℕ) → after ≡ items ++ more → now ≡ runs ++ r ∷ [] → r.0 ≡ length items → r.1 ≡ length after → number ≡ length runs
+    → (number < length (map (run_of after) now)) × (slice_index_or (map (run_of after) now) number [] ≡ more)
+run_told items after more runs now r number longer is start end last =
+    let before = map (run_of after) runs in
+    let all : map (run_of after) now ≡ before ++ run_of after r ∷ [] = ap (map (run_of after)) is ∙ map-append (run_of after) runs (r ∷ []) in
+    let many : length before ≡ number = length-map runs (run_of after) ∙ sym last in
+    let rest : drop r.0 after ≡ more =
+    ap (λ n. drop n after) start ∙ ap (drop (length items)) longer ∙ drop-append-le (length items) items more (omega arith) ∙ ap (λ xs. xs ++ more) (drop_all (length items) items (omega arith)) in
+    let own : run_of after r ≡ more =
+    ap (take (r.1 - r.0)) rest ∙ take_all (r.1 - r.0) more (omega (arith, start, end, ap length longer, length-append items more)) in
+    (
+      omega (arith, ap length all, length-append before (run_of after r ∷ []), many),
+      ap (λ ts. slice_index_or ts number []) all ∙ get_or_push before (run_of after r) [] number many ∙ own,
+    )
 
 -- ---- types of so many items
 

@@ -14,6 +14,7 @@ use crate::known::{Known, Signatures, signatures};
 use crate::listed::Listed;
 use crate::slot_tops::SlotTops;
 use crate::types::Types;
+use pddl_build::both_made;
 use pddl_domain::Domain;
 use std::alloc::{AllocError, Allocator};
 
@@ -56,9 +57,10 @@ impl<'m, 'a, A: Allocator, B: Allocator> Declared<'m, 'a, A, B> {
         ensures functions { IfOk result (λ declared. map signature_in declared.functions.entries ≡ function_signatures (domain_view domain.now)) }
         ensures slots { IfOk result (λ declared. AreSlotTops types.now ((domain_view domain.now).predicates ++ function_signatures (domain_view domain.now)) declared.slots) }
     {
-        let slots = slots_of(alloc, types, domain)?;
-        let predicates = signatures(alloc, &domain.predicates)?;
-        let functions = signatures(alloc, &domain.functions)?;
+        let slots = slots_of(alloc, types, domain);
+        let predicates = signatures(alloc, &domain.predicates);
+        let functions = signatures(alloc, &domain.functions);
+        let (slots, (predicates, functions)) = both_made(slots, both_made(predicates, functions))?;
         Ok(Declared {
             predicates,
             functions,

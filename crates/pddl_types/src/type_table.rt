@@ -67,6 +67,22 @@ fn put_under_parents<'m, 'a, A: Allocator, B: Allocator>(
     Ok(())
 }
 
+/// Puts `object` and the declared types into an empty table, each with the place of its parent.
+///
+/// Fails where memory for it is refused.
+fn put_types<'m, 'a, A: Allocator, B: Allocator>(
+    parents: &mut IndexMap<&'m [u8], usize, Hashed, &'a B>,
+    declared: &'m DeclaredTypes<A>,
+) -> Result<(), AllocError>
+    requires once { repeated [] (map item_of (map type_view declared.now.items)) ≡ [] }
+    requires empty { parents.old.entries ≡ [] }
+    ensures { OnOk result (IsTypeTable (map type_view declared.now.items) parents.new.entries) }
+{
+    parents.insert(b"object".as_slice(), 0)?;
+    put_under_object(parents, declared)?;
+    put_under_parents(parents, declared)
+}
+
 /// The table of declared types, each with the place of its parent.
 ///
 /// Fails where memory for it is refused.
@@ -77,11 +93,8 @@ pub(crate) fn parent_table<'m, 'a, A: Allocator, B: Allocator>(
     requires { repeated [] (map item_of (map type_view declared.now.items)) ≡ [] }
     ensures { IfOk result (λ parents. IsTypeTable (map type_view declared.now.items) parents.entries) }
 {
-    let mut parents: IndexMap<&'m [u8], usize, Hashed, &'a B> = IndexMap::new(alloc);
-    parents.insert(b"object".as_slice(), 0)?;
-    put_under_object(&mut parents, declared)?;
-    put_under_parents(&mut parents, declared)?;
-    Ok(parents)
+    let mut parents = IndexMap::new(alloc);
+    put_types(&mut parents, declared).and(Ok(parents))
 }
 
 /// The places of the parents, in the table's order.

@@ -1,4 +1,4 @@
-use Rattle.std.proofs.Common.{◌<◌, ◌≡◌, Some, length, get_or, slice_get, map, not, refl, sym, ap, ◌∙◌, subst, arith}
+use Rattle.std.proofs.Common.{◌<◌, ◌≤◌, ◌≡◌, Some, length, get_or, slice_get, map, not, refl, sym, ap, ◌∙◌, subst, arith}
 use Rattle.std.specs.Prelude.{Contains}
 use Rattle.std.proofs.lemmas.Option.{slice_get_read}
 use Rattle.pddl_formula.specs.TypedLists.{typed_view}
@@ -7,7 +7,7 @@ use Rattle.pddl_types.specs.KnownNames.{object_in}
 use Rattle.pddl_types.proofs.Views.{seen_entry}
 use Rattle.std.specs.HashSet.{HashSet}
 use Rattle.pddl_names.proofs.MetTypes.{type_of_number}
-use Rattle.pddl_names.proofs.ObjectTables.{listed_start, listed_twice, listed_more}
+use Rattle.pddl_names.proofs.ObjectTables.{listed_start, listed_twice, listed_more, listed_all}
 use Rattle.pddl_names.proofs.objects.add_objects.Goals as goal
 
 pub loop-number-init : goal.loop-number-init
@@ -59,3 +59,17 @@ returns-then-not-branch-clause-passes g c = λ before none is.
       subst (λ n. Contains (retyped before (map typed_view xs)) n) (sym c.as_bytes.ensures.value)
           (listed_twice before xs l.number x (map object_in l.listed.objects.entries) low at (l.invariant.lists before none is) (c.in_ok-list_object.ensures.right ∙ ap not c.if-not-branch.true)),
     )
+
+pub returns-clause-passes : goal.returns-clause-passes
+returns-clause-passes g c = λ before none is.
+    let l = c.loop-number in
+    let xs = c.args.objects.now.items in
+    let past : length xs ≤ l.number = omega (arith, c.loop-number-test.false, c.len-number-end.ensures) in
+    (listed_all before xs l.number (map object_in l.listed.objects.entries) past (l.invariant.lists before none is)).0
+
+pub returns-clause-lists : goal.returns-clause-lists
+returns-clause-lists g c = λ before none is.
+    let l = c.loop-number in
+    let xs = c.args.objects.now.items in
+    let past : length xs ≤ l.number = omega (arith, c.loop-number-test.false, c.len-number-end.ensures) in
+    (listed_all before xs l.number (map object_in l.listed.objects.entries) past (l.invariant.lists before none is)).1

@@ -1,4 +1,4 @@
-use Rattle.std.proofs.Common.{◌≡◌, false, true, not, ◌==◌, length, map, Err, refl, arith}
+use Rattle.std.proofs.Common.{◌≡◌, false, true, not, ◌==◌, length, map, Ok, Err, refl, ap, ◌∙◌, arith}
 use Rattle.std.specs.List.{flat_map}
 use Rattle.std.proofs.lemmas.Grind.{common_steps}
 use Rattle.std.proofs.lemmas.List.{length-map}
@@ -45,3 +45,14 @@ returns-else-all_fit-clause-found g c =
     third_found (flat_map (unknown_term s b) ts) (word_if (not (length ts == length slots)) n) (word_if (some_misfit s b ts slots) n) (Err (link.ArgumentType c.args.symbol))
     c.in_ok-all_fit.ensures.passes (has_no_word (length ts == length slots) n same)
     (refl, has_word (some_misfit s b ts slots) c.in_ok-all_fit.all_fit n c.in_ok-all_fit.ensures.fits c.if-all_fit.false)
+
+pub returns-then-all_fit-clause-found : goal.returns-then-all_fit-clause-found
+returns-then-all_fit-clause-found g c =
+    let s = setting_in c.args.uses.now in
+    let b = bound_of c.args.scope.now in
+    let n = c.args.symbol.now in
+    let ts = terms_in c.args.terms.now in
+    let slots = map typed_view c.args.slots.now in
+    let same : (length ts == length slots) ≡ true = grind (arith, common_steps, c.len.ensures, length-map c.args.slots.now typed_view, c.if-len-slots.false) in
+    third_found (flat_map (unknown_term s b) ts) (word_if (not (length ts == length slots)) n) (word_if (some_misfit s b ts slots) n) (Ok tt)
+    c.in_ok-all_fit.ensures.passes (has_no_word (length ts == length slots) n same) (ap (λ misfit. word_if misfit n) (c.in_ok-all_fit.ensures.fits ∙ ap not c.if-all_fit.true))

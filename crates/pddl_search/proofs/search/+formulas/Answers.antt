@@ -4,6 +4,8 @@ use Rattle.std.proofs.lemmas.List.{drop_all}
 use Rattle.pddl_formula.specs.Formulas.{formula_view, formulas_of}
 use Rattle.pddl_formula.specs.declared.formula.Formula.{Formula}
 use Rattle.pddl_formula.specs.declared.formula.Formula.TheFolds as formula_folds
+use Rattle.pddl_formula.proofs.Views.{view_atom, view_equal, view_not, view_and, view_or, view_exists, view_forall}
+use Rattle.pddl_task.proofs.Lists.{append-none}
 use Rattle.pddl_search.specs.Scopes.{bound_of}
 use Rattle.pddl_search.proofs.BoundTypes.{kept_then, kept_in_scope, kept_inside}
 use Rattle.pddl_faults.proofs.FoundFaults.{up_to_none, up_to_more, up_to_all}
@@ -41,12 +43,36 @@ search_formulas-returns-clause-found g t c =
 
 pub search_quantified-search_formula-requires : goal.search_quantified-search_formula-requires
 search_quantified-search_formula-requires g t c =
-    search (rules, kept_inside c.args.scope.now c.in_ok-bound.bound (kept_then c.look-own.ensures.kept c.numbers.ensures.kept) c.in_ok-bound.ensures c.in_ok-numbers.ensures.numbers c.requires)
+    search (rules, kept_inside c.args.scope.now c.in_ok-bound.bound (kept_then c.look-own.ensures.kept c.bound_by.ensures.kept) c.in_ok-bound.ensures.bound.1 c.requires)
 
 pub search_quantified-returns-clause-kept : goal.search_quantified-returns-clause-kept
-search_quantified-returns-clause-kept g t c = kept_then c.look-own.ensures.kept (kept_then c.numbers.ensures.kept c.search_formula.ensures.kept)
+search_quantified-returns-clause-kept g t c = kept_then c.look-own.ensures.kept (kept_then c.bound_by.ensures.kept c.search_formula.ensures.kept)
 
 pub search_quantified-returns-clause-found : goal.search_quantified-returns-clause-found
 search_quantified-returns-clause-found g t c =
     c.lower.ensures.found _ _ c.look-own.ensures.found
-    (rw (c.numbers.ensures.kept.1, c.look-own.ensures.kept.1, c.deref.ensures, c.in_ok-bound.ensures) at c.search_formula.ensures.found)
+    (rw (c.bound_by.ensures.kept.1, c.look-own.ensures.kept.1, c.deref.ensures, c.in_ok-bound.ensures.bound.0) at c.search_formula.ensures.found)
+
+pub search_formula-returns-in-Imply-clause-kept : goal.search_formula-returns-in-Imply-clause-kept
+search_formula-returns-in-Imply-clause-kept g t c = kept_then c.search_formula-first.ensures.kept c.search_formula-in-Imply.ensures.kept
+
+pub search_formula-returns-in-Atom-clause-found : goal.search_formula-returns-in-Atom-clause-found
+search_formula-returns-in-Atom-clause-found g t c = rw (c.in-Atom.is, view_atom c.in-Atom.atom, append-none) c.search_atom.ensures.found
+
+pub search_formula-returns-in-Equal-clause-found : goal.search_formula-returns-in-Equal-clause-found
+search_formula-returns-in-Equal-clause-found g t c = rw (c.in-Equal.is, view_equal c.in-Equal.first c.in-Equal.second, append-none) c.look.ensures.found
+
+pub search_formula-returns-in-Not-clause-found : goal.search_formula-returns-in-Not-clause-found
+search_formula-returns-in-Not-clause-found g t c = rw (c.in-Not.is, view_not c.in-Not.inner) (rw c.deref.ensures at c.search_formula.ensures.found)
+
+pub search_formula-returns-in-And-clause-found : goal.search_formula-returns-in-And-clause-found
+search_formula-returns-in-And-clause-found g t c = rw (c.in-And.is, view_and c.in-And.parts) c.search_formulas.ensures.found
+
+pub search_formula-returns-in-Or-clause-found : goal.search_formula-returns-in-Or-clause-found
+search_formula-returns-in-Or-clause-found g t c = rw (c.in-Or.is, view_or c.in-Or.parts) c.search_formulas-in-Or.ensures.found
+
+pub search_formula-returns-in-Exists-clause-found : goal.search_formula-returns-in-Exists-clause-found
+search_formula-returns-in-Exists-clause-found g t c = rw (c.in-Exists.is, view_exists c.in-Exists.variables c.in-Exists.inner) c.search_quantified.ensures.found
+
+pub search_formula-returns-in-Forall-clause-found : goal.search_formula-returns-in-Forall-clause-found
+search_formula-returns-in-Forall-clause-found g t c = rw (c.in-Forall.is, view_forall c.in-Forall.variables c.in-Forall.inner) c.search_quantified-in-Forall.ensures.found

@@ -10,10 +10,10 @@ use Rattle.pddl_search.proofs.search.search_action.Goals as goal
 
 pub search_effect-effect-requires : goal.search_effect-effect-requires
 search_effect-effect-requires g c =
-    kept_inside {A = g.row.A.Denot} {B = g.row.B.Denot} Empty c.in_ok-parameters.parameters c.search_formula-precondition.ensures.kept c.in_ok-parameters.ensures (c.search_formula-precondition.ensures.kept.0 _ _ c.in_ok-numbers.ensures.numbers) ∣ tt ∣₁
+    kept_inside {A = g.row.A.Denot} {B = g.row.B.Denot} Empty c.in_ok-parameters.parameters c.search_formula-precondition.ensures.kept (c.search_formula-precondition.ensures.kept.0 _ _ c.in_ok-parameters.ensures.bound.1) ∣ tt ∣₁
 
 pub returns-clause-kept : goal.returns-clause-kept
-returns-clause-kept g c = kept_then c.look-own.ensures.kept (kept_then c.numbers.ensures.kept (kept_then c.search_formula-precondition.ensures.kept c.search_effect-effect.ensures.kept))
+returns-clause-kept g c = kept_then c.look-own.ensures.kept (kept_then c.bound_by.ensures.kept (kept_then c.search_formula-precondition.ensures.kept c.search_effect-effect.ensures.kept))
 
 pub returns-clause-found : goal.returns-clause-found
 returns-clause-found g c =
@@ -22,5 +22,5 @@ returns-clause-found g c =
     let b = binding (map typed_view a.parameters.items) [] in
     rw (flat_map-append w (places_in (formula_view a.precondition) b) (effect_places (effect_view a.effect) b))
     (c.lower-2.ensures.found _ _ c.look-own.ensures.found (c.lower.ensures.found _ _
-    (rw (c.numbers.ensures.kept.1, c.look-own.ensures.kept.1, c.in_ok-parameters.ensures) at c.search_formula-precondition.ensures.found)
-    (rw (c.search_formula-precondition.ensures.kept.1, c.numbers.ensures.kept.1, c.look-own.ensures.kept.1, c.in_ok-parameters.ensures) at c.search_effect-effect.ensures.found)))
+    (rw (c.bound_by.ensures.kept.1, c.look-own.ensures.kept.1, c.in_ok-parameters.ensures.bound.0) at c.search_formula-precondition.ensures.found)
+    (rw (c.search_formula-precondition.ensures.kept.1, c.bound_by.ensures.kept.1, c.look-own.ensures.kept.1, c.in_ok-parameters.ensures.bound.0) at c.search_effect-effect.ensures.found)))

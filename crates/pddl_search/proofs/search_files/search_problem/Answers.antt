@@ -1,5 +1,6 @@
 use Rattle.pddl_problem.specs.Problems.{problem_view}
 use Rattle.pddl_search.proofs.FileWalks.{faults_problem}
+use Rattle.pddl_search.proofs.BoundTypes.{kept_then}
 use Rattle.pddl_search.proofs.search_files.search_problem.Goals as goal
 
 pub returns-clause-found : goal.returns-clause-found
@@ -8,3 +9,6 @@ returns-clause-found g c =
     (c.lower-2.ensures.found _ _ (rw c.deref.ensures.value at c.search_init-init.ensures.found) (c.lower.ensures.found _ _
     (rw c.search_init-init.ensures.kept.1 at c.search_formula-goal.ensures.found)
     (rw (c.search_formula-goal.ensures.kept.1, c.search_init-init.ensures.kept.1) at c.search_metric-metric.ensures.found)))
+
+pub returns-clause-kept : goal.returns-clause-kept
+returns-clause-kept g c = kept_then c.search_init-init.ensures.kept (kept_then c.search_formula-goal.ensures.kept c.search_metric-metric.ensures.kept)

@@ -1,5 +1,5 @@
 use Rattle.pddl_names.proofs.ActionFaults.{ActionsUpTo}
-use Rattle.pddl_names.proofs.declarations.look_at_actions.Given as goal
+use Rattle.pddl_names.proofs.declarations.look_at_each.Given as goal
 
 abbrev pub invariant-loop-action : goal.invariant-loop-action
 invariant-loop-action g l = ActionsUpTo l.types.declared l.actions l.action-index l.seen.keys l.found

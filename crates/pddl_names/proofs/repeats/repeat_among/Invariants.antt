@@ -1,7 +1,7 @@
 use Rattle.std.proofs.Common.{◌≡◌, [], drop, map}
 use Rattle.pddl_task.specs.Names.{repeated}
 use Rattle.pddl_names.proofs.SeenNames.{texts}
-use Rattle.pddl_names.proofs.repeats.first_repeat.Given as goal
+use Rattle.pddl_names.proofs.repeats.repeat_among.Given as goal
 
 -- the names that stand twice are those of what is left
 abbrev pub invariant-loop-item : goal.invariant-loop-item

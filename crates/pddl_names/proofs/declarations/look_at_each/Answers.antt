@@ -1,4 +1,4 @@
-use Rattle.std.proofs.Common.{[], ◌∷◌, ◌++◌, ◌+◌, map, ap, subst}
+use Rattle.std.proofs.Common.{[], ◌∷◌, ◌++◌, map, ap, subst}
 use Rattle.std.specs.List.{flat_map}
 use Rattle.std.proofs.lemmas.List.{drop_all}
 use Rattle.pddl_domain.specs.Actions.{action_view}
@@ -12,12 +12,12 @@ use Rattle.pddl_names.specs.Uses.{binding_faults}
 use Rattle.pddl_names.specs.FaultParts.{action_faults}
 use Rattle.pddl_names.proofs.SeenNames.{texts}
 use Rattle.pddl_names.proofs.ActionFaults.{same_more, word_is}
-use Rattle.pddl_names.proofs.declarations.look_at_actions.Goals as goal
+use Rattle.pddl_names.proofs.declarations.look_at_each.Goals as goal
 
 pub loop-action-init : goal.loop-action-init
 loop-action-init g c = record {
   seen = [];
-  same = λ n. ap (λ ks. is_in (texts ks) n) c.new-seen.ensures.empty;
+  same = λ n. ap (λ ks. is_in (texts ks) n) c.requires;
   so_far = up_to_none;
 }
 

@@ -1,5 +1,5 @@
 use Rattle.pddl_names.proofs.SeenNames.{seen_again, seen_fresh}
-use Rattle.pddl_names.proofs.repeats.first_repeat.Goals as goal
+use Rattle.pddl_names.proofs.repeats.repeat_among.Goals as goal
 
 pub returns-then-not-is_new : goal.returns-then-not-is_new
 returns-then-not-is_new g c =
