@@ -1,6 +1,7 @@
 -- The variables of a quantifier, one after another, and nodes around conditions.
-use Rattle.std.proofs.Common.{◌≡◌, ℕ, ◌+◌, ◌<◌, true, false, List, [], ◌∷◌, ◌++◌, map, drop, length, get_or, reverse, refl, sym, ap, ◌∙◌, subst, arith, Vec}
-use Rattle.std.specs.Prelude.{Result, Ok, Err, IfOk, IsOkAnd, is_ok, if◌then◌else◌, Option, Some, option_map, unwrap_or, slice_get}
+use Rattle.std.proofs.Common.{◌≡◌, ℕ, ◌+◌, ◌<◌, Bool, true, false, List, [], ◌∷◌, ◌++◌, map, drop, length, get_or, reverse, refl, sym, ap, ◌∙◌, subst, arith, Vec}
+use Rattle.std.specs.Prelude.{Result, Ok, Err, IfOk, IsOkAnd, OnOk, Option, Some, option_map, unwrap_or, slice_get}
+use Rattle.std.specs.Result.{result_and}
 use Rattle.std.proofs.lemmas.List.{drop_more, append-nil, append_assoc, map-append, reverse-append}
 use Rattle.std.proofs.lemmas.Option.{slice_get-map, slice_get-get_or, slice_get_within, get_or_from_slice_get}
 use Rattle.pddl_formula.specs.declared.type_names.Typed.{Typed}
@@ -20,6 +21,10 @@ also P Q f (Err e) h = absurd h
 
 pub ok_known : {X E : Type 0} (P : X → Type 0) (r : Result X E) (x : X) → r ≡ Ok x → IfOk r P → P x
 ok_known P r x is h = subst (λ q. IfOk q P) is h
+
+pub after : {U X E : Type 0} (made : Result U E) (x : X) (P : Type 0) (Q : X → Type 0) → OnOk made P → (P → Q x) → IfOk (result_and made (Ok x)) Q
+after (Ok u) x P Q h f = f h
+after (Err e) x P Q h f = h
 
 -- what is known of a value, by what is known of the one that it is made of
 pub made_known : {X Y E F : Type 0} (P : X → Type 0) (Q : X → Y → Type 0) (R : Y → Type 0) → ((x : X) (y : Y) → P x → Q x y → R y) → (from : Result X E) (r : Result Y F)
@@ -65,18 +70,18 @@ module _ (range : List Name → List ℕ) (xs : List TypedValue) (i : ℕ) (y : 
   here : binder_of range (drop i xs) ≡ binding x found rest
   here = rest_at range xs i y at ∙ (ap (λ m. binding m (range y.of) rest) (sym named) ∙ ap (λ r. binding x r rest) (sym (fits y at)))
 
-  pub bound_all : IsBound slots new ranges more true (binding x found unbound) → IsBound first new before more true whole
-  bound_all bound =
-      let is = bound_last x found rest slots new ranges more bound in
+  pub bound_all : (closed : Bool) → closed ≡ true → IsBound slots new ranges more closed (binding x found unbound) → IsBound first new before more closed whole
+  bound_all closed shut bound =
+      let is = bound_last x found rest slots new ranges more (subst (λ b. IsBound slots new ranges more b (binding x found unbound)) shut bound) in
       record {
         slots_are = is.slots_are ∙ (ap (λ b. slots ++ b.slots) (sym here) ∙ slots_left);
         ranges_are = is.ranges_are ∙ (ap (λ b. ranges ++ b.ranges) (sym here) ∙ ranges_left);
-        closed_is = is.closed_is ∙ (ap (λ b. b.closed) (sym here) ∙ closed_left);
+        closed_is = shut ∙ (is.closed_is ∙ (ap (λ b. b.closed) (sym here) ∙ closed_left));
       }
 
-  pub bound_on : IsBound slots new ranges more false (binding x found unbound) → (new ++ rest.slots ≡ first ++ whole.slots) × (more ++ rest.ranges ≡ before ++ whole.ranges) × (rest.closed ≡ whole.closed)
-  bound_on bound =
-      let are = bound_before x found rest slots new ranges more bound in
+  pub bound_on : (closed : Bool) → closed ≡ false → IsBound slots new ranges more closed (binding x found unbound) → (new ++ rest.slots ≡ first ++ whole.slots) × (more ++ rest.ranges ≡ before ++ whole.ranges) × (rest.closed ≡ whole.closed)
+  bound_on closed on bound =
+      let are = bound_before x found rest slots new ranges more (subst (λ b. IsBound slots new ranges more b (binding x found unbound)) on bound) in
       (are.0 ∙ (ap (λ b. slots ++ b.slots) (sym here) ∙ slots_left), are.1 ∙ (ap (λ b. ranges ++ b.ranges) (sym here) ∙ ranges_left), are.2 ∙ (ap (λ b. b.closed) (sym here) ∙ closed_left))
 
 -- ---- the object that alone fits a variable
@@ -92,10 +97,6 @@ next_last range xs i found last fits is n some y at =
 
 -- ---- lists that grow
 
--- what a push that was not refused left
-pub grown : {X U E : Type 0} (new old more : List X) (r : Result U E) (u : U) → r ≡ Ok u → new ≡ (if is_ok r then more else old) → new ≡ more
-grown new old more r u ok is = is ∙ ap (λ q. if is_ok q then more else old) ok
-
 pub pushed : {X Y : Type 0} (f : X → Y) (old new : List X) (x : X) (ys zs whole : List Y) → new ≡ old ++ x ∷ [] → zs ≡ f x ∷ ys → map f old ++ zs ≡ whole → map f new ++ ys ≡ whole
 pushed f old new x ys zs whole grown more before =
     ap (λ l. map f l ++ ys) grown ∙ (ap (λ l. l ++ ys) (map-append f old (x ∷ [])) ∙ (append_assoc (map f old) (f x ∷ []) ys ∙ (ap (λ l. map f old ++ l) (sym more) ∙ before)))
@@ -108,8 +109,8 @@ map-reverse f [] = refl
 map-reverse f (x ∷ xs) =
     ap (map f) (reverse-append (x ∷ []) xs) ∙ (map-append f (reverse xs) (x ∷ []) ∙ (ap (λ l. l ++ f x ∷ []) (map-reverse f xs) ∙ sym (reverse-append (f x ∷ []) (map f xs))))
 
-pub turned_round : {X Y : Type 0} (f : X → Y) (old now xs : List X) (whole : List Y) → now ≡ old → xs ≡ reverse now → map f old ≡ whole → map f xs ≡ reverse whole
-turned_round f old now xs whole same is before = ap (map f) is ∙ (map-reverse f now ∙ ap (λ l. reverse (map f l)) same ∙ ap reverse before)
+pub turned_round : {X Y : Type 0} (f : X → Y) (old xs : List X) (whole : List Y) → xs ≡ reverse old → map f old ≡ whole → map f xs ≡ reverse whole
+turned_round f old xs whole is before = ap (map f) is ∙ (map-reverse f old ∙ ap reverse before)
 
 -- ---- scopes
 
@@ -126,3 +127,10 @@ wrapped-push node (q ∷ rs) r c = ap (node q) (wrapped-push node rs r c)
 pub popped : {K : Type 0} {B : _} (node : List ℕ → K → K) (left all : List (Vec ℕ B)) (r : Vec ℕ B) (c : K) → all ≡ left ++ r ∷ [] → wrapped node (map range_items left) (node r.items c) ≡ wrapped node (map range_items all) c
 popped node left all r c is =
     sym (wrapped-push node (map range_items left) r.items c) ∙ (ap (λ rs. wrapped node rs c) (sym (map-append range_items left (r ∷ []))) ∙ ap (λ rs. wrapped node (map range_items rs) c) (sym is))
+
+-- where one more node is put around what was made
+pub node_inside : {K C E B : Type 0} (view : C → K) (node : List ℕ → K → K) (left ranges all : List (Vec ℕ B)) (range : Vec ℕ B) → ranges ≡ left ++ range ∷ [] → (inner old new : Result C E)
+    → IfOk old (λ c. IsOkAnd inner (λ i. wrapped node (map range_items ranges) (view c) ≡ wrapped node (map range_items all) (view i))) → IfOk new (λ c. IsOkAnd old (λ o. view c ≡ node range.items (view o)))
+    → IfOk new (λ c. IsOkAnd inner (λ i. wrapped node (map range_items left) (view c) ≡ wrapped node (map range_items all) (view i)))
+node_inside view node left ranges all range last inner old new so_far made =
+    made_known _ _ _ (λ o c h is. also _ _ (λ i k. ap (wrapped node (map range_items left)) is ∙ (popped node left ranges range (view o) last ∙ k)) inner h) old new so_far made

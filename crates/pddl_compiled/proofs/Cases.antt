@@ -18,10 +18,6 @@ use Rattle.pddl_task.specs.Names.{number_in}
 use Rattle.pddl_compiled.specs.Compiled as value
 use Rattle.pddl_compiled.specs.Tables.{Tables}
 use Rattle.pddl_compiled.specs.Compiler.{ScopeValue, resolved, places_of, equal_of, increase_of, nested, condition_of, conditions_of_all, change_of, changes_of_all}
-use Rattle.pddl_compiled.specs.Views.{change_view}
-use Rattle.pddl_compiled.specs.declared.compiled.Change.{Change}
-use Rattle.pddl_compiled.specs.declared.compiled.Change.TheVariants as changes
-use Rattle.pddl_compiled.proofs.Rows.{view_both}
 
 module _ {A : Type 0} (t : Tables) (scope : ScopeValue) where
   each_condition : (fs : List (Formula A)) → value.conditions_of (map (λ f. condition_of t (formula_view f) scope) fs) ≡ conditions_of_all t (formulas_of (map formula_view fs)) scope
@@ -75,8 +71,7 @@ module _ {A : Type 0} (t : Tables) (scope : ScopeValue) where
   pub increase_right : (e : Effect A) (n : Amount A) → e ≡ effects.Increase n → increase_of t (amount_view n) scope ≡ change_of t (effect_view e) scope
   increase_right e n is = ap (λ v. change_of t v scope) (sym (ap effect_view is ∙ seen_effects.view_increase n))
 
-module _ {A B : Type 0} (t : Tables) (scope : ScopeValue) where
-  pub both_right : (e : Effect A) (es : Vec (Effect A) A) (cs : Vec (Change B) B) → e ≡ effects.And es → map change_view cs.items ≡ map (λ g. change_of t (effect_view g) scope) es.items → change_view (changes.And cs) ≡ change_of t (effect_view e) scope
-  both_right e es cs is same =
-      view_both cs ∙ (ap (λ k. value.both (value.changes_of k)) same ∙ (ap value.both (each_change t scope es.items)
-      ∙ ap (λ v. change_of t v scope) (sym (ap effect_view is ∙ seen_effects.view_and es))))
+  pub both_right : (e : Effect A) (es : Vec (Effect A) A) → e ≡ effects.And es → value.both (value.changes_of (map (λ g. change_of t (effect_view g) scope) es.items)) ≡ change_of t (effect_view e) scope
+  both_right e es is =
+      ap value.both (each_change es.items)
+      ∙ ap (λ v. change_of t v scope) (sym (ap effect_view is ∙ seen_effects.view_and es))

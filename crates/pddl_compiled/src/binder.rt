@@ -1,11 +1,12 @@
 //! The variables of quantifiers.
 
-ghost use Rattle.std.specs.Prelude.{◌≡◌, ◌<◌, map, length, reverse, IfOk};
+ghost use Rattle.std.specs.Prelude.{◌≡◌, ◌<◌, map, length, reverse, IfOk, OnOk};
 ghost use Rattle.pddl_formula.specs.TypedLists.{typed_view};
 ghost use Rattle.pddl_compiled.specs.Binders.{only, unbound, IsRange, IsLast, IsBound};
 ghost use Rattle.pddl_compiled.specs.Compiler.{binding, binder_of};
 ghost use Rattle.pddl_compiled.specs.Scopes.{slot_view, range_items};
 
+use crate::boxes::push_where;
 use crate::lookups::Lookups;
 use crate::scope::Slot;
 use pddl_formula::TypedList;
@@ -20,27 +21,6 @@ pub(crate) struct Binder<'f, 'b, B: Allocator> {
     pub ranges: Vec<Vec<usize, &'b B>, &'b B>,
     /// Whether a variable ranges over no object.
     pub closed: bool,
-}
-
-/// The slots turned round.
-///
-/// Fails where memory for them is refused.
-fn turned<'f, 'b, B: Allocator>(
-    alloc: &'b B,
-    slots: &[Slot<'f>],
-    ranges: Vec<Vec<usize, &'b B>, &'b B>,
-    closed: bool,
-) -> Result<Binder<'f, 'b, B>, AllocError>
-    ensures slots { IfOk result (λ b. b.slots.items ≡ reverse slots.now) }
-    ensures ranges { IfOk result (λ b. b.ranges.items ≡ ranges.entry.items) }
-    ensures closed { IfOk result (λ b. b.closed ≡ closed) }
-{
-    let slots = slots.iter().rev().copied().collect(alloc)?;
-    Ok(Binder {
-        slots,
-        ranges,
-        closed,
-    })
 }
 
 /// The one object of a range, where it has one alone.
@@ -75,53 +55,48 @@ fn range_at<'b, A: Allocator, B: Allocator, L: Lookups<A, B>>(
     }
 }
 
-/// Adds what a variable is that ranges over some objects, of which `single` is the one, if there is one alone. Answers whether there is none.
+/// Adds what a variable is that ranges over some objects, of which `single` is the one, if there is one alone.
 ///
 /// Fails where memory for it is refused.
 fn add<'f, 'b, B: Allocator>(
-    slots: &mut Vec<Slot<'f>, &'b B>,
-    ranges: &mut Vec<Vec<usize, &'b B>, &'b B>,
+    binder: &mut Binder<'f, 'b, B>,
     name: &'f [u8],
     single: Option<usize>,
     range: Vec<usize, &'b B>,
-) -> Result<bool, AllocError>
+) -> Result<(), AllocError>
     requires { single ≡ only range.items }
-    ensures { IfOk result (λ closed. IsBound (map slot_view slots.old.items) (map slot_view slots.new.items) (map range_items ranges.old.items) (map range_items ranges.new.items)
-        closed (binding name.now range.entry.items unbound)) }
+    ensures { OnOk result (IsBound (map slot_view binder.old.slots.items) (map slot_view binder.new.slots.items) (map range_items binder.old.ranges.items) (map range_items binder.new.ranges.items)
+        binder.new.closed (binding name.now range.entry.items unbound)) }
 {
-    let closed = range.len() == 0;
-    if !closed {
-        slots.push(Slot { name, single })?;
-    }
-    if single.is_none() {
-        ranges.push(range)?;
-    }
-    Ok(closed)
+    binder.closed = range.len() == 0;
+    push_where(&mut binder.ranges, single.is_none(), range)?;
+    push_where(&mut binder.slots, !binder.closed, Slot { name, single })
 }
 
-/// Adds what variables are, up to one that ranges over no object. Answers whether there is such a one.
+/// Adds what variables are, up to one that ranges over no object.
 ///
 /// Fails where memory for them is refused.
 fn add_all<'f, 'b, A: Allocator, B: Allocator, L: Lookups<A, B>>(
     alloc: &'b B,
     lookups: &L,
     variables: &'f TypedList<A>,
-    slots: &mut Vec<Slot<'f>, &'b B>,
-    ranges: &mut Vec<Vec<usize, &'b B>, &'b B>,
-) -> Result<bool, AllocError>
-    ensures { IfOk result (λ closed. IsBound (map slot_view slots.old.items) (map slot_view slots.new.items) (map range_items ranges.old.items) (map range_items ranges.new.items)
-        closed (binder_of (L.tables lookups.now).range (map typed_view variables.now.items))) }
+    binder: &mut Binder<'f, 'b, B>,
+) -> Result<(), AllocError>
+    ensures { OnOk result (IsBound (map slot_view binder.old.slots.items) (map slot_view binder.new.slots.items) (map range_items binder.old.ranges.items) (map range_items binder.new.ranges.items)
+        binder.new.closed (binder_of (L.tables lookups.now).range (map typed_view variables.now.items))) }
 {
+    binder.closed = false;
     let mut last = None;
     for place in 0..variables.len() {
         let range = range_at(alloc, lookups, variables, place, last)?;
         last = single_of(&range);
         let name = variables.as_slice()[place].name.as_bytes();
-        if add(slots, ranges, name, last, range)? {
-            return Ok(true);
+        add(binder, name, last, range)?;
+        if binder.closed {
+            return Ok(());
         }
     }
-    Ok(false)
+    Ok(())
 }
 
 /// What the variables of a quantifier are. Behind one that ranges over no object nothing is looked up.
@@ -136,8 +111,12 @@ pub(crate) fn bind<'f, 'b, A: Allocator, B: Allocator, L: Lookups<A, B>>(
     ensures ranges { IfOk result (λ b. map range_items b.ranges.items ≡ (binder_of (L.tables lookups.now).range (map typed_view variables.now.items)).ranges) }
     ensures closed { IfOk result (λ b. b.closed ≡ (binder_of (L.tables lookups.now).range (map typed_view variables.now.items)).closed) }
 {
-    let mut slots = Vec::new(alloc);
-    let mut ranges = Vec::new(alloc);
-    let closed = add_all(alloc, lookups, variables, &mut slots, &mut ranges)?;
-    turned(alloc, &slots, ranges, closed)
+    let mut binder = Binder {
+        slots: Vec::new(alloc),
+        ranges: Vec::new(alloc),
+        closed: false,
+    };
+    let made = add_all(alloc, lookups, variables, &mut binder);
+    binder.slots.reverse();
+    made.and(Ok(binder))
 }

@@ -2,7 +2,7 @@
 //!
 //! Here an owned value is of a type of which nothing is known, so that the functions that compile keep one way out while they own one.
 
-ghost use Rattle.std.specs.Prelude.{◌≡◌, Ok, IfOk};
+ghost use Rattle.std.specs.Prelude.{◌≡◌, cond, [], ◌∷◌, ◌++◌, Ok, IfOk, IsOkAnd, OnOk};
 
 use std::alloc::{AllocError, Allocator};
 
@@ -18,6 +18,21 @@ pub(crate) fn boxed<'b, T: Drop, B: Allocator>(
     Ok(Box::new(alloc, value?)?)
 }
 
+/// A value, and one in a box.
+///
+/// Fails as the second failed, and where memory for the box is refused.
+pub(crate) fn with_boxed<'b, T: Drop, U: Drop, B: Allocator>(
+    alloc: &'b B,
+    first: T,
+    second: Result<U, AllocError>,
+) -> Result<(T, Box<U, &'b B>), AllocError>
+    ensures first { IfOk result (λ made. made.0 ≡ first) }
+    ensures second { IfOk result (λ made. second ≡ Ok made.1.value) }
+{
+    let second = boxed(alloc, second)?;
+    Ok((first, second))
+}
+
 /// Two values, the second in a box.
 ///
 /// Fails as the first failed, or else as the second did, and where memory for the box is refused.
@@ -29,9 +44,7 @@ pub(crate) fn both_boxed<'b, T: Drop, U: Drop, B: Allocator>(
     ensures first { IfOk result (λ made. first ≡ Ok made.0) }
     ensures second { IfOk result (λ made. second ≡ Ok made.1.value) }
 {
-    let first = first?;
-    let second = boxed(alloc, second)?;
-    Ok((first, second))
+    with_boxed(alloc, first?, second)
 }
 
 /// Two values, each in a box.
@@ -50,16 +63,31 @@ pub(crate) fn both_in_boxes<'b, T: Drop, U: Drop, B: Allocator>(
     Ok((first, second))
 }
 
-/// The list, where what was done with it went right.
+/// Puts a value behind those of a list.
 ///
-/// Fails as what was done with it failed.
-pub(crate) fn if_made<T: Drop, A: Allocator>(
-    list: Vec<T, A>,
-    made: Result<(), AllocError>,
-) -> Result<Vec<T, A>, AllocError>
-    ensures list { IfOk result (λ kept. kept.items ≡ list.items) }
-    ensures made { IfOk result (λ _. made ≡ Ok tt) }
+/// Fails as the value failed, and where memory for the list is refused.
+pub(crate) fn push_made<T: Drop, A: Allocator>(
+    list: &mut Vec<T, A>,
+    value: Result<T, AllocError>,
+) -> Result<(), AllocError>
+    ensures { OnOk result (IsOkAnd value (λ v. list.new.items ≡ list.old.items ++ v ∷ [])) }
 {
-    made?;
-    Ok(list)
+    list.push(value?)?;
+    Ok(())
+}
+
+/// Puts a value behind those of a list, where it is wanted.
+///
+/// Fails where memory for the list is refused.
+pub(crate) fn push_where<T: Drop, A: Allocator>(
+    list: &mut Vec<T, A>,
+    wanted: bool,
+    value: T,
+) -> Result<(), AllocError>
+    ensures { OnOk result (list.new.items ≡ cond wanted (list.old.items ++ value ∷ []) list.old.items) }
+{
+    if wanted {
+        list.push(value)?;
+    }
+    Ok(())
 }

@@ -11,7 +11,7 @@ ghost use Rattle.pddl_compiled.specs.Views.{change_view};
 ghost use Rattle.pddl_compiled.specs.Scopes.{scope_view, range_items};
 
 use crate::binder::bind;
-use crate::boxes::{both_boxed, if_made};
+use crate::boxes::{both_boxed, push_made, with_boxed};
 use crate::compiled::Change;
 use crate::conditions::compile_condition;
 use crate::lookups::Lookups;
@@ -21,21 +21,35 @@ use pddl_effect::{Amount, Effect};
 use pddl_formula::{Atom, TypedList};
 use std::alloc::{AllocError, Allocator};
 
-/// A change for each of the objects of ranges, the outermost first.
+/// A change for each of the objects of a range.
 ///
 /// Fails as the change failed, and where memory for it is refused.
 fn for_each<'b, B: Allocator>(
+    alloc: &'b B,
+    range: Vec<usize, &'b B>,
+    inner: Result<Change<&'b B>, AllocError>,
+) -> Result<Change<&'b B>, AllocError>
+    ensures { IfOk result (λ c. IsOkAnd inner.entry (λ i. change_view c ≡ value.each range.entry.items (change_view i))) }
+{
+    let (range, inner) = with_boxed(alloc, range, inner)?;
+    Ok(Change::Forall(range, inner))
+}
+
+/// A change for each of the objects of ranges, the outermost first.
+///
+/// Fails as the change failed, and where memory for it is refused.
+fn for_each_of<'b, B: Allocator>(
     alloc: &'b B,
     mut ranges: Vec<Vec<usize, &'b B>, &'b B>,
     inner: Result<Change<&'b B>, AllocError>,
 ) -> Result<Change<&'b B>, AllocError>
     ensures { IfOk result (λ c. IsOkAnd inner.entry (λ i. change_view c ≡ wrapped value.each (map range_items ranges.entry.items) (change_view i))) }
 {
-    let mut change = inner?;
+    let mut change = inner;
     while let Some(range) = ranges.pop() {
-        change = Change::Forall(range, Box::new(alloc, change)?);
+        change = for_each(alloc, range, change);
     }
-    Ok(change)
+    change
 }
 
 /// The change of an increase.
@@ -93,10 +107,7 @@ pub fn compile_change<'f, 'b, A: Allocator, B: Allocator, L: Lookups<A, B>>(
     ensures { IfOk result (λ c. change_view c ≡ change_of (L.tables lookups.now) (effect_view effect.now) (scope_view scope.now)) }
 {
     match effect {
-        Effect::And(parts) => {
-            let parts = compile_changes(alloc, lookups, parts, &*scope)?;
-            Ok(Change::And(parts))
-        }
+        Effect::And(parts) => compile_parts(alloc, lookups, parts, &*scope),
         Effect::Forall(variables, inner) => {
             compile_quantified(alloc, lookups, variables, inner, &*scope)
         }
@@ -127,29 +138,30 @@ fn compile_quantified<'f, 'b, A: Allocator, B: Allocator, L: Lookups<A, B>>(
         (change_of (L.tables lookups.now) (effect_view inner.now)) (scope_view scope.now)) }
 {
     let binder = bind(alloc, lookups, variables)?;
-    if binder.closed {
-        return for_each(alloc, binder.ranges, Ok(Change::And(Vec::new(alloc))));
-    }
-    let inside = Scope::Inside(&binder.slots, &*scope);
-    let inner = compile_change(alloc, lookups, inner, &inside);
-    for_each(alloc, binder.ranges, inner)
+    let inner = if binder.closed {
+        Ok(Change::And(Vec::new(alloc)))
+    } else {
+        let inside = Scope::Inside(&binder.slots, &*scope);
+        compile_change(alloc, lookups, inner, &inside)
+    };
+    for_each_of(alloc, binder.ranges, inner)
 }
 
-/// The changes of effects.
+/// The change that does those of effects.
 ///
-/// Fails where memory for them is refused.
+/// Fails where memory for it is refused.
 #[cycle(changes)]
-fn compile_changes<'f, 'b, A: Allocator, B: Allocator, L: Lookups<A, B>>(
+fn compile_parts<'f, 'b, A: Allocator, B: Allocator, L: Lookups<A, B>>(
     alloc: &'b B,
     lookups: &L,
     effects: &'f Vec<Effect<A>, A>,
     scope: &'f Scope<'f>,
-) -> Result<Vec<Change<&'b B>, &'b B>, AllocError>
-    ensures { IfOk result (λ cs. map change_view cs.items ≡ map (λ e. change_of (L.tables lookups.now) (effect_view e) (scope_view scope.now)) effects.now.items) }
+) -> Result<Change<&'b B>, AllocError>
+    ensures { IfOk result (λ c. change_view c ≡ value.both (value.changes_of (map (λ e. change_of (L.tables lookups.now) (effect_view e) (scope_view scope.now)) effects.now.items))) }
 {
     let mut changes = Vec::new(alloc);
     let made = add_changes(alloc, lookups, effects, &*scope, &mut changes);
-    if_made(changes, made)
+    made.and(Ok(Change::And(changes)))
 }
 
 /// Puts the changes of effects behind others.
@@ -166,7 +178,7 @@ fn add_changes<'f, 'b, A: Allocator, B: Allocator, L: Lookups<A, B>>(
     ensures { OnOk result (map change_view changes.new.items ≡ map change_view changes.old.items ++ map (λ e. change_of (L.tables lookups.now) (effect_view e) (scope_view scope.now)) effects.now.items) }
 {
     for effect in effects {
-        changes.push(compile_change(alloc, lookups, effect, &*scope)?)?;
+        push_made(changes, compile_change(alloc, lookups, effect, &*scope))?;
     }
     Ok(())
 }

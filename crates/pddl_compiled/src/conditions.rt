@@ -9,7 +9,7 @@ ghost use Rattle.pddl_compiled.specs.Views.{condition_view};
 ghost use Rattle.pddl_compiled.specs.Scopes.{scope_view, range_items};
 
 use crate::binder::bind;
-use crate::boxes::{both_in_boxes, boxed, if_made};
+use crate::boxes::{both_in_boxes, boxed, push_made, with_boxed};
 use crate::compiled::Condition;
 use crate::lookups::Lookups;
 use crate::scope::Scope;
@@ -17,10 +17,29 @@ use crate::terms::{equality, places_of};
 use pddl_formula::{Formula, TypedList};
 use std::alloc::{AllocError, Allocator};
 
-/// A condition that holds for some objects of ranges, the outermost first, or else for all of them.
+/// A condition that holds for some objects of a range, or else for all of them.
 ///
 /// Fails as the condition failed, and where memory for it is refused.
 fn quantified<'b, B: Allocator>(
+    alloc: &'b B,
+    some: bool,
+    range: Vec<usize, &'b B>,
+    inner: Result<Condition<&'b B>, AllocError>,
+) -> Result<Condition<&'b B>, AllocError>
+    ensures { IfOk result (λ c. IsOkAnd inner.entry (λ i. condition_view c ≡ cond some value.existential value.universal range.entry.items (condition_view i))) }
+{
+    let (range, inner) = with_boxed(alloc, range, inner)?;
+    Ok(if some {
+        Condition::Exists(range, inner)
+    } else {
+        Condition::Forall(range, inner)
+    })
+}
+
+/// A condition that holds for some objects of ranges, the outermost first, or else for all of them.
+///
+/// Fails as the condition failed, and where memory for it is refused.
+fn quantified_by<'b, B: Allocator>(
     alloc: &'b B,
     some: bool,
     mut ranges: Vec<Vec<usize, &'b B>, &'b B>,
@@ -28,16 +47,11 @@ fn quantified<'b, B: Allocator>(
 ) -> Result<Condition<&'b B>, AllocError>
     ensures { IfOk result (λ c. IsOkAnd inner.entry (λ i. condition_view c ≡ wrapped (cond some value.existential value.universal) (map range_items ranges.entry.items) (condition_view i))) }
 {
-    let mut condition = inner?;
+    let mut condition = inner;
     while let Some(range) = ranges.pop() {
-        let inside = Box::new(alloc, condition)?;
-        condition = if some {
-            Condition::Exists(range, inside)
-        } else {
-            Condition::Forall(range, inside)
-        };
+        condition = quantified(alloc, some, range, condition);
     }
-    Ok(condition)
+    condition
 }
 
 /// The condition of a formula, in scope of variables.
@@ -96,12 +110,13 @@ fn compile_quantified<'f, 'b, A: Allocator, B: Allocator, L: Lookups<A, B>>(
         (condition_of (L.tables lookups.now) (formula_view inner.now)) (scope_view scope.now)) }
 {
     let binder = bind(alloc, lookups, variables)?;
-    if binder.closed {
-        return quantified(alloc, some, binder.ranges, Ok(Condition::Known(true)));
-    }
-    let inside = Scope::Inside(&binder.slots, &*scope);
-    let inner = compile_condition(alloc, lookups, inner, &inside);
-    quantified(alloc, some, binder.ranges, inner)
+    let inner = if binder.closed {
+        Ok(Condition::Known(true))
+    } else {
+        let inside = Scope::Inside(&binder.slots, &*scope);
+        compile_condition(alloc, lookups, inner, &inside)
+    };
+    quantified_by(alloc, some, binder.ranges, inner)
 }
 
 /// The condition that all of some formulas hold, or else that one of them does.
@@ -119,12 +134,11 @@ fn compile_parts<'f, 'b, A: Allocator, B: Allocator, L: Lookups<A, B>>(
 {
     let mut conditions = Vec::new(alloc);
     let made = add_conditions(alloc, lookups, formulas, &*scope, &mut conditions);
-    let conditions = if_made(conditions, made)?;
-    Ok(if all {
+    made.and(Ok(if all {
         Condition::And(conditions)
     } else {
         Condition::Or(conditions)
-    })
+    }))
 }
 
 /// Puts the conditions of formulas behind others.
@@ -141,7 +155,10 @@ fn add_conditions<'f, 'b, A: Allocator, B: Allocator, L: Lookups<A, B>>(
     ensures { OnOk result (map condition_view conditions.new.items ≡ map condition_view conditions.old.items ++ map (λ f. condition_of (L.tables lookups.now) (formula_view f) (scope_view scope.now)) formulas.now.items) }
 {
     for formula in formulas {
-        conditions.push(compile_condition(alloc, lookups, formula, &*scope)?)?;
+        push_made(
+            conditions,
+            compile_condition(alloc, lookups, formula, &*scope),
+        )?;
     }
     Ok(())
 }

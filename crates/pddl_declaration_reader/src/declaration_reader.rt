@@ -13,7 +13,9 @@ ghost use Rattle.pddl_declaration_reader.specs.Inner.DeclarationReading.{predica
 use pddl_build::{if_right, list_if_right, push_found};
 use pddl_domain::{DeclaredFunction, DeclaredPredicate, DeclaredTypes};
 use pddl_formula::{TypeName, TypeNames, TypedList};
-use pddl_formula_reader::{predicate_of, type_called, type_name_called, type_name_of, type_of, typed_variables_of};
+use pddl_formula_reader::{
+    predicate_of, type_called, type_name_called, type_name_of, type_of, typed_variables_of,
+};
 use pddl_items::{Item, is_dash, name_of};
 use pddl_token::Name;
 use std::alloc::{AllocError, Allocator};

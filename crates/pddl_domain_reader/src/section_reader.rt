@@ -18,8 +18,8 @@ use pddl_domain::{DeclaredTypes, Domain};
 use pddl_file::{FileFault, SectionKeyword, Seen, flags_of, head_keyword_of, keyword_of, refusal};
 use pddl_formula::TypedList;
 use pddl_formula_reader::typed_names_of;
-use pddl_sections::span_of;
 use pddl_items::Item;
+use pddl_sections::span_of;
 use std::alloc::{AllocError, Allocator};
 
 /// Puts typed names behind those of a list, if there are some to put there; true exactly where there are.

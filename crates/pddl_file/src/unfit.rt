@@ -13,8 +13,8 @@ ghost use Rattle.pddl_file.specs.Inner.FileReading.{IsFaultAt};
 use crate::fault::FileFault;
 use crate::keyword::{SectionKeyword, keyword_of};
 use crate::mark::first_marked;
-use pddl_sections::span_of;
 use pddl_items::Item;
+use pddl_sections::span_of;
 use std::alloc::Allocator;
 
 /// What a section that fits no rule is refused as (own): where a list in it is refused by name, the word and the span of the

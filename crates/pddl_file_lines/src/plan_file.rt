@@ -17,8 +17,8 @@ use pddl_kind::Kind;
 use pddl_plan::Plan;
 use pddl_plan_reader::PlanReader;
 use pddl_scan::{LONGEST, TextFault};
-use pddl_text::Places;
 use pddl_step_reader::ReadFault;
+use pddl_text::Places;
 use std::alloc::{AllocError, Allocator};
 
 /// How many bytes are asked for at a time.

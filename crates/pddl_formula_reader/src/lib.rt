@@ -19,6 +19,6 @@ pub use term_reader::{
     atom_of, atom_of_list, names_of, predicate_of, term_of, terms_of, variable_of,
 };
 pub use typed_reader::{
-    type_called, type_name_called, type_name_of, type_of,
-    typed_names_of, typed_variables_of, variables_of,
+    type_called, type_name_called, type_name_of, type_of, typed_names_of, typed_variables_of,
+    variables_of,
 };

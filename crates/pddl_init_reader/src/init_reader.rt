@@ -12,8 +12,8 @@ ghost use Rattle.pddl_init_reader.specs.Inner.InitReading.{fact_of_list, fact_at
 use pddl_build::{both, list_if_right, push_found};
 use pddl_effect_reader::number_of;
 use pddl_formula_reader::{Head, head_of, names_of, predicate_of};
-use pddl_problem::{Direction, Fact, GroundFunction, InitItem, Metric};
 use pddl_items::{Item, is_word_item, name_of};
+use pddl_problem::{Direction, Fact, GroundFunction, InitItem, Metric};
 use std::alloc::{AllocError, Allocator};
 
 /// The fact of a list of these items, or `None` where they are none: a predicate and names of objects.

@@ -2,7 +2,6 @@
 
 ghost use Rattle.std.specs.Prelude.{◌≡◌, ◌<◌, ◌+◌, ◌↔◌, All, IfOk, IfSome, IsTrue, List, drop, length, MatchOption};
 ghost use Rattle.std.specs.List.{AllByRecursion};
-ghost use Rattle.pddl_state.specs.Atoms.{AtomValue};
 ghost use Rattle.pddl_state.specs.AtomSets.{no_atoms};
 ghost use Rattle.pddl_happenings.specs.Accepted.{NoClash, IsReady};
 ghost use Rattle.pddl_happenings.specs.Failures.{FirstAt, IsFirstClash};

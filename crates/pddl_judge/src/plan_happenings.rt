@@ -1,6 +1,6 @@
 //! The happenings of a plan.
 
-ghost use Rattle.std.specs.Prelude.{◌≡◌, ◌<◌, ◌^◌, ℕ, IfOk, length};
+ghost use Rattle.std.specs.Prelude.{◌<◌, ◌^◌, ℕ, IfOk, length};
 ghost use Rattle.std.specs.BTreeMap.{IsOrdered, get};
 ghost use Rattle.std.specs.Ordering.{nat_cmp};
 ghost use Rattle.pddl_happenings.specs.Happenings.{AreOfTimed, AreOfPlain, HaveEachOnce};

@@ -1,11 +1,9 @@
 //! One happening: its preconditions, its costs, its clashes, and the state after it.
 
 ghost use Rattle.std.specs.Prelude.{◌≡◌, ◌≤◌, ◌<◌, ◌*◌, ⊤, ◌∷◌, [], All, IfOk, MatchOption, length, not, ◌&&◌, ◌||◌};
-ghost use Rattle.std.specs.List.{IsDistinct};
 ghost use Rattle.pddl_state.specs.Atoms.{AtomValue};
 ghost use Rattle.pddl_happenings.specs.Accepted.{after, cost_of, IsReady, IsFine};
 ghost use Rattle.pddl_happenings.specs.Failures.{IsFirstUnready, IsFirstClash};
-ghost use Rattle.pddl_judge.specs.Touches.{touches_of, touch_in, Owned};
 ghost use Rattle.pddl_judge.specs.Verdicts.{IsLeast};
 ghost use Rattle.pddl_judge.specs.Stages.{OnPassed, OnUnready, OnClashing};
 

@@ -1,6 +1,6 @@
 //! What a step touches in a state, and what two steps both touch.
 
-ghost use Rattle.std.specs.Prelude.{◌≡◌, ◌<◌, ◌↔◌, Bool, false, IfOk, IsTrue, ◌&&◌, MatchOption};
+ghost use Rattle.std.specs.Prelude.{◌≡◌, ◌<◌, ◌↔◌, false, IfOk, IsTrue, ◌&&◌, MatchOption};
 ghost use Rattle.pddl_state.specs.Atoms.{AtomValue};
 ghost use Rattle.pddl_state.specs.AtomSets.{no_atoms, union, intersection};
 ghost use Rattle.pddl_judge.specs.Touches.{touch_in, touch_of, join_of, Owned, crossing, overlap, Apart};

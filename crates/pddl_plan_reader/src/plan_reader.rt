@@ -14,8 +14,8 @@ ghost use Rattle.pddl_step_reader.specs.Inner.StepWords.{AreStepWords, ReadsTo};
 
 use pddl_plan::{Plan, PlanBuilder};
 use pddl_scan::{LONGEST, TextFault, WordList};
-use pddl_text::{PlanLexer, lists};
 use pddl_step_reader::{Place, ReadFault, add_steps, read_on};
+use pddl_text::{PlanLexer, lists};
 use std::alloc::Allocator;
 
 /// The plan that a text spells which comes in pieces: what [`read_plan`] answers for the whole, however it is cut.

@@ -1,11 +1,11 @@
 //! What actions' effects can cost, each found when a step first needs it.
 
 ghost use Rattle.std.specs.Prelude.{◌≡◌, Some, None, map, replicate, slice_get, IfOk, OnOk};
-ghost use Rattle.pddl_effect.specs.Effects.{effect_view, effects_of};
+ghost use Rattle.pddl_effect.specs.Effects.{amount_view, effect_view, effects_of};
 ghost use Rattle.pddl_domain.specs.Actions.{action_view};
 ghost use Rattle.pddl_compiled.specs.Views.{change_view};
 ghost use Rattle.pddl_linked_task.specs.LinkedTasks.{task_of_files};
-ghost use Rattle.pddl_plan_tables.specs.ChangeCosts.{HasSameCosts, has_function, some_has_function};
+ghost use Rattle.pddl_plan_tables.specs.ChangeCosts.{HasSameCosts, is_function, has_function, some_has_function};
 ghost use Rattle.pddl_plan_tables.specs.ActionChanges.{effect_of, AreChangesOf, HasChange};
 
 use pddl_compiled::{Change, Scope, compile_change, parameter_slots};
@@ -17,6 +17,16 @@ use std::alloc::{AllocError, Allocator};
 /// Changes by the numbers of their actions, those that were made.
 pub type Changes<'c, C> = Vec<Option<Change<&'c C>>, &'c C>;
 
+/// Whether an amount is a function term.
+fn is_function<A: Allocator>(amount: &Amount<A>) -> bool
+    ensures { result ≡ is_function (amount_view amount.now) }
+{
+    match amount {
+        Amount::Number(_) => false,
+        Amount::Function(_) => true,
+    }
+}
+
 /// Whether an increase of an effect has a function term.
 #[cycle(functions)]
 fn has_function<A: Allocator>(effect: &Effect<A>) -> bool
@@ -24,14 +34,9 @@ fn has_function<A: Allocator>(effect: &Effect<A>) -> bool
 {
     match effect {
         Effect::And(parts) => some_has_function(parts),
-        Effect::Forall(_, inner) => has_function(inner),
-        Effect::When(_, inner) => has_function(inner),
-        Effect::Add(_) => false,
-        Effect::Del(_) => false,
-        Effect::Increase(amount) => match amount {
-            Amount::Number(_) => false,
-            Amount::Function(_) => true,
-        },
+        Effect::Forall(_, inner) | Effect::When(_, inner) => has_function(inner),
+        Effect::Add(_) | Effect::Del(_) => false,
+        Effect::Increase(amount) => is_function(amount),
     }
 }
 

@@ -34,13 +34,11 @@ pub fn some_costless<'f, 'c, C: Allocator>(
             Ok(false)
         }
         Change::When(_, inner) => some_costless(prices, inner, frame, call),
-        Change::Add(_, _) => Ok(false),
-        Change::Del(_, _) => Ok(false),
         Change::Increase(function, places) => {
             fill(call, *function, places, &*frame)?;
             Ok(prices.cost_of(&*call).is_none())
         }
-        Change::IncreaseBy(_) => Ok(false),
+        Change::Add(_, _) | Change::Del(_, _) | Change::IncreaseBy(_) => Ok(false),
     }
 }
 

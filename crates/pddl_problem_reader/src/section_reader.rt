@@ -20,8 +20,8 @@ use pddl_file::{FileFault, SectionKeyword, Seen, flags_of, head_keyword_of, keyw
 use pddl_formula::Formula;
 use pddl_formula_reader::{condition_of, typed_names_of};
 use pddl_init_reader::{inits_of, metric_of};
-use pddl_sections::span_of;
 use pddl_items::{Item, name_of};
+use pddl_sections::span_of;
 use pddl_token::Name;
 use std::alloc::{AllocError, Allocator};
 

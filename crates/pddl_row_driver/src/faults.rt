@@ -5,8 +5,8 @@ use pddl_faults::LinkFault;
 use pddl_file::FileFault;
 use pddl_file_lines::Outcome;
 use pddl_scan::TextFault;
-use pddl_token::Span;
 use pddl_step_reader::ReadFault;
+use pddl_token::Span;
 use std::alloc::Allocator;
 
 /// Adds the line of a fault.

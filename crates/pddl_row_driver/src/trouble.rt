@@ -3,7 +3,7 @@
 use pddl_fakes::Failure;
 
 /// What fails in a run, or in how small pieces it reads.
-#[derive(Clone, Copy)]
+#[derive(Clone, Copy, Debug)]
 pub enum Trouble {
     /// Nothing fails, and a read gives at most so many bytes.
     Pieces(usize),

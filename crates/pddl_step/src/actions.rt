@@ -1,6 +1,6 @@
 //! The actions that a plan's steps use, by numbers.
 
-ghost use Rattle.std.specs.Prelude.{◌≡◌, ◌<◌, ℕ, false, true, Some, length, replicate, slice_get, IfOk, MatchOption};
+ghost use Rattle.std.specs.Prelude.{◌≡◌, ◌<◌, ℕ, false, true, Some, length, slice_get, IfOk, MatchOption};
 ghost use Rattle.pddl_domain.specs.Actions.{ActionValue, action_view};
 ghost use Rattle.pddl_linked_task.specs.LinkedTasks.{task_of_files};
 ghost use Rattle.pddl_task.specs.Tasks.{TaskValue};
@@ -62,29 +62,23 @@ fn compile_action<'c, A: Allocator, D: Allocator, L: Lookups<A, D>>(
     compiled
 }
 
-/// So many marks, none of them set.
+/// A mark for each of so many actions, set for those of steps.
 ///
 /// Fails where memory for them is refused.
-fn no_marks<'c, D: Allocator>(alloc: &'c D, count: usize) -> Result<Vec<bool, &'c D>, AllocError>
-    ensures { IfOk result (λ marks. marks.items ≡ replicate count false) }
+fn used_marks<'b, 'c, C: Allocator, D: Allocator>(
+    alloc: &'c D,
+    steps: &Steps<'b, C>,
+    count: usize,
+) -> Result<Vec<bool, &'c D>, AllocError>
+    requires { (k : ℕ) (s : LinkedStepValue) → slice_get steps.now k ≡ Some s → s.action < count }
+    ensures as_many { IfOk result (λ marks. length marks.items ≡ count) }
+    ensures marked { IfOk result (λ marks. AreMarked steps.now marks.items) }
 {
-    let mut marks = Vec::with_capacity(alloc, count)?;
-    while marks.len() < count {
-        marks.push(false)?;
+    let mut marks = vec![in alloc; false; count]?;
+    for k in 0..steps.len() {
+        marks[steps.step(k).action] = true;
     }
     Ok(marks)
-}
-
-/// Marks the actions of steps.
-fn mark_used<'b, C: Allocator>(steps: &Steps<'b, C>, marks: &mut [bool])
-    requires { (k : ℕ) (s : LinkedStepValue) → slice_get steps.now k ≡ Some s → s.action < length marks.old }
-    ensures as_many { length marks.new ≡ length marks.old }
-    ensures marked { AreMarked steps.now marks.new }
-{
-    for k in 0..steps.len() {
-        let step = steps.step(k);
-        marks[step.action] = true;
-    }
 }
 
 /// The action of a number, where it is marked.
@@ -160,7 +154,6 @@ where
     ensures used { IfOk result (λ held. AreHeld steps.now held.items) }
 {
     let domain = task.domain();
-    let mut marks = no_marks(alloc, domain.actions.len())?;
-    mark_used(steps, &mut marks);
+    let marks = used_marks(alloc, steps, domain.actions.len())?;
     compile_all_marked(alloc, lookups, task, &marks)
 }

@@ -8,9 +8,9 @@ ghost use Rattle.pddl_step_reader.specs.Inner.StepNames.{names_of_step, AddsTime
 ghost use Rattle.pddl_step_reader.specs.Inner.PlanReading.{name_at, names_at, step_of, step_at, moment_at, is_colon, is_bracket, timed_at, no_step, timed_span, plain_fault, timed_fault, plain_from, timed_from, plan_at, plan_from, Refuses};
 
 use crate::fault::ReadFault;
+use pddl_items::Item;
 use pddl_plan::PlanBuilder;
 use pddl_scan::TextFault;
-use pddl_items::Item;
 use pddl_token::{Fixed, Span, TokenKind, value_of};
 use std::alloc::{AllocError, Allocator};
 

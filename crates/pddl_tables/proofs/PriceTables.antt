@@ -1,15 +1,12 @@
 -- A table of costs that is filled from the last item of `:init` to the first.
 use Rattle.std.proofs.Common.{◌≡◌, ◌<◌, ℕ, ◌+◌, ◌/◌, cond, List, ◌∷◌, map, length, get_or, drop, Option, Some, Result, Ok, Err, IfOk, OnOk, refl, sym, ap, ◌∙◌, add-one, drop-cons}
-use Rattle.std.specs.Prelude.{None}
 use Rattle.std.specs.List.{filter_map}
 use Rattle.std.specs.Map.{lookup}
-use Rattle.std.specs.Option.{option_map_or}
 use Rattle.std.specs.Result.{result_and}
 use Rattle.pddl_problem.specs.Inits.{GroundValue, InitValue, holds, fails, value}
 use Rattle.pddl_task.specs.Faults.{billion}
 use Rattle.pddl_task.specs.Tasks.{TaskValue, cost_in, object_names, function_names}
 use Rattle.pddl_state.specs.Atoms.{AtomValue, atom_eq}
-use Rattle.pddl_state.proofs.AtomOrder.{atom_eq-swap}
 use Rattle.pddl_compiled.specs.Tables.{number_atom}
 use Rattle.pddl_tables.specs.Prices.{numbered_cost, price_before}
 
@@ -20,20 +17,6 @@ module _ (task : TaskValue) where
   -- the costs that items give
   abbrev pub given : List InitValue → AtomValue → Option ℕ
   given items call = lookup (atom_eq call) (map (numbered_cost task) (filter_map cost_in items))
-
-  -- an item that gives none
-  pub none_before : (item : InitValue) (old : AtomValue → Option ℕ) → cost_in item ≡ None → (call : AtomValue) → old call ≡ price_before task item old call
-  none_before item old none = λ call. sym (ap (λ o. option_map_or (λ e. cond (atom_eq call (numbered_cost task e).0) (Some e.1) (old call)) o (old call)) none)
-
-  -- one that gives a cost, which is put into the table
-  pub one_before : (item : InitValue) (old new : AtomValue → Option ℕ) (k : AtomValue) (v : ℕ) (f : GroundValue) (n : ℕ) → item ≡ value f n → k ≡ number f → v ≡ n / billion
-      → ((q : AtomValue) → new q ≡ cond (atom_eq k q) (Some v) (old q)) → (call : AtomValue) → new call ≡ price_before task item old call
-  one_before item old new k v f n is named whole grows = λ call.
-      grows call
-      ∙ ap (λ b. cond b (Some v) (old call)) (atom_eq-swap k call)
-      ∙ ap (λ a. cond (atom_eq call a) (Some v) (old call)) named
-      ∙ ap (λ m. cond (atom_eq call (number f)) (Some m) (old call)) whole
-      ∙ sym (ap (λ i. price_before task i old call) is)
 
   one_more : (item : InitValue) (items : List InitValue) (old : AtomValue → Option ℕ) (call : AtomValue) → old call ≡ given items call → price_before task item old call ≡ given (item ∷ items) call
   one_more (holds f) items old call h = h

@@ -106,8 +106,7 @@ fn add_price<'t, 'm, 'a, 'c, A: Allocator, B: Allocator, C: Allocator>(
         ≡ price_before (task_of_files lookups.now) (init_view item.now) (λ c. lookup (atom_eq c) prices.old.entries) call) }
 {
     match item {
-        InitItem::Holds(_) => Ok(()),
-        InitItem::Fails(_) => Ok(()),
+        InitItem::Holds(_) | InitItem::Fails(_) => Ok(()),
         InitItem::Value(call, amount) => {
             let call = numbered(alloc, lookups, call)?;
             prices.insert(call, amount.billionths() / 1_000_000_000)?;

@@ -7,9 +7,9 @@ ghost use Rattle.pddl_token.specs.Trees.{Tree, Placed};
 ghost use Rattle.pddl_items.specs.Items.{items_view};
 ghost use Rattle.pddl_text.specs.Texts.{HasItems, ReadsAs, TextStands};
 
-use pddl_items::Item;
 use crate::lexer::lex;
 use crate::nesting::lists;
+use pddl_items::Item;
 use pddl_scan::TextFault;
 use std::alloc::Allocator;
 

@@ -66,8 +66,7 @@ run_told items after more runs now r number longer is start end last =
     let rest : drop r.0 after ≡ more =
     ap (λ n. drop n after) start ∙ ap (drop (length items)) longer ∙ drop-append-le (length items) items more (omega arith) ∙ ap (λ xs. xs ++ more) (drop_all (length items) items (omega arith)) in
     let own : run_of after r ≡ more =
-    ap (take (r.1 - r.0)) rest ∙ take_all (r.1 - r.0) more (omega (arith, start, end, ap length longer, length-append items more)) in
-    (
+    ap (take (r.1 - r.0)) rest ∙ take_all (r.1 - r.0) more (omega (arith, start, end, ap length longer, length-append items more)) in (
       omega (arith, ap length all, length-append before (run_of after r ∷ []), many),
       ap (λ ts. slice_index_or ts number []) all ∙ get_or_push before (run_of after r) [] number many ∙ own,
     )

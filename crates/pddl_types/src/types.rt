@@ -1,6 +1,6 @@
 //! The types of a domain with their parents, looked up by name.
 
-ghost use Rattle.std.specs.Prelude.{◌≡◌, ◌<◌, ◌⊎◌, ℕ, List, suc, [], IsTrue, map, not, filter, length, slice_get, Some, IfOk, OnOk};
+ghost use Rattle.std.specs.Prelude.{◌≡◌, ◌<◌, ◌⊎◌, ℕ, List, suc, [], IsTrue, map, not, filter, length, slice_get, Some, IfOk};
 ghost use Rattle.std.specs.List.{flat_map, list_any};
 ghost use Rattle.pddl_formula.specs.TypedLists.{TypedValue, typed_view};
 ghost use Rattle.pddl_domain.specs.Declarations.{type_view};

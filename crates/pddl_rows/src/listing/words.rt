@@ -1,9 +1,9 @@
 //! Words and items of texts.
 
 use pddl_file_lines::Outcome;
+use pddl_items::Item;
 use pddl_row_driver::{Lines, add_text_fault};
 use pddl_scan::TextFault;
-use pddl_items::Item;
 use pddl_text::{items_of, lex, lists};
 use pddl_token::Token;
 use std::alloc::Allocator;

@@ -2,8 +2,8 @@
 
 use pddl_device::{FromRead, SourceFault, ToWrite, WriteFault, read_all, write_text};
 use pddl_fakes::{FakeSource, Refusing};
-use pddl_scan::TextFault;
 use pddl_items::Item;
+use pddl_scan::TextFault;
 use pddl_text::{lex, lists};
 use pddl_token::{Span, Token, TokenKind};
 use std::alloc::Global;

@@ -4,8 +4,8 @@ use pddl_fakes::Refusing;
 use pddl_plan::Plan;
 use pddl_plan_reader::{PlanReader, read_plan};
 use pddl_scan::{LONGEST, TextFault};
-use pddl_text::PlanLexer;
 use pddl_step_reader::ReadFault;
+use pddl_text::PlanLexer;
 use std::alloc::{Allocator, Global};
 use std::test::Fail;
 

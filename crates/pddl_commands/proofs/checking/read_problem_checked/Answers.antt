@@ -4,8 +4,8 @@ use Rattle.pddl_kind.specs.declared.Kind.TheVariants.{Problem}
 use Rattle.pddl_file_lines.specs.declared.outcome.RunFault.TheVariants.{ReadFailed, WriteFailed}
 use Rattle.pddl_file_lines.specs.Contents.{IsContent}
 use Rattle.pddl_file_lines.specs.Judgements.{ForProblem}
-use Rattle.pddl_commands.specs.Checks.{IsProblemJudged}
 use Rattle.pddl_file_lines.proofs.Made.{if_made, only_memory, on_any}
+use Rattle.pddl_commands.specs.Checks.{IsProblemJudged}
 use Rattle.pddl_commands.proofs.checking.read_problem_checked.Goals as goal
 
 pub returns-in-Text : goal.returns-in-Text

@@ -2,8 +2,8 @@ use Rattle.std.proofs.Common.{subst, inl}
 use Rattle.pddl_kind.specs.declared.Kind.TheVariants.{Domain}
 use Rattle.pddl_file_lines.specs.declared.outcome.RunFault.TheVariants.{ReadFailed, WriteFailed}
 use Rattle.pddl_file_lines.specs.Contents.{IsContent}
-use Rattle.pddl_commands.specs.Formats.{IsFormatted}
 use Rattle.pddl_file_lines.proofs.Made.{if_made, only_memory, on_any}
+use Rattle.pddl_commands.specs.Formats.{IsFormatted}
 use Rattle.pddl_commands.proofs.formatting.read_formatted_domain.Goals as goal
 
 pub returns-in-Text : goal.returns-in-Text

@@ -2,8 +2,8 @@ use Rattle.std.proofs.Common.{subst, inl}
 use Rattle.pddl_plan.specs.Plans.{plan_view}
 use Rattle.pddl_file_lines.specs.declared.outcome.RunFault.TheVariants.{ReadFailed, WriteFailed}
 use Rattle.pddl_file_lines.specs.Contents.{IsPlanContent}
-use Rattle.pddl_commands.proofs.Good.{plan_printed}
 use Rattle.pddl_file_lines.proofs.Made.{if_made, only_memory, on_any}
+use Rattle.pddl_commands.proofs.Good.{plan_printed}
 use Rattle.pddl_commands.proofs.formatting.read_formatted_plan.Goals as goal
 
 pub returns-in-Plan : goal.returns-in-Plan

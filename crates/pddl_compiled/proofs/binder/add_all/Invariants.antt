@@ -1,4 +1,4 @@
-use Rattle.std.proofs.Common.{◌≡◌, ◌++◌, map, drop}
+use Rattle.std.proofs.Common.{◌≡◌, ◌++◌, false, map, drop}
 use Rattle.pddl_formula.specs.TypedLists.{typed_view}
 use Rattle.pddl_compiled.specs.Binders.{IsLast}
 use Rattle.pddl_compiled.specs.Compiler.{binder_of}
@@ -13,8 +13,9 @@ invariant-loop-place g l =
     let whole = binder_of range all in
     let rest = binder_of range (drop l.place all) in
     record {
-      slots : map slot_view l.slots.items ++ rest.slots ≡ map slot_view l.fn.slots.items ++ whole.slots;
-      ranges : map range_items l.ranges.items ++ rest.ranges ≡ map range_items l.fn.ranges.items ++ whole.ranges;
+      slots : map slot_view l.binder.slots.items ++ rest.slots ≡ map slot_view l.fn.binder.slots.items ++ whole.slots;
+      ranges : map range_items l.binder.ranges.items ++ rest.ranges ≡ map range_items l.fn.binder.ranges.items ++ whole.ranges;
       closed : rest.closed ≡ whole.closed;
+      on : l.binder.closed ≡ false;
       last : IsLast range all l.place l.last;
     }

@@ -11,8 +11,9 @@ use Rattle.pddl_compiled.proofs.Cases.{atom_right, equal_right, not_right, imply
 use Rattle.std.specs.Prelude.{Ok}
 use Rattle.pddl_compiled.specs.Views.{place_view, condition_view}
 use Rattle.pddl_compiled.specs.Scopes.{scope_view}
-use Rattle.pddl_compiled.proofs.Binders.{weaker, ok_known, grown}
-use Rattle.pddl_compiled.proofs.Quantifiers.{closed_right, open_right, one_item, no_item}
+use Rattle.pddl_compiled.proofs.Binders.{weaker, ok_known}
+use Rattle.pddl_compiled.proofs.Quantifiers.{inside_closed, inside_open, around_right, one_item, no_item}
+use Rattle.pddl_compiled.proofs.conditions.+conditions.Goals.{compile_quantified-then-binder, compile_quantified-else-binder}
 use Rattle.pddl_compiled.proofs.conditions.+conditions.Goals as goal
 
 pub compile_condition-returns-in-Equal : goal.compile_condition-returns-in-Equal
@@ -27,28 +28,43 @@ pub compile_condition-returns-in-Or : goal.compile_condition-returns-in-Or
 compile_condition-returns-in-Or g t c =
     weaker _ _ (λ k is. is ∙ or_right (g.L.Lookups.tables c.args.lookups.now) (scope_view c.args.scope.now) c.args.formula.now c.in-Or.parts c.in-Or.is) c.compile_parts-in-Or.result c.compile_parts-in-Or.ensures
 
-pub compile_quantified-returns-then-binder : goal.compile_quantified-returns-then-binder
-compile_quantified-returns-then-binder g t c =
-    let b = c.in_ok-binder in
+pub add_conditions-returns : goal.add_conditions-returns
+add_conditions-returns g t c =
+    no_item condition_view (λ f. condition_of (g.L.Lookups.tables c.args.lookups.now) (formula_view f) (scope_view c.args.scope.now)) c.args.conditions.now.items c.loop-formula.conditions.items c.args.formulas.now.items c.deref-formula-items.result.now c.loop-formula.formula-index c.deref-formula-items.ensures.value c.loop-formula-test.false c.loop-formula.invariant
+
+pub compile_condition-returns-in-Exists : goal.compile_condition-returns-in-Exists
+compile_condition-returns-in-Exists g t c =
     let tables = g.L.Lookups.tables c.args.lookups.now in
-    closed_right condition_view (cond c.args.some value.existential value.universal) (value.known true) tables c.args.variables.now.items (condition_of tables (formula_view c.args.inner.now)) (scope_view c.args.scope.now) b.binder.ranges.items b.binder.slots.items b.binder.closed
-    b.ensures.slots b.ensures.ranges b.ensures.closed (Ok (Known true)) c.quantified.result c.quantified.ensures c.if-binder.true (view_known (Known true) true refl)
+    let scope = scope_view c.args.scope.now in
+    weaker _ _ (λ k is. is ∙ (ap (λ f. nested value.existential (value.known true) tables (map typed_view c.in-Exists.variables.items) (condition_of tables (formula_view f)) scope) c.deref-in-Exists.ensures
+    ∙ exists_right tables scope c.args.formula.now c.in-Exists.variables c.in-Exists.inner c.in-Exists.is)) c.compile_quantified.result c.compile_quantified.ensures
+
+pub compile_condition-returns-in-Forall : goal.compile_condition-returns-in-Forall
+compile_condition-returns-in-Forall g t c =
+    let tables = g.L.Lookups.tables c.args.lookups.now in
+    let scope = scope_view c.args.scope.now in
+    weaker _ _ (λ k is. is ∙ (ap (λ f. nested value.universal (value.known true) tables (map typed_view c.in-Forall.variables.items) (condition_of tables (formula_view f)) scope) c.deref-in-Forall.ensures
+    ∙ forall_right tables scope c.args.formula.now c.in-Forall.variables c.in-Forall.inner c.in-Forall.is)) c.compile_quantified-in-Forall.result c.compile_quantified-in-Forall.ensures
+
+pub add_conditions-loop-formula-preserved : goal.add_conditions-loop-formula-preserved
+add_conditions-loop-formula-preserved g t c =
+    one_item condition_view (λ f. condition_of (g.L.Lookups.tables c.args.lookups.now) (formula_view f) (scope_view c.args.scope.now)) c.args.conditions.now.items c.loop-formula.conditions.items c.push_made.new.list.items c.compile_condition.result c.args.formulas.now.items c.deref-formula-items.result.now c.loop-formula.formula-index c.formula-item.result
+    c.in_ok-push_made.ensures c.compile_condition.ensures c.deref-formula-items.ensures.value c.loop-formula-test.true c.formula-item.is c.loop-formula.invariant
 
 pub compile_quantified-returns : goal.compile_quantified-returns
 compile_quantified-returns g t c =
     let b = c.in_ok-binder in
+    let nothing = value.known true in
     let tables = g.L.Lookups.tables c.args.lookups.now in
-    open_right condition_view (cond c.args.some value.existential value.universal) (value.known true) tables c.args.variables.now.items (condition_of tables (formula_view c.args.inner.now)) (scope_view c.args.scope.now) b.binder.ranges.items b.binder.slots.items b.binder.closed
-    b.ensures.slots b.ensures.ranges b.ensures.closed c.compile_condition-inner.result c.quantified-2.result c.quantified-2.ensures c.deref.result.now c.deref.ensures.value c.if-binder.false c.compile_condition-inner.ensures
-
-pub add_conditions-loop-formula-preserved : goal.add_conditions-loop-formula-preserved
-add_conditions-loop-formula-preserved g t c =
-    one_item condition_view (λ f. condition_of (g.L.Lookups.tables c.args.lookups.now) (formula_view f) (scope_view c.args.scope.now)) c.args.conditions.now.items c.loop-formula.conditions.items c.push.new.self.items c.in_ok-compile_condition.field-0 c.args.formulas.now.items c.deref-formula-items.result.now c.loop-formula.formula-index c.formula-item.result
-    (grown _ _ _ c.push.result _ c.in_ok-push.was c.push.ensures.items) c.in_ok-compile_condition.ensures c.deref-formula-items.ensures.value c.loop-formula-test.true c.formula-item.is c.loop-formula.invariant
-
-pub add_conditions-returns : goal.add_conditions-returns
-add_conditions-returns g t c =
-    no_item condition_view (λ f. condition_of (g.L.Lookups.tables c.args.lookups.now) (formula_view f) (scope_view c.args.scope.now)) c.args.conditions.now.items c.loop-formula.conditions.items c.args.formulas.now.items c.deref-formula-items.result.now c.loop-formula.formula-index c.deref-formula-items.ensures.value c.loop-formula-test.false c.loop-formula.invariant
+    let body = condition_of tables (formula_view c.args.inner.now) in
+    let scope = scope_view c.args.scope.now in
+    let slots = b.binder.slots.items in
+    let inner = c.if-binder.inner in
+    around_right condition_view nothing body scope slots b.binder.closed (cond c.args.some value.existential value.universal) tables c.args.variables.now.items b.binder.ranges.items b.ensures.slots b.ensures.ranges b.ensures.closed inner c.quantified_by.result
+    (elim c.if-binder.branch [
+      | compile_quantified-then-binder w ↦ inside_closed condition_view nothing body scope slots b.binder.closed inner (Ok (Known true)) w.if-binder.true w.inner-is (view_known (Known true) true refl)
+      | compile_quantified-else-binder w ↦ inside_open condition_view nothing body scope slots b.binder.closed inner w.compile_condition-inner.result w.deref.result.now w.deref.ensures.value w.if-binder.false w.inner-is w.compile_condition-inner.ensures
+    ]) c.quantified_by.ensures
 
 pub compile_condition-returns-in_ok-places-in-Atom : goal.compile_condition-returns-in_ok-places-in-Atom
 compile_condition-returns-in_ok-places-in-Atom g t c =
@@ -79,17 +95,3 @@ compile_condition-returns-in_ok-first-in-Imply g t c =
     ∙ (ap (λ k. value.implication k (condition_view second.value)) (ok_known _ c.compile_condition-first.result first.value c.in_ok-first-in-Imply.ensures.first c.compile_condition-first.ensures ∙ ap (λ f. condition_of tables (formula_view f) scope) c.deref-in-Imply.ensures)
     ∙ (ap (value.implication (condition_of tables (formula_view c.in-Imply.first.value) scope)) (ok_known _ c.compile_condition-second.result second.value c.in_ok-first-in-Imply.ensures.second c.compile_condition-second.ensures ∙ ap (λ f. condition_of tables (formula_view f) scope) c.deref-in-Imply-2.ensures)
     ∙ imply_right tables scope c.args.formula.now c.in-Imply.first c.in-Imply.second c.in-Imply.is))
-
-pub compile_condition-returns-in-Exists : goal.compile_condition-returns-in-Exists
-compile_condition-returns-in-Exists g t c =
-    let tables = g.L.Lookups.tables c.args.lookups.now in
-    let scope = scope_view c.args.scope.now in
-    weaker _ _ (λ k is. is ∙ (ap (λ f. nested value.existential (value.known true) tables (map typed_view c.in-Exists.variables.items) (condition_of tables (formula_view f)) scope) c.deref-in-Exists.ensures
-    ∙ exists_right tables scope c.args.formula.now c.in-Exists.variables c.in-Exists.inner c.in-Exists.is)) c.compile_quantified.result c.compile_quantified.ensures
-
-pub compile_condition-returns-in-Forall : goal.compile_condition-returns-in-Forall
-compile_condition-returns-in-Forall g t c =
-    let tables = g.L.Lookups.tables c.args.lookups.now in
-    let scope = scope_view c.args.scope.now in
-    weaker _ _ (λ k is. is ∙ (ap (λ f. nested value.universal (value.known true) tables (map typed_view c.in-Forall.variables.items) (condition_of tables (formula_view f)) scope) c.deref-in-Forall.ensures
-    ∙ forall_right tables scope c.args.formula.now c.in-Forall.variables c.in-Forall.inner c.in-Forall.is)) c.compile_quantified-in-Forall.result c.compile_quantified-in-Forall.ensures

@@ -1,4 +1,4 @@
-use Rattle.std.proofs.Common.{arith, ◌+◌, ◌∷◌, drop, map, refl, sym, ap, ◌∙◌}
+use Rattle.std.proofs.Common.{arith, ◌+◌, ◌∷◌, drop, map, sym, ap, ◌∙◌}
 use Rattle.std.proofs.lemmas.List.{drop_more, drop_all}
 use Rattle.pddl_formula.specs.TypedLists.{typed_view}
 use Rattle.pddl_compiled.specs.Compiler.{framed}
@@ -11,7 +11,7 @@ pub returns : goal.returns
 returns g c =
     let slots = c.loop-parameter.slots.items in
     let whole = map parameter_slot (map typed_view c.args.parameters.now) in
-    turned_round slot_view slots slots c.reverse.new.self.items whole refl c.reverse.ensures.items
+    turned_round slot_view slots c.reverse.new.self.items whole c.reverse.ensures.items
     (finished slot_view slots _ whole (ap (λ ps. map parameter_slot (map typed_view ps)) (drop_all c.loop-parameter.parameter-index c.args.parameters.now (omega (arith, c.loop-parameter-test.false)))) c.loop-parameter.invariant)
 
 pub loop-parameter-preserved : goal.loop-parameter-preserved

@@ -1,4 +1,4 @@
-use Rattle.std.proofs.Common.{◌≡◌, ◌+◌, ℕ, arith, get_or, take, sym, ap, ◌∙◌}
+use Rattle.std.proofs.Common.{◌+◌, arith, take, sym, ap, ◌∙◌}
 use Rattle.std.proofs.lemmas.List.Sums.{sum_by_more}
 use Rattle.pddl_happenings.specs.Accepted.{cost_of}
 use Rattle.pddl_judge.proofs.stage.group_cost.Goals as goal

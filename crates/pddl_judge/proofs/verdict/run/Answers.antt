@@ -1,4 +1,4 @@
-use Rattle.std.proofs.Common.{◌≡◌, ◌<◌, ◌≤◌, ◌*◌, ◌+◌, ℕ, [], rules, arith, refl, length, get_or, drop, subst, sym, ap, ◌∙◌}
+use Rattle.std.proofs.Common.{◌≡◌, ◌<◌, ◌≤◌, ◌*◌, ◌+◌, ℕ, [], arith, refl, length, get_or, drop, subst, sym, ap, ◌∙◌}
 use borrow.Author.Count.{falls}
 use Rattle.std.specs.Prelude.{All}
 use Rattle.std.proofs.lemmas.List.{drop_all}
@@ -37,7 +37,7 @@ pass-requires-clause-few g c =
     let items = c.args.happenings.now in
     let h = c.loop-h.h in
     let d = c.index-happenings-h.result in
-    let steps : c.deref.result.now ≡ d.steps = search rules in
+    let steps : c.deref.result.now ≡ d.steps = c.deref.ensures.value ∙ ap (λ k. k.steps) c.happening.view_is in
     subst (λ l. length l ≤ 1000000) (sym steps) (few_more p start here here items h d c.index-happenings-h.is c.loop-h-test.true (groups_of items) 1000000 c.loop-h.invariant.few).0
 
 pub pass-requires-clause-steps : goal.pass-requires-clause-steps
@@ -52,7 +52,7 @@ pass-requires-clause-steps g c =
     let d = c.index-happenings-h.result in
     let at : d ≡ get_or items h d = c.index-happenings-h.is in
     let lt : h < length items = c.loop-h-test.true in
-    let steps : c.deref.result.now ≡ d.steps = search rules in
+    let steps : c.deref.result.now ≡ d.steps = c.deref.ensures.value ∙ ap (λ k. k.steps) c.happening.view_is in
     subst (All (λ k. k < g.P.Course.count_of c.args.course.now)) (sym steps) (steps_within (g.P.Course.count_of c.args.course.now) items h d at lt c.requires.each)
 
 pub loop-h-preserved : goal.loop-h-preserved
@@ -67,19 +67,19 @@ loop-h-preserved g c =
     let d = c.index-happenings-h.result in
     let at : d ≡ get_or items h d = c.index-happenings-h.is in
     let lt : h < length items = c.loop-h-test.true in
-    let steps : c.deref.result.now ≡ d.steps = search rules in
+    let steps : c.deref.result.now ≡ d.steps = c.deref.ensures.value ∙ ap (λ k. k.steps) c.happening.view_is in
     let there = content c.pass.new.store c.pass.new.state in
     let spent = c.in-Passed.spent in
-    let fine : IsFine p here c.deref.result.now = search rules in
+    let fine : IsFine p here c.deref.result.now = rw c.in-Passed.is at c.in_ok-spent.ensures.fine in
     let one : IsFine p here d.steps = subst (IsFine p here) steps fine in
-    let made : there ≡ after p here c.deref.result.now = search rules in
+    let made : there ≡ after p here c.deref.result.now = rw c.in-Passed.is at c.in_ok-spent.ensures.content in
     let is : there ≡ after p here d.steps = made ∙ ap (after p here) steps in
-    let costs : spent ≡ cost_of p here c.deref.result.now = search rules in
+    let costs : spent ≡ cost_of p here c.deref.result.now = rw c.in-Passed.is at c.in_ok-spent.ensures.cost in
     let cost : spent ≡ cost_of p here d.steps = costs ∙ ap (cost_of p here) steps in
-    let bounded : spent ≤ length c.deref.result.now * 18446744073709551616000000 = search rules in
+    let bounded : spent ≤ length c.deref.result.now * 18446744073709551616000000 = rw c.in-Passed.is at c.in_ok-spent.ensures.bound in
     let bound : spent ≤ length d.steps * 18446744073709551616000000 = subst (λ l. spent ≤ length l * 18446744073709551616000000) steps bounded in
     record {
-      own = search rules;
+      own = rw c.in-Passed.is at c.in_ok-spent.ensures.own;
       fine = fine_more p start here there items h d at lt whole is c.loop-h.invariant.fine one;
       end = end_more p start here there items h d at lt whole is c.loop-h.invariant.end;
       cost_is = cost_more p start here there items h d at lt whole is c.loop-h.cost spent c.loop-h.invariant.cost_is cost;
@@ -101,7 +101,7 @@ overflow_add-cost g c =
     let items = c.args.happenings.now in
     let h = c.loop-h.h in
     let d = c.index-happenings-h.result in
-    let steps : c.deref.result.now ≡ d.steps = search rules in
+    let steps : c.deref.result.now ≡ d.steps = c.deref.ensures.value ∙ ap (λ k. k.steps) c.happening.view_is in
     let spent = c.in-Passed.spent in
     let bound : spent ≤ length c.deref.result.now * 18446744073709551616000000 = rw c.in-Passed.is at c.in_ok-spent.ensures.bound in
     let room = room_more p start here here items h d c.index-happenings-h.is c.loop-h-test.true (groups_of items) c.loop-h.cost spent 18446744073709551616000000000000 c.loop-h.invariant.room (subst (λ l. spent ≤ length l * 18446744073709551616000000) steps bound) in
@@ -136,9 +136,9 @@ returns-in-Unready-clause-precondition g c =
     let d = c.index-happenings-h.result in
     let at : d ≡ get_or items h d = c.index-happenings-h.is in
     let lt : h < length items = c.loop-h-test.true in
-    let steps : c.deref.result.now ≡ d.steps = search rules in
+    let steps : c.deref.result.now ≡ d.steps = c.deref.ensures.value ∙ ap (λ k. k.steps) c.happening.view_is in
     let step = c.in-Unready.step in
-    let told : IsFirstUnready p here c.deref.result.now step = search rules in
+    let told : IsFirstUnready p here c.deref.result.now step = rw c.in-Unready.is at c.in_ok-spent.ensures.unready in
     let one : IsFirstUnready p here d.steps step = subst (λ l. IsFirstUnready p here l step) steps told in
     at_here p start here here items h d at lt whole (λ s q. IsFirstUnready p s q step) (c.loop-h.invariant.unready step) one
 
@@ -154,9 +154,9 @@ returns-in-Unready-clause-refused g c =
     let d = c.index-happenings-h.result in
     let at : d ≡ get_or items h d = c.index-happenings-h.is in
     let lt : h < length items = c.loop-h-test.true in
-    let steps : c.deref.result.now ≡ d.steps = search rules in
+    let steps : c.deref.result.now ≡ d.steps = c.deref.ensures.value ∙ ap (λ k. k.steps) c.happening.view_is in
     let step = c.in-Unready.step in
-    let told : IsFirstUnready p here c.deref.result.now step = search rules in
+    let told : IsFirstUnready p here c.deref.result.now step = rw c.in-Unready.is at c.in_ok-spent.ensures.unready in
     let one : IsFirstUnready p here d.steps step = subst (λ l. IsFirstUnready p here l step) steps told in
     refused_unready p (g.P.Course.goal_of c.args.course.now) start whole h step (at_here p start here here items h d at lt whole (λ s q. IsFirstUnready p s q step) (c.loop-h.invariant.unready step) one)
 
@@ -172,11 +172,11 @@ returns-in-Clashing-clause-interference g c =
     let d = c.index-happenings-h.result in
     let at : d ≡ get_or items h d = c.index-happenings-h.is in
     let lt : h < length items = c.loop-h-test.true in
-    let steps : c.deref.result.now ≡ d.steps = search rules in
+    let steps : c.deref.result.now ≡ d.steps = c.deref.ensures.value ∙ ap (λ k. k.steps) c.happening.view_is in
     let a = c.in-Clashing.clash.atom in
     let first = c.in-Clashing.clash.first in
     let second = c.in-Clashing.clash.second in
-    let told : IsFirstClash p (IsLeast a) here c.deref.result.now first second = search rules in
+    let told : IsFirstClash p (IsLeast a) here c.deref.result.now first second = rw c.in-Clashing.is at c.in_ok-spent.ensures.clash in
     let one : IsFirstClash p (IsLeast a) here d.steps first second = subst (λ l. IsFirstClash p (IsLeast a) here l first second) steps told in
     at_here p start here here items h d at lt whole (λ s q. IsFirstClash p (IsLeast a) s q first second) (c.loop-h.invariant.clashes first second a) one
 
@@ -192,10 +192,10 @@ returns-in-Clashing-clause-refused g c =
     let d = c.index-happenings-h.result in
     let at : d ≡ get_or items h d = c.index-happenings-h.is in
     let lt : h < length items = c.loop-h-test.true in
-    let steps : c.deref.result.now ≡ d.steps = search rules in
+    let steps : c.deref.result.now ≡ d.steps = c.deref.ensures.value ∙ ap (λ k. k.steps) c.happening.view_is in
     let a = c.in-Clashing.clash.atom in
     let first = c.in-Clashing.clash.first in
     let second = c.in-Clashing.clash.second in
-    let told : IsFirstClash p (IsLeast a) here c.deref.result.now first second = search rules in
+    let told : IsFirstClash p (IsLeast a) here c.deref.result.now first second = rw c.in-Clashing.is at c.in_ok-spent.ensures.clash in
     let one : IsFirstClash p (IsLeast a) here d.steps first second = subst (λ l. IsFirstClash p (IsLeast a) here l first second) steps told in
     refused_clash p (g.P.Course.goal_of c.args.course.now) start whole (g.P.Course.count_of c.args.course.now) h first second a c.requires.each (at_here p start here here items h d at lt whole (λ s q. IsFirstClash p (IsLeast a) s q first second) (c.loop-h.invariant.clashes first second a) one)
