@@ -4,7 +4,7 @@ ghost use Rattle.std.specs.Prelude.{◌≡◌, ◌↔◌, Ok, IsErr};
 ghost use Rattle.pddl_file_lines.specs.declared.outcome.RunFault.TheVariants.{Memory};
 ghost use Rattle.pddl_file_lines.specs.Made.{or_memory};
 
-use std::alloc::{AllocError, Allocator};
+use std::alloc::AllocError;
 use thiserror::Error;
 
 /// What a command found. The text or the line that says so was written.

@@ -14,7 +14,7 @@ use crate::term_reader::variable_of;
 use pddl_build::{if_right, list_if_right, push_found};
 use pddl_formula::{TypeName, TypeNames, TypedList};
 use pddl_items::{Item, is_dash, is_word_item, name_of};
-use pddl_token::{Name, TokenKind};
+use pddl_token::Name;
 use std::alloc::{AllocError, Allocator};
 use std::mem::replace;
 

@@ -19,7 +19,7 @@ use pddl_linked_task::Task;
 use pddl_plan::Plan;
 use pddl_plan_link::link_plan;
 use pddl_row_driver::{Lines, text_of};
-use pddl_serial_plans::{Order, SplitFault, serialise, split};
+use pddl_serial_plans::{SplitFault, serialise, split};
 use pddl_state::AtomStore;
 use pddl_valid::{Accepted, Verdict, validate};
 use std::alloc::Allocator;

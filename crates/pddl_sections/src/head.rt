@@ -9,7 +9,7 @@ ghost use Rattle.pddl_sections.specs.Inner.Answers.{title_of, title_at, opening_
 ghost use Rattle.pddl_sections.specs.Openings.{opening_view};
 
 use pddl_items::{Item, is_word_item, name_of};
-use pddl_token::{Name, Span, TokenKind};
+use pddl_token::{Name, Span};
 use std::alloc::{AllocError, Allocator};
 
 /// What a file opens with: its name, and the items of its sections.

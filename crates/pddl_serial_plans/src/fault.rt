@@ -3,7 +3,7 @@
 ghost use Rattle.std.specs.Prelude.{◌≡◌, Ok, IfOk, IsErrOf};
 ghost use Rattle.pddl_serial_plans.specs.declared.fault.SplitFault.TheVariants as splits;
 
-use std::alloc::{AllocError, AllocFailed};
+use std::alloc::AllocError;
 use thiserror::Error;
 
 /// Why a plan is not split. Own.
