@@ -20,7 +20,7 @@ module _ {ps order sizes offsets first : List ℕ} (o : IsOrder ps order) (s : A
   some_turn : (i : ℕ) → i < length ps → i ≢ 0 → IsFrom order 1 i
   some_turn i low other =
       let turn = o.all i low in
-      let later : turn.0 ≢ 0 = λ e. other (sym turn.2 ∙ ap (number_at order) e ∙ o.listed.start) in
+      let later : turn.0 ≢ 0 = λ e. other (sym turn.2 ∙ ap (number_at order) e ∙ o.start) in
       (turn.0, omega (arith, later), turn.1, turn.2)
 
   behind : (i : ℕ) → i < length ps → i ≢ 0 → at (parent_of ps i) < at i
@@ -59,7 +59,7 @@ module _ {ps order sizes offsets first : List ℕ} (o : IsOrder ps order) (s : A
       let more = nested n (parent_of ps i) g (o.within i low) is in
       let (m0, m1) = more in
       elim (cases_eq i 0) as (λ _. (at g ≤ at i) × (end i ≤ end g)) [
-        | inl zeroth ↦ subst (λ k. (at g ≤ at k) × (end k ≤ end g)) (ap (parent_of ps) zeroth ∙ o.listed.top o.some ∙ sym zeroth) more
+        | inl zeroth ↦ subst (λ k. (at g ≤ at k) × (end k ≤ end g)) (ap (parent_of ps) zeroth ∙ o.top ∙ sym zeroth) more
         | inr other ↦ let b = behind i low other in let c = inside i low other in (omega (arith, b, m0), omega (arith, c, m1))
       ]
 
@@ -72,7 +72,7 @@ module _ {ps order sizes offsets first : List ℕ} (o : IsOrder ps order) (s : A
   by_child (suc n) i p low is =
       elim (by_child n (parent_of ps i) p (o.within i low) is) as (λ _. ByChild i p) [
         | inl here ↦ elim (cases_eq i 0) as (λ _. ByChild i p) [
-          | inl zeroth ↦ inl (zeroth ∙ sym (o.listed.top o.some) ∙ ap (parent_of ps) (sym zeroth) ∙ here)
+          | inl zeroth ↦ inl (zeroth ∙ sym (o.top) ∙ ap (parent_of ps) (sym zeroth) ∙ here)
           | inr other ↦ inr (i, low, other, here, (0, refl))
         ]
         | inr (k, in_range, other, is_child, under) ↦ inr (k, in_range, other, is_child, (suc under.0, under.1))

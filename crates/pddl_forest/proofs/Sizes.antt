@@ -1,39 +1,11 @@
 -- How many places are under each, found in an order in which each comes behind its parent.
-use Rattle.std.proofs.Common.{◌≡◌, ◌≢◌, ℕ, zero, suc, ◌+◌, ◌<◌, ◌≤◌, List, length, replicate, slice_set, refl, sym, ap, ◌∙◌, subst, arith, inl, inr, ◌⊎◌}
+use Rattle.std.proofs.Common.{◌≡◌, ◌≢◌, ℕ, suc, ◌+◌, ◌<◌, ◌≤◌, List, length, replicate, slice_set, refl, sym, ap, ◌∙◌, arith, inl, inr, ◌⊎◌}
 use Rattle.std.proofs.lemmas.Bool.{cases_eq, cases_lt}
 use Rattle.std.proofs.lemmas.List.{get_or-set_same, get_or-set_other, get_or-replicate, length-set, length-replicate}
 use Rattle.pddl_forest.specs.Forests.{parent_of, number_at}
-use Rattle.pddl_forest.specs.Inner.Orders.{IsOrder}
-use Rattle.pddl_forest.specs.Inner.Sizes.{IsFrom, IsUpTo, total, AreSized, AreNumbered}
-
--- ---- sums of so many numbers
-
--- one of them is raised
-total_raised : (f g : ℕ → ℕ) (m q d : ℕ) → (q < m → g q ≤ f q + d) → ((u : ℕ) → u < m → u ≢ q → g u ≤ f u) → total g m ≤ total f m + d
-total_raised f g zero q d raised same = omega arith
-total_raised f g (suc m) q d raised same =
-    elim (cases_eq m q) as (λ _. total g (suc m) ≤ total f (suc m) + d) [
-      | inl is ↦
-          let rest = total_raised f g m q 0 (λ low. absurd (omega (arith, low, is))) (λ u less. same u (omega (arith, less))) in
-          let here : g m ≤ f m + d = subst (λ k. g k ≤ f k + d) (sym is) (raised (omega (arith, is))) in
-          omega (arith, rest, here)
-      | inr other ↦
-          let rest = total_raised f g m q d (λ low. raised (omega (arith, low))) (λ u less. same u (omega (arith, less))) in
-          let here = same m (omega arith) other in
-          omega (arith, rest, here)
-    ]
-
-total_low : (f : ℕ → ℕ) (m q : ℕ) → q < m → f q ≤ total f m
-total_low f zero q low = absurd (omega (arith, low))
-total_low f (suc m) q low =
-    elim (cases_eq m q) as (λ _. f q ≤ total f (suc m)) [
-      | inl is ↦ let e = ap f is in omega (arith, e)
-      | inr other ↦ let rest = total_low f m q (let apart : q ≢ m = λ e. other (sym e) in omega (arith, low, apart)) in omega (arith, rest)
-    ]
-
-total_ones : (f : ℕ → ℕ) (m : ℕ) → ((u : ℕ) → u < m → f u ≡ 1) → total f m ≤ m
-total_ones f zero ones = omega arith
-total_ones f (suc m) ones = let rest = total_ones f m (λ u low. ones u (omega (arith, low))) in let here = ones m (omega arith) in omega (arith, rest, here)
+use Rattle.pddl_forest.specs.Inner.Orders.{IsUpTo, IsOrder}
+use Rattle.pddl_forest.specs.Inner.Sizes.{IsFrom, AreSized, AreNumbered}
+use Rattle.pddl_forest.proofs.Totals.{total_raised, total_low, total_few}
 
 -- ---- sizes, from the end of the order
 
@@ -42,7 +14,7 @@ none_sized {ps} {order} o offsets long = record {
   long = length-replicate (length ps) 1;
   offsets_long = long;
   some = λ i low. let one : number_at (replicate (length ps) 1) i ≡ 1 = get_or-replicate (length ps) i 1 0 low in omega (arith, one);
-  whole = total_ones (λ u. number_at (replicate (length ps) 1) (number_at order u)) (length order) (λ u low. get_or-replicate (length ps) (number_at order u) 1 0 (o.listed.in_range u low));
+  whole = total_few (λ u. number_at (replicate (length ps) 1) (number_at order u)) (length order) (λ u low. let one : number_at (replicate (length ps) 1) (number_at order u) ≡ 1 = get_or-replicate (length ps) (number_at order u) 1 0 (o.in_range u low) in omega (arith, one));
   behind = λ i (u, past, low, is). absurd (omega (arith, past, low));
   inside = λ i (u, past, low, is). absurd (omega (arith, past, low));
   apart = λ i k (u, past, low, is). absurd (omega (arith, past, low));
@@ -58,32 +30,32 @@ module _ {ps order : List ℕ} (o : IsOrder ps order) (turn : ℕ) (low : turn <
 
   apart_at : (u w : ℕ) → u < length order → w < length order → u ≢ w → number_at order u ≢ number_at order w
   apart_at u w u_low w_low other same =
-      elim (cases_lt u w) as (λ _. ⊥) [ inl less ↦ o.listed.once u w less w_low same | inr past ↦ o.listed.once w u (omega (arith, past, other)) u_low (sym same) ]
+      elim (cases_lt u w) as (λ _. ⊥) [ inl less ↦ o.once u w less w_low same | inr past ↦ o.once w u (omega (arith, past, other)) u_low (sym same) ]
 
   -- the parent comes before
   over : IsUpTo order turn parent
-  over = o.listed.behind turn low later
+  over = o.behind turn low later
 
   over_low : over.0 < length order
   over_low = let before = over.1 in omega (arith, before, low)
 
   place_low : place < length ps
-  place_low = o.listed.in_range turn low
+  place_low = o.in_range turn low
 
   parent_low : parent < length ps
   parent_low = o.within place place_low
 
   place_other : place ≢ 0
-  place_other is = apart_at turn 0 low o.some later (is ∙ sym o.listed.start)
+  place_other is = apart_at turn 0 low o.some later (is ∙ sym o.start)
 
   before_place : (i : ℕ) → IsUpTo order turn i → i ≢ place
-  before_place i (u, before, at) is = o.listed.once u turn before low (at ∙ is)
+  before_place i (u, before, at) is = o.once u turn before low (at ∙ is)
 
   past_place : (i : ℕ) → IsFrom order (suc turn) i → i ≢ place
-  past_place i (u, past, inside, at) is = o.listed.once turn u (omega (arith, past)) inside (sym is ∙ sym at)
+  past_place i (u, past, inside, at) is = o.once turn u (omega (arith, past)) inside (sym is ∙ sym at)
 
   past_parent : (i : ℕ) → IsFrom order (suc turn) i → i ≢ parent
-  past_parent i (u, past, inside, at) is = o.listed.once over.0 u (let before = over.1 in omega (arith, past, before)) inside (over.2 ∙ sym is ∙ sym at)
+  past_parent i (u, past, inside, at) is = o.once over.0 u (let before = over.1 in omega (arith, past, before)) inside (over.2 ∙ sym is ∙ sym at)
 
   here_or_past : (i : ℕ) → IsFrom order turn i → (place ≡ i) ⊎ IsFrom order (suc turn) i
   here_or_past i (u, from, inside, at) = elim (cases_eq turn u) as (λ _. (place ≡ i) ⊎ IsFrom order (suc turn) i) [
@@ -220,7 +192,7 @@ module _ {ps order : List ℕ} (o : IsOrder ps order) (turn : ℕ) (low : turn <
               let c = ap (number_at offsets) (sym is) in
               omega (arith, a, b, c, number_is)
           | inr before ↦
-              let v = o.listed.behind before.0 (let early = before.1 in omega (arith, early, low)) (λ e. other (sym before.2 ∙ ap (number_at order) e ∙ o.listed.start)) in
+              let v = o.behind before.0 (let early = before.1 in omega (arith, early, low)) (λ e. other (sym before.2 ∙ ap (number_at order) e ∙ o.start)) in
               let a = set_before i before in
               let b = set_before (parent_of ps i) (v.0, let u = before.1 in let w = v.1 in omega (arith, u, w), v.2 ∙ ap (parent_of ps) before.2) in
               let was = h.next i before other in

@@ -1,5 +1,5 @@
 -- Places that each have a parent's place, and which are under which. Own.
-use Rattle.std.specs.Prelude.{◌≡◌, ◌<◌, ℕ, zero, suc, List, length}
+use Rattle.std.specs.Prelude.{◌≡◌, ℕ, zero, suc, List}
 use Rattle.std.specs.List.{slice_index_or}
 
 -- the place of a place's parent
@@ -18,8 +18,3 @@ IsUnder ps i g = (n : ℕ) × (up ps n i ≡ g)
 -- the number at a place, or 0 where none stands
 abbrev pub number_at : List ℕ → ℕ → ℕ
 number_at numbers i = slice_index_or numbers i 0
-
--- each place is 0 or below it, and 0 is its own parent
-pub record IsForest (ps : List ℕ) : Type 0 where
-  pub top : parent_of ps 0 ≡ 0
-  pub below : (i : ℕ) → i < length ps → IsUnder ps i 0

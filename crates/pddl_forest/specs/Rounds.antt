@@ -14,7 +14,7 @@ IsOnRound ps i = GoesRound ps i × (i ≡ 0 → parent_of ps 0 ≢ 0)
 abbrev pub HasRound : List ℕ → Type 0
 HasRound ps = (i : ℕ) × (i < length ps) × IsOnRound ps i
 
--- a place has the number 0 where it is come to again from its parent, and only there
-pub record AreOffRounds (ps numbers : List ℕ) : Type 0 where
-  pub off : (i : ℕ) → number_at numbers i ≢ 0 → GoesRound ps i → ⊥
-  pub on : (i : ℕ) → i < length ps → number_at numbers i ≡ 0 → GoesRound ps i
+-- places have the number 0 where they are not, and only there
+pub record AreRounds (ps numbers : List ℕ) : Type 0 where
+  pub off : (i : ℕ) → i < length ps → number_at numbers i ≡ 0 → GoesRound ps i → ⊥
+  pub on : (i : ℕ) → i < length ps → number_at numbers i ≢ 0 → GoesRound ps i

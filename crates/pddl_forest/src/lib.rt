@@ -1,16 +1,15 @@
-//! Spans of numbers of places in a forest, by which a test of what is under what is two comparisons; and places that lie on no way round, where it is no
-//! forest.
+//! Spans of numbers of places in a forest, by which a test of what is under what is two comparisons; and places on ways that go round, where it is none.
 #![tactic(auto)]
 
-mod climbing;
 mod numbering;
 mod ordering;
+mod peeling;
 mod places;
 mod rounds;
 mod spans;
 mod tops;
 
 pub use numbering::forest_spans;
-pub use rounds::off_rounds;
+pub use rounds::{is_on_round, round_numbers};
 pub use spans::{Span, hold_all};
 pub use tops::keep_tops;

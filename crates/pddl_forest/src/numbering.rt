@@ -1,7 +1,7 @@
 //! Numbers for the places of a forest: each place behind its parent, and what is below a place directly behind it. So each place has a span.
 
 ghost use Rattle.std.specs.Prelude.{◌≡◌, ◌+◌, ◌≤◌, ◌<◌, ℕ, length, IfOk, IfSome};
-ghost use Rattle.pddl_forest.specs.Forests.{parent_of, number_at, IsForest};
+ghost use Rattle.pddl_forest.specs.Forests.{parent_of, number_at};
 ghost use Rattle.pddl_forest.specs.Spans.{AreSpans};
 ghost use Rattle.pddl_forest.specs.Rounds.{HasRound};
 ghost use Rattle.pddl_forest.specs.Inner.Orders.{IsOrder};
@@ -110,8 +110,8 @@ pub fn forest_spans<'a, B: Allocator>(
     requires some { 0 < length parents.now }
     requires within { (i : ℕ) → i < length parents.now → parent_of parents.now i < length parents.now }
     ensures spans { IfOk result (λ found. IfSome found (λ spans. AreSpans parents.now spans.items)) }
-    ensures forest { IfOk result (λ found. IfSome found (λ spans. IsForest parents.now)) }
-    ensures none { IfOk result (λ found. found ≡ None → HasRound parents.now) }
+    ensures none { IfOk result (λ found. IfSome found (λ spans. HasRound parents.now → ⊥)) }
+    ensures round { IfOk result (λ found. found ≡ None → HasRound parents.now) }
 {
     match ordered(alloc, parents)? {
         Some(order) => Ok(Some(numbered(alloc, parents, &order)?)),

@@ -7,8 +7,9 @@ use Rattle.std.specs.Map.{keys_of}
 use Rattle.std.proofs.lemmas.List.{length-map, at_drop_more}
 use Rattle.std.proofs.lemmas.List.Elements.{Contains-append_left, Contains-append_cases}
 use Rattle.std.proofs.lemmas.Bool.{not-true}
-use Rattle.pddl_forest.specs.Forests.{parent_of, up, IsForest}
+use Rattle.pddl_forest.specs.Forests.{parent_of, up}
 use Rattle.pddl_forest.specs.Rounds.{GoesRound, IsOnRound, HasRound}
+use Rattle.pddl_forest.proofs.RoundWays.{up_last}
 use Rattle.pddl_domain.specs.Declarations.{TypeValue}
 use Rattle.pddl_task.specs.Names.{Name, is_in, item_of}
 use Rattle.pddl_task.specs.Types as types
@@ -23,10 +24,6 @@ use Rattle.pddl_types.proofs.TypeForests.{parents_in, place_in, same_place, pare
 
 -- ---- ways from parent to parent
 
-up_last : (ps : List ℕ) (n i : ℕ) → up ps (suc n) i ≡ parent_of ps (up ps n i)
-up_last ps zero i = refl
-up_last ps (suc n) i = up_last ps n (parent_of ps i)
-
 -- a way round through a place goes round through its parent's too
 round_on : (ps : List ℕ) (i : ℕ) → GoesRound ps i → GoesRound ps (parent_of ps i)
 round_on ps i (n, is) = (n, up_last ps n (parent_of ps i) ∙ ap (parent_of ps) is)
@@ -35,16 +32,6 @@ round_on ps i (n, is) = (n, up_last ps n (parent_of ps i) ∙ ap (parent_of ps) 
 stays : (ps : List ℕ) (n : ℕ) → parent_of ps 0 ≡ 0 → up ps n 0 ≡ 0
 stays ps zero top = refl
 stays ps (suc n) top = ap (up ps n) top ∙ stays ps n top
-
--- so no way goes round through a place below it
-round_is_top : (ps : List ℕ) (n i : ℕ) → parent_of ps 0 ≡ 0 → up ps n i ≡ 0 → GoesRound ps i → i ≡ 0
-round_is_top ps zero i top below round = below
-round_is_top ps (suc n) i top below (m, is) =
-    let above : parent_of ps i ≡ 0 = round_is_top ps n (parent_of ps i) top below (round_on ps i (m, is)) in
-    sym is ∙ ap (up ps m) above ∙ stays ps m top
-
-none_in_forest : (ps : List ℕ) (i : ℕ) → IsForest ps → i < length ps → IsOnRound ps i → ⊥
-none_in_forest ps i forest low round = let way = forest.below i low in round.1 (round_is_top ps way.0 i forest.top way.1 round.0) forest.top
 
 -- ---- types with a parent
 
@@ -88,13 +75,13 @@ module _ (declared : List TypeValue) (rows : List Row) (h : IsTypeTable declared
             let not_so : says_nothing e ≡ false = pair_says declared e has in cc,
       )
 
-  -- where all places are below that of `object`, none is
-  pub no_cycle : IsForest ps → cycle_in declared ≡ []
-  no_cycle forest =
+  -- where none goes round, none is
+  pub no_cycle : (HasRound ps → ⊥) → cycle_in declared ≡ []
+  no_cycle none =
       ap first_alone (none_kept (is_cyclic (pairs declared)) (map item_of declared) (λ t cyclic.
       let (e, has, named, under) = (is_cyclic_decides (pairs declared) t).0 cyclic in
       let at = place_in declared rows h t (ap (is_in (types_of declared)) named ∙ (pair_is declared e (once_declared declared h.declared_once) has).0) in
-      none_in_forest ps at.0 forest (omega (arith, at.1, length-map rows (λ (r : Row). r.1))) (cyclic_round t at.0 at.1 at.2 cyclic)))
+      none (at.0, omega (arith, at.1, length-map rows (λ (r : Row). r.1)), cyclic_round t at.0 at.1 at.2 cyclic)))
 
   -- ---- and what is declared and lies on one is above itself
 
@@ -141,7 +128,7 @@ module _ (declared : List TypeValue) (rows : List Row) (h : IsTypeTable declared
         | true ↦ declared_round i low (round, other)
         | false ↦ λ off.
             let up_to : parent_of ps i ≡ 0 = undeclared_up i low off in
-            let not_own : parent_of ps 0 ≢ 0 = λ own. other (round_is_top ps 1 i own up_to round) own in
+            let not_own : parent_of ps 0 ≢ 0 = λ own. other (sym round.1 ∙ ap (up ps round.0) up_to ∙ stays ps round.0 own) own in
             elim (is_in (map item_of declared) (name_at rows 0)) as (λ b. is_in (map item_of declared) (name_at rows 0) ≡ b → HasCyclic) [
               | true ↦ declared_round 0 h.table.some (subst (GoesRound ps) up_to (round_on ps i round), λ _. not_own)
               | false ↦ λ none. absurd (not_own (undeclared_up 0 h.table.some none))

@@ -1,27 +1,15 @@
 //! The first type that is above itself, where the places of a table go round.
 
-ghost use Rattle.std.specs.Prelude.{◌≡◌, ◌<◌, ◌↔◌, IsTrue, map, length, IfOk, Contains};
+ghost use Rattle.std.specs.Prelude.{◌≡◌, map, IfOk, Contains};
 ghost use Rattle.pddl_domain.specs.Declarations.{type_view};
-ghost use Rattle.pddl_forest.specs.Rounds.{IsOnRound, HasRound, AreOffRounds};
+ghost use Rattle.pddl_forest.specs.Rounds.{HasRound, AreRounds};
 ghost use Rattle.pddl_types.specs.TypeTables.{IsTypeTable, cycle_in};
 
 use indexmap::IndexMap;
 use pddl_domain::DeclaredType;
 use pddl_faults::Hashed;
-use pddl_forest::off_rounds;
+use pddl_forest::{is_on_round, round_numbers};
 use std::alloc::{AllocError, Allocator};
-
-/// Whether a way goes round through a place, other than that of place 0 to itself.
-fn is_on_round(parents: &[usize], numbers: &[usize], place: usize) -> bool
-    requires within { place < length parents.now }
-    requires numbers { AreOffRounds parents.now numbers.now }
-    ensures { IsTrue result ↔ IsOnRound parents.now place }
-{
-    if place < numbers.len() && numbers[place] != 0 {
-        return false;
-    }
-    place != 0 || parents[place] != 0
-}
 
 /// The first declared type through whose place a way goes round, where one goes round.
 fn first_on_round<'m, 'a, A: Allocator, B: Allocator>(
@@ -32,7 +20,7 @@ fn first_on_round<'m, 'a, A: Allocator, B: Allocator>(
 ) -> &'m [u8]
     requires table { IsTypeTable (map type_view declared.now) table.now.entries }
     requires parents { parents.now ≡ map (λ r. r.1) table.now.entries }
-    requires numbers { AreOffRounds parents.now numbers.now }
+    requires numbers { AreRounds parents.now numbers.now }
     requires round { HasRound parents.now }
     ensures { Contains (cycle_in (map type_view declared.now)) result.now }
 {
@@ -62,6 +50,6 @@ pub(crate) fn first_cycle<'m, 'a, A: Allocator, B: Allocator>(
     requires round { HasRound parents.now }
     ensures { IfOk result (λ name. Contains (cycle_in (map type_view declared.now)) name.now) }
 {
-    let numbers = off_rounds(alloc, parents)?;
+    let numbers = round_numbers(alloc, parents)?;
     Ok(first_on_round(table, parents, &numbers, declared))
 }

@@ -1,30 +1,52 @@
--- Places in an order in which each comes behind its parent. No public contract names these.
-use Rattle.std.specs.Prelude.{◌≡◌, ◌≢◌, ◌+◌, ◌≤◌, ◌<◌, ℕ, List, length, Contains}
+-- The places of a forest in an order in which each comes behind its parent, and how they are found: places are peeled off in turn, each once no child of it
+-- is left. No public contract names these.
+use Rattle.std.specs.Prelude.{◌≡◌, ◌≢◌, ◌+◌, ◌≤◌, ◌<◌, ◌==◌, ◌||◌, cond, Bool, false, ℕ, zero, suc, List, length}
 use Rattle.pddl_forest.specs.Forests.{parent_of, number_at}
-use Rattle.pddl_forest.specs.Inner.Climbs.{new_count}
+
+-- a place stands in an order before a turn
+abbrev pub IsUpTo : List ℕ → ℕ → ℕ → Type 0
+IsUpTo order turn i = (u : ℕ) × (u < turn) × (number_at order u ≡ i)
+
+-- the same as a test
+abbrev pub is_up_to : List ℕ → ℕ → ℕ → Bool
+is_up_to order zero i = false
+is_up_to order (suc turn) i = (number_at order turn == i) || is_up_to order turn i
+
+-- the sum of so many numbers
+abbrev pub total : (ℕ → ℕ) → ℕ → ℕ
+total f zero = 0
+total f (suc m) = f m + total f m
+
+-- 1 for a place that has this parent and does not stand in an order before a turn, 0 for others
+abbrev pub child_left : List ℕ → List ℕ → ℕ → ℕ → ℕ → ℕ
+child_left ps order turn i c = cond (parent_of ps c == i) (cond (is_up_to order turn c) 0 1) 0
+
+-- for each place, how many such children it has among so many places
+pub record AreCounted (ps order : List ℕ) (turn many : ℕ) (left : List ℕ) : Type 0 where
+  pub long : length left ≡ length ps
+  pub each : (i : ℕ) → i < length ps → number_at left i ≡ total (child_left ps order turn i) many
+
+-- the places without children, of so many
+pub record AreLeaves (left : List ℕ) (many : ℕ) (order : List ℕ) : Type 0 where
+  pub in_range : (u : ℕ) → u < length order → number_at order u < many
+  pub once : (u v : ℕ) → u < v → v < length order → number_at order u ≢ number_at order v
+  pub none : (u : ℕ) → u < length order → number_at left (number_at order u) ≡ 0
+  pub all : (i : ℕ) → i < many → number_at left i ≡ 0 → IsUpTo order (length order) i
+
+-- The places of which no child is left where those before a turn are peeled off. Each comes behind its children, and none twice.
+pub record ArePeeled (ps left order : List ℕ) (turn : ℕ) : Type 0 where
+  pub counted : AreCounted ps order turn (length ps) left
+  pub leaves : AreLeaves left (length ps) order
+  pub behind : (u c : ℕ) → u < length order → c < length ps → parent_of ps c ≡ number_at order u → IsUpTo order u c
 
 -- Place 0 comes first and is its own parent, each other behind its parent, and none twice.
-pub record IsListed (ps order : List ℕ) : Type 0 where
-  pub top : 0 < length order → parent_of ps 0 ≡ 0
+pub record IsOrder (ps order : List ℕ) : Type 0 where
+  pub top : parent_of ps 0 ≡ 0
   pub start : number_at order 0 ≡ 0
   pub in_range : (u : ℕ) → u < length order → number_at order u < length ps
   pub once : (u v : ℕ) → u < v → v < length order → number_at order u ≢ number_at order v
-  pub behind : (u : ℕ) → u < length order → u ≢ 0 → (v : ℕ) × (v < u) × (number_at order v ≡ parent_of ps (number_at order u))
-
--- all places are listed so
-pub record IsOrder (ps order : List ℕ) : Type 0 where
-  pub listed : IsListed ps order
+  pub behind : (u : ℕ) → u < length order → u ≢ 0 → IsUpTo order u (parent_of ps (number_at order u))
   pub within : (i : ℕ) → i < length ps → parent_of ps i < length ps
   pub some : 0 < length order
   pub few : length order ≤ length ps
-  pub all : (i : ℕ) → i < length ps → (u : ℕ) × (u < length order) × (number_at order u ≡ i)
-
--- The places that were come to are listed so, 0 among them where it is its own parent, and with each that from which it was come to.
-pub record IsListing (ps starts order : List ℕ) : Type 0 where
-  pub listed : IsListed ps order
-  pub long : length starts ≡ length ps
-  pub each : (i : ℕ) → i < length ps → number_at starts i ≢ length ps → Contains order i
-  pub seen : (i : ℕ) → Contains order i → number_at starts i ≢ length ps
-  pub started : (i : ℕ) → i < length ps → number_at starts i ≢ length ps → number_at starts (number_at starts i) ≢ length ps
-  pub rooted : parent_of ps 0 ≡ 0 → number_at starts 0 ≢ length ps
-  pub fewer : length order + new_count ps starts ≡ length ps
+  pub all : (i : ℕ) → i < length ps → IsUpTo order (length order) i

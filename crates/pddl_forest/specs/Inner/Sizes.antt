@@ -1,21 +1,13 @@
 -- How many places are under each, and by how much its number is above that of its parent, as far as they are found. No public contract names these.
-use Rattle.std.specs.Prelude.{◌≡◌, ◌≢◌, ◌+◌, ◌≤◌, ◌<◌, ℕ, zero, suc, List, length}
+use Rattle.std.specs.Prelude.{◌≡◌, ◌≢◌, ◌+◌, ◌≤◌, ◌<◌, ℕ, List, length}
 use Rattle.pddl_forest.specs.Forests.{parent_of, number_at}
 use Rattle.pddl_forest.specs.Spans.{span_at}
 use Rattle.pddl_forest.specs.declared.spans.Span.{Span}
+use Rattle.pddl_forest.specs.Inner.Orders.{IsUpTo, total}
 
 -- a place stands in an order from a turn on
 abbrev pub IsFrom : List ℕ → ℕ → ℕ → Type 0
 IsFrom order turn i = (u : ℕ) × (turn ≤ u) × (u < length order) × (number_at order u ≡ i)
-
--- a place stands in an order before a turn
-abbrev pub IsUpTo : List ℕ → ℕ → ℕ → Type 0
-IsUpTo order turn i = (u : ℕ) × (u < turn) × (number_at order u ≡ i)
-
--- the sum of so many numbers
-abbrev pub total : (ℕ → ℕ) → ℕ → ℕ
-total f zero = 0
-total f (suc m) = f m + total f m
 
 -- What is under a place from a turn on comes behind its parent and within what is under that, and of two such places with one parent the one of the
 -- earlier turn behind what is under the other. The sizes of the places before the turn add up to no more than the number of all.

@@ -1,6 +1,5 @@
 use Rattle.std.proofs.Common.{map, length, ap, sym, subst, ◌∙◌, arith}
 use Rattle.std.proofs.lemmas.List.{length-map}
-use Rattle.pddl_forest.specs.Forests.{IsForest}
 use Rattle.pddl_forest.specs.Rounds.{HasRound}
 use Rattle.pddl_forest.specs.Spans.{AreSpans}
 use Rattle.pddl_domain.specs.Declarations.{type_view}
@@ -15,8 +14,8 @@ forest_spans-requires-clause-within g c =
 
 pub returns-in-Some-clause-cycle : goal.returns-in-Some-clause-cycle
 returns-in-Some-clause-cycle g c =
-    let forest = rw c.in-Some.is at c.in_ok-spans.ensures.forest in
-    no_cycle (map type_view c.args.declared.now) c.args.table.now.entries c.requires (subst IsForest (c.deref.ensures.value ∙ c.in_ok-parents.ensures) forest)
+    let none = rw c.in-Some.is at c.in_ok-spans.ensures.none in
+    no_cycle (map type_view c.args.declared.now) c.args.table.now.entries c.requires (subst (λ ps. HasRound ps → ⊥) (c.deref.ensures.value ∙ c.in_ok-parents.ensures) none)
 
 pub forest_spans-requires-clause-some : goal.forest_spans-requires-clause-some
 forest_spans-requires-clause-some g c =
@@ -34,4 +33,4 @@ pub first_cycle-requires-clause-parents : goal.first_cycle-requires-clause-paren
 first_cycle-requires-clause-parents g c = c.deref-in-None.ensures.value ∙ c.in_ok-parents.ensures
 
 pub first_cycle-requires-clause-round : goal.first_cycle-requires-clause-round
-first_cycle-requires-clause-round g c = subst HasRound (c.deref.ensures.value ∙ sym c.deref-in-None.ensures.value) (c.in_ok-spans.ensures.none c.in-None.is)
+first_cycle-requires-clause-round g c = subst HasRound (c.deref.ensures.value ∙ sym c.deref-in-None.ensures.value) (c.in_ok-spans.ensures.round c.in-None.is)

@@ -1,0 +1,46 @@
+use Rattle.std.proofs.Common.{◌≡◌, ◌<◌, ◌+◌, ◌-◌, length, ap, ◌∙◌, subst, arith}
+use Rattle.std.proofs.lemmas.List.{length_push}
+use Rattle.pddl_forest.specs.Forests.{parent_of, number_at}
+use Rattle.pddl_forest.specs.Inner.Orders.{ArePeeled}
+use Rattle.pddl_forest.proofs.Peels.{some_children, peeled, peeled_more}
+use Rattle.pddl_forest.proofs.RoundWays.{few_of}
+use Rattle.pddl_forest.proofs.peeling.peel.Goals.{then-fewer-eq0+in_ok-push, else-fewer-eq0}
+use Rattle.pddl_forest.proofs.peeling.peel.Goals as goal
+
+pub overflow_sub-fewer : goal.overflow_sub-fewer
+overflow_sub-fewer g c =
+    let l = c.loop-turn in
+    let place = c.number_at.ensures ∙ ap (λ ns. number_at ns l.turn) c.deref.ensures.value in
+    let parent = c.parent_of-parent.ensures ∙ ap (parent_of c.args.parents.now) place in
+    let is = c.number_at-fewer.ensures ∙ ap (λ ns. number_at ns c.parent_of-parent.result) c.deref-in-loop-turn.ensures.value ∙ ap (number_at l.left.items) parent in
+    let some = some_children l.invariant.peeled (omega (arith, c.if-turn-len.false, c.len.ensures, l.invariant.listed)) c.requires.within in
+    omega (arith, is, some)
+
+pub loop-turn-preserved : goal.loop-turn-preserved
+loop-turn-preserved g c =
+    let l = c.loop-turn in
+    let order = l.order.items in
+    let h = l.invariant.peeled in
+    let low : l.turn < length order = omega (arith, c.if-turn-len.false, c.len.ensures, l.invariant.listed) in
+    let place = c.number_at.ensures ∙ ap (λ ns. number_at ns l.turn) c.deref.ensures.value in
+    let parent = c.parent_of-parent.ensures ∙ ap (parent_of c.args.parents.now) place in
+    let fewer = c.number_at-fewer.result - 1 in
+    let some = some_children h low c.requires.within in
+    let is = c.number_at-fewer.ensures ∙ ap (λ ns. number_at ns c.parent_of-parent.result) c.deref-in-loop-turn.ensures.value ∙ ap (number_at l.left.items) parent in
+    let fewer_is : fewer + 1 ≡ number_at l.left.items (parent_of c.args.parents.now (number_at order l.turn)) = omega (arith, is, some) in
+    elim c.if-fewer-eq0.branch [
+      | then-fewer-eq0+in_ok-push w ↦
+          rw (w.order-is, w.in_ok-push.ensures.items, c.put.ensures, parent) record {
+            peeled = peeled_more h low c.requires.within fewer fewer_is w.if-fewer-eq0.true;
+            listed = let long = length_push order (parent_of c.args.parents.now (number_at order l.turn)) in omega (arith, long, l.invariant.listed);
+          }
+      | else-fewer-eq0 w ↦ rw (w.order-is, c.put.ensures, parent) record { peeled = peeled h low c.requires.within fewer fewer_is w.if-fewer-eq0.false; listed = omega (arith, low) }
+    ]
+
+pub returns : goal.returns
+returns g c =
+    let l = c.loop-turn in
+    let h = l.invariant.peeled in
+    let few = few_of l.order.items (length c.args.parents.now) h.leaves.in_range h.leaves.once in
+    let is : l.turn ≡ length l.order.items = omega (arith, few, c.loop-turn-test.false, l.invariant.listed) in
+    subst (ArePeeled c.args.parents.now l.left.items l.order.items) is h

@@ -1,0 +1,9 @@
+use Rattle.std.proofs.Common.{◌≤◌, length}
+use Rattle.pddl_forest.specs.Inner.Orders.{ArePeeled}
+use Rattle.pddl_forest.proofs.peeling.peel.Given as goal
+
+abbrev pub invariant-loop-turn : goal.invariant-loop-turn
+invariant-loop-turn g l = record {
+  peeled : ArePeeled l.parents l.left.items l.order.items l.turn;
+  listed : l.turn ≤ length l.order.items;
+}
