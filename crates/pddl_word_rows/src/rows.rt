@@ -143,44 +143,44 @@ pddlcheck|format|--help => /dev/stdin
 pddlcheck|format|--help => Exit status:
 ";
 
-/// Groups of so many steps, as the rows say it.
-fn groups_told(alloc: Global, groups: Option<NonZeroU32>) -> Result<String, AllocError> {
-    match groups {
-        Some(size) => format!(in alloc; " in groups of {size}"),
-        None => Ok(String::new(alloc)),
-    }
+/// A command and its files, as the rows say it.
+fn files_told(alloc: Global, command: &str, paths: &[&str]) -> Result<String, AllocError> {
+    let files = paths.join(alloc, ", ")?;
+    format!(in alloc; "{command} {files}")
 }
 
 /// What a serial form is asked of, as the rows say it.
 fn serial_told(
     alloc: Global,
-    paths: (&str, &str, &str),
+    paths: &[&str],
     reverse: bool,
     groups: Option<NonZeroU32>,
 ) -> Result<String, AllocError> {
-    let (domain, problem, plan) = paths;
     let reversed = if reverse { " reversed" } else { "" };
-    let in_groups = groups_told(alloc, groups)?;
-    format!(in alloc; "serial {domain}, {problem}, {plan}{reversed}{in_groups}")
+    let serial = files_told(alloc, "serial", paths)?;
+    match groups {
+        Some(size) => format!(in alloc; "{serial}{reversed} in groups of {size}"),
+        None => format!(in alloc; "{serial}{reversed}"),
+    }
 }
 
 /// A job, as the rows say it.
 fn job_told(alloc: Global, job: &Job<'_>) -> Result<String, AllocError> {
     match *job {
-        Job::Domain { path } => format!(in alloc; "domain {path}"),
-        Job::Problem { domain, problem } => format!(in alloc; "problem {domain}, {problem}"),
+        Job::Domain { path } => files_told(alloc, "domain", &[path]),
+        Job::Problem { domain, problem } => files_told(alloc, "problem", &[domain, problem]),
         Job::Plan {
             domain,
             problem,
             plan,
-        } => format!(in alloc; "plan {domain}, {problem}, {plan}"),
+        } => files_told(alloc, "plan", &[domain, problem, plan]),
         Job::Serial {
             domain,
             problem,
             plan,
             reverse,
             groups,
-        } => serial_told(alloc, (domain, problem, plan), reverse, groups),
+        } => serial_told(alloc, &[domain, problem, plan], reverse, groups),
         Job::Format { kind, path } => format!(in alloc; "format {kind:?} {path}"),
     }
 }
@@ -201,43 +201,68 @@ fn message(alloc: Global, words: &[&str]) -> Result<String, AllocError> {
     }
 }
 
-/// The words of a row, and what it says of them.
-fn row<'r>(alloc: Global, line: &'r str) -> Result<(Vec<&'r str>, &'r str), Fail> {
-    let (words, said) = line.split_once(" => ").ok_or("a row has words")?;
-    let words = words.split('|').filter(|word| !word.is_empty());
-    Ok((words.collect(alloc)?, said))
+/// What rows say of words.
+#[derive(Clone, Copy)]
+enum Said {
+    /// What they ask for.
+    Job,
+    /// A part of the help that is printed.
+    Help,
 }
 
-/// The words of the row ask for what it says.
-fn check_words<R: Abort + AllocGlobal>(rt: &R, line: &str) -> Result<(), Fail> {
-    let (words, want) = row(rt.alloc(), line)?;
-    let found = told(rt.alloc(), &words)?;
-    assert_eq!(rt; found.as_str(), want, "{line}");
+/// The words of a row.
+fn words_of<'r>(alloc: Global, words: &'r str) -> Result<Vec<&'r str>, AllocError> {
+    let words = words.split('|').filter(|word| !word.is_empty());
+    words.collect(alloc)
+}
+
+/// What there is to say of the words of a row.
+fn found(alloc: Global, said: Said, words: &str) -> Result<String, AllocError> {
+    let words = words_of(alloc, words)?;
+    match said {
+        Said::Job => told(alloc, &words),
+        Said::Help => message(alloc, &words),
+    }
+}
+
+/// Whether this was found, or is a part of it.
+fn holds(said: Said, found: &str, want: &str) -> bool {
+    match said {
+        Said::Job => found == want,
+        Said::Help => found.contains(want),
+    }
+}
+
+/// What was found for the row of a line is what it says.
+fn is_found<R: Abort>(rt: &R, holds: bool, line: &str, found: &str) {
+    assert!(rt; holds, "{line}: {found}");
+}
+
+/// The row of a line holds.
+fn row_holds<R: Abort + AllocGlobal>(rt: &R, said: Said, line: &str) -> Result<(), Fail> {
+    let (words, want) = line.split_once(" => ").ok_or("a row has words")?;
+    let found = found(rt.alloc(), said, words)?;
+    is_found(rt, holds(said, &found, want), line, &found);
     Ok(())
 }
 
-/// The help for the words of the row has the part that it names.
-fn check_help<R: Abort + AllocGlobal>(rt: &R, line: &str) -> Result<(), Fail> {
-    let (words, part) = row(rt.alloc(), line)?;
-    let text = message(rt.alloc(), &words)?;
-    assert!(rt; text.as_str().contains(part), "{line}: {text}");
+/// All rows of a text hold, and there are so many.
+fn all_hold<R: Abort + AllocGlobal>(rt: &R, said: Said, text: &str, rows: u64) -> Result<(), Fail> {
+    let mut held = 0u64;
+    for line in text.lines() {
+        row_holds(rt, said, line)?;
+        held = held.saturating_add(1);
+    }
+    assert!(rt; held == rows, "{held} rows");
     Ok(())
 }
 
 #[test]
 fn words_ask_for_jobs(rt: HostRuntime) -> Result<(), Fail> {
-    for line in WORDS.lines() {
-        check_words(&rt, line)?;
-    }
-    assert_eq!(rt; WORDS.lines().count(), 96);
-    Ok(())
+    all_hold(&rt, Said::Job, WORDS, 96)
 }
 
 #[test]
 fn help_names_the_commands_and_the_statuses(rt: HostRuntime) -> Result<(), Fail> {
-    for line in HELP.lines() {
-        check_help(&rt, line)?;
-    }
-    assert_eq!(rt; HELP.lines().count(), 33);
-    Ok(())
+    all_hold(&rt, Said::Help, HELP, 33)
 }

@@ -6,14 +6,13 @@ ghost use Rattle.clap.specs.Values.{kind_of};
 use crate::help;
 use clap::error::ErrorKind;
 use clap::{Arg, ArgAction, ArgMatches, Command, Error, value_parser};
-use pddl_build::both_made;
 use pddl_kind::Kind;
 use std::alloc::{AllocError, Global};
 use std::convert::AsStr;
 use std::num::NonZeroU32;
 
 /// What the words ask for.
-#[derive(Clone, Copy, Debug, PartialEq, Eq)]
+#[derive(Clone, Copy)]
 pub enum Job<'a> {
     /// To check the domain at `path`.
     Domain {
@@ -62,95 +61,79 @@ fn kind_named(word: &str) -> Option<Kind> {
     }
 }
 
-/// A word that a command wants, by its name and its line of help.
-fn wanted<'a>(alloc: Global, name: &'a str, about: &'a str) -> Arg<'a> {
-    Arg::new(alloc, name).required(true).help(about)
+/// A word that a command takes.
+enum Word {
+    /// A word that is wanted, by its name and its line of help.
+    Wanted(&'static str, &'static str),
+    /// The word that says what a file holds.
+    Kind,
+    /// The option `--reverse`.
+    Reverse,
+    /// The option `--groups N`.
+    Groups,
 }
 
-/// A command, where it could be made, with one more argument.
-fn with_argument<'a>(
-    command: Result<Command<'a>, AllocError>,
-    argument: Arg<'a>,
-) -> Result<Command<'a>, AllocError> {
-    let (command, argument) = both_made(command, Ok(argument))?;
-    command.arg(argument)
+/// A command, by its name, what it does in a line, what its help says at its end, and its words.
+struct Told {
+    name: &'static str,
+    about: &'static str,
+    after: &'static str,
+    words: &'static [Word],
 }
 
-/// A command without its words, by its name, what it does in a line, and what its help says behind its words.
-fn described<'a>(
-    alloc: Global,
-    name: &'a str,
-    about: &'a str,
-    after: &'a str,
-) -> Result<Command<'a>, AllocError> {
-    Ok(Command::new(alloc, name).about(about).after_help(after))
-}
+/// The commands.
+static COMMANDS: [Told; 5] = [
+    Told {
+        name: "domain",
+        about: help::ABOUT_DOMAIN,
+        after: help::AFTER_DOMAIN,
+        words: &[Word::Wanted("FILE", help::FILE)],
+    },
+    Told {
+        name: "problem",
+        about: help::ABOUT_PROBLEM,
+        after: help::AFTER_PROBLEM,
+        words: &[
+            Word::Wanted("DOMAIN", help::DOMAIN),
+            Word::Wanted("PROBLEM", help::PROBLEM),
+        ],
+    },
+    Told {
+        name: "plan",
+        about: help::ABOUT_PLAN,
+        after: help::AFTER_PLAN,
+        words: &[
+            Word::Wanted("DOMAIN", help::DOMAIN),
+            Word::Wanted("PROBLEM", help::PROBLEM),
+            Word::Wanted("PLAN", help::PLAN),
+        ],
+    },
+    Told {
+        name: "serial",
+        about: help::ABOUT_SERIAL,
+        after: help::AFTER_SERIAL,
+        words: &[
+            Word::Reverse,
+            Word::Groups,
+            Word::Wanted("DOMAIN", help::DOMAIN),
+            Word::Wanted("PROBLEM", help::PROBLEM),
+            Word::Wanted("PLAN", help::PLAN),
+        ],
+    },
+    Told {
+        name: "format",
+        about: help::ABOUT_FORMAT,
+        after: help::AFTER_FORMAT,
+        words: &[Word::Kind, Word::Wanted("FILE", help::FILE)],
+    },
+];
 
-/// The command `domain FILE`.
-fn domain_command<'a>(alloc: Global) -> Result<Command<'a>, AllocError> {
-    let command = described(alloc, "domain", help::ABOUT_DOMAIN, help::AFTER_DOMAIN);
-    with_argument(command, wanted(alloc, "FILE", help::FILE))
-}
-
-/// The job of the words after `domain`, where they are its own.
-fn domain_job<'a>(matches: &ArgMatches<'a>) -> Option<Job<'a>> {
-    let path = matches.get_str("FILE")?;
-    Some(Job::Domain { path })
-}
-
-/// A command with the words `DOMAIN PROBLEM`.
-fn with_two_files<'a>(
-    alloc: Global,
-    command: Result<Command<'a>, AllocError>,
-) -> Result<Command<'a>, AllocError> {
-    let command = with_argument(command, wanted(alloc, "DOMAIN", help::DOMAIN));
-    with_argument(command, wanted(alloc, "PROBLEM", help::PROBLEM))
-}
-
-/// The command `problem DOMAIN PROBLEM`.
-fn problem_command<'a>(alloc: Global) -> Result<Command<'a>, AllocError> {
-    let command = described(alloc, "problem", help::ABOUT_PROBLEM, help::AFTER_PROBLEM);
-    with_two_files(alloc, command)
-}
-
-/// The job of the words after `problem`, where they are its own.
-fn problem_job<'a>(matches: &ArgMatches<'a>) -> Option<Job<'a>> {
-    let domain = matches.get_str("DOMAIN")?;
-    let problem = matches.get_str("PROBLEM")?;
-    Some(Job::Problem { domain, problem })
-}
-
-/// A command with the words `DOMAIN PROBLEM PLAN`.
-fn with_three_files<'a>(
-    alloc: Global,
-    command: Result<Command<'a>, AllocError>,
-) -> Result<Command<'a>, AllocError> {
-    let command = with_two_files(alloc, command);
-    with_argument(command, wanted(alloc, "PLAN", help::PLAN))
-}
-
-/// The words `DOMAIN PROBLEM PLAN` of a command.
-fn three_files<'a>(matches: &ArgMatches<'a>) -> Option<(&'a str, &'a str, &'a str)> {
-    let domain = matches.get_str("DOMAIN")?;
-    let problem = matches.get_str("PROBLEM")?;
-    let plan = matches.get_str("PLAN")?;
-    Some((domain, problem, plan))
-}
-
-/// The command `plan DOMAIN PROBLEM PLAN`.
-fn plan_command<'a>(alloc: Global) -> Result<Command<'a>, AllocError> {
-    let command = described(alloc, "plan", help::ABOUT_PLAN, help::AFTER_PLAN);
-    with_three_files(alloc, command)
-}
-
-/// The job of the words after `plan`, where they are its own.
-fn plan_job<'a>(matches: &ArgMatches<'a>) -> Option<Job<'a>> {
-    let (domain, problem, plan) = three_files(matches)?;
-    Some(Job::Plan {
-        domain,
-        problem,
-        plan,
-    })
+/// The word that says what a file holds.
+fn kind_argument<'a>(alloc: Global) -> Arg<'a> {
+    Arg::new(alloc, "KIND")
+        .required(true)
+        .value_parser(KINDS.as_slice())
+        .help(help::KIND)
 }
 
 /// The option `--reverse`.
@@ -170,17 +153,94 @@ fn groups_option<'a>(alloc: Global) -> Arg<'a> {
         .help(help::GROUPS)
 }
 
-/// The command `serial DOMAIN PROBLEM PLAN [--reverse] [--groups N]`.
-fn serial_command<'a>(alloc: Global) -> Result<Command<'a>, AllocError> {
-    let command = described(alloc, "serial", help::ABOUT_SERIAL, help::AFTER_SERIAL);
-    let command = with_argument(command, reverse_option(alloc));
-    let command = with_argument(command, groups_option(alloc));
-    with_three_files(alloc, command)
+/// What `clap` is told, made of what is told here.
+trait MadeOf<W>: Drop {
+    /// Makes it.
+    fn made_of(alloc: Global, told: &W) -> Result<Self, AllocError>;
+}
+
+/// What `clap` is told, made of each of these. It knows nothing of what that is: a loop over types as large as those of `clap` is
+/// dear to check.
+fn all_made<W, T: MadeOf<W>>(alloc: Global, told: &[W]) -> Result<Vec<T>, AllocError> {
+    let mut made = Vec::new(alloc);
+    for one in told {
+        made.push(T::made_of(alloc, one)?)?;
+    }
+    Ok(made)
+}
+
+impl<'a> MadeOf<Word> for Arg<'a> {
+    fn made_of(alloc: Global, word: &Word) -> Result<Arg<'a>, AllocError> {
+        Ok(match *word {
+            Word::Wanted(name, about) => Arg::new(alloc, name).required(true).help(about),
+            Word::Kind => kind_argument(alloc),
+            Word::Reverse => reverse_option(alloc),
+            Word::Groups => groups_option(alloc),
+        })
+    }
+}
+
+impl<'a> MadeOf<Told> for Command<'a> {
+    fn made_of(alloc: Global, told: &Told) -> Result<Command<'a>, AllocError> {
+        let arguments = all_made(alloc, told.words)?;
+        Command::new(alloc, told.name)
+            .about(told.about)
+            .after_help(told.after)
+            .args(arguments)
+    }
+}
+
+/// The program with these commands, without its name.
+fn unnamed_program<'a>(
+    alloc: Global,
+    commands: Vec<Command<'a>>,
+) -> Result<Command<'a>, AllocError> {
+    Command::new(alloc, "pddlcheck")
+        .about(help::ABOUT)
+        .after_help(help::AFTER)
+        .subcommand_required(true)
+        .subcommands(commands)
+}
+
+/// What `clap` is told of the program.
+fn program<'a>(alloc: Global) -> Result<Command<'a>, AllocError> {
+    let commands = all_made(alloc, COMMANDS.as_slice())?;
+    unnamed_program(alloc, commands)?.bin_name("pddlcheck")
+}
+
+/// The job of the words after `domain`, where they are its own.
+fn domain_job<'a>(matches: &ArgMatches<'a>) -> Option<Job<'a>> {
+    let path = matches.get_str("FILE")?;
+    Some(Job::Domain { path })
+}
+
+/// The job of the words after `problem`, where they are its own.
+fn problem_job<'a>(matches: &ArgMatches<'a>) -> Option<Job<'a>> {
+    let domain = matches.get_str("DOMAIN");
+    let (domain, problem) = domain.zip(matches.get_str("PROBLEM"))?;
+    Some(Job::Problem { domain, problem })
+}
+
+/// The words `DOMAIN PROBLEM PLAN` of a command.
+fn three_files<'a>(matches: &ArgMatches<'a>) -> Option<((&'a str, &'a str), &'a str)> {
+    let domain = matches.get_str("DOMAIN");
+    let problem = matches.get_str("PROBLEM");
+    domain.zip(problem).zip(matches.get_str("PLAN"))
+}
+
+/// The job of the words after `plan`, where they are its own.
+fn plan_job<'a>(matches: &ArgMatches<'a>) -> Option<Job<'a>> {
+    let ((domain, problem), plan) = three_files(matches)?;
+    Some(Job::Plan {
+        domain,
+        problem,
+        plan,
+    })
 }
 
 /// The job of the words after `serial`, where they are its own.
 fn serial_job<'a>(matches: &ArgMatches<'a>) -> Option<Job<'a>> {
-    let (domain, problem, plan) = three_files(matches)?;
+    let ((domain, problem), plan) = three_files(matches)?;
     Some(Job::Serial {
         domain,
         problem,
@@ -190,71 +250,37 @@ fn serial_job<'a>(matches: &ArgMatches<'a>) -> Option<Job<'a>> {
     })
 }
 
-/// The word that says what a file holds.
-fn kind_argument<'a>(alloc: Global) -> Arg<'a> {
-    Arg::new(alloc, "KIND")
-        .required(true)
-        .value_parser(KINDS.as_slice())
-        .help(help::KIND)
-}
-
-/// The command `format KIND FILE`.
-fn format_command<'a>(alloc: Global) -> Result<Command<'a>, AllocError> {
-    let command = described(alloc, "format", help::ABOUT_FORMAT, help::AFTER_FORMAT);
-    let command = with_argument(command, kind_argument(alloc));
-    with_argument(command, wanted(alloc, "FILE", help::FILE))
-}
-
 /// The job of the words after `format`, where they are its own.
 fn format_job<'a>(matches: &ArgMatches<'a>) -> Option<Job<'a>> {
-    let kind = kind_named(matches.get_str("KIND")?)?;
-    let path = matches.get_str("FILE")?;
+    let kind = matches.get_str("KIND").and_then(kind_named);
+    let (kind, path) = kind.zip(matches.get_str("FILE"))?;
     Some(Job::Format { kind, path })
 }
 
-/// The program, without its commands.
-fn program<'a>(alloc: Global) -> Result<Command<'a>, AllocError> {
-    Command::new(alloc, "pddlcheck")
-        .about(help::ABOUT)
-        .after_help(help::AFTER)
-        .subcommand_required(true)
-        .bin_name("pddlcheck")
-}
-
-/// The program with one more command, where both could be made.
-fn with_command<'a>(
-    program: Result<Command<'a>, AllocError>,
-    command: Result<Command<'a>, AllocError>,
-) -> Result<Command<'a>, AllocError> {
-    let (program, command) = both_made(program, command)?;
-    program.subcommand(command)
-}
-
-/// The program with its commands.
-fn commands<'a>(alloc: Global) -> Result<Command<'a>, AllocError> {
-    let program = with_command(program(alloc), domain_command(alloc));
-    let program = with_command(program, problem_command(alloc));
-    let program = with_command(program, plan_command(alloc));
-    let program = with_command(program, serial_command(alloc));
-    with_command(program, format_command(alloc))
+/// The job of the words after a command's name, where they are its own.
+fn job_named<'a>(name: &str, matches: &ArgMatches<'a>) -> Option<Job<'a>> {
+    match name {
+        "domain" => domain_job(matches),
+        "problem" => problem_job(matches),
+        "plan" => plan_job(matches),
+        "serial" => serial_job(matches),
+        "format" => format_job(matches),
+        _ => None,
+    }
 }
 
 /// The job that the words ask for, where they are those of a command.
 fn job_of<'a>(matches: &ArgMatches<'a>) -> Option<Job<'a>> {
-    match matches.subcommand() {
-        Some(("domain", inner)) => domain_job(inner),
-        Some(("problem", inner)) => problem_job(inner),
-        Some(("plan", inner)) => plan_job(inner),
-        Some(("serial", inner)) => serial_job(inner),
-        Some(("format", inner)) => format_job(inner),
-        _ => None,
-    }
+    let (name, inner) = matches.subcommand()?;
+    job_named(name, inner)
 }
 
 /// The job that the words ask the program for.
 fn asked<'a, S: AsStr>(program: &mut Command<'a>, words: &'a [S]) -> Result<Job<'a>, Error> {
     let matches = program.try_get_matches_from_mut(words)?;
-    match job_of(&matches) {
+    let job = job_of(&matches);
+    drop(matches);
+    match job {
         Some(job) => Ok(job),
         None => Err(program.error(ErrorKind::MissingSubcommand, "a command is wanted")?),
     }
@@ -265,8 +291,10 @@ fn asked<'a, S: AsStr>(program: &mut Command<'a>, words: &'a [S]) -> Result<Job<
 /// A request for help is an error of the kind `DisplayHelp`, and want of memory one of the kind `OutOfMemory`; the
 /// other kinds say what is wrong with the words. What an error prints is `clap`'s own.
 pub fn parse_words<'a, S: AsStr>(alloc: Global, words: &'a [S]) -> Result<Job<'a>, Error> {
-    let mut program = commands(alloc)?;
-    asked(&mut program, words)
+    match program(alloc) {
+        Ok(mut program) => asked(&mut program, words),
+        Err(error) => Err(Error::from(error)),
+    }
 }
 
 /// The exit status of words that ask for no command: 0 for help, 4 for want of memory, else 3. Source: own.

@@ -73,42 +73,36 @@ fn opened<'p, R: Files + Input>(
     }
 }
 
-/// Checks the domain at a path.
-fn run_domain<'p, R: Files + Input + AllocGlobal>(
-    rt: &R,
-    path: &'p str,
+/// Checks the domain of a reader, where its file opened.
+fn run_domain<A: Allocator, S: Source + Drop, E: From<RunFault> + Drop>(
+    alloc: &A,
+    domain: Result<S, E>,
     out: &mut impl Sink,
-) -> Result<Outcome, NotDone<'p>> {
-    let mut domain = opened(rt, path)?;
-    let ended = check_domain_file(&rt.alloc(), &mut domain, out);
-    drop(domain);
-    Ok(ended?)
+) -> Result<Outcome, E> {
+    let mut domain = domain?;
+    Ok(check_domain_file(alloc, &mut domain, out)?)
 }
 
-/// Checks the problem at a path with a domain.
-fn run_with_domain<'p, R: Files + Input + AllocGlobal>(
-    rt: &R,
+/// Checks the problem of a reader, where its file opened, with a domain.
+fn run_with_domain<A: Allocator, S: Source + Drop, E: From<RunFault> + Drop>(
+    alloc: &A,
     domain: &mut impl Source,
-    problem: &'p str,
+    problem: Result<S, E>,
     out: &mut impl Sink,
-) -> Result<Outcome, NotDone<'p>> {
-    let mut problem = opened(rt, problem)?;
-    let ended = check_problem_file(&rt.alloc(), domain, &mut problem, out);
-    drop(problem);
-    Ok(ended?)
+) -> Result<Outcome, E> {
+    let mut problem = problem?;
+    Ok(check_problem_file(alloc, domain, &mut problem, out)?)
 }
 
-/// Checks a problem with its domain. Both files are opened before any is read.
-fn run_problem<'p, R: Files + Input + AllocGlobal>(
+/// Checks a problem with the domain of a reader, where its file opened. Both files are opened before any is read.
+fn run_problem<'p, R: Files + Input + AllocGlobal, S: Source + Drop>(
     rt: &R,
-    domain: &'p str,
+    domain: Result<S, NotDone<'p>>,
     problem: &'p str,
     out: &mut impl Sink,
 ) -> Result<Outcome, NotDone<'p>> {
-    let mut domain = opened(rt, domain)?;
-    let ended = run_with_domain(rt, &mut domain, problem, out);
-    drop(domain);
-    ended
+    let mut domain = domain?;
+    run_with_domain(&rt.alloc(), &mut domain, opened(rt, problem), out)
 }
 
 /// What is asked of a plan: its verdict, its serial plan in an order, or its split into groups of so many steps.
@@ -160,95 +154,113 @@ fn carry_out<A: Allocator>(
     }
 }
 
-/// Does what is asked of the plan at a path, with a domain and a problem.
-fn run_with_problem<'p, R: Files + Input + AllocGlobal>(
-    rt: &R,
+/// Does what is asked of the plan of a reader, where its file opened, with a domain and a problem.
+fn run_with_problem<A: Allocator, S: Source + Drop, E: From<RunFault> + Drop>(
+    alloc: &A,
     asked: Asked,
     domain: &mut impl Source,
     problem: &mut impl Source,
-    plan: &'p str,
+    plan: Result<S, E>,
     out: &mut impl Sink,
-) -> Result<Outcome, NotDone<'p>> {
-    let mut plan = opened(rt, plan)?;
-    let ended = carry_out(&rt.alloc(), asked, domain, problem, &mut plan, out);
-    drop(plan);
-    Ok(ended?)
+) -> Result<Outcome, E> {
+    let mut plan = plan?;
+    Ok(carry_out(alloc, asked, domain, problem, &mut plan, out)?)
 }
 
-/// Does what is asked of a plan with a domain and the problem at a path.
-fn run_behind_domain<'p, R: Files + Input + AllocGlobal>(
+/// Does what is asked of a plan with a domain and the problem of a reader, where its file opened.
+fn run_behind_domain<'p, R: Files + Input + AllocGlobal, S: Source + Drop>(
     rt: &R,
     asked: Asked,
     domain: &mut impl Source,
-    problem: &'p str,
+    problem: Result<S, NotDone<'p>>,
     plan: &'p str,
     out: &mut impl Sink,
 ) -> Result<Outcome, NotDone<'p>> {
-    let mut problem = opened(rt, problem)?;
-    let ended = run_with_problem(rt, asked, domain, &mut problem, plan, out);
-    drop(problem);
-    ended
+    let mut problem = problem?;
+    run_with_problem(
+        &rt.alloc(),
+        asked,
+        domain,
+        &mut problem,
+        opened(rt, plan),
+        out,
+    )
 }
 
-/// Does what is asked of a plan with its domain and its problem. All three files are opened before any is read.
-fn run_plan<'p, R: Files + Input + AllocGlobal>(
+/// Does what is asked of a plan with its problem and the domain of a reader, where its file opened. All three files are opened
+/// before any is read.
+fn run_plan<'p, R: Files + Input + AllocGlobal, S: Source + Drop>(
     rt: &R,
     asked: Asked,
-    domain: &'p str,
+    domain: Result<S, NotDone<'p>>,
     problem: &'p str,
     plan: &'p str,
     out: &mut impl Sink,
 ) -> Result<Outcome, NotDone<'p>> {
-    let mut domain = opened(rt, domain)?;
-    let ended = run_behind_domain(rt, asked, &mut domain, problem, plan, out);
-    drop(domain);
-    ended
+    let mut domain = domain?;
+    run_behind_domain(rt, asked, &mut domain, opened(rt, problem), plan, out)
 }
 
-/// Prints the file at a path in its canonical layout.
-fn run_format<'p, R: Files + Input + AllocGlobal>(
-    rt: &R,
+/// Prints the file of a reader, where it opened, in its canonical layout.
+fn run_format<A: Allocator, S: Source + Drop, E: From<RunFault> + Drop>(
+    alloc: &A,
     kind: Kind,
-    path: &'p str,
+    file: Result<S, E>,
     out: &mut impl Sink,
-) -> Result<Outcome, NotDone<'p>> {
-    let mut file = opened(rt, path)?;
-    let ended = format(&rt.alloc(), kind, &mut file, out);
-    drop(file);
-    Ok(ended?)
+) -> Result<Outcome, E> {
+    let mut file = file?;
+    Ok(format(alloc, kind, &mut file, out)?)
 }
 
-/// Carries a job out over its files and a writer.
-fn run_job<'p, R: Files + Input + AllocGlobal>(
+/// The path of the first file of a job.
+fn first_path<'p>(job: Job<'p>) -> &'p str {
+    match job {
+        Job::Domain { path } | Job::Format { path, .. } => path,
+        Job::Problem { domain, .. } | Job::Plan { domain, .. } | Job::Serial { domain, .. } => {
+            domain
+        }
+    }
+}
+
+/// Carries a job out over the reader of its first file, where that opened, its other files, and a writer.
+fn run_job<'p, R: Files + Input + AllocGlobal, S: Source + Drop>(
     rt: &R,
     job: Job<'p>,
+    first: Result<S, NotDone<'p>>,
     out: &mut impl Sink,
 ) -> Result<Outcome, NotDone<'p>> {
     match job {
-        Job::Domain { path } => run_domain(rt, path, out),
-        Job::Problem { domain, problem } => run_problem(rt, domain, problem, out),
-        Job::Plan {
-            domain,
-            problem,
-            plan,
-        } => run_plan(rt, Asked::Verdict, domain, problem, plan, out),
+        Job::Domain { .. } => run_domain(&rt.alloc(), first, out),
+        Job::Problem { problem, .. } => run_problem(rt, first, problem, out),
+        Job::Plan { problem, plan, .. } => {
+            run_plan(rt, Asked::Verdict, first, problem, plan, out)
+        }
         Job::Serial {
-            domain,
             problem,
             plan,
             reverse,
             groups,
+            ..
         } => {
             let asked = Asked::serial(reverse, groups);
-            run_plan(rt, asked, domain, problem, plan, out)
+            run_plan(rt, asked, first, problem, plan, out)
         }
-        Job::Format { kind, path } => run_format(rt, kind, path, out),
+        Job::Format { kind, .. } => run_format(&rt.alloc(), kind, first, out),
     }
+}
+
+/// Carries a job out over its files and standard output.
+fn write_job<'p, R: Files + Input + Print + AllocGlobal>(
+    rt: &R,
+    job: Job<'p>,
+) -> Result<Outcome, NotDone<'p>> {
+    let first = opened(rt, first_path(job));
+    run_job(rt, job, first, &mut ToWrite::new(io::writer(rt)))
 }
 
 /// Carries a job out over standard output, says on standard error why it was not, and answers the exit status.
 fn end_job<R: Files + Input + Print + Eprint + AllocGlobal>(rt: &R, job: Job<'_>) -> u8 {
-    match run_job(rt, job, &mut ToWrite::new(io::writer(rt))) {
+    match write_job(rt, job) {
         Ok(outcome) => status(&Ok(outcome)),
         Err(NotDone::CannotOpen(path)) => cannot_open(rt, path),
         Err(NotDone::Failed(fault)) => give_up(rt, fault),
@@ -270,25 +282,33 @@ fn explain<R: Print + Eprint>(rt: &R, error: &clap::Error) -> u8
     }
 }
 
-/// Reads the words, carries out what they ask for, and answers the exit status.
-fn run<R: Env + Files + Input + Print + Eprint + AllocGlobal>(rt: &R) -> u8 {
-    let words = match env::args(rt) {
-        Ok(words) => words,
-        Err(error) if error.kind() == ErrorKind::OutOfMemory => {
-            return give_up(rt, RunFault::Memory);
-        }
-        Err(_) => {
-            let _ = rt.eprintln("pddlcheck: a word of the command line is no UTF-8 text");
-            return WRONG_WORDS;
-        }
-    };
-    let words: Vec<String> = match words.collect(rt.alloc()) {
-        Ok(words) => words,
-        Err(_) => return give_up(rt, RunFault::Memory),
-    };
-    match parse_words(rt.alloc(), words.as_slice()) {
+/// Carries out what the words ask for, and answers the exit status.
+fn run_words<R: Files + Input + Print + Eprint + AllocGlobal>(rt: &R, words: &[String]) -> u8 {
+    match parse_words(rt.alloc(), words) {
         Ok(job) => end_job(rt, job),
         Err(error) => explain(rt, &error),
+    }
+}
+
+/// The words of the command line; where they can't be had, says why on standard error, and answers the exit status.
+fn words<R: Env + Eprint + AllocGlobal>(rt: &R) -> Result<Vec<String>, u8> {
+    match env::args(rt) {
+        Ok(words) => words
+            .collect(rt.alloc())
+            .map_err(|_| give_up(rt, RunFault::Memory)),
+        Err(error) if error.kind() == ErrorKind::OutOfMemory => Err(give_up(rt, RunFault::Memory)),
+        Err(_) => {
+            let _ = rt.eprintln("pddlcheck: a word of the command line is no UTF-8 text");
+            Err(WRONG_WORDS)
+        }
+    }
+}
+
+/// Reads the words, carries out what they ask for, and answers the exit status.
+fn run<R: Env + Files + Input + Print + Eprint + AllocGlobal>(rt: &R) -> u8 {
+    match words(rt) {
+        Ok(words) => run_words(rt, words.as_slice()),
+        Err(status) => status,
     }
 }
 
