@@ -104,6 +104,12 @@ pub words_pass : (test : List ℕ → Bool) (xs : List (List ℕ)) (i : ℕ) (x 
 words_pass test xs i x lt is so_far here =
     ap (list_all test) (sym (map_same (take (i + 1) xs))) ∙ passes_on (λ (y : List ℕ). y) test xs i x lt is (ap (list_all test) (map_same (take i xs)) ∙ so_far) here
 
+pub words_whole : (text : List ℕ → List ℕ) {a b : Option (List ℕ)} {n m : ℕ} {f g : Bool} (xs : List (List ℕ)) (i : ℕ) → length xs ≤ i → Puts a b n m f g (flat_map text (take i xs)) → Puts a b n m f g (flat_map text xs)
+words_whole text xs i end = puts_as (ap (flat_map text) (take_all i xs end))
+
+pub words_all_pass : (test : List ℕ → Bool) (xs : List (List ℕ)) (i : ℕ) → length xs ≤ i → list_all test (take i xs) ≡ true → list_all test xs ≡ true
+words_all_pass test xs i end so_far = sym (ap (list_all test) (take_all i xs end)) ∙ so_far
+
 -- where no write failed, the text was written
 pub wrote : {a b : Option (List ℕ)} {n m : ℕ} {g : Bool} {xs : List ℕ} → Puts a b n m false g xs → g ≡ false → Appends a b xs
 wrote {g = false} first e = first.puts.0

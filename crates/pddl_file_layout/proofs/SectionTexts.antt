@@ -1,6 +1,7 @@
 -- Sections that have content, and what is said of a whole domain or problem.
 use Rattle.std.proofs.Common.{◌≡◌, ℕ, ◌<◌, List, [], ◌∷◌, ◌++◌, map, length, suc, refl, sym, ap, ◌∙◌, codes, append_assoc, arith}
 use Rattle.std.specs.Prelude.{Bool, true, ◌&&◌}
+use Rattle.std.specs.List.{list_all}
 use Rattle.pddl_file_layout.specs.Inner.Texts.{spaced_by, section_text}
 
 -- a section with content
@@ -17,6 +18,23 @@ length_map view (x ∷ xs) = ap (λ n. suc n) (length_map view xs)
 
 pub section_filled : {X V : Type 0} (view : X → V) (opening : List ℕ) (text : V → List ℕ) (xs : List X) → 0 < length xs → opening ++ (spaced_by text (map view xs) ++ codes ")\n") ≡ section_text opening text (map view xs)
 section_filled view opening text xs some = filled opening text (map view xs) (omega (arith, some, length_map view xs))
+
+-- a section without content, which passes all tests
+pub section_empty : {X V : Type 0} (view : X → V) (opening : List ℕ) (text : V → List ℕ) (xs : List X) → length xs ≡ 0 → [] ≡ section_text opening text (map view xs)
+section_empty view opening text [] none = refl
+section_empty view opening text (x ∷ xs) none = absurd (omega (arith, none))
+
+pub empty_passes : {X V : Type 0} (view : X → V) (test : V → Bool) (xs : List X) → length xs ≡ 0 → list_all test (map view xs) ≡ true
+empty_passes view test [] none = refl
+empty_passes view test (x ∷ xs) none = absurd (omega (arith, none))
+
+pub words_empty : (opening : List ℕ) (text : List ℕ → List ℕ) (xs : List (List ℕ)) → length xs ≡ 0 → [] ≡ section_text opening text xs
+words_empty opening text [] none = refl
+words_empty opening text (x ∷ xs) none = absurd (omega (arith, none))
+
+pub no_words_pass : (test : List ℕ → Bool) (xs : List (List ℕ)) → length xs ≡ 0 → list_all test xs ≡ true
+no_words_pass test [] none = refl
+no_words_pass test (x ∷ xs) none = absurd (omega (arith, none))
 
 -- a function's text, its signature apart
 pub signature_apart : (name parameters type : List ℕ) → codes "(" ++ (name ++ (parameters ++ (codes ") - " ++ type))) ≡ (codes "(" ++ (name ++ (parameters ++ codes ")"))) ++ (codes " - " ++ type)

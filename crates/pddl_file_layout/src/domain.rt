@@ -6,7 +6,7 @@ ghost use Rattle.std.specs.Io.KnownBytes.{Appends};
 ghost use Rattle.pddl_device.specs.Device.{AppendsBeginning, HasFailed};
 ghost use Rattle.pddl_text.specs.Lists.{deepest};
 ghost use Rattle.pddl_text.specs.Pieces.{IsWithin};
-ghost use Rattle.pddl_domain.specs.Declarations.{Signature, type_view, predicate_view, function_view};
+ghost use Rattle.pddl_domain.specs.Declarations.{type_view, predicate_view, function_view};
 ghost use Rattle.pddl_domain.specs.Actions.{action_view};
 ghost use Rattle.pddl_domain.specs.Domains.{domain_view};
 ghost use Rattle.pddl_domain_reader.specs.DomainTexts.{SpellsDomain};
@@ -16,7 +16,7 @@ ghost use Rattle.pddl_file_layout.specs.Inner.Texts.{spaced_by, section_text, de
 
 use crate::effect::put_effect;
 use crate::formula::{put_formula, put_type, put_typed_list, put_variables};
-use crate::printing::put;
+use crate::printing::{put, put_both};
 use crate::section::{put_objects, put_requirements};
 use pddl_device::{Sink, ToWrite, WriteFault};
 use pddl_domain::{Action, DeclaredFunction, DeclaredPredicate, DeclaredType, Domain};
@@ -58,8 +58,7 @@ fn put_predicate<A: Allocator, W: Sink>(
     ensures printed { Puts (W.contents out.old) (W.contents out.new) (W.failures out.old) (W.failures out.new) failed.old failed.new (signature_text (predicate_view declared.now)) }
     ensures good { IsTrue (is_declared_predicate (predicate_view declared.now)) }
 {
-    put(out, failed, b"(");
-    put(out, failed, declared.predicate.as_bytes());
+    put_both(out, failed, b"(", declared.predicate.as_bytes());
     put_typed_list(out, failed, b"?", &declared.parameters);
     put(out, failed, b")");
 }
@@ -105,8 +104,7 @@ fn put_function<A: Allocator, W: Sink>(
     ensures printed { Puts (W.contents out.old) (W.contents out.new) (W.failures out.old) (W.failures out.new) failed.old failed.new (function_text (function_view declared.now)) }
     ensures good { IsTrue (is_declared_function (function_view declared.now)) }
 {
-    put(out, failed, b"(");
-    put(out, failed, declared.name.as_bytes());
+    put_both(out, failed, b"(", declared.name.as_bytes());
     put_typed_list(out, failed, b"?", &declared.parameters);
     put(out, failed, b") - ");
     put_type(out, failed, &declared.result);
@@ -149,8 +147,7 @@ fn put_action<A: Allocator, W: Sink>(out: &mut W, failed: &mut bool, action: &Ac
     ensures printed { Puts (W.contents out.old) (W.contents out.new) (W.failures out.old) (W.failures out.new) failed.old failed.new (action_lines (action_view action.now)) }
     ensures good { IsTrue (is_action (action_view action.now)) }
 {
-    put(out, failed, b"  (:action ");
-    put(out, failed, action.name.as_bytes());
+    put_both(out, failed, b"  (:action ", action.name.as_bytes());
     put(out, failed, b"\n    :parameters ");
     put_variables(out, failed, &action.parameters);
     put(out, failed, b"\n    :precondition ");
@@ -175,8 +172,7 @@ fn put_domain<A: Allocator, W: Sink>(out: &mut W, failed: &mut bool, domain: &Do
     ensures printed { Puts (W.contents out.old) (W.contents out.new) (W.failures out.old) (W.failures out.new) failed.old failed.new (domain_text (domain_view domain.now)) }
     ensures good { IsTrue (is_domain (domain_view domain.now)) }
 {
-    put(out, failed, b"(define (domain ");
-    put(out, failed, domain.name.as_bytes());
+    put_both(out, failed, b"(define (domain ", domain.name.as_bytes());
     put(out, failed, b")\n");
     put_requirements(out, failed, &domain.requirements);
     put_types(out, failed, &domain.types);

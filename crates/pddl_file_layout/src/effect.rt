@@ -8,7 +8,7 @@ ghost use Rattle.pddl_file_layout.specs.Inner.Printing.{Puts};
 ghost use Rattle.pddl_file_layout.specs.Inner.Texts.{spaced_by, function_term_text, amount_text, effect_text};
 
 use crate::formula::{put_atom, put_formula, put_quantifier, put_terms};
-use crate::printing::{put, put_number};
+use crate::printing::{put, put_both, put_number};
 use pddl_device::Sink;
 use pddl_effect::{Amount, Effect, FunctionTerm};
 use std::alloc::Allocator;
@@ -22,8 +22,7 @@ fn put_function_term<A: Allocator, W: Sink>(
     ensures printed { Puts (W.contents out.old) (W.contents out.new) (W.failures out.old) (W.failures out.new) failed.old failed.new (function_term_text (function_term_view function.now)) }
     ensures good { IsTrue (is_function_term (function_term_view function.now)) }
 {
-    put(out, failed, b"(");
-    put(out, failed, function.function.as_bytes());
+    put_both(out, failed, b"(", function.function.as_bytes());
     put_terms(out, failed, &function.terms);
     put(out, failed, b")");
 }

@@ -11,7 +11,7 @@ ghost use Rattle.pddl_file_layout.specs.FormulaValues.{is_term, is_atom, is_type
 ghost use Rattle.pddl_file_layout.specs.Inner.Printing.{Puts};
 ghost use Rattle.pddl_file_layout.specs.Inner.Texts.{spaced_by, word_text, term_text, atom_text, type_text, typed_text, variables_text, formula_text};
 
-use crate::printing::put;
+use crate::printing::{put, put_both};
 use pddl_device::Sink;
 use pddl_formula::{Atom, Formula, Term, TypeName, TypeNames, Typed};
 use pddl_token::Name;
@@ -23,8 +23,7 @@ pub fn put_names<A: Allocator, W: Sink>(out: &mut W, failed: &mut bool, names: &
     ensures good { IsTrue (list_all is_name names.now) }
 {
     for name in names {
-        put(out, failed, b" ");
-        put(out, failed, name.as_bytes());
+        put_both(out, failed, b" ", name.as_bytes());
     }
 }
 
@@ -58,8 +57,7 @@ pub fn put_atom<A: Allocator, W: Sink>(out: &mut W, failed: &mut bool, atom: &At
     ensures printed { Puts (W.contents out.old) (W.contents out.new) (W.failures out.old) (W.failures out.new) failed.old failed.new (atom_text (atom_view atom.now)) }
     ensures good { IsTrue (is_atom (atom_view atom.now)) }
 {
-    put(out, failed, b"(");
-    put(out, failed, atom.predicate.as_bytes());
+    put_both(out, failed, b"(", atom.predicate.as_bytes());
     put_terms(out, failed, &atom.terms);
     put(out, failed, b")");
 }
@@ -69,8 +67,7 @@ fn put_type_names<A: Allocator, W: Sink>(out: &mut W, failed: &mut bool, names: 
     ensures { Puts (W.contents out.old) (W.contents out.new) (W.failures out.old) (W.failures out.new) failed.old failed.new (spaced_by word_text names.now) }
 {
     for name in names {
-        put(out, failed, b" ");
-        put(out, failed, name.as_bytes());
+        put_both(out, failed, b" ", name.as_bytes());
     }
 }
 

@@ -14,7 +14,7 @@ ghost use Rattle.pddl_file_layout.specs.Inner.Printing.{Puts};
 ghost use Rattle.pddl_file_layout.specs.Inner.Texts.{spaced_by, ground_text, init_text, metric_text};
 
 use crate::formula::{put_formula, put_names};
-use crate::printing::{put, put_number};
+use crate::printing::{put, put_both, put_number};
 use crate::section::{put_objects, put_requirements};
 use pddl_device::{Sink, ToWrite, WriteFault};
 use pddl_problem::{Direction, Fact, GroundFunction, InitItem, Metric, Problem};
@@ -26,8 +26,7 @@ fn put_fact<A: Allocator, W: Sink>(out: &mut W, failed: &mut bool, fact: &Fact<A
     ensures printed { Puts (W.contents out.old) (W.contents out.new) (W.failures out.old) (W.failures out.new) failed.old failed.new (ground_text (fact_view fact.now)) }
     ensures good { IsTrue (is_fact (fact_view fact.now)) }
 {
-    put(out, failed, b"(");
-    put(out, failed, fact.predicate.as_bytes());
+    put_both(out, failed, b"(", fact.predicate.as_bytes());
     put_names(out, failed, &fact.objects);
     put(out, failed, b")");
 }
@@ -41,8 +40,7 @@ fn put_ground_function<A: Allocator, W: Sink>(
     ensures printed { Puts (W.contents out.old) (W.contents out.new) (W.failures out.old) (W.failures out.new) failed.old failed.new (ground_text (function_view function.now)) }
     ensures good { IsTrue (is_ground_function (function_view function.now)) }
 {
-    put(out, failed, b"(");
-    put(out, failed, function.function.as_bytes());
+    put_both(out, failed, b"(", function.function.as_bytes());
     put_names(out, failed, &function.objects);
     put(out, failed, b")");
 }
@@ -112,10 +110,8 @@ fn put_problem<A: Allocator, W: Sink>(out: &mut W, failed: &mut bool, problem: &
     ensures printed { Puts (W.contents out.old) (W.contents out.new) (W.failures out.old) (W.failures out.new) failed.old failed.new (problem_text (problem_view problem.now)) }
     ensures good { IsTrue (is_problem (problem_view problem.now)) }
 {
-    put(out, failed, b"(define (problem ");
-    put(out, failed, problem.name.as_bytes());
-    put(out, failed, b")\n  (:domain ");
-    put(out, failed, problem.domain.as_bytes());
+    put_both(out, failed, b"(define (problem ", problem.name.as_bytes());
+    put_both(out, failed, b")\n  (:domain ", problem.domain.as_bytes());
     put(out, failed, b")\n");
     put_requirements(out, failed, &problem.requirements);
     put_objects(out, failed, b"  (:objects", &problem.objects);

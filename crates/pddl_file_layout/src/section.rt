@@ -9,7 +9,7 @@ ghost use Rattle.pddl_file_layout.specs.Inner.Printing.{Puts};
 ghost use Rattle.pddl_file_layout.specs.Inner.Texts.{spaced_by, section_text, flag_text, object_text};
 
 use crate::formula::put_typed_list;
-use crate::printing::put;
+use crate::printing::{put, put_both};
 use pddl_device::Sink;
 use pddl_formula::Typed;
 use pddl_token::Name;
@@ -21,8 +21,7 @@ fn put_flags<A: Allocator, W: Sink>(out: &mut W, failed: &mut bool, flags: &[Nam
     ensures good { IsTrue (list_all is_name flags.now) }
 {
     for flag in flags {
-        put(out, failed, b" :");
-        put(out, failed, flag.as_bytes());
+        put_both(out, failed, b" :", flag.as_bytes());
     }
 }
 

@@ -2,7 +2,7 @@
 
 ghost use Rattle.std.specs.Prelude.{◌≡◌, ◌<◌, ◌↔◌, false, IfOk, IsTrue, ◌&&◌, MatchOption};
 ghost use Rattle.pddl_state.specs.Atoms.{AtomValue};
-ghost use Rattle.pddl_state.specs.AtomSets.{no_atoms, union, intersection};
+ghost use Rattle.pddl_state.specs.AtomSets.{no_atoms, union, intersection, difference};
 ghost use Rattle.pddl_judge.specs.Touches.{touch_in, touch_of, join_of, Owned, crossing, overlap, Apart};
 ghost use Rattle.pddl_judge.specs.Verdicts.{IsLeast};
 
@@ -94,6 +94,22 @@ pub(crate) fn join<A: Allocator, S: AtomStore<A>>(
     Ok(())
 }
 
+/// The atoms of a set that another lacks.
+fn without<A: Allocator, S: AtomStore<A>>(
+    store: &S,
+    a: &S::Set,
+    b: &S::Set,
+) -> Result<S::Set, AllocError>
+    requires a_own { S.owns store.now a.now }
+    requires b_own { S.owns store.now b.now }
+    ensures own { IfOk result (λ c. S.owns store.now c) }
+    ensures content { IfOk result (λ c. S.content store.now c ≡ difference (S.content store.now a.now) (S.content store.now b.now)) }
+{
+    let mut rest = store.copy(a)?;
+    store.subtract(&mut rest, b);
+    Ok(rest)
+}
+
 /// The atoms that two sets have in common.
 fn both<A: Allocator, S: AtomStore<A>>(
     store: &S,
@@ -105,11 +121,8 @@ fn both<A: Allocator, S: AtomStore<A>>(
     ensures own { IfOk result (λ c. S.owns store.now c) }
     ensures content { IfOk result (λ c. S.content store.now c ≡ intersection (S.content store.now a.now) (S.content store.now b.now)) }
 {
-    let mut rest = store.copy(a)?;
-    store.subtract(&mut rest, b);
-    let mut common = store.copy(a)?;
-    store.subtract(&mut common, &rest);
-    Ok(common)
+    let rest = without(store, a, b)?;
+    without(store, a, &rest)
 }
 
 /// Adds the atoms that two sets have in common to a set.

@@ -117,3 +117,8 @@ where
     drop(lookups);
     compiled
 }
+
+/// Lets a plan go. A crate in which one ends proves how it is taken apart, with each type in it; crates that call this do not.
+pub fn let_go_plan<'s, 'b, 'c, C: Allocator, D: Allocator>(plan: CompiledPlan<'s, 'b, 'c, C, D>) {
+    drop(plan);
+}

@@ -1,4 +1,4 @@
-use Rattle.std.proofs.Common.{◌≡◌, true, map, sym, ap, subst, codes}
+use Rattle.std.proofs.Common.{◌≡◌, true, map, sym, ap, subst, codes, ◌++◌, ℕ, List}
 use Rattle.std.specs.List.{flat_map, list_all}
 use Rattle.pddl_token.specs.Names.{is_name}
 use Rattle.pddl_formula.specs.TypedLists.{typed_view}
@@ -14,7 +14,7 @@ use Rattle.pddl_file_layout.proofs.SectionTexts.{all_seven}
 use Rattle.pddl_file_layout.proofs.domain.put_domain.Goals as goal
 
 pub returns-clause-printed : goal.returns-clause-printed
-returns-clause-printed g c = puts_as (sym (domain_is (domain_view c.args.domain.now))) (puts_on c.put.ensures (puts_on (puts_as c.as_bytes.ensures.value c.put-2.ensures) (puts_on c.put-3.ensures (puts_on (puts_as (ap (λ xs. section_text (codes "  (:requirements") flag_text xs) c.deref.ensures.value) c.put_requirements.ensures.printed) (puts_on (puts_as (ap (λ xs. section_text (codes "  (:types") declared_type_text (map type_view xs)) c.deref-2.ensures.value) c.put_types.ensures.printed) (puts_on (puts_as (ap (λ xs. section_text (codes "  (:constants") object_text (map typed_view xs)) c.deref-3.ensures.value) c.put_objects.ensures.printed) (puts_on (puts_as (ap (λ xs. section_text (codes "  (:predicates") signature_text (map predicate_view xs)) c.deref-4.ensures.value) c.put_predicates.ensures.printed) (puts_on (puts_as (ap (λ xs. section_text (codes "  (:functions") function_text (map function_view xs)) c.deref-5.ensures.value) c.put_functions.ensures.printed) (puts_on (puts_as (ap (λ xs. flat_map action_lines (map action_view xs)) c.deref-6.ensures.value) c.put_actions.ensures.printed) c.put-4.ensures)))))))))
+returns-clause-printed g c = puts_as (sym (domain_is (domain_view c.args.domain.now))) (puts_on (puts_as (ap (λ (n : List ℕ). codes "(define (domain " ++ n) c.as_bytes.ensures.value) c.put_both.ensures) (puts_on c.put.ensures (puts_on (puts_as (ap (λ xs. section_text (codes "  (:requirements") flag_text xs) c.deref.ensures.value) c.put_requirements.ensures.printed) (puts_on (puts_as (ap (λ xs. section_text (codes "  (:types") declared_type_text (map type_view xs)) c.deref-2.ensures.value) c.put_types.ensures.printed) (puts_on (puts_as (ap (λ xs. section_text (codes "  (:constants") object_text (map typed_view xs)) c.deref-3.ensures.value) c.put_objects.ensures.printed) (puts_on (puts_as (ap (λ xs. section_text (codes "  (:predicates") signature_text (map predicate_view xs)) c.deref-4.ensures.value) c.put_predicates.ensures.printed) (puts_on (puts_as (ap (λ xs. section_text (codes "  (:functions") function_text (map function_view xs)) c.deref-5.ensures.value) c.put_functions.ensures.printed) (puts_on (puts_as (ap (λ xs. flat_map action_lines (map action_view xs)) c.deref-6.ensures.value) c.put_actions.ensures.printed) c.put-2.ensures))))))))
 
 pub returns-clause-good : goal.returns-clause-good
 returns-clause-good g c =

@@ -1,9 +1,9 @@
-use Rattle.std.proofs.Common.{ap, sym, ◌∙◌}
+use Rattle.std.proofs.Common.{ap, sym, ◌∙◌, refl}
 use Rattle.pddl_domain.specs.Declarations.{type_view}
 use Rattle.pddl_formula.specs.Reserved.{is_type_name}
 use Rattle.pddl_file_layout.specs.DomainLayout.{is_declared_type}
 use Rattle.pddl_file_layout.specs.Inner.Texts.{declared_type_text}
-use Rattle.pddl_file_layout.proofs.Printed.{puts_on, puts_as, spaced_on, passes_on, spaced_whole, whole_passes}
+use Rattle.pddl_file_layout.proofs.Printed.{puts_on, puts_as, spaced_on, passes_on, spaced_whole, whole_passes, puts_nothing}
 use Rattle.pddl_file_layout.proofs.SectionTexts.{both}
 use Rattle.pddl_file_layout.proofs.domain.put_type_list.Goals as goal
 
@@ -24,3 +24,6 @@ returns-clause-printed g c = spaced_whole type_view declared_type_text c.args.ty
 
 pub returns-clause-good : goal.returns-clause-good
 returns-clause-good g c = whole_passes type_view is_declared_type c.args.types.now c.loop-declared.declared-index c.loop-declared-test.false c.loop-declared.invariant.good
+
+pub loop-declared-init : goal.loop-declared-init
+loop-declared-init g c = record { printed = puts_nothing _ _ _; good = refl }

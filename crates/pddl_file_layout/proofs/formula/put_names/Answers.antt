@@ -1,7 +1,7 @@
-use Rattle.std.proofs.Common.{◌++◌, ℕ, List}
+use Rattle.std.proofs.Common.{◌++◌, ℕ, List, refl, ap}
 use Rattle.std.specs.Prelude.{codes}
 use Rattle.pddl_token.specs.Names.{is_name}
-use Rattle.pddl_file_layout.proofs.Printed.{puts_on, puts_as, words_on, words_pass}
+use Rattle.pddl_file_layout.proofs.Printed.{puts_as, words_on, words_pass, puts_nothing, words_whole, words_all_pass}
 use Rattle.pddl_file_layout.proofs.formula.put_names.Goals as goal
 
 pub loop-name-preserved : goal.loop-name-preserved
@@ -9,6 +9,15 @@ loop-name-preserved g c =
     let l = c.loop-name in
     let lt = c.loop-name-test.true in
     record {
-      printed = words_on (λ (n : List ℕ). codes " " ++ n) c.args.names.now l.name-index c.name-item.result lt c.name-item.is l.invariant.printed (puts_on c.put.ensures (puts_as c.as_bytes.ensures.value c.put-in-loop-name.ensures));
+      printed = words_on (λ (n : List ℕ). codes " " ++ n) c.args.names.now l.name-index c.name-item.result lt c.name-item.is l.invariant.printed (puts_as (ap (λ (n : List ℕ). codes " " ++ n) c.as_bytes.ensures.value) c.put_both.ensures);
       good = words_pass is_name c.args.names.now l.name-index c.name-item.result lt c.name-item.is l.invariant.good c.as_bytes.ensures.name;
     }
+
+pub returns-clause-printed : goal.returns-clause-printed
+returns-clause-printed g c = words_whole (λ (n : List ℕ). codes " " ++ n) c.args.names.now c.loop-name.name-index c.loop-name-test.false c.loop-name.invariant.printed
+
+pub returns-clause-good : goal.returns-clause-good
+returns-clause-good g c = words_all_pass is_name c.args.names.now c.loop-name.name-index c.loop-name-test.false c.loop-name.invariant.good
+
+pub loop-name-init : goal.loop-name-init
+loop-name-init g c = record { printed = puts_nothing _ _ _; good = refl }
