@@ -57,10 +57,11 @@ fn listed_named(words: &str) -> Option<OfPlan> {
 /// The command that cuts a plan into groups: `groups N`, and `reverse` behind it or not.
 fn groups_named(words: &str) -> Option<Command> {
     let rest = words.strip_prefix("groups ")?;
-    match rest.strip_suffix(" reverse") {
-        Some(number) => Some(Command::Groups(Order::Reverse, number.parse::<u32>().ok()?)),
-        None => Some(Command::Groups(Order::File, rest.parse::<u32>().ok()?)),
-    }
+    let (order, size) = match rest.strip_suffix(" reverse") {
+        Some(size) => (Order::Reverse, size),
+        None => (Order::File, rest),
+    };
+    Some(Command::Groups(order, size.parse::<u32>().ok()?))
 }
 
 /// The listing of a task that these words ask for.

@@ -1,4 +1,4 @@
-//! Texts of rows, each for a subject.
+//! Texts of rows, each for a subject. They are bytes, so that a check need not prove that they are UTF-8.
 
 mod ends;
 mod first_atoms;

@@ -4,11 +4,12 @@ mod orders;
 
 use crate::command::Command;
 use crate::rows;
+use pddl_row_driver::text_of;
 use std::test::Fail;
 
 /// All rows of a text hold, and there are so many.
-fn all_hold<R: Print + AllocGlobal>(rt: &R, text: &str, rows: u64) -> Result<(), Fail> {
-    pddl_row_driver::all_hold::<R, Command>(rt, text, rows)?;
+fn all_hold<R: Print + AllocGlobal>(rt: &R, text: &[u8], rows: u64) -> Result<(), Fail> {
+    pddl_row_driver::all_hold::<R, Command>(rt, text_of(text), rows)?;
     Ok(())
 }
 

@@ -1,4 +1,5 @@
-//! Texts of rows, each for a subject.
+//! Texts of rows, each for a subject. They are bytes, so that a check need not prove that they are UTF-8, but for two that have
+//! other letters than those of ASCII.
 
 mod changed_problems;
 mod costs;

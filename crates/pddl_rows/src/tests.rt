@@ -5,11 +5,12 @@ mod pieces;
 
 use crate::command::Command;
 use crate::rows;
+use pddl_row_driver::text_of;
 use std::test::Fail;
 
 /// All rows of a text hold, and there are so many.
-fn all_hold<R: Print + AllocGlobal>(rt: &R, text: &str, rows: u64) -> Result<(), Fail> {
-    pddl_row_driver::all_hold::<R, Command>(rt, text, rows)?;
+fn all_hold<R: Print + AllocGlobal>(rt: &R, text: &[u8], rows: u64) -> Result<(), Fail> {
+    pddl_row_driver::all_hold::<R, Command>(rt, text_of(text), rows)?;
     Ok(())
 }
 
@@ -115,10 +116,10 @@ fn unknown(rt: HostRuntime) -> Result<(), Fail> {
 
 #[test]
 fn values(rt: HostRuntime) -> Result<(), Fail> {
-    all_hold(&rt, rows::VALUES, 18)
+    all_hold(&rt, rows::VALUES.as_bytes(), 18)
 }
 
 #[test]
 fn words(rt: HostRuntime) -> Result<(), Fail> {
-    all_hold(&rt, rows::WORDS, 61)
+    all_hold(&rt, rows::WORDS.as_bytes(), 61)
 }

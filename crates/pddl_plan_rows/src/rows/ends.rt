@@ -1,6 +1,6 @@
 //! Verdicts over both stores, and the ends of accepted plans, with each growth refused in turn.
 
-pub static ENDS: &str = r"row two steps, one after the other
+pub static ENDS: &[u8] = br"row two steps, one after the other
 growths 20
 copy lamps
 file

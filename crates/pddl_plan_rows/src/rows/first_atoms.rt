@@ -1,6 +1,6 @@
 //! The atoms that hold at first.
 
-pub static FIRST_ATOMS: &str = r"row what holds at the beginning
+pub static FIRST_ATOMS: &[u8] = br"row what holds at the beginning
 copy lamps
 file
 copy two

@@ -1,6 +1,6 @@
 //! Plans of groups of the steps of others, each of which is valid and of the same cost.
 
-pub static GROUPS: &str = r"row one step each
+pub static GROUPS: &[u8] = br"row one step each
 growths 40
 copy lamps
 file

@@ -1,6 +1,6 @@
 //! The happenings of plans: the moment of each in billionths, and its steps.
 
-pub static MOMENTS: &str = r"row no steps
+pub static MOMENTS: &[u8] = br"row no steps
 copy lamps
 file
 copy two

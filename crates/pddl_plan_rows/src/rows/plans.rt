@@ -1,6 +1,6 @@
 //! Valid and invalid plans.
 
-pub static PLANS: &str = r"row no steps, and a goal to be reached
+pub static PLANS: &[u8] = br"row no steps, and a goal to be reached
 copy lamps
 file
 copy two

@@ -1,7 +1,7 @@
 //! Steps whose quantifiers have variables of several types: some that no object fits, one object, or more.
 
-pub static QUANTIFIERS: &str =
-    r"part (define (domain q) (:types a b c) (:predicates (p ?x ?y)) (:action look :precondition (and) :effect (and))
+pub static QUANTIFIERS: &[u8] =
+    br"part (define (domain q) (:types a b c) (:predicates (p ?x ?y)) (:action look :precondition (and) :effect (and))
 part \s(:action join :parameters (?x - a) :effect (p ?x ?x)) (:action cut :parameters (?x - a ?y - b) :effect (not (p ?x ?y)))
 part \s(:action spread :effect (forall (?x ?y - a ?z - b) (when (p ?x ?z) (p ?y ?x)))))
 keep pairs

@@ -1,6 +1,6 @@
 //! Plans that are refused, and files before them.
 
-pub static REFUSED_PLANS: &str = r"row an object that is not known
+pub static REFUSED_PLANS: &[u8] = br"row an object that is not known
 growths 40
 copy lamps
 file

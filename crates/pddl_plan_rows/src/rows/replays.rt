@@ -1,7 +1,7 @@
 //! Runs of the steps of plans in the orders of lists: how each ends, or why it does not.
 
-pub static REPLAYS: &str =
-    r"part (define (domain v) (:predicates (p)) (:functions (total-cost)) (:action pay :effect (when (p) (increase (total-cost) 5)))
+pub static REPLAYS: &[u8] =
+    br"part (define (domain v) (:predicates (p)) (:functions (total-cost)) (:action pay :effect (when (p) (increase (total-cost) 5)))
 part \s(:action drop :effect (not (p))))
 keep payments
 

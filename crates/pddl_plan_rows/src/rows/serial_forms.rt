@@ -1,6 +1,6 @@
 //! Serial forms of accepted plans, each with its own verdict and end.
 
-pub static SERIAL_FORMS: &str = r"row moments in another order than in the file
+pub static SERIAL_FORMS: &[u8] = br"row moments in another order than in the file
 growths 40
 copy lamps
 file

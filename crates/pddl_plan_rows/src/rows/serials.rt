@@ -1,6 +1,6 @@
 //! Serial forms of plans, each of which is a valid plan of the same cost.
 
-pub static SERIALS: &str = r"row moments in another order than in the file
+pub static SERIALS: &[u8] = br"row moments in another order than in the file
 growths 40
 copy lamps
 file

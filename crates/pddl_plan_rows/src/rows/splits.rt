@@ -1,6 +1,6 @@
 //! Splits of accepted plans by groups of their steps, each with its own verdict and end.
 
-pub static SPLITS: &str = r"row the steps of a moment apart, and as they were
+pub static SPLITS: &[u8] = br"row the steps of a moment apart, and as they were
 growths 40
 copy lamps
 file

@@ -1,7 +1,7 @@
 //! What steps are in the state that a plan starts in: whether they are ready, what they read, add, delete and cost; and the goal.
 
-pub static STATES: &str =
-    r"part (define (domain v) (:predicates (p)) (:functions (total-cost)) (:action pay :effect (when (p) (increase (total-cost) 5)))
+pub static STATES: &[u8] =
+    br"part (define (domain v) (:predicates (p)) (:functions (total-cost)) (:action pay :effect (when (p) (increase (total-cost) 5)))
 part \s(:action drop :effect (not (p))))
 keep payments
 

@@ -1,6 +1,6 @@
 //! Steps of plans that are linked: the numbers of their actions and objects, and their moments.
 
-pub static STEPS: &str = r"row plan 1
+pub static STEPS: &[u8] = br"row plan 1
 copy lamps
 file
 copy two

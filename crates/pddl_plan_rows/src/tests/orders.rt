@@ -3,7 +3,7 @@
 use pddl_fakes::FakeSink;
 use pddl_file_lines::Outcome;
 use pddl_plan_listing::{Listed, OfPlan, Stored, list};
-use pddl_row_driver::{Files, Memory};
+use pddl_row_driver::{Files, Lines, Memory};
 use std::alloc::{AllocError, Global};
 use std::test::Fail;
 
@@ -19,11 +19,8 @@ static EIGHT: &[u8] =
     b"(define (problem eight) (:domain switches) (:objects o0 o1 o2 o3 o4 o5 o6 o7)
 (:init (on o1) (lit o2) (lit o5)) (:goal (and)))";
 
-/// How many switches there are.
-const SWITCH_COUNT: u64 = 8;
-
-/// How many moments a plan has at most.
-const MOMENTS: u64 = 5;
+/// How many moments a plan has at most: fewer than ten.
+const MOMENTS: u8 = 5;
 
 /// How many plans there are.
 const PLANS: u64 = 1000;
@@ -46,6 +43,19 @@ impl Numbers {
     }
 }
 
+/// What a moment's steps are chosen of, behind its number: some switches are flipped, and the bell is rung or not.
+static STEPS: [&[u8]; 9] = [
+    b": (flip o0)\n",
+    b": (flip o1)\n",
+    b": (flip o2)\n",
+    b": (flip o3)\n",
+    b": (flip o4)\n",
+    b": (flip o5)\n",
+    b": (flip o6)\n",
+    b": (flip o7)\n",
+    b": (ring)\n",
+];
+
 /// A plan, and the numbers of its steps in another order.
 #[derive(Drop)]
 struct Drawn {
@@ -65,54 +75,50 @@ impl Drawn {
         Ok(())
     }
 
-    /// Adds a step of a moment at some place behind the first `start` numbers.
-    fn add(&mut self, line: &str, start: usize, numbers: &mut Numbers) -> Result<(), AllocError> {
-        self.plan.extend_from_slice(line.as_bytes())?;
+    /// Adds a step of a moment, of one digit, at some place behind the first `start` numbers.
+    fn add(
+        &mut self,
+        moment: u8,
+        step: &[u8],
+        start: usize,
+        numbers: &mut Numbers,
+    ) -> Result<(), AllocError> {
+        self.plan.push(b'0'.saturating_add(moment))?;
+        self.plan.extend_from_slice(step)?;
         self.place(start, numbers)
     }
 
-    /// Adds the steps of a moment: some switches are flipped, and the bell is rung or not.
-    fn add_moment(&mut self, moment: u64, numbers: &mut Numbers) -> Result<(), AllocError> {
+    /// Adds some steps of a moment.
+    fn add_moment(&mut self, moment: u8, numbers: &mut Numbers) -> Result<(), AllocError> {
         let start = self.order.len();
-        for switch in 0..SWITCH_COUNT {
+        for step in STEPS.iter() {
             if numbers.below(2) == 0 {
-                let line = format!(in *self.plan.allocator(); "{moment}: (flip o{switch})\n")?;
-                self.add(&line, start, numbers)?;
+                self.add(moment, step, start, numbers)?;
             }
         }
-        if numbers.below(2) == 0 {
-            let line = format!(in *self.plan.allocator(); "{moment}: (ring)\n")?;
-            self.add(&line, start, numbers)?;
+        Ok(())
+    }
+
+    /// Adds a few moments.
+    fn add_moments(&mut self, numbers: &mut Numbers) -> Result<(), AllocError> {
+        let last = numbers.below(u64::from(MOMENTS));
+        for moment in 0..MOMENTS {
+            if u64::from(moment) <= last {
+                self.add_moment(moment, numbers)?;
+            }
         }
         Ok(())
     }
 }
 
-/// A plan of a few moments, and its steps in an order that is random within each.
-fn draw(alloc: Global, numbers: &mut Numbers) -> Result<Drawn, AllocError> {
-    let mut drawn = Drawn {
-        plan: Vec::new(alloc),
-        order: Vec::new(alloc),
-    };
-    for moment in 0..numbers.below(MOMENTS).saturating_add(1) {
-        drawn.add_moment(moment, numbers)?;
-    }
-    Ok(drawn)
-}
-
-/// The line that has these numbers.
-fn line_of(alloc: Global, numbers: &[u64]) -> Result<Vec<u8>, AllocError> {
-    let mut line = Vec::new(alloc);
-    for number in numbers {
-        let word = format!(in alloc; "{number} ")?;
-        line.extend_from_slice(word.as_bytes())?;
-    }
-    line.push(b'\n')?;
-    Ok(line)
-}
-
-/// What is listed of a plan, or of its steps in an order.
-fn listed(alloc: Global, listed: Listed, plan: &[u8], order: &[u8]) -> FakeSink<Global> {
+/// Lists what is asked for of a plan, or of its steps in an order, and tells whether that went well.
+fn lists(
+    listed: Listed,
+    plan: &[u8],
+    order: &[u8],
+    out: &mut FakeSink<Global>,
+    alloc: Global,
+) -> bool {
     let memory = Memory::nth(alloc, 0);
     let files = Files {
         first: SWITCHES,
@@ -120,11 +126,7 @@ fn listed(alloc: Global, listed: Listed, plan: &[u8], order: &[u8]) -> FakeSink<
         third: plan,
         fourth: order,
     };
-    let mut out = FakeSink::whole(alloc);
-    match list(&memory, listed, files, &mut out) {
-        Ok(Outcome::Good) => out,
-        _ => FakeSink::whole(alloc),
-    }
+    matches!(list(&memory, listed, files, out), Ok(Outcome::Good))
 }
 
 /// How many lines a text has.
@@ -138,25 +140,47 @@ fn count_lines(text: &[u8]) -> u64 {
     lines
 }
 
-/// Whether a plan is accepted, and its steps end as it does in another order too, by one line that tells the atoms and the cost.
+/// Whether a plan is accepted, and its end is that of a run: one line tells the atoms and the cost.
+fn is_end(end: &[u8], run: &[u8]) -> bool {
+    let is_valid = end.starts_with(b"valid: ") && count_lines(end) == 2;
+    is_valid && count_lines(run) == 1 && end.ends_with(run)
+}
+
+/// Whether a plan is accepted, and its steps end as it does in another order too.
 fn ends_alike(alloc: Global, plan: &[u8], order: &[u8]) -> bool {
     let verdict = Listed::Plan(OfPlan::Stored(Stored::End));
-    let end = listed(alloc, verdict, plan, order);
-    let run = listed(alloc, Listed::Plan(OfPlan::Replays), plan, order);
-    let is_valid = end.held().starts_with(b"valid: ") && count_lines(end.held()) == 2;
-    is_valid && count_lines(run.held()) == 1 && end.held().ends_with(run.held())
+    let mut end = FakeSink::whole(alloc);
+    let mut run = FakeSink::whole(alloc);
+    let has_end = lists(verdict, plan, order, &mut end, alloc);
+    let has_run = lists(Listed::Plan(OfPlan::Replays), plan, order, &mut run, alloc);
+    has_end && has_run && is_end(end.held(), run.held())
+}
+
+/// Whether that is so of a plan and of its steps in the order that was drawn.
+fn drawn_ends_alike(alloc: Global, drawn: &Drawn) -> bool {
+    let mut order = Lines::new(&alloc);
+    order.numbers(&drawn.order);
+    order.end();
+    match order.text() {
+        Ok(order) => ends_alike(alloc, &drawn.plan, order),
+        Err(_) => false,
+    }
+}
+
+/// Whether that is so of a plan of a few moments, and of its steps in an order that is random within each.
+fn draws_alike(alloc: Global, numbers: &mut Numbers) -> bool {
+    let mut drawn = Drawn {
+        plan: Vec::new(alloc),
+        order: Vec::new(alloc),
+    };
+    drawn.add_moments(numbers).is_ok() && drawn_ends_alike(alloc, &drawn)
 }
 
 #[test]
 fn plans_end_alike_in_random_orders(rt: HostRuntime) -> Result<(), Fail> {
     let mut numbers = Numbers { state: 1 };
     for number in 0..PLANS {
-        let drawn = draw(rt.alloc(), &mut numbers)?;
-        let order = line_of(rt.alloc(), &drawn.order)?;
-        assert!(rt;
-            ends_alike(rt.alloc(), &drawn.plan, &order),
-            "plan {number}"
-        );
+        assert!(rt; draws_alike(rt.alloc(), &mut numbers), "plan {number}");
     }
     Ok(())
 }

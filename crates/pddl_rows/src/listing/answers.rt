@@ -7,7 +7,8 @@ use pddl_formula::{TypeName, TypeNames};
 use pddl_linked_task::Task;
 use pddl_row_driver::{Lines, text_of};
 use pddl_token::Name;
-use std::alloc::Allocator;
+use std::alloc::{AllocError, Allocator};
+use std::fmt::Debug;
 
 /// Adds a name, and the number of the object and of the predicate of that name.
 fn add_named<A: Allocator, C: Allocator, B: Allocator>(
@@ -21,14 +22,23 @@ fn add_named<A: Allocator, C: Allocator, B: Allocator>(
     lines.shown_or_none(task.predicate_number(name));
 }
 
+/// The name that a word is, if it is one.
+fn name_of<'a, B: Allocator>(
+    alloc: &'a B,
+    word: &str,
+    lines: &mut Lines<'_, B>,
+) -> Option<Name<&'a B>> {
+    lines.kept(Name::new(alloc, word.as_bytes()))
+}
+
 /// Adds whether the first of two types is a subtype of the second, where both have names.
 fn add_subtype<A: Allocator, C: Allocator, N: Allocator, B: Allocator>(
     task: &Task<'_, '_, A, C>,
-    sub: &Option<Name<N>>,
-    over: &Option<Name<N>>,
+    sub: Option<Name<N>>,
+    over: Option<Name<N>>,
     lines: &mut Lines<'_, B>,
 ) {
-    if let (Some(sub), Some(over)) = (sub, over) {
+    if let (Some(sub), Some(over)) = (&sub, &over) {
         lines.shown(&task.is_a(sub, over));
     }
 }
@@ -41,9 +51,20 @@ fn add_is_a<A: Allocator, C: Allocator, B: Allocator>(
     lines: &mut Lines<'_, B>,
 ) {
     let (sub, over) = line.split_once(' ').unwrap_or((line, ""));
-    let sub = lines.kept(Name::new(alloc, sub.as_bytes()));
-    let over = lines.kept(Name::new(alloc, over.as_bytes()));
-    add_subtype(task, &sub, &over, lines);
+    let sub = name_of(alloc, sub, lines);
+    let over = name_of(alloc, over, lines);
+    add_subtype(task, sub, over, lines);
+}
+
+/// Adds a primitive, if a name is one, to those of a type.
+fn add_primitive<N: Allocator, B: Allocator>(
+    name: Option<Name<N>>,
+    types: &mut Vec<TypeName<N>, N>,
+    lines: &mut Lines<'_, B>,
+) {
+    if let Some(name) = name {
+        lines.push(types, TypeName::new(name));
+    }
 }
 
 /// Adds the primitives of a line to those of a type.
@@ -54,8 +75,8 @@ fn add_primitives<'a, B: Allocator>(
     lines: &mut Lines<'_, B>,
 ) {
     for word in line.split(' ') {
-        let name = lines.kept(Name::new(alloc, word.as_bytes()));
-        lines.push(types, name.and_then(TypeName::new));
+        let name = name_of(alloc, word, lines);
+        add_primitive(name, types, lines);
     }
 }
 
@@ -72,22 +93,29 @@ fn add_fits<A: Allocator, C: Allocator, N: Allocator, B: Allocator>(
     }
 }
 
-/// Adds the numbers of the objects that fit a type, as a list and one by one.
+/// Adds numbers that were listed.
+fn add_listed<T: Debug + Drop, N: Allocator, B: Allocator>(
+    listed: Result<Vec<T, N>, AllocError>,
+    lines: &mut Lines<'_, B>,
+) {
+    match listed {
+        Ok(numbers) => lines.numbers(&numbers),
+        Err(_) => lines.refuse(),
+    }
+}
+
+/// Adds the numbers of the objects that fit a type, if there is one, as a list and one by one.
 fn add_fitting_of<A: Allocator, C: Allocator, N: Allocator, B: Allocator>(
     alloc: &B,
     task: &Task<'_, '_, A, C>,
     types: Option<TypeNames<N>>,
     lines: &mut Lines<'_, B>,
 ) {
-    let Some(types) = &types else {
-        return;
-    };
-    match task.fitting(alloc, types) {
-        Ok(numbers) => lines.numbers(&numbers),
-        Err(_) => lines.refuse(),
+    if let Some(types) = &types {
+        add_listed(task.fitting(alloc, types), lines);
+        lines.word(b"-");
+        add_fits(task, types, lines);
     }
-    lines.word(b"-");
-    add_fits(task, types, lines);
 }
 
 /// Adds the numbers of the objects that fit the type that has the primitives of a line.
@@ -114,6 +142,17 @@ fn add_words<'t, B: Allocator>(
     }
 }
 
+/// Adds the cost of the function of objects that words name, or `none`.
+fn add_cost_of<A: Allocator, C: Allocator, B: Allocator>(
+    task: &Task<'_, '_, A, C>,
+    words: &[&[u8]],
+    lines: &mut Lines<'_, B>,
+) {
+    if let Some((function, objects)) = words.split_first() {
+        lines.shown_or_none(task.cost(function, objects));
+    }
+}
+
 /// Adds the cost of the function of objects that a line names, or `none`.
 fn add_cost<A: Allocator, C: Allocator, B: Allocator>(
     alloc: &B,
@@ -123,9 +162,7 @@ fn add_cost<A: Allocator, C: Allocator, B: Allocator>(
 ) {
     let mut words = Vec::new(alloc);
     add_words(line, &mut words, lines);
-    if let Some((function, objects)) = words.split_first() {
-        lines.shown_or_none(task.cost(function, objects));
-    }
+    add_cost_of(task, &words, lines);
 }
 
 /// Adds what a task answers to a line.

@@ -25,30 +25,16 @@ fn add_names<A: Allocator, B: Allocator>(
 
 /// Adds what an item of `:init` says.
 fn add_item<A: Allocator, B: Allocator>(item: &InitItem<A>, lines: &mut Lines<'_, B>) {
-    match item {
-        InitItem::Holds(fact) => add_names(
-            b"holds",
-            fact.predicate.as_bytes(),
-            &fact.objects,
-            lines,
-        ),
-        InitItem::Fails(fact) => add_names(
-            b"fails",
-            fact.predicate.as_bytes(),
-            &fact.objects,
-            lines,
-        ),
+    let (word, name, objects) = match item {
+        InitItem::Holds(fact) => ("holds", fact.predicate.as_bytes(), &fact.objects),
+        InitItem::Fails(fact) => ("fails", fact.predicate.as_bytes(), &fact.objects),
         InitItem::Value(function, value) => {
             lines.word(b"value");
             lines.number(value.billionths());
-            add_names(
-                b"of",
-                function.function.as_bytes(),
-                &function.objects,
-                lines,
-            );
+            ("of", function.function.as_bytes(), &function.objects)
         }
-    }
+    };
+    add_names(word.as_bytes(), name, objects, lines);
     lines.end();
 }
 

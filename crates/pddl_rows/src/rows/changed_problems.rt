@@ -1,6 +1,6 @@
 //! What `problem` prints for the problem of two lamps with another part.
 
-pub static CHANGED_PROBLEMS: &str = r"row without a fault 1
+pub static CHANGED_PROBLEMS: &[u8] = br"row without a fault 1
 copy lamps
 file
 copy two

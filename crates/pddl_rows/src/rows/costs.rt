@@ -1,6 +1,6 @@
 //! Faults of costs and functions, of a domain alone and with a problem that adds none.
 
-pub static COSTS: &str = r"row costs 1
+pub static COSTS: &[u8] = br"row costs 1
 file (define (domain d) (:functions (total-cost)) (:action n :effect (increase total-cost 1.5)))
 | link: fault 30 FractionalCost total-cost
 refused domain

@@ -1,6 +1,6 @@
 //! What `domain` prints.
 
-pub static DOMAINS: &str = r"row domain 1
+pub static DOMAINS: &[u8] = br"row domain 1
 copy lamps
 file
 | good: domain lamps

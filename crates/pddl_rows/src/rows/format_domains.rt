@@ -1,6 +1,6 @@
 //! What `format domain` prints.
 
-pub static FORMAT_DOMAINS: &str = r"row domain 1
+pub static FORMAT_DOMAINS: &[u8] = br"row domain 1
 copy lamps
 file
 copy lamps

@@ -1,6 +1,6 @@
 //! What `format plan` prints.
 
-pub static FORMAT_PLANS: &str = r"row printed 1
+pub static FORMAT_PLANS: &[u8] = br"row printed 1
 file
 good format plan
 

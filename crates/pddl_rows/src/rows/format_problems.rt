@@ -1,6 +1,6 @@
 //! What `format problem` prints.
 
-pub static FORMAT_PROBLEMS: &str = r"row problem 1
+pub static FORMAT_PROBLEMS: &[u8] = br"row problem 1
 copy two
 file
 copy two

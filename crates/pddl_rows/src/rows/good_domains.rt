@@ -1,6 +1,6 @@
 //! Domains without a fault, alone and with a problem that adds none.
 
-pub static GOOD_DOMAINS: &str = r"row good 1
+pub static GOOD_DOMAINS: &[u8] = br"row good 1
 file (define (domain d) )
 | good: domain d
 good domain

@@ -1,6 +1,6 @@
 //! Items of texts, and what is in the outermost of them.
 
-pub static ITEMS: &str = r"row items 1
+pub static ITEMS: &[u8] = br"row items 1
 file
 good list items
 good list lists

@@ -1,6 +1,6 @@
 //! Canonical texts, made in memory and written in pieces.
 
-pub static LAYOUTS: &str = r"row lamps
+pub static LAYOUTS: &[u8] = br"row lamps
 copy lamps
 file
 copy lamps

@@ -1,6 +1,6 @@
 //! What `problem` prints.
 
-pub static PROBLEMS: &str = r"row files 1
+pub static PROBLEMS: &[u8] = br"row files 1
 copy lamps
 file
 copy two

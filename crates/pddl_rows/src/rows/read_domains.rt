@@ -1,6 +1,6 @@
 //! Domains as they are read: their parts, or the number, the word and the span of the fault.
 
-pub static READ_DOMAINS: &str = r"row head 1
+pub static READ_DOMAINS: &[u8] = br"row head 1
 file
 | fault 10 0..0
 refused list domain

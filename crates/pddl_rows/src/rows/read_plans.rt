@@ -1,6 +1,6 @@
 //! Plans as they are read, at each cut: their steps, or the number and the span of the fault.
 
-pub static READ_PLANS: &str = r"row a plain plan
+pub static READ_PLANS: &[u8] = br"row a plain plan
 file (Light A)
 | step light a
 good list plan

@@ -1,6 +1,6 @@
 //! Problems as they are read: their parts, or the number, the word and the span of the fault.
 
-pub static READ_PROBLEMS: &str = r"row section 1
+pub static READ_PROBLEMS: &[u8] = br"row section 1
 file (define (problem p))
 | fault 14 :domain
 refused list problem

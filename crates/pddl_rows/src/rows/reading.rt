@@ -1,6 +1,6 @@
 //! Texts that are read up to a limit and written.
 
-pub static READING: &str = r"row nothing and a limit of 0
+pub static READING: &[u8] = br"row nothing and a limit of 0
 file
 file 0
 good read

@@ -1,6 +1,6 @@
 //! What is asked of a task: numbers, subtypes, objects that fit, costs and sizes.
 
-pub static TASKS: &str = r"row the numbers of lamps, where b is a constant
+pub static TASKS: &[u8] = br"row the numbers of lamps, where b is a constant
 copy lamps
 change (:predicates => (:constants b - big) (:predicates
 file

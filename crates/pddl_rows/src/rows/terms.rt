@@ -1,6 +1,6 @@
 //! Terms that do not fit what is declared, of a domain alone and with a problem that adds no fault.
 
-pub static TERMS: &str = r"row terms 1
+pub static TERMS: &[u8] = br"row terms 1
 file (define (domain d) (:predicates (p ?x)) (:action n :precondition (p)))
 | link: fault 27 Arity p
 refused domain

@@ -1,6 +1,6 @@
 //! Names that stand twice, and objects of several types, of a domain alone and with a problem that adds no fault.
 
-pub static TWICE: &str = r"row twice 1
+pub static TWICE: &[u8] = br"row twice 1
 file (define (domain d) (:types t) (:constants c - t c))
 | link: fault 24 NameTwice c
 refused domain

@@ -1,6 +1,6 @@
 //! Items of a typed list that stand before one type, and those behind them.
 
-pub static TYPED_LISTS: &str = r"row an unknown type of a later group of parameters
+pub static TYPED_LISTS: &[u8] = br"row an unknown type of a later group of parameters
 file (define (domain d) (:types a) (:action n :parameters (?x ?y - a ?z ?w - b)))
 | link: fault 23 UnknownType b
 refused domain

@@ -1,6 +1,6 @@
 //! Faults of types, of a domain alone and with a problem that adds none.
 
-pub static TYPES: &str = r"row types 1
+pub static TYPES: &[u8] = br"row types 1
 file (define (domain d) (:types a a))
 | link: fault 21 TypeTwice a
 refused domain

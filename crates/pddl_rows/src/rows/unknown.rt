@@ -1,6 +1,6 @@
 //! Names that are not declared, of a domain alone and with a problem that adds no fault.
 
-pub static UNKNOWN: &str = r"row unknown 1
+pub static UNKNOWN: &[u8] = br"row unknown 1
 file (define (domain d) (:action n :precondition (q)))
 | link: fault 26 UnknownName q
 refused domain

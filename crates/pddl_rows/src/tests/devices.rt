@@ -1,12 +1,12 @@
 //! Readers, writers and memory, where no row of a text can say what they do.
 
-use pddl_device::{FromRead, SourceFault, ToWrite, WriteFault, read_all, write_text};
+use pddl_device::{FromRead, Sink, SourceFault, ToWrite, WriteFault, read_all, write_text};
 use pddl_fakes::{FakeSource, Refusing};
 use pddl_items::Item;
 use pddl_scan::TextFault;
 use pddl_text::{lex, lists};
 use pddl_token::{Span, Token, TokenKind};
-use std::alloc::Global;
+use std::alloc::{Allocator, Global};
 use std::test::Fail;
 
 /// Twenty bytes.
@@ -95,19 +95,24 @@ fn finds_words_without_memory(alloc: Global) -> bool {
     stray == Some(TextFault::Stray { at: 0 }) && nothing.is_none() && !none.has_refused()
 }
 
+/// Whether twenty bytes cannot be written, or a hundred behind them.
+fn fails_to_write<W: Sink>(out: &mut W) -> bool {
+    let first = write_text(out, TEXT).is_err();
+    let second = write_text(out, &[b'x'; 100]).is_err();
+    first || second
+}
+
+/// Whether these are twenty and a hundred bytes.
+fn is_whole(text: &[u8]) -> bool {
+    text.starts_with(TEXT) && text.len() == 120
+}
+
 /// Whether twenty and then a hundred bytes are written into memory, or a growth was refused and a write then failed.
 fn writes_into_memory(alloc: &Refusing<Global>) -> bool {
     let mut out = ToWrite::new(Vec::new(alloc));
-    let first = write_text(&mut out, TEXT).is_err();
-    let second = write_text(&mut out, &[b'x'; 100]).is_err();
-    let text = out.into_inner();
-    let is_whole = text.starts_with(TEXT) && text.len() == 120;
-    drop(text);
-    if alloc.has_refused() {
-        first || second
-    } else {
-        is_whole
-    }
+    let fails = fails_to_write(&mut out);
+    let is_whole = is_whole(&out.into_inner());
+    if alloc.has_refused() { fails } else { is_whole }
 }
 
 /// Whether that is so where the growth of this number is refused, and whether it was.
@@ -165,13 +170,18 @@ static WORDS: [Token; 3] = [
     },
 ];
 
+/// The span of the list that comes first.
+fn first_list<A: Allocator>(items: &[Item<'_, A>]) -> Option<Span> {
+    match items.first() {
+        Some(Item::List(_, span)) => Some(*span),
+        _ => None,
+    }
+}
+
 /// The span of the list that these words form.
 fn list_of(alloc: Global, words: &[Token<'_>]) -> Option<Span> {
     match lists(&alloc, words) {
-        Ok(items) => match items.first() {
-            Some(Item::List(_, span)) => Some(*span),
-            _ => None,
-        },
+        Ok(items) => first_list(&items),
         Err(_) => None,
     }
 }

@@ -139,18 +139,25 @@ fn told_in_two(alloc: &Global, front: &[u8], rest: &[u8]) -> (u64, u64) {
     if fed.is_ok() { told } else { (u64::MAX, 1) }
 }
 
-/// Whether each front reads as it should, as one piece and cut in two at each place.
-fn reads_fronts(alloc: &Global) -> bool {
-    for size in 0..=TRUNCATED.len() {
-        let text = TRUNCATED.split_at(size).0;
-        if told(read_plan(alloc, text)) != wanted(size) {
+/// Whether a text reads as this, as one piece and cut in two at each place.
+fn reads_as(alloc: &Global, text: &[u8], wanted: (u64, u64)) -> bool {
+    if told(read_plan(alloc, text)) != wanted {
+        return false;
+    }
+    for cut in 0..=text.len() {
+        let (front, rest) = text.split_at(cut);
+        if told_in_two(alloc, front, rest) != wanted {
             return false;
         }
-        for cut in 0..=size {
-            let (front, rest) = text.split_at(cut);
-            if told_in_two(alloc, front, rest) != wanted(size) {
-                return false;
-            }
+    }
+    true
+}
+
+/// Whether each front reads as it should.
+fn reads_fronts(alloc: &Global) -> bool {
+    for size in 0..=TRUNCATED.len() {
+        if !reads_as(alloc, TRUNCATED.split_at(size).0, wanted(size)) {
+            return false;
         }
     }
     true
