@@ -12,7 +12,7 @@ use Rattle.pddl_domain.specs.Declarations.{Signature}
 use Rattle.pddl_task.specs.Names.{Name}
 use Rattle.pddl_task.proofs.Lists.{some_at}
 use Rattle.pddl_types.specs.TypeSpans.{TypesValue, IsTold}
-use Rattle.pddl_types.specs.ToldTops.{run_of, IsRun, IsToldAt, AreToldAt, AreKept, SlotsValue, AreSlotTops}
+use Rattle.pddl_types.specs.ToldTops.{IsToldAt, AreToldAt, AreKept, SlotsValue, AreSlotTops}
 use Rattle.pddl_types.proofs.HeldEach.{both_more, each_none, each_next, each_still}
 use Rattle.pddl_types.proofs.SharedTypes.{of_next}
 
@@ -35,41 +35,13 @@ kept_told t before after names k kept told =
 pub kept_all : (t : TypesValue) (before after : List (List Span)) (items : List TypedValue) (numbers : List ℕ) → AreKept before after → AreToldAt t before items numbers → AreToldAt t after items numbers
 kept_all t before after items numbers kept told = each_still (IsToldAt t before) (IsToldAt t after) items numbers (λ names k. kept_told t before after names k kept) told
 
--- ---- runs of a buffer that grows
+-- ---- tops that are told last
 
-module _ (items more : List Span) where
-  run_stays : (r : ℕ × ℕ) → IsRun (length items) r → run_of (items ++ more) r ≡ run_of items r
-  run_stays r is =
-      ap (take (r.1 - r.0)) (drop-append-le r.0 items more (omega (arith, is.0, is.1)))
-      ∙ take-append-le (r.1 - r.0) (drop r.0 items) more (omega (arith, is.0, is.1, length-drop r.0 items))
+pub kept_more : (told : List (List Span)) (tops : List Span) → AreKept told (told ++ tops ∷ [])
+kept_more told tops k low = (omega (arith, length-append told (tops ∷ []), low), get_or_append_left told (tops ∷ []) [] k low)
 
-  runs_stay : (runs : List (ℕ × ℕ)) → All (IsRun (length items)) runs → map (run_of (items ++ more)) runs ≡ map (run_of items) runs
-  runs_stay [] are = refl
-  runs_stay (r ∷ runs) are = rw (run_stays r (All-head (IsRun (length items)) r runs are), runs_stay runs (All-tail (IsRun (length items)) r runs are)) refl
-
--- what runs tell, with some more of them
-pub runs_kept : (items after more : List Span) (runs now new : List (ℕ × ℕ)) (before : List (List Span)) → All (IsRun (length items)) runs → after ≡ items ++ more → now ≡ runs ++ new
-    → map (run_of items) runs ≡ before → AreKept before (map (run_of after) now)
-runs_kept items after more runs now new before are longer is told =
-    let last = map (run_of after) new in
-    let all : map (run_of after) now ≡ before ++ last =
-    ap (map (run_of after)) is ∙ map-append (run_of after) runs new ∙ ap (λ xs. map (run_of xs) runs ++ last) longer ∙ ap (λ rs. rs ++ last) (runs_stay items more runs are ∙ told) in
-    subst (AreKept before) (sym all) (λ k low. (omega (arith, length-append before last, low), get_or_append_left before last [] k low))
-
--- what was put there is told by a run behind all others
-pub run_told : (items after more : List Span) (runs now : List (ℕ × ℕ)) (r : ℕ × ℕ) (number : ℕ) → after ≡ items ++ more → now ≡ runs ++ r ∷ [] → r.0 ≡ length items → r.1 ≡ length after → number ≡ length runs
-    → (number < length (map (run_of after) now)) × (slice_index_or (map (run_of after) now) number [] ≡ more)
-run_told items after more runs now r number longer is start end last =
-    let before = map (run_of after) runs in
-    let all : map (run_of after) now ≡ before ++ run_of after r ∷ [] = ap (map (run_of after)) is ∙ map-append (run_of after) runs (r ∷ []) in
-    let many : length before ≡ number = length-map runs (run_of after) ∙ sym last in
-    let rest : drop r.0 after ≡ more =
-    ap (λ n. drop n after) start ∙ ap (drop (length items)) longer ∙ drop-append-le (length items) items more (omega arith) ∙ ap (λ xs. xs ++ more) (drop_all (length items) items (omega arith)) in
-    let own : run_of after r ≡ more =
-    ap (take (r.1 - r.0)) rest ∙ take_all (r.1 - r.0) more (omega (arith, start, end, ap length longer, length-append items more)) in (
-      omega (arith, ap length all, length-append before (run_of after r ∷ []), many),
-      ap (λ ts. slice_index_or ts number []) all ∙ get_or_push before (run_of after r) [] number many ∙ own,
-    )
+pub told_last : (t : TypesValue) (told : List (List Span)) (names : List Name) (tops : List Span) (number : ℕ) → number ≡ length told → IsTold t names tops → IsToldAt t (told ++ tops ∷ []) names number
+told_last t told names tops number is tell = (omega (arith, is, length-append told (tops ∷ [])), subst (IsTold t names) (sym (get_or_push told tops [] number (sym is))) tell)
 
 -- ---- types of so many items
 

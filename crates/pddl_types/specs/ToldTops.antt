@@ -1,19 +1,11 @@
 -- Tops of types by the numbers at which they are told. Own.
-use Rattle.std.specs.Prelude.{◌≡◌, ◌<◌, ◌≤◌, ℕ, List, [], Some, length, slice_get, slice_range}
+use Rattle.std.specs.Prelude.{◌≡◌, ◌<◌, ℕ, List, [], Some, length, slice_get}
 use Rattle.std.specs.List.{slice_index_or}
 use Rattle.pddl_forest.specs.declared.spans.Span.{Span}
 use Rattle.pddl_formula.specs.TypedLists.{TypedValue}
 use Rattle.pddl_domain.specs.Declarations.{Signature}
 use Rattle.pddl_task.specs.Names.{Name}
 use Rattle.pddl_types.specs.TypeSpans.{TypesValue, IsTold, HaveEach}
-
--- the items of a run
-abbrev pub run_of : {T : Type 0} → List T → ℕ × ℕ → List T
-run_of items r = slice_range items r.0 r.1
-
--- a run within so many items
-abbrev pub IsRun : ℕ → ℕ × ℕ → Type 0
-IsRun count r = (r.0 ≤ r.1) × (r.1 ≤ count)
 
 -- tops of a type are told at a number
 abbrev pub IsToldAt : TypesValue → List (List Span) → List Name → ℕ → Type 0

@@ -11,26 +11,21 @@ use pddl_formula::{TypeNames, TypedList};
 use std::alloc::{AllocError, Allocator};
 use std::marker::Model;
 
-/// Tops of types in one buffer, those of each type by the number at which it was told.
+/// Tops of types, those of each type by the number at which it was told.
 ///
 /// Contracts see them as lists, type by type.
 #[derive(Drop)]
 pub struct ToldTops<'a, B: Allocator> {
-    tops: Vec<Span, &'a B>,
-    /// Where those of each type begin, and where they end.
-    runs: Vec<(usize, usize), &'a B>,
+    tops: Vec<Vec<Span, &'a B>, &'a B>,
 }
 
 impl<'a, B: Allocator> Model for ToldTops<'a, B> {
-    ghost use Rattle.std.specs.Prelude.{List, map, length, All};
+    ghost use Rattle.std.specs.Prelude.{List, map};
     ghost use Rattle.pddl_forest.specs.declared.spans.Span.{Span};
-    ghost use Rattle.pddl_types.specs.ToldTops.{run_of, IsRun};
 
     ghost Value = { List (List Span) };
 
-    ghost view = { λ t. map (run_of t.tops.items) t.runs.items };
-
-    ghost invariant = { λ t. All (IsRun (length t.tops.items)) t.runs.items };
+    ghost view = { λ t. map (λ tops. tops.items) t.tops.items };
 }
 
 impl<'a, B: Allocator> ToldTops<'a, B> {
@@ -40,7 +35,6 @@ impl<'a, B: Allocator> ToldTops<'a, B> {
     {
         ToldTops {
             tops: Vec::new(alloc),
-            runs: Vec::new(alloc),
         }
     }
 
@@ -55,11 +49,9 @@ impl<'a, B: Allocator> ToldTops<'a, B> {
         ensures kept { AreKept self.old self.new }
         ensures number { IfOk result (IsToldAt types.now self.new names.now) }
     {
-        let start = self.tops.len();
         let tops = types.tops(*self.tops.allocator(), names)?;
-        self.tops.extend_from_slice(&tops)?;
-        let number = self.runs.len();
-        self.runs.push((start, self.tops.len()))?;
+        let number = self.tops.len();
+        self.tops.push(tops)?;
         Ok(number)
     }
 
@@ -90,8 +82,8 @@ impl<'a, B: Allocator> ToldTops<'a, B> {
     pub fn at(&self, number: usize) -> &[Span]
         ensures { result.now ≡ slice_index_or self.now number [] }
     {
-        match self.runs.get(number) {
-            Some((start, end)) => &self.tops[*start..*end],
+        match self.tops.get(number) {
+            Some(tops) => tops.as_slice(),
             None => &[],
         }
     }
