@@ -11,16 +11,16 @@ use Rattle.pddl_forest.specs.Forests.{parent_of, up}
 use Rattle.pddl_forest.specs.Rounds.{GoesRound, IsOnRound, HasRound}
 use Rattle.pddl_forest.proofs.RoundWays.{up_last}
 use Rattle.pddl_domain.specs.Declarations.{TypeValue}
-use Rattle.pddl_task.specs.Names.{Name, is_in, item_of}
+use Rattle.pddl_task.specs.Names.{Name, is_in, number_in, item_of}
 use Rattle.pddl_task.specs.Types as types
 use Rattle.pddl_task.specs.Types.{root, types_of, says_nothing, under_root, only_parents, pairs, Under, is_cyclic}
 use Rattle.pddl_task.specs.Faults.{first_alone}
-use Rattle.pddl_task.proofs.Lists.{and_left, and_right, and_both, none_left, bytes_same, same_bytes, has_none, kept_is, is_kept, mapped_is, is_mapped}
+use Rattle.pddl_task.proofs.Lists.{and_left, and_right, and_both, none_left, bytes_same, same_bytes, has_none, kept_is, is_kept, mapped_is, is_mapped, some_at}
 use Rattle.pddl_task.proofs.Subtypes.{is_cyclic_decides}
-use Rattle.pddl_types.specs.TypeTables.{Row, name_at, parent_in, IsTypeTable, cycle_in}
+use Rattle.pddl_types.specs.TypeTables.{Row, names_in, parents_in, StandsAt, IsTypeTable, cycle_in}
 use Rattle.pddl_types.proofs.TypeParents.{in_has, type_declared, parent_declared, parent_undeclared, once_declared, pair_is, same_tests}
-use Rattle.pddl_types.proofs.TypeLookups.{found_place, no_type}
-use Rattle.pddl_types.proofs.TypeForests.{parents_in, place_in, same_place, parent_at, come_to, goes_to}
+use Rattle.pddl_types.proofs.TypePlaces.{below, one_name, found_place, no_place}
+use Rattle.pddl_types.proofs.TypeForests.{place_in, same_place, parent_at, pair_at, come_to, goes_to}
 
 -- ---- ways from parent to parent
 
@@ -59,19 +59,21 @@ module _ (declared : List TypeValue) (rows : List Row) (h : IsTypeTable declared
   ps = parents_in rows
 
   -- the place of `object`
-  is_first : (i : ℕ) → i < length rows → name_at rows i ≡ root → i ≡ 0
-  is_first i low at = same_place declared rows h i 0 low h.table.some (at ∙ sym h.table.first)
+  is_first : (i : ℕ) → StandsAt rows i root → i ≡ 0
+  is_first i at = same_place declared rows h i 0 root at h.1.first
+
+  is_root : (i : ℕ) (t : Name) → i ≡ 0 → StandsAt rows i t → t ≡ root
+  is_root i t first at = one_name rows i 0 t root first at h.1.first
 
   -- ---- what is above itself lies on a way round
 
-  cyclic_round : (t : Name) (i : ℕ) → i < length rows → name_at rows i ≡ t → is_cyclic (pairs declared) t ≡ true → IsOnRound ps i
-  cyclic_round t i low at cyclic =
+  cyclic_round : (t : Name) (i : ℕ) → StandsAt rows i t → is_cyclic (pairs declared) t ≡ true → IsOnRound ps i
+  cyclic_round t i at cyclic =
       let (e, has, named, under) = (is_cyclic_decides (pairs declared) t).0 cyclic in
-      let p = parent_at declared rows h i low in
-      let of : name_at rows (parent_of ps i) ≡ e.of = p.1 ∙ ap (parent_in declared) (at ∙ named) ∙ (pair_is declared e (once_declared declared h.declared_once) has).2 in (
-        goes_to declared rows h e.of t (parent_of ps i) i p.0 low of at under,
+      let of = pair_at declared rows h e i t has named at in (
+        goes_to declared rows h e.of t (parent_of ps i) i of at under,
         λ top own.
-            let says : says_nothing e ≡ true = says_root e (sym named ∙ sym at ∙ ap (name_at rows) top ∙ h.table.first) (sym of ∙ ap (name_at rows) (ap (parent_of ps) top ∙ own) ∙ h.table.first) in
+            let says : says_nothing e ≡ true = says_root e (sym named ∙ is_root i t top at) (is_root (parent_of ps i) e.of (ap (parent_of ps) top ∙ own) of) in
             let not_so : says_nothing e ≡ false = pair_says declared e has in cc,
       )
 
@@ -80,58 +82,54 @@ module _ (declared : List TypeValue) (rows : List Row) (h : IsTypeTable declared
   no_cycle none =
       ap first_alone (none_kept (is_cyclic (pairs declared)) (map item_of declared) (λ t cyclic.
       let (e, has, named, under) = (is_cyclic_decides (pairs declared) t).0 cyclic in
-      let at = place_in declared rows h t (ap (is_in (types_of declared)) named ∙ (pair_is declared e (once_declared declared h.declared_once) has).0) in
-      none (at.0, omega (arith, at.1, length-map rows (λ (r : Row). r.1)), cyclic_round t at.0 at.1 at.2 cyclic)))
+      let at = place_in declared rows h t (ap (is_in (types_of declared)) named ∙ (pair_is declared e (once_declared declared h.0) has).0) in
+      none (number_in (names_in rows) t, below rows (number_in (names_in rows) t) t at, cyclic_round t (number_in (names_in rows) t) at cyclic)))
 
   -- ---- and what is declared and lies on one is above itself
 
-  round_cyclic : (d : TypeValue) (i : ℕ) → Contains declared d → i < length rows → name_at rows i ≡ d.item → IsOnRound ps i → is_cyclic (pairs declared) d.item ≡ true
-  round_cyclic d i has low at round =
-      let p = parent_at declared rows h i low in
-      let of : name_at rows (parent_of ps i) ≡ d.of = p.1 ∙ ap (parent_in declared) at ∙ parent_declared declared d (once_declared declared h.declared_once) has in
+  round_cyclic : (d : TypeValue) (i : ℕ) → Contains declared d → StandsAt rows i d.item → IsOnRound ps i → is_cyclic (pairs declared) d.item ≡ true
+  round_cyclic d i has at round =
+      let of : StandsAt rows (parent_of ps i) d.of = subst (StandsAt rows (parent_of ps i)) (parent_declared declared d root (once_declared declared h.0) has) (parent_at declared rows h i d.item at) in
       elim (says_nothing d) as (λ b. says_nothing d ≡ b → is_cyclic (pairs declared) d.item ≡ true) [
         | true ↦ λ nothing.
-            let top : i ≡ 0 = is_first i low (at ∙ bytes_same d.item root (and_left (bytes_eq d.item root) (bytes_eq d.of root) nothing)) in
-            absurd (round.1 top (ap (parent_of ps) (sym top) ∙ is_first (parent_of ps i) p.0 (of ∙ bytes_same d.of root (and_right (bytes_eq d.item root) (bytes_eq d.of root) nothing))))
+            let top : i ≡ 0 = is_first i (subst (StandsAt rows i) (bytes_same d.item root (and_left (bytes_eq d.item root) (bytes_eq d.of root) nothing)) at) in
+            absurd (round.1 top (ap (parent_of ps) (sym top) ∙ is_first (parent_of ps i) (subst (StandsAt rows (parent_of ps i)) (bytes_same d.of root (and_right (bytes_eq d.item root) (bytes_eq d.of root) nothing)) of)))
         | false ↦ λ something. (is_cyclic_decides (pairs declared) d.item).1 (
           d,
           Contains-append_left (filter (λ e. not (says_nothing e)) declared) (map under_root (only_parents declared)) d (is_kept (λ e. not (says_nothing e)) declared d has (ap not something)),
           refl,
-          subst (λ n. Under (pairs declared) n d.item) of (subst (Under (pairs declared) (name_at rows (parent_of ps i))) at (come_to declared rows h round.0.0 (parent_of ps i) i p.0 round.0.1)),
+          come_to declared rows h round.0.0 (parent_of ps i) i d.of d.item of at round.0.1,
         )
       ] refl
 
-  told_cyclic : (d : TypeValue) (i : ℕ) (told : Bool) → Contains declared d → i < length rows → name_at rows i ≡ d.item → IsTrue told ↔ IsOnRound ps i → is_cyclic (pairs declared) d.item ≡ told
-  told_cyclic d i told has low at tells =
-      same_tests (is_cyclic (pairs declared) d.item) told (λ cyclic. tells.1 (cyclic_round d.item i low at cyclic)) (λ yes. round_cyclic d i has low at (tells.0 yes))
+  told_cyclic : (d : TypeValue) (i : ℕ) (told : Bool) → Contains declared d → StandsAt rows i d.item → IsTrue told ↔ IsOnRound ps i → is_cyclic (pairs declared) d.item ≡ told
+  told_cyclic d i told has at tells = same_tests (is_cyclic (pairs declared) d.item) told (λ cyclic. tells.1 (cyclic_round d.item i at cyclic)) (λ yes. round_cyclic d i has at (tells.0 yes))
 
   -- ---- on each way round lies a declared type
 
   abbrev HasCyclic : Type 0
   HasCyclic = (t : Name) × Contains (map item_of declared) t × (is_cyclic (pairs declared) t ≡ true)
 
-  declared_round : (i : ℕ) → i < length rows → IsOnRound ps i → is_in (map item_of declared) (name_at rows i) ≡ true → HasCyclic
-  declared_round i low round there =
-      let d = mapped_is item_of declared (name_at rows i) (in_has (map item_of declared) (name_at rows i) there) in
-      (d.0.item, is_mapped item_of declared d.0 d.1, round_cyclic d.0 i d.1 low (sym d.2) round)
+  declared_round : (i : ℕ) (t : Name) → StandsAt rows i t → IsOnRound ps i → is_in (map item_of declared) t ≡ true → HasCyclic
+  declared_round i t at round there =
+      let d = mapped_is item_of declared t (in_has (map item_of declared) t there) in
+      (d.0.item, is_mapped item_of declared d.0 d.1, round_cyclic d.0 i d.1 (subst (StandsAt rows i) (sym d.2) at) round)
 
   -- what only stands as a parent is under `object`
-  undeclared_up : (i : ℕ) → i < length rows → is_in (map item_of declared) (name_at rows i) ≡ false → parent_of ps i ≡ 0
-  undeclared_up i low off =
-      let p = parent_at declared rows h i low in
-      is_first (parent_of ps i) p.0 (p.1 ∙ parent_undeclared declared (name_at rows i) off)
+  undeclared_up : (i : ℕ) (t : Name) → StandsAt rows i t → is_in (map item_of declared) t ≡ false → parent_of ps i ≡ 0
+  undeclared_up i t at off = is_first (parent_of ps i) (subst (StandsAt rows (parent_of ps i)) (parent_undeclared declared t root off) (parent_at declared rows h i t at))
 
   some_cyclic : HasRound ps → HasCyclic
   some_cyclic (i, less, (round, other)) =
-      let low : i < length rows = omega (arith, less, length-map rows (λ (r : Row). r.1)) in
-      elim (is_in (map item_of declared) (name_at rows i)) as (λ b. is_in (map item_of declared) (name_at rows i) ≡ b → HasCyclic) [
-        | true ↦ declared_round i low (round, other)
+      let (t, at) = some_at (names_in rows) i (omega (arith, less, length-map rows (λ (r : Row). r.0.now), length-map rows (λ (r : Row). r.1))) in
+      elim (is_in (map item_of declared) t) as (λ b. is_in (map item_of declared) t ≡ b → HasCyclic) [
+        | true ↦ declared_round i t at (round, other)
         | false ↦ λ off.
-            let up_to : parent_of ps i ≡ 0 = undeclared_up i low off in
+            let up_to : parent_of ps i ≡ 0 = undeclared_up i t at off in
             let not_own : parent_of ps 0 ≢ 0 = λ own. other (sym round.1 ∙ ap (up ps round.0) up_to ∙ stays ps round.0 own) own in
-            elim (is_in (map item_of declared) (name_at rows 0)) as (λ b. is_in (map item_of declared) (name_at rows 0) ≡ b → HasCyclic) [
-              | true ↦ declared_round 0 h.table.some (subst (GoesRound ps) up_to (round_on ps i round), λ _. not_own)
-              | false ↦ λ none. absurd (not_own (undeclared_up 0 h.table.some none))
+            elim (is_in (map item_of declared) root) as (λ b. is_in (map item_of declared) root ≡ b → HasCyclic) [
+              | true ↦ declared_round 0 root h.1.first (subst (GoesRound ps) up_to (round_on ps i round), λ _. not_own)
+              | false ↦ λ none. absurd (not_own (undeclared_up 0 root h.1.first none))
             ] refl
       ] refl
 
@@ -149,15 +147,14 @@ module _ {X : Type 0} (view : X → TypeValue) (xs : List X) (rows : List Row) (
   -- a declared type stands in the table
   pub stands : position (λ k. bytes_eq q.now k.now) (keys_of rows) ≡ None → ⊥
   stands none =
-      let off : is_in (types_of (map view xs)) (view x).item ≡ false = ap (is_in (types_of (map view xs))) (sym named) ∙ no_type (map view xs) rows q h none in
+      let off : is_in (types_of (map view xs)) (view x).item ≡ false = ap (is_in (types_of (map view xs))) (sym named) ∙ sym (h.1.has q.now) ∙ no_place rows q.now none in
       let on : is_in (types_of (map view xs)) (view x).item ≡ true = type_declared (map view xs) (view x).item (is_mapped item_of (map view xs) (view x) declares) in
       cc
 
   -- and is above itself where its place lies on a way round
   pub told_at : (qs : List ℕ) (place : ℕ) (told : Bool) → qs ≡ parents_in rows → Some place ≡ position (λ k. bytes_eq q.now k.now) (keys_of rows) → IsTrue told ↔ IsOnRound qs place → is_cyclic (pairs (map view xs)) (view x).item ≡ told
   told_at qs place told same at tells =
-      let found = found_place rows q place (sym at) in
-      told_cyclic (map view xs) rows h (view x) place told declares found.0 (found.1 ∙ named) (subst (λ rs. IsTrue told ↔ IsOnRound rs place) same tells)
+      told_cyclic (map view xs) rows h (view x) place told declares (subst (StandsAt rows place) named (found_place rows q.now place (sym at))) (subst (λ rs. IsTrue told ↔ IsOnRound rs place) same tells)
 
 -- those that pass a test, of what is left of a list
 left_is : {X : Type 0} (view : X → TypeValue) (q : Name → Bool) (xs : List X) (i : ℕ) (x : X) (b : Bool) → i < length xs → x ≡ get_or xs i x → q (view x).item ≡ b

@@ -1,44 +1,20 @@
 -- Types by their spans: what is under a type is what has its first number in the type's span.
-use Rattle.std.proofs.Common.{◌≡◌, ℕ, zero, suc, ◌+◌, ◌<◌, ◌≤◌, Bool, true, false, not, ◌&&◌, ◌||◌, cond, eqb, leb, List, [], ◌∷◌, map, length, refl, sym, ap, ◌∙◌, subst, arith, bytes_eq, ◌⊎◌, inl, inr, slice_index_or, eqb-true, eq-eqb, le-leb, leb-true, true≢false}
-use Rattle.std.specs.Prelude.{IsTrue, Some, None, Contains}
-use Rattle.std.specs.Borrow.{Bor}
-use Rattle.std.specs.List.{list_any, position}
-use Rattle.std.specs.Map.{keys_of}
+use Rattle.std.proofs.Common.{◌≡◌, ℕ, zero, suc, ◌<◌, ◌≤◌, Bool, true, false, ◌&&◌, eqb, leb, List, [], ◌∷◌, map, length, refl, sym, ap, ◌∙◌, subst, arith, inl, inr, ◌⊎◌, eqb-true, eq-eqb, le-leb, leb-true, true≢false}
+use Rattle.std.specs.Prelude.{IsTrue, Contains}
+use Rattle.std.specs.List.{list_any}
 use Rattle.std.proofs.lemmas.List.{length-map, get_or_past}
 use Rattle.pddl_forest.specs.Spans.{holds, some_holds, hold_all, span_at, AreSpans}
 use Rattle.pddl_forest.specs.declared.spans.Span.{Span}
 use Rattle.pddl_domain.specs.Declarations.{TypeValue}
 use Rattle.pddl_task.specs.Names.{Name, is_in, number_in}
-use Rattle.pddl_task.specs.Types.{root, types_of, pairs, is_under, is_subtype, fits}
-use Rattle.pddl_types.specs.TypeTables.{Row, names_in, name_at, type_names, IsTypeTable}
+use Rattle.pddl_task.specs.Types.{types_of, pairs, is_under, is_subtype, fits}
+use Rattle.pddl_types.specs.TypeTables.{Row, names_in, parents_in, StandsAt, IsTypeTable}
 use Rattle.pddl_types.specs.TypeSpans.{TypesValue, span_of, IsTold, DoTell, are_types}
-use Rattle.pddl_task.proofs.Lists.{and_left, and_right, and_both, any_found, found_any, all_found, found_all, has_first, has_cases, has_none, bytes_same, mapped_is, is_mapped}
+use Rattle.pddl_task.proofs.Lists.{and_left, and_right, and_both, any_found, found_any, all_found, found_all, has_first, has_cases, has_none, mapped_is, is_mapped}
 use Rattle.pddl_task.proofs.Subtypes.{is_under_decides, under_found, under_through}
-use Rattle.pddl_types.proofs.TypeTables.{table_has}
 use Rattle.pddl_types.proofs.TypeParents.{same_tests, same_types}
-use Rattle.pddl_types.proofs.TypeForests.{parents_in, type_there, same_place, under_numbered}
-use Rattle.pddl_types.proofs.TypeLookups.{found_place, no_type}
-
--- ---- numbers of names
-
-number_there : (ns : List Name) (n d : Name) → is_in ns n ≡ true → (number_in ns n < length ns) × (slice_index_or ns (number_in ns n) d ≡ n)
-number_there [] n d h = cc
-number_there (m ∷ ns) n d h =
-    elim (bytes_eq n m) as (λ b. bytes_eq n m ≡ b → b || is_in ns n ≡ true → (cond (not b) (1 + number_in ns n) 0 < suc (length ns)) × (slice_index_or (m ∷ ns) (cond (not b) (1 + number_in ns n) 0) d ≡ n)) [
-      | true ↦ λ same _. (omega arith, sym (bytes_same n m same))
-      | false ↦ λ _ later.
-          let rest = number_there ns n d later in
-          let one : 1 + number_in ns n ≡ suc (number_in ns n) = omega arith in
-          (omega (arith, rest.0), ap (λ k. slice_index_or (m ∷ ns) k d) one ∙ rest.1)
-    ] refl h
-
-number_past : (ns : List Name) (n : Name) → is_in ns n ≡ false → number_in ns n ≡ length ns
-number_past [] n h = refl
-number_past (m ∷ ns) n h =
-    elim (bytes_eq n m) as (λ b. b || is_in ns n ≡ false → cond (not b) (1 + number_in ns n) 0 ≡ suc (length ns)) [
-      | true ↦ λ k. cc
-      | false ↦ λ later. let rest = number_past ns n later in omega (arith, rest)
-    ] h
+use Rattle.pddl_types.proofs.TypePlaces.{below, number_past}
+use Rattle.pddl_types.proofs.TypeForests.{place_in, under_numbered}
 
 -- ---- spans
 
@@ -60,39 +36,32 @@ same_span s u h =
 -- ---- the spans of types
 
 -- types, as a table has them
-abbrev pub AreInTable : TypesValue → List Row → Type 0
-AreInTable t rows = IsTypeTable t.declared rows × AreSpans (parents_in rows) t.spans
+abbrev pub AreInTable : TypesValue → Type 0
+AreInTable t = (rows : List Row) × (t.names ≡ names_in rows) × IsTypeTable t.declared rows × AreSpans (parents_in rows) t.spans
 
-module _ (t : TypesValue) (rows : List Row) (h : AreInTable t rows) where
+pub in_table : {declared : List TypeValue} {rows : List Row} {spans : List Span} {t : TypesValue} → record { declared = declared; names = names_in rows; spans = spans } ≡ t
+    → IsTypeTable declared rows × AreSpans (parents_in rows) spans → AreInTable t
+in_table {rows = rows} is h = subst AreInTable is (rows, refl, h.0, h.1)
+
+module _ (t : TypesValue) (h : AreInTable t) where
   abbrev is_type : Name → Bool
   is_type = is_in (types_of t.declared)
 
   abbrev number : Name → ℕ
-  number = number_in (type_names t.declared)
+  number = number_in t.names
 
-  long : length t.spans ≡ length rows
-  long = h.1.many ∙ length-map rows (λ r. r.1)
-
-  stands : (n : Name) → is_type n ≡ true → (number n < length rows) × (name_at rows (number n) ≡ n)
-  stands n type =
-      let p = number_there (names_in rows) n root (table_has (types_of t.declared) t.declared rows h.0.table n ∙ type) in
-      subst (λ ns. (number_in ns n < length rows) × (name_at rows (number_in ns n) ≡ n)) h.0.table.names (omega (arith, p.0, length-map rows (λ (r : Row). r.0.now)), p.1)
-
-  past : (n : Name) → is_type n ≡ false → number n ≡ length t.spans
-  past n off =
-      let p = number_past (names_in rows) n (table_has (types_of t.declared) t.declared rows h.0.table n ∙ off) in
-      ap (λ ns. number_in ns n) (sym h.0.table.names) ∙ p ∙ length-map rows (λ (r : Row). r.0.now) ∙ sym long
-
-  past_span : (n : Name) → is_type n ≡ false → span_of t n ≡ record { first = length t.spans; last = length t.spans }
-  past_span n off = get_or_past t.spans (number n) (record { first = length t.spans; last = length t.spans }) (omega (arith, past n off))
+  stands : (n : Name) → is_type n ≡ true → StandsAt h.0 (number n) n
+  stands n type = subst (λ ns. StandsAt h.0 (number_in ns n) n) (sym h.1) (place_in t.declared h.0 h.2 n type)
 
   behind : (n : Name) → is_type n ≡ false → ((span_of t n).first ≡ length t.spans) × ((span_of t n).last ≡ length t.spans)
-  behind n off = (ap (λ (s : Span). s.first) (past_span n off), ap (λ (s : Span). s.last) (past_span n off))
+  behind n off =
+      let past = ap (λ ns. number_in ns n) h.1 ∙ number_past h.0 n (h.2.1.has n ∙ off) in
+      let none : Span = record { first = length t.spans; last = length t.spans } in
+      let span = get_or_past t.spans (number n) none (omega (arith, past, h.3.many, length-map h.0 (λ (r : Row). r.1))) in
+      (ap (λ (s : Span). s.first) span, ap (λ (s : Span). s.last) span)
 
   within : (n : Name) → is_type n ≡ true → ((span_of t n).first ≤ (span_of t n).last) × ((span_of t n).last < length t.spans)
-  within n type =
-      let low : number n < length (parents_in rows) = omega (arith, (stands n type).0, length-map rows (λ (r : Row). r.1)) in
-      (h.1.some (number n) low, omega (arith, h.1.low (number n) low, h.1.many))
+  within n type = let low = below h.0 (number n) n (stands n type) in (h.3.some (number n) low, omega (arith, h.3.low (number n) low, h.3.many))
 
   pub some : (n : Name) → (span_of t n).first ≤ (span_of t n).last
   some n = elim (is_type n) as (λ b. is_type n ≡ b → (span_of t n).first ≤ (span_of t n).last) [
@@ -104,16 +73,6 @@ module _ (t : TypesValue) (rows : List Row) (h : AreInTable t rows) where
   all_some names spans is s there =
       let n = mapped_is (span_of t) names s (subst (λ us. Contains us s) is there) in
       subst (λ (u : Span). u.first ≤ u.last) n.2 (some n.0)
-
-  -- a name that is looked up
-  pub found_span : (q : Bor (List ℕ)) (i : ℕ) → position (λ k. bytes_eq q.now k.now) (keys_of rows) ≡ Some i → (i < length t.spans) × (span_at t.spans i ≡ span_of t q.now)
-  found_span q i at =
-      let found = found_place rows q i at in
-      let s = stands q.now (ap is_type (sym found.1) ∙ type_there t.declared rows h.0 i found.0) in
-      (omega (arith, found.0, long), ap (span_at t.spans) (same_place t.declared rows h.0 i (number q.now) found.0 s.0 (found.1 ∙ sym s.1)))
-
-  pub no_span : (q : Bor (List ℕ)) → position (λ k. bytes_eq q.now k.now) (keys_of rows) ≡ None → span_of t q.now ≡ record { first = length t.spans; last = length t.spans }
-  no_span q at = past_span q.now (no_type t.declared rows q h.0 at)
 
   -- ---- what is under what
 
@@ -134,11 +93,11 @@ module _ (t : TypesValue) (rows : List Row) (h : AreInTable t rows) where
           | true ↦ both one
           | false ↦ λ off. same_tests (test n m) (under n m)
               (λ yes. let in_span = held (span_of t m) (span_of t n).first yes in absurd (omega (arith, in_span.0, (behind m off).0, (within n one).0, (within n one).1)))
-              (λ yes. absurd (true≢false (sym one ∙ same_types t.declared n m h.0.declared_once yes ∙ off)))
+              (λ yes. absurd (true≢false (sym one ∙ same_types t.declared n m h.2.0 yes ∙ off)))
         ] refl
         | false ↦ λ off. same_tests (test n m) (under n m)
             (λ yes. let in_span = held (span_of t m) (span_of t n).first yes in absurd (omega (arith, in_span.1, (behind n off).0, (within m (other off)).1)))
-            (λ yes. absurd (true≢false (sym (other off) ∙ sym (same_types t.declared n m h.0.declared_once yes) ∙ off)))
+            (λ yes. absurd (true≢false (sym (other off) ∙ sym (same_types t.declared n m h.2.0 yes) ∙ off)))
       ] refl
     where
       other : is_type n ≡ false → is_type m ≡ true
@@ -146,13 +105,11 @@ module _ (t : TypesValue) (rows : List Row) (h : AreInTable t rows) where
 
       both : is_type n ≡ true → is_type m ≡ true → test n m ≡ under n m
       both one other =
-          let (low, at) = stands n one in
-          let (also, there) = stands m other in
-          let long_enough = length-map rows (λ (r : Row). r.1) in
-          let told = h.1.under (number n) (number m) (omega (arith, low, long_enough)) (omega (arith, also, long_enough)) in
-          let tells = under_numbered t.declared rows h.0 (parents_in rows) (number n) (number m) refl low also in
-          same_tests (test n m) (under (name_at rows (number n)) (name_at rows (number m))) (λ yes. tells.1 (told.0 yes)) (λ yes. told.1 (tells.0 yes))
-          ∙ ap (λ k. under k (name_at rows (number m))) at ∙ ap (under n) there
+          let at = stands n one in
+          let there = stands m other in
+          let spans = h.3.under (number n) (number m) (below h.0 (number n) n at) (below h.0 (number m) m there) in
+          let places = under_numbered t.declared h.0 h.2 (number n) (number m) n m at there in
+          same_tests (test n m) (under n m) (λ yes. places.1 (spans.0 yes)) (λ yes. spans.1 (places.0 yes))
 
   pub test_told : (n m : Name) (low over : Span) → IsKnown n m → low ≡ span_of t n → over ≡ span_of t m → holds over low.first ≡ under n m
   test_told n m low over known is also = ap (λ s. holds s low.first) also ∙ ap (λ (s : Span). holds (span_of t m) s.first) is ∙ is_test n m known
@@ -193,7 +150,7 @@ module _ (t : TypesValue) (rows : List Row) (h : AreInTable t rows) where
 
       over : (m u : Name) → Contains slot u → under n m ≡ true → IsKnown m u
       over m u there up = elim (with_one u there) as (λ _. IsKnown m u) [
-        | inl type ↦ inl (sym (same_types t.declared n m h.0.declared_once up) ∙ type)
+        | inl type ↦ inl (sym (same_types t.declared n m h.2.0 up) ∙ type)
         | inr type ↦ inr type
       ]
 
@@ -205,7 +162,7 @@ module _ (t : TypesValue) (rows : List Row) (h : AreInTable t rows) where
       (λ yes. found_all (λ n. list_any (under n) slot) types (λ n there.
       let m = in_top types told n first (first.all (span_of t n) (is_mapped (span_of t) types n there)) in
       let u = any_found (under m.0) slot (sym (do_tell m.0 slot tops second (one m.0 m.1)) ∙ all_found (λ s. some_holds tops s.first) told yes (span_of t m.0) m.2) in
-      let type = elim (one m.0 m.1) as (λ _. is_type m.0 ≡ true) [ inl is ↦ is | inr all ↦ same_types t.declared m.0 u.0 h.0.declared_once u.2 ∙ all_found is_type slot all u.0 u.1 ] in
+      let type = elim (one m.0 m.1) as (λ _. is_type m.0 ≡ true) [ inl is ↦ is | inr all ↦ same_types t.declared m.0 u.0 h.2.0 u.2 ∙ all_found is_type slot all u.0 u.1 ] in
       found_any (under n) slot u.0 u.1 (through n m.0 u.0 (sym (is_test n m.0 (inr type)) ∙ m.3) u.2)))
       (λ yes. found_all (λ s. some_holds tops s.first) told (λ s there.
       let m = top_of types told s first there in

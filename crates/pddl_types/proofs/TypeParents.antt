@@ -1,9 +1,9 @@
 -- Types with their parents, as they are declared.
-use Rattle.std.proofs.Common.{◌≡◌, Bool, true, false, not, cond, List, [], ◌∷◌, ◌++◌, map, filter, refl, sym, ap, ◌∙◌, subst, bytes_eq, ◌⊎◌, inl, inr}
+use Rattle.std.proofs.Common.{◌≡◌, Bool, true, false, not, cond, List, [], ◌∷◌, ◌++◌, map, filter, fold, refl, sym, ap, ◌∙◌, subst, bytes_eq, ◌⊎◌, inl, inr}
 use Rattle.std.specs.Prelude.{Contains}
 use Rattle.std.specs.List.{IsDistinct}
-use Rattle.std.proofs.lemmas.Cmp.{nat_list_eq_equiv}
-use Rattle.std.proofs.lemmas.List.Elements.{Contains-append_left, Contains-append_right, Contains-append_cases}
+use Rattle.std.proofs.lemmas.List.Elements.{Contains-append_left, Contains-append_right, Contains-append_cases, All-from_recursion}
+use Rattle.std.proofs.lemmas.List.Folds.{list_any_none}
 use Rattle.std.proofs.lemmas.Map.Keys.{IsDistinct-head, IsDistinct-tail}
 use Rattle.std.proofs.lemmas.Bool.{not-true}
 use Rattle.pddl_domain.specs.Declarations.{TypeValue}
@@ -14,7 +14,6 @@ use Rattle.pddl_task.proofs.Lists.{or_none, any_found, found_any, has_cases, has
 use Rattle.pddl_task.proofs.DistinctNames.{no_repetition}
 use Rattle.pddl_task.proofs.Subtypes.{is_under_decides}
 use Rattle.pddl_task.proofs.TypeCycles.{parent_above}
-use Rattle.pddl_types.proofs.TypeTables.{apart}
 
 -- ---- names that are in a list
 
@@ -26,20 +25,25 @@ has_in ns t c = found_any (bytes_eq t) ns t c (same_bytes t t refl)
 
 -- ---- declared parents
 
-pub parent_declared : (declared : List TypeValue) (e : TypeValue) → IsDistinct bytes_eq (map item_of declared) → Contains declared e → parent_in declared e.item ≡ e.of
-parent_declared [] e once c = absurd (has_none e c)
-parent_declared (d ∷ ds) e once c =
-    elim (has_cases d ds e c) as (λ _. cond (bytes_eq e.item d.item) d.of (parent_in ds e.item) ≡ e.of) [
-      | inl is ↦ ap (λ b. cond b d.of (parent_in ds e.item)) (same_bytes e.item d.item (sym (ap item_of is))) ∙ ap parent_of is
-      | inr later ↦
-          ap (λ b. cond b d.of (parent_in ds e.item)) (nat_list_eq_equiv.symm e.item d.item ∙ apart d.item (map item_of ds) e.item (IsDistinct-head bytes_eq d.item (map item_of ds) once) (is_mapped item_of ds e later))
-          ∙ parent_declared ds e (IsDistinct-tail bytes_eq d.item (map item_of ds) once) later
-    ]
+-- the parent of a type behind another declaration
+abbrev pub told_over : Name → Name → TypeValue → Name
+told_over t over e = cond (bytes_eq t e.item) e.of over
 
-pub parent_undeclared : (declared : List TypeValue) (t : Name) → is_in (map item_of declared) t ≡ false → parent_in declared t ≡ root
-parent_undeclared [] t h = refl
-parent_undeclared (d ∷ ds) t h =
-    ap (λ b. cond b d.of (parent_in ds t)) (none_left (bytes_eq t d.item) (is_in (map item_of ds) t) h) ∙ parent_undeclared ds t (none_right (bytes_eq t d.item) (is_in (map item_of ds) t) h)
+pub parent_undeclared : (declared : List TypeValue) (t over : Name) → is_in (map item_of declared) t ≡ false → fold (told_over t) over declared ≡ over
+parent_undeclared [] t over h = refl
+parent_undeclared (d ∷ ds) t over h =
+    ap (λ b. fold (told_over t) (cond b d.of over) ds) (none_left (bytes_eq t d.item) (is_in (map item_of ds) t) h) ∙ parent_undeclared ds t over (none_right (bytes_eq t d.item) (is_in (map item_of ds) t) h)
+
+pub parent_declared : (declared : List TypeValue) (e : TypeValue) (over : Name) → IsDistinct bytes_eq (map item_of declared) → Contains declared e → fold (told_over e.item) over declared ≡ e.of
+parent_declared [] e over once c = absurd (has_none e c)
+parent_declared (d ∷ ds) e over once c =
+    elim (has_cases d ds e c) as (λ _. fold (told_over e.item) (told_over e.item over d) ds ≡ e.of) [
+      | inl is ↦
+          let apart = list_any_none (bytes_eq d.item) (map item_of ds) (All-from_recursion (λ n. bytes_eq d.item n ≡ false) (map item_of ds) (IsDistinct-head bytes_eq d.item (map item_of ds) once)) in
+          ap (λ b. fold (told_over e.item) (cond b d.of over) ds) (same_bytes e.item d.item (sym (ap item_of is))) ∙ parent_undeclared ds e.item d.of (ap (is_in (map item_of ds)) (sym (ap item_of is)) ∙ apart)
+          ∙ ap parent_of is
+      | inr later ↦ parent_declared ds e (told_over e.item over d) (IsDistinct-tail bytes_eq d.item (map item_of ds) once) later
+    ]
 
 pub once_declared : (declared : List TypeValue) → repeated [] (map item_of declared) ≡ [] → IsDistinct bytes_eq (map item_of declared)
 unfolding IsDistinct
@@ -60,7 +64,7 @@ pair_is declared e once has =
     elim (Contains-append_cases (filter (λ d. not (says_nothing d)) declared) (map under_root (only_parents declared)) e has) as (λ _. (is_in (types_of declared) e.item ≡ true) × (is_in (types_of declared) e.of ≡ true) × (parent_in declared e.item ≡ e.of)) [
       | inl kept ↦
           let c = (kept_is (λ d. not (says_nothing d)) declared e kept).0 in
-          (type_declared declared e.item (is_mapped item_of declared e c), type_above declared e.of (is_mapped parent_of declared e c), parent_declared declared e once c)
+          (type_declared declared e.item (is_mapped item_of declared e c), type_above declared e.of (is_mapped parent_of declared e c), parent_declared declared e root once c)
       | inr added ↦
           let from = mapped_is under_root (only_parents declared) e added in
           let new = kept_is (λ t. not (is_in (root ∷ map item_of declared) t)) (map parent_of declared) from.0 from.1 in
@@ -69,7 +73,7 @@ pair_is declared e once has =
           let of : root ≡ e.of = ap parent_of from.2 in (
             type_above declared e.item (subst (Contains (map parent_of declared)) item new.0),
             subst (λ t. is_in (types_of declared) t ≡ true) of (or_left (bytes_eq root root) (is_in (map item_of declared ++ map parent_of declared) root) (same_bytes root root refl)),
-            ap (parent_in declared) (sym item) ∙ parent_undeclared declared from.0 other ∙ of,
+            ap (parent_in declared) (sym item) ∙ parent_undeclared declared from.0 root other ∙ of,
           )
     ]
 
@@ -80,8 +84,8 @@ under_parent declared t once type =
       | true ↦ λ h.
           let from = mapped_is item_of declared t (in_has (map item_of declared) t h) in
           subst (λ n. Under (pairs declared) n (parent_in declared n)) from.2
-          (subst (Under (pairs declared) from.0.item) (sym (parent_declared declared from.0 once from.1)) (parent_above declared from.0 from.1))
-      | false ↦ λ h. subst (Under (pairs declared) t) (sym (parent_undeclared declared t h)) (only declared t h type)
+          (subst (Under (pairs declared) from.0.item) (sym (parent_declared declared from.0 root once from.1)) (parent_above declared from.0 from.1))
+      | false ↦ λ h. subst (Under (pairs declared) t) (sym (parent_undeclared declared t root h)) (only declared t h type)
     ] refl
   where
     only : (declared : List TypeValue) (t : Name) → is_in (map item_of declared) t ≡ false → is_in (types_of declared) t ≡ true → Under (pairs declared) t root

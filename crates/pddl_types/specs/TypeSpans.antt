@@ -8,18 +8,18 @@ use Rattle.pddl_formula.specs.TypedLists.{TypedValue}
 use Rattle.pddl_domain.specs.Declarations.{TypeValue, Signature}
 use Rattle.pddl_task.specs.Names.{Name, is_in, number_in}
 use Rattle.pddl_task.specs.Types.{types_of, pairs, is_under}
-use Rattle.pddl_types.specs.TypeTables.{type_names}
 use Rattle.pddl_types.specs.KnownNames.{AreNamed, object_in}
 use Rattle.pddl_types.specs.declared.listed.Listed.{Listed}
 
--- the types that are declared, and the spans of all types, in the order of a table
+-- the types that are declared, and the names of all types with their spans, in the order of a table
 pub record TypesValue : Type 0 where
   pub declared : List TypeValue
+  pub names : List Name
   pub spans : List Span
 
 -- the span of a type, or one behind all numbers where the name is no type
 abbrev pub span_of : TypesValue → Name → Span
-span_of t n = span_at t.spans (number_in (type_names t.declared) n)
+span_of t n = span_at t.spans (number_in t.names n)
 
 -- ---- what is told of types
 

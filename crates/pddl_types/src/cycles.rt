@@ -3,7 +3,7 @@
 ghost use Rattle.std.specs.Prelude.{◌≡◌, map, IfOk, Contains};
 ghost use Rattle.pddl_domain.specs.Declarations.{type_view};
 ghost use Rattle.pddl_forest.specs.Rounds.{HasRound, AreRounds};
-ghost use Rattle.pddl_types.specs.TypeTables.{IsTypeTable, cycle_in};
+ghost use Rattle.pddl_types.specs.TypeTables.{parents_in, IsTypeTable, cycle_in};
 
 use indexmap::IndexMap;
 use pddl_domain::DeclaredType;
@@ -19,7 +19,7 @@ fn first_on_round<'m, 'a, A: Allocator, B: Allocator>(
     declared: &'m [DeclaredType<A>],
 ) -> &'m [u8]
     requires table { IsTypeTable (map type_view declared.now) table.now.entries }
-    requires parents { parents.now ≡ map (λ r. r.1) table.now.entries }
+    requires parents { parents.now ≡ parents_in table.now.entries }
     requires numbers { AreRounds parents.now numbers.now }
     requires round { HasRound parents.now }
     ensures { Contains (cycle_in (map type_view declared.now)) result.now }
@@ -46,7 +46,7 @@ pub(crate) fn first_cycle<'m, 'a, A: Allocator, B: Allocator>(
     declared: &'m [DeclaredType<A>],
 ) -> Result<&'m [u8], AllocError>
     requires table { IsTypeTable (map type_view declared.now) table.now.entries }
-    requires parents { parents.now ≡ map (λ r. r.1) table.now.entries }
+    requires parents { parents.now ≡ parents_in table.now.entries }
     requires round { HasRound parents.now }
     ensures { IfOk result (λ name. Contains (cycle_in (map type_view declared.now)) name.now) }
 {

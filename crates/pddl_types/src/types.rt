@@ -17,14 +17,14 @@ use indexmap::IndexMap;
 use pddl_domain::{DeclaredType, DeclaredTypes};
 use pddl_faults::{Hashed, LinkFault};
 use pddl_forest::{Span, hold_all, keep_tops};
-use pddl_formula::{TypeName, TypeNames, TypedList};
+use pddl_formula::{TypeNames, TypedList};
 use std::alloc::{AllocError, Allocator};
 use std::marker::Model;
 
 /// The types of a domain without a cycle, `object` first, each with the place of its parent in the table and the span of its numbers: what is under a type
 /// has its own number within that, so a test for a subtype is two comparisons.
 ///
-/// Contracts see the declared types, and the spans.
+/// Contracts see the declared types, and the names of all types with their spans.
 #[derive(Drop)]
 pub struct Types<'m, 'a, A: Allocator, B: Allocator> {
     declared: &'m [DeclaredType<A>],
@@ -36,14 +36,14 @@ impl<'m, 'a, A: Allocator, B: Allocator> Model for Types<'m, 'a, A, B> {
     ghost use Rattle.std.specs.Prelude.{map};
     ghost use Rattle.pddl_domain.specs.Declarations.{type_view};
     ghost use Rattle.pddl_forest.specs.Spans.{AreSpans};
-    ghost use Rattle.pddl_types.specs.TypeTables.{IsTypeTable};
+    ghost use Rattle.pddl_types.specs.TypeTables.{IsTypeTable, names_in, parents_in};
     ghost use Rattle.pddl_types.specs.TypeSpans.{TypesValue};
 
     ghost Value = { TypesValue };
 
-    ghost view = { λ t. record { declared = map type_view t.declared.now; spans = t.spans.items } };
+    ghost view = { λ t. record { declared = map type_view t.declared.now; names = names_in t.parents.entries; spans = t.spans.items } };
 
-    ghost invariant = { λ t. IsTypeTable (map type_view t.declared.now) t.parents.entries × AreSpans (map (λ r. r.1) t.parents.entries) t.spans.items };
+    ghost invariant = { λ t. IsTypeTable (map type_view t.declared.now) t.parents.entries × AreSpans (parents_in t.parents.entries) t.spans.items };
 }
 
 impl<'m, 'a, A: Allocator, B: Allocator> Types<'m, 'a, A, B> {

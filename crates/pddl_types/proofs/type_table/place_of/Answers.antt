@@ -1,15 +1,21 @@
 use Rattle.std.proofs.Common.{sym}
-use Rattle.pddl_types.proofs.TypeLookups.{found_place, with_found, with_new, new_place}
+use Rattle.pddl_task.specs.Types.{types_of}
+use Rattle.pddl_types.proofs.TypePlaces.{found_place, no_place, put_at}
+use Rattle.pddl_types.proofs.TypeTables.{again, put_under_root}
 use Rattle.pddl_types.proofs.type_table.place_of.Goals as goal
 
-pub returns-in-Some-clause-rows : goal.returns-in-Some-clause-rows
-returns-in-Some-clause-rows g c = with_found c.args.parents.now.entries c.args.name c.in-Some.place (sym c.in-Some.ensures.index)
+pub returns-in-Some-clause-table : goal.returns-in-Some-clause-table
+returns-in-Some-clause-table g c = λ told.
+    let rows = c.args.parents.now.entries in
+    again (types_of told) told rows c.in-Some.place c.args.name.now (found_place rows c.args.name.now c.in-Some.place (sym c.in-Some.ensures.index))
 
-pub returns-in-Some-clause-named : goal.returns-in-Some-clause-named
-returns-in-Some-clause-named g c = (found_place c.args.parents.now.entries c.args.name c.in-Some.place (sym c.in-Some.ensures.index)).1
+pub returns-in-Some-clause-place : goal.returns-in-Some-clause-place
+returns-in-Some-clause-place g c = found_place c.args.parents.now.entries c.args.name.now c.in-Some.place (sym c.in-Some.ensures.index)
 
-pub returns-in_ok-place-in-None-clause-rows : goal.returns-in_ok-place-in-None-clause-rows
-returns-in_ok-place-in-None-clause-rows g c = with_new c.args.parents.now.entries _ c.args.name (sym c.in-None.ensures.index) c.in_ok-place-in-None.ensures.entries
+pub returns-in_ok-place-in-None-clause-table : goal.returns-in_ok-place-in-None-clause-table
+returns-in_ok-place-in-None-clause-table g c = λ told h.
+    let rows = c.args.parents.now.entries in
+    put_under_root told rows c.insert_full.new.self.entries c.args.name h (no_place rows c.args.name.now (sym c.in-None.ensures.index)) c.in_ok-place-in-None.ensures.entries c.in_ok-place-in-None.ensures.unique
 
-pub returns-in_ok-place-in-None-clause-named : goal.returns-in_ok-place-in-None-clause-named
-returns-in_ok-place-in-None-clause-named g c = new_place c.args.parents.now.entries _ c.args.name _ c.in_ok-place-in-None.ensures.entries c.in_ok-place-in-None.ensures.index
+pub returns-in_ok-place-in-None-clause-place : goal.returns-in_ok-place-in-None-clause-place
+returns-in_ok-place-in-None-clause-place g c = rw (c.in_ok-place-in-None.ensures.entries, c.in_ok-place-in-None.ensures.index) (put_at c.args.parents.now.entries c.args.name 0)

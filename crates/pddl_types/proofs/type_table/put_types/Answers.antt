@@ -1,10 +1,58 @@
-use Rattle.std.proofs.Common.{List, [], ◌∷◌, sym, ap, ◌∙◌, subst}
-use Rattle.pddl_task.specs.Types.{root}
-use Rattle.pddl_types.specs.TypeTables.{Row, IsTableOf}
-use Rattle.pddl_types.proofs.TypeTables.{put, root_alone}
+use Rattle.std.proofs.Common.{◌<◌, ◌≡◌, ◌-◌, length, get_or, slice_get, map, take, Some, [], ◌∷◌, List, refl, sym, ap, ◌∙◌, subst, arith}
+use Rattle.std.proofs.lemmas.List.{take_all}
+use Rattle.std.proofs.lemmas.Option.{slice_get_read}
+use Rattle.pddl_domain.specs.Declarations.{TypeValue, type_view}
+use Rattle.pddl_task.specs.Types.{types_of}
+use Rattle.pddl_types.specs.TypeTables.{Row, StandsAt, IsTableOf}
+use Rattle.pddl_types.proofs.SharedTypes.{of_next}
+use Rattle.pddl_types.proofs.TypePlaces.{put, stands_on}
+use Rattle.pddl_types.proofs.TypeTables.{again, root_alone, put_under}
+use Rattle.pddl_types.proofs.Views.{seen_entry, seen_next}
+use Rattle.pddl_types.proofs.type_table.put_types.Goals.{then-not-shares+in_ok-over, else-not-shares}
 use Rattle.pddl_types.proofs.type_table.put_types.Goals as goal
 
-pub put_under_object-requires : goal.put_under_object-requires
-put_under_object-requires g c =
-    subst (IsTableOf (root ∷ []) []) (sym (c.in_ok-insert.ensures.entries ∙ ap (λ (rows : List Row). put rows c.as_slice.result 0) c.requires.empty))
-    (root_alone c.as_slice.result c.as_slice.ensures)
+pub loop-number-init : goal.loop-number-init
+loop-number-init g c = record {
+  table = root_alone c.as_slice.result c.insert.new.self.entries c.as_slice.ensures (c.in_ok-insert.ensures.entries ∙ ap (λ (rows : List Row). put rows c.as_slice.result 0) c.requires);
+  last = λ j x next. absurd (omega (arith, next));
+}
+
+pub loop-number-preserved : goal.loop-number-preserved
+loop-number-preserved g c =
+    let l = c.loop-number in
+    let xs = c.args.declared.now.items in
+    let told = map type_view (take l.number xs) in
+    let x = c.index-deref-number.result in
+    let low : l.number < length xs = omega (arith, c.loop-number-test.true, c.len-number-end.ensures) in
+    let at : x ≡ get_or xs l.number x = c.index-deref-number.is ∙ ap (λ ys. get_or ys l.number x) c.deref.ensures.value in
+    let here : slice_get (map type_view xs) l.number ≡ Some (type_view x) = seen_entry type_view xs l.number x (slice_get_read xs (length xs) l.number x refl low at) in
+    let ready : IsTableOf ((type_view x).of ∷ types_of told) told c.if-not-shares.parents.entries × StandsAt c.if-not-shares.parents.entries c.if-not-shares.over (type_view x).of =
+    elim c.if-not-shares.branch [
+      | then-not-shares+in_ok-over w ↦
+          let rows = w.place_of.new.parents.entries in
+          rw (w.parents-is, w.over-is) (subst (λ n. IsTableOf (n ∷ types_of told) told rows × StandsAt rows w.in_ok-over.over n) (w.as_bytes.ensures.value ∙ w.deref-then-not-shares.ensures)
+          (w.in_ok-over.ensures.table told l.invariant.table, w.in_ok-over.ensures.place))
+      | else-not-shares w ↦
+          let there = of_next (λ n. StandsAt l.parents.entries l.over n) (map type_view xs) (l.number - 1) l.number (c.shares.ensures.same w.if-not-shares.false)
+          (λ y found. l.invariant.last (l.number - 1) y (omega (arith, c.shares.ensures.later w.if-not-shares.false)) found) (type_view x) here in
+          rw (w.parents-is, w.over-is) (again (types_of told) told l.parents.entries l.over (type_view x).of there l.invariant.table, there)
+    ] in
+    let rows = c.if-not-shares.parents.entries in
+    let after = c.insert-in-loop-number.new.self.entries in
+    let over = c.if-not-shares.over in
+    let child = c.as_bytes-in-loop-number.result in
+    record {
+      table = subst (λ ds. IsTableOf (types_of ds) ds after) (sym (seen_next type_view [] xs l.number x low at))
+          (put_under rows after child over c.in_ok-insert-2.ensures.entries c.in_ok-insert-2.ensures.unique told (type_view x) ready.0 (sym c.as_bytes-in-loop-number.ensures.value) ready.1);
+      last = λ j y next found.
+          let same : Some (type_view x) ≡ Some y = sym here ∙ ap (slice_get (map type_view xs)) (omega (arith, next)) ∙ found in
+          let one : type_view x ≡ y = cc in
+          subst (λ (v : TypeValue). StandsAt after over v.of) one (subst (λ rs. StandsAt rs over (type_view x).of) (sym c.in_ok-insert-2.ensures.entries) (stands_on rows child over over (type_view x).of ready.1));
+    }
+
+pub returns : goal.returns
+returns g c =
+    let l = c.loop-number in
+    let xs = c.args.declared.now.items in
+    let all = ap (map type_view) (take_all l.number xs (omega (arith, c.loop-number-test.false, c.len-number-end.ensures))) in
+    subst (λ told. IsTableOf (types_of told) told l.parents.entries) all l.invariant.table

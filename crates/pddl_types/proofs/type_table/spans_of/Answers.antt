@@ -1,10 +1,10 @@
 use Rattle.std.proofs.Common.{map, length, ap, sym, subst, ◌∙◌, arith}
-use Rattle.std.proofs.lemmas.List.{length-map}
 use Rattle.pddl_forest.specs.Rounds.{HasRound}
 use Rattle.pddl_forest.specs.Spans.{AreSpans}
 use Rattle.pddl_domain.specs.Declarations.{type_view}
-use Rattle.pddl_types.specs.TypeTables.{Row}
+use Rattle.pddl_task.specs.Types.{root}
 use Rattle.pddl_types.proofs.CyclicTypes.{no_cycle}
+use Rattle.pddl_types.proofs.TypePlaces.{below}
 use Rattle.pddl_types.proofs.TypeForests.{WithinParents, parents_within}
 use Rattle.pddl_types.proofs.type_table.spans_of.Goals as goal
 
@@ -19,7 +19,7 @@ returns-in-Some-clause-cycle g c =
 
 pub forest_spans-requires-clause-some : goal.forest_spans-requires-clause-some
 forest_spans-requires-clause-some g c =
-    omega (arith, ap length (c.deref.ensures.value ∙ c.in_ok-parents.ensures), length-map c.args.table.now.entries (λ (r : Row). r.1), c.requires.table.some)
+    omega (arith, ap length (c.deref.ensures.value ∙ c.in_ok-parents.ensures), below c.args.table.now.entries 0 root c.requires.1.first)
 
 pub returns-in-Some-clause-spans : goal.returns-in-Some-clause-spans
 returns-in-Some-clause-spans g c =

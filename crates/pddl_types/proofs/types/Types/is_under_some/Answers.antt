@@ -1,8 +1,8 @@
-use Rattle.std.proofs.Common.{ap, subst, inl, ◌∙◌}
+use Rattle.std.proofs.Common.{ap, inl, ◌∙◌}
 use Rattle.std.specs.List.{list_any}
 use Rattle.pddl_task.specs.Types.{pairs, is_under}
 use Rattle.pddl_types.proofs.ListTests.{any_goes_on, any_stops, any_ends}
-use Rattle.pddl_types.proofs.NamedSpans.{AreInTable, test_told}
+use Rattle.pddl_types.proofs.NamedSpans.{in_table, test_told}
 use Rattle.pddl_types.proofs.types.Types.is_under_some.Goals as goal
 
 pub loop-primitive-init : goal.loop-primitive-init
@@ -10,18 +10,16 @@ loop-primitive-init g c = λ n is type. ap (list_any (is_under (pairs c.args.sel
 
 pub loop-primitive-preserved : goal.loop-primitive-preserved
 loop-primitive-preserved g c = λ n is type.
-    let rows = c.self.inside.parents.entries in
     let under = is_under (pairs c.args.self.now.declared) n in
     any_goes_on under c.as_slice-primitive-items.result.now c.loop-primitive.primitive-index c.primitive-item.result c.holds.result (list_any under c.args.slot.now) c.loop-primitive-test.true c.primitive-item.is
-    (c.holds.ensures ∙ test_told c.args.self.now rows (subst (λ t. AreInTable t rows) c.self.view_is c.self.invariant) n c.as_bytes.result.now c.args.span c.span.result (inl type) is c.span.ensures ∙ ap under c.as_bytes.ensures.value)
+    (c.holds.ensures ∙ test_told c.args.self.now (in_table c.self.view_is c.self.invariant) n c.as_bytes.result.now c.args.span c.span.result (inl type) is c.span.ensures ∙ ap under c.as_bytes.ensures.value)
     c.if-holds.false (c.loop-primitive.invariant n is type)
 
 pub returns-then-holds : goal.returns-then-holds
 returns-then-holds g c = λ n is type.
-    let rows = c.self.inside.parents.entries in
     let under = is_under (pairs c.args.self.now.declared) n in
     any_stops under c.as_slice-primitive-items.result.now c.loop-primitive.primitive-index c.primitive-item.result c.holds.result (list_any under c.args.slot.now) c.loop-primitive-test.true c.primitive-item.is
-    (c.holds.ensures ∙ test_told c.args.self.now rows (subst (λ t. AreInTable t rows) c.self.view_is c.self.invariant) n c.as_bytes.result.now c.args.span c.span.result (inl type) is c.span.ensures ∙ ap under c.as_bytes.ensures.value)
+    (c.holds.ensures ∙ test_told c.args.self.now (in_table c.self.view_is c.self.invariant) n c.as_bytes.result.now c.args.span c.span.result (inl type) is c.span.ensures ∙ ap under c.as_bytes.ensures.value)
     c.if-holds.true (c.loop-primitive.invariant n is type)
 
 pub returns : goal.returns

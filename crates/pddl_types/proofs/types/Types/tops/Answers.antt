@@ -3,13 +3,12 @@ use Rattle.std.proofs.lemmas.List.{take_all}
 use Rattle.pddl_forest.specs.Spans.{AreTops}
 use Rattle.pddl_task.specs.Names.{Name}
 use Rattle.pddl_types.specs.TypeSpans.{span_of}
-use Rattle.pddl_types.proofs.NamedSpans.{AreInTable, all_some}
+use Rattle.pddl_types.proofs.NamedSpans.{in_table, all_some}
 use Rattle.pddl_types.proofs.types.Types.tops.Goals as goal
 
 pub keep_tops-requires : goal.keep_tops-requires
 keep_tops-requires g c =
-    let rows = c.self.inside.parents.entries in
-    all_some c.args.self.now rows (subst (λ t. AreInTable t rows) c.self.view_is c.self.invariant) (take c.loop-primitive.primitive-index c.as_slice-primitives.result.now) c.loop-primitive.tops.items c.loop-primitive.invariant
+    all_some c.args.self.now (in_table c.self.view_is c.self.invariant) (take c.loop-primitive.primitive-index c.as_slice-primitives.result.now) c.loop-primitive.tops.items c.loop-primitive.invariant
 
 pub returns : goal.returns
 returns g c =
