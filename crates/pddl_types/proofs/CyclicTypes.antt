@@ -1,26 +1,28 @@
 -- Declared types that are above themselves, and ways that go round in their table.
-use Rattle.std.proofs.Common.{◌≡◌, ◌≢◌, ℕ, zero, suc, ◌+◌, ◌<◌, Bool, true, false, not, ◌&&◌, cond, List, [], ◌∷◌, map, filter, length, get_or, drop, refl, sym, ap, ◌∙◌, subst, arith, bytes_eq, inl, inr}
-use Rattle.std.specs.Prelude.{◌↔◌, IsTrue, Contains, Some, None}
+use Rattle.std.proofs.Common.{◌≡◌, ◌≢◌, ℕ, zero, suc, ◌+◌, ◌<◌, Bool, true, false, not, cond, List, [], ◌∷◌, map, filter, length, get_or, drop, refl, sym, ap, ◌∙◌, subst, arith, bytes_eq}
+use Rattle.std.specs.Prelude.{◌↔◌, IsTrue, Contains, Some, None, slice_get}
 use Rattle.std.specs.Borrow.{Bor}
+use Rattle.std.specs.Cmp.{both_ways}
 use Rattle.std.specs.List.{position}
 use Rattle.std.specs.Map.{keys_of}
-use Rattle.std.proofs.lemmas.List.{length-map, at_drop_more}
-use Rattle.std.proofs.lemmas.List.Elements.{Contains-append_left, Contains-append_cases}
-use Rattle.std.proofs.lemmas.Bool.{not-true}
+use Rattle.std.proofs.lemmas.List.{length-map}
+use Rattle.std.proofs.lemmas.List.Elements.{Contains-append_left}
+use Rattle.std.proofs.lemmas.Option.{slice_get_read, slice_get_within, get_or_from_slice_get}
 use Rattle.pddl_forest.specs.Forests.{parent_of, up}
 use Rattle.pddl_forest.specs.Rounds.{GoesRound, IsOnRound, HasRound}
 use Rattle.pddl_forest.proofs.RoundWays.{up_last}
 use Rattle.pddl_domain.specs.Declarations.{TypeValue}
 use Rattle.pddl_task.specs.Names.{Name, is_in, number_in, item_of}
-use Rattle.pddl_task.specs.Types as types
-use Rattle.pddl_task.specs.Types.{root, types_of, says_nothing, under_root, only_parents, pairs, Under, is_cyclic}
+use Rattle.pddl_task.specs.Types.{root, types_of, says_nothing, under_root, only_parents, pairs, is_cyclic}
 use Rattle.pddl_task.specs.Faults.{first_alone}
-use Rattle.pddl_task.proofs.Lists.{and_left, and_right, and_both, none_left, bytes_same, same_bytes, has_none, kept_is, is_kept, mapped_is, is_mapped, some_at}
+use Rattle.pddl_task.proofs.Lists.{and_left, and_right, and_both, bytes_same, same_bytes, has_none, is_kept, mapped_is, is_mapped, at_place, some_at}
 use Rattle.pddl_task.proofs.Subtypes.{is_cyclic_decides}
 use Rattle.pddl_types.specs.TypeTables.{Row, names_in, parents_in, StandsAt, IsTypeTable, cycle_in}
-use Rattle.pddl_types.proofs.TypeParents.{in_has, type_declared, parent_declared, parent_undeclared, once_declared, pair_is, same_tests}
+use Rattle.pddl_types.proofs.ListTests.{kept_front, first_dropped}
+use Rattle.pddl_types.proofs.TypeParents.{in_has, type_declared, parent_declared, parent_undeclared, once_declared, pair_is}
 use Rattle.pddl_types.proofs.TypePlaces.{below, one_name, found_place, no_place}
 use Rattle.pddl_types.proofs.TypeForests.{place_in, same_place, parent_at, pair_at, come_to, goes_to}
+use Rattle.pddl_types.proofs.Views.{seen_entry}
 
 -- ---- ways from parent to parent
 
@@ -34,17 +36,6 @@ stays ps zero top = refl
 stays ps (suc n) top = ap (up ps n) top ∙ stays ps n top
 
 -- ---- types with a parent
-
-pair_says : (declared : List TypeValue) (e : TypeValue) → Contains (pairs declared) e → says_nothing e ≡ false
-pair_says declared e has =
-    elim (Contains-append_cases (filter (λ d. not (says_nothing d)) declared) (map under_root (only_parents declared)) e has) as (λ _. says_nothing e ≡ false) [
-      | inl kept ↦ not-true (says_nothing e) (kept_is (λ d. not (says_nothing d)) declared e kept).1
-      | inr added ↦
-          let from = mapped_is under_root (only_parents declared) e added in
-          let new = kept_is (λ t. not (is_in (root ∷ map item_of declared) t)) (map types.parent_of declared) from.0 from.1 in
-          let other = none_left (bytes_eq from.0 root) (is_in (map item_of declared) from.0) (not-true (is_in (root ∷ map item_of declared) from.0) new.1) in
-          subst (λ d. says_nothing d ≡ false) from.2 (ap (λ b. b && bytes_eq root root) other)
-    ]
 
 says_root : (e : TypeValue) → e.item ≡ root → e.of ≡ root → says_nothing e ≡ true
 says_root e item of = and_both (bytes_eq e.item root) (bytes_eq e.of root) (same_bytes e.item root item) (same_bytes e.of root of)
@@ -74,7 +65,7 @@ module _ (declared : List TypeValue) (rows : List Row) (h : IsTypeTable declared
         goes_to declared rows h e.of t (parent_of ps i) i of at under,
         λ top own.
             let says : says_nothing e ≡ true = says_root e (sym named ∙ is_root i t top at) (is_root (parent_of ps i) e.of (ap (parent_of ps) top ∙ own) of) in
-            let not_so : says_nothing e ≡ false = pair_says declared e has in cc,
+            let something : says_nothing e ≡ false = (pair_is declared e (once_declared declared h.0) has).3 in cc,
       )
 
   -- where none goes round, none is
@@ -103,7 +94,7 @@ module _ (declared : List TypeValue) (rows : List Row) (h : IsTypeTable declared
       ] refl
 
   told_cyclic : (d : TypeValue) (i : ℕ) (told : Bool) → Contains declared d → StandsAt rows i d.item → IsTrue told ↔ IsOnRound ps i → is_cyclic (pairs declared) d.item ≡ told
-  told_cyclic d i told has at tells = same_tests (is_cyclic (pairs declared) d.item) told (λ cyclic. tells.1 (cyclic_round d.item i at cyclic)) (λ yes. round_cyclic d i has at (tells.0 yes))
+  told_cyclic d i told has at tells = both_ways (is_cyclic (pairs declared) d.item) told (λ cyclic. tells.1 (cyclic_round d.item i at cyclic)) (λ yes. round_cyclic d i has at (tells.0 yes))
 
   -- ---- on each way round lies a declared type
 
@@ -141,34 +132,32 @@ module _ (declared : List TypeValue) (rows : List Row) (h : IsTypeTable declared
 -- ---- declared types one by one
 
 module _ {X : Type 0} (view : X → TypeValue) (xs : List X) (rows : List Row) (h : IsTypeTable (map view xs) rows) (i : ℕ) (x : X) (low : i < length xs) (is : x ≡ get_or xs i x) (q : Bor (List ℕ)) (named : q.now ≡ (view x).item) where
+  abbrev names : List Name
+  names = map item_of (map view xs)
+
+  abbrev cyclic : Name → Bool
+  cyclic = is_cyclic (pairs (map view xs))
+
   declares : Contains (map view xs) (view x)
   declares = is_mapped view xs x (i, low, sym is)
+
+  listed : slice_get names i ≡ Some q.now
+  listed = seen_entry item_of (map view xs) i (view x) (seen_entry view xs i x (slice_get_read xs (length xs) i x refl low is)) ∙ ap Some (sym named)
 
   -- a declared type stands in the table
   pub stands : position (λ k. bytes_eq q.now k.now) (keys_of rows) ≡ None → ⊥
   stands none =
-      let off : is_in (types_of (map view xs)) (view x).item ≡ false = ap (is_in (types_of (map view xs))) (sym named) ∙ sym (h.1.has q.now) ∙ no_place rows q.now none in
-      let on : is_in (types_of (map view xs)) (view x).item ≡ true = type_declared (map view xs) (view x).item (is_mapped item_of (map view xs) (view x) declares) in
+      let off : is_in (types_of (map view xs)) q.now ≡ false = sym (h.1.has q.now) ∙ no_place rows q.now none in
+      let on : is_in (types_of (map view xs)) q.now ≡ true = type_declared (map view xs) q.now (at_place names i q.now listed) in
       cc
 
-  -- and is above itself where its place lies on a way round
-  pub told_at : (qs : List ℕ) (place : ℕ) (told : Bool) → qs ≡ parents_in rows → Some place ≡ position (λ k. bytes_eq q.now k.now) (keys_of rows) → IsTrue told ↔ IsOnRound qs place → is_cyclic (pairs (map view xs)) (view x).item ≡ told
-  told_at qs place told same at tells =
-      told_cyclic (map view xs) rows h (view x) place told declares (subst (StandsAt rows place) named (found_place rows q.now place (sym at))) (subst (λ rs. IsTrue told ↔ IsOnRound rs place) same tells)
-
--- those that pass a test, of what is left of a list
-left_is : {X : Type 0} (view : X → TypeValue) (q : Name → Bool) (xs : List X) (i : ℕ) (x : X) (b : Bool) → i < length xs → x ≡ get_or xs i x → q (view x).item ≡ b
-    → filter q (map item_of (map view (drop i xs))) ≡ cond b ((view x).item ∷ filter q (map item_of (map view (drop (i + 1) xs)))) (filter q (map item_of (map view (drop (i + 1) xs))))
-left_is view q xs i x b low is test =
-    let rest = map item_of (map view (drop (i + 1) xs)) in
-    at_drop_more (λ ys. filter q (map item_of (map view ys))) xs i x low ∙ ap (λ y. filter q ((view y).item ∷ rest)) (sym is)
-    ∙ ap (λ t. cond t ((view x).item ∷ filter q rest) (filter q rest)) test
-
-pub first_left : {X : Type 0} (view : X → TypeValue) (q : Name → Bool) (xs : List X) (i : ℕ) (x : X) (ns : List Name) → i < length xs → x ≡ get_or xs i x
-    → q (view x).item ≡ true → filter q (map item_of (map view (drop i xs))) ≡ ns → Contains (first_alone ns) (view x).item
-first_left view q xs i x ns low is on left =
-    subst (λ ws. Contains (first_alone ws) (view x).item) (sym (left_is view q xs i x true low is on) ∙ left) (0, omega arith, refl)
-
-pub next_left : {X : Type 0} (view : X → TypeValue) (q : Name → Bool) (xs : List X) (i : ℕ) (x : X) (ns : List Name) → i < length xs → x ≡ get_or xs i x
-    → q (view x).item ≡ false → filter q (map item_of (map view (drop i xs))) ≡ ns → filter q (map item_of (map view (drop (i + 1) xs))) ≡ ns
-next_left view q xs i x ns low is off left = sym (left_is view q xs i x false low is off) ∙ left
+  -- and is above itself where its place lies on a way round: it is the first of those that are left, or these are left behind it
+  pub told_at : (qs : List ℕ) (place : ℕ) (told : Bool) → qs ≡ parents_in rows → Some place ≡ position (λ k. bytes_eq q.now k.now) (keys_of rows) → IsTrue told ↔ IsOnRound qs place
+      → filter cyclic (drop i names) ≡ filter cyclic names → (told ≡ true → Contains (cycle_in (map view xs)) q.now) × (told ≡ false → filter cyclic (drop (i + 1) names) ≡ filter cyclic names)
+  told_at qs place told same at tells left =
+      let tested : cyclic q.now ≡ told = ap cyclic named ∙ told_cyclic (map view xs) rows h (view x) place told declares (subst (StandsAt rows place) named (found_place rows q.now place (sym at))) (subst (λ rs. IsTrue told ↔ IsOnRound rs place) same tells) in
+      let within = slice_get_within names i q.now listed in
+      let here = sym (get_or_from_slice_get names i q.now q.now listed) in (
+        λ on. subst (λ ns. Contains (first_alone ns) q.now) (sym (kept_front cyclic names i q.now true within here (tested ∙ on)) ∙ left) (0, omega arith, refl),
+        λ off. first_dropped cyclic names i q.now (filter cyclic names) within here (tested ∙ off) left,
+      )

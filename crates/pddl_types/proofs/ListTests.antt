@@ -34,7 +34,7 @@ pub any_ends : {X : Type 0} (p : X → Bool) (xs : List X) (i : ℕ) (whole : Bo
 any_ends p xs i whole past so_far = sym (ap (list_any p) (drop_all i xs past)) ∙ so_far
 
 -- those of the list that are kept are those of what is left of it: the first of what is left is kept or not, and none is left
-kept_front : {X : Type 0} (q : X → Bool) (xs : List X) (i : ℕ) (x : X) (b : Bool) → i < length xs → x ≡ get_or xs i x → q x ≡ b → filter q (drop i xs) ≡ cond b (x ∷ filter q (drop (i + 1) xs)) (filter q (drop (i + 1) xs))
+pub kept_front : {X : Type 0} (q : X → Bool) (xs : List X) (i : ℕ) (x : X) (b : Bool) → i < length xs → x ≡ get_or xs i x → q x ≡ b → filter q (drop i xs) ≡ cond b (x ∷ filter q (drop (i + 1) xs)) (filter q (drop (i + 1) xs))
 kept_front q xs i x b low is test =
     rw (add-one, drop-cons xs i x low) (ap (λ y. filter q (y ∷ drop (suc i) xs)) (sym is) ∙ ap (λ t. cond t (x ∷ filter q (drop (suc i) xs)) (filter q (drop (suc i) xs))) test)
 

@@ -1,5 +1,5 @@
 -- Objects by their numbers, each with the span of its type.
-use Rattle.std.proofs.Common.{◌≡◌, ℕ, zero, suc, ◌+◌, ◌≤◌, ◌<◌, Bool, true, false, not, cond, nat_lt, ltb, get_or, ltb-false, ltb-true, bytes_eq, List, [], ◌∷◌, map, length, take, refl, sym, ap, ◌∙◌, subst, arith}
+use Rattle.std.proofs.Common.{◌≡◌, ℕ, zero, suc, ◌+◌, ◌≤◌, ◌<◌, Bool, true, false, not, cond, ltb, get_or, ltb-false, ltb-true, bytes_eq, List, [], ◌∷◌, map, length, take, refl, sym, ap, ◌∙◌, subst, arith}
 use Rattle.std.specs.Prelude.{IsTrue, Some, None, slice_get, find}
 use Rattle.std.specs.Borrow.{Bor}
 use Rattle.std.specs.List.{position, position_or_len}
@@ -7,6 +7,7 @@ use Rattle.std.specs.Map.{lookup, keys_of}
 use Rattle.std.specs.Option.{option_map_or}
 use Rattle.std.proofs.lemmas.List.{length-map, length-take}
 use Rattle.std.proofs.lemmas.Option.{slice_get_read, slice_get_within, slice_get_past}
+use Rattle.indexmap.proofs.MapLemmas.{Found-position, Missing-position}
 use Rattle.pddl_forest.specs.declared.spans.Span.{Span}
 use Rattle.pddl_formula.specs.TypedLists.{TypedValue}
 use Rattle.pddl_formula.specs.declared.type_names.Typed.{Typed}
@@ -16,7 +17,9 @@ use Rattle.pddl_task.specs.Types.{types_of}
 use Rattle.pddl_types.specs.KnownNames.{object_in}
 use Rattle.pddl_types.specs.TypeSpans.{TypesValue, span_of, IsTold, are_types, is_single, AreSingle, IsOnlySpan, HaveEach}
 use Rattle.pddl_task.proofs.Lists.{and_both, at_place, some_at}
+use Rattle.pddl_types.proofs.Lookups.{entry_at}
 use Rattle.pddl_types.proofs.NamedSpans.{told_alone}
+use Rattle.pddl_types.proofs.Views.{seen_entry}
 
 -- the one primitive of a type
 only_type : (declared : List TypeValue) (types : List Name) → IsTrue (is_single declared types) → (n : Name) × (types ≡ n ∷ []) × IsTrue (is_in (types_of declared) n)
@@ -76,10 +79,7 @@ found_named (e ∷ es) n (suc limit) =
 -- it is looked for among the first so many
 module _ {A : Type 0} (es : List (Bor Name × Bor (Typed A))) (n : Name) (limit : ℕ) where
   found_at_number : (i : ℕ) → position (λ k. bytes_eq n k.now) (keys_of es) ≡ Some i → find (is_named n) (take limit (map object_in es)) ≡ slice_get (take limit (map object_in es)) i
-  found_at_number i is = found_named es n limit ∙ ap (slice_get (take limit (map object_in es))) (first_is (λ k. bytes_eq n k.now) (keys_of es) i is)
-    where
-      first_is : {X : Type 0} (p : X → Bool) (xs : List X) (i : ℕ) → position p xs ≡ Some i → position_or_len p xs ≡ i
-      first_is p xs i h = elim (nat_lt (position_or_len p xs) (length xs)) as (λ b. cond b (Some (position_or_len p xs)) None ≡ Some i → position_or_len p xs ≡ i) [ true ↦ λ k. cc | false ↦ λ k. cc ] h
+  found_at_number i is = found_named es n limit ∙ ap (slice_get (take limit (map object_in es))) (Found-position (λ k. bytes_eq n k.now) es i is).or_len
 
   -- the one of a number below that
   pub object_found : (i : ℕ) → position (λ k. bytes_eq n k.now) (keys_of es) ≡ Some i → i < limit → find (is_named n) (take limit (map object_in es)) ≡ slice_get (map object_in es) i
@@ -91,25 +91,10 @@ module _ {A : Type 0} (es : List (Bor Name × Bor (Typed A))) (n : Name) (limit 
 
   pub none_found : position (λ k. bytes_eq n k.now) (keys_of es) ≡ None → find (is_named n) (take limit (map object_in es)) ≡ None
   none_found h =
-      let i = position_or_len (λ k. bytes_eq n k.now) (keys_of es) in
-      found_named es n limit
-      ∙ elim (nat_lt i (length (keys_of es))) as (λ b. nat_lt i (length (keys_of es)) ≡ b → cond b (Some i) None ≡ None → slice_get (take limit (map object_in es)) i ≡ None) [
-        | true ↦ λ _ some. cc
-        | false ↦ λ past _. slice_get_past (take limit (map object_in es)) i
-            (omega (arith, ltb-false i (length (keys_of es)) past, length-map es (λ e. e.0), length-map es object_in, length-take limit (map object_in es)))
-      ] refl h
+      found_named es n limit ∙ slice_get_past (take limit (map object_in es)) (position_or_len (λ k. bytes_eq n k.now) (keys_of es))
+      (omega (arith, (Missing-position (λ k. bytes_eq n k.now) es h).or_len, length-map es object_in, length-take limit (map object_in es)))
 
 -- with what a table has of it
 pub found_at : {A : Type 0} (es : List (Bor Name × Bor (Typed A))) (n : Name) (found : Bor (Typed A)) → lookup (λ k. bytes_eq n k.now) es ≡ Some found
     → (x : TypedValue) × (slice_get (map object_in es) (position_or_len (λ k. bytes_eq n k.now) (keys_of es)) ≡ Some x) × (x.of ≡ found.now.types)
-found_at [] n found h = absurd (cc (h))
-found_at {A} (e ∷ es) n found h =
-    let later = position_or_len (λ k. bytes_eq n k.now) (keys_of es) in
-    let all = object_in e ∷ map object_in es in
-    elim (bytes_eq n e.0.now) as (λ b. cond b (Some e.1) (lookup (λ k. bytes_eq n k.now) es) ≡ Some found → (x : TypedValue) × (slice_get all (cond (not b) (1 + later) 0) ≡ Some x) × (x.of ≡ found.now.types)) [
-      | true ↦ λ is. let same : e.1 ≡ found = cc is in (object_in e, refl, ap (λ (t : Bor (Typed A)). t.now.types) same)
-      | false ↦ λ is.
-          let (x, at, of) = found_at es n found is in
-          let one : 1 + later ≡ suc later = omega arith in
-          (x, ap (slice_get all) one ∙ at, of)
-    ] h
+found_at es n found h = let (k, at, named) = entry_at es n found h in (object_in (k, found), seen_entry object_in es (position_or_len (λ k. bytes_eq n k.now) (keys_of es)) (k, found) at, refl)

@@ -1,10 +1,12 @@
 -- Types by their spans: what is under a type is what has its first number in the type's span.
-use Rattle.std.proofs.Common.{◌≡◌, ℕ, zero, suc, ◌<◌, ◌≤◌, Bool, true, false, ◌&&◌, eqb, leb, List, [], ◌∷◌, map, length, refl, sym, ap, ◌∙◌, subst, arith, inl, inr, ◌⊎◌, eqb-true, eq-eqb, le-leb, leb-true, true≢false}
+use Rattle.std.proofs.Common.{◌≡◌, ℕ, zero, suc, ◌<◌, ◌≤◌, Bool, true, false, ◌&&◌, eqb, leb, List, [], ◌∷◌, map, length, refl, sym, ap, ◌∙◌, subst, arith, inl, inr, ◌⊎◌, eqb-true, eq-eqb, leb-true, true≢false}
 use Rattle.std.specs.Prelude.{IsTrue, Contains}
+use Rattle.std.specs.Cmp.{both_ways}
 use Rattle.std.specs.List.{list_any}
 use Rattle.std.proofs.lemmas.List.{length-map, get_or_past}
 use Rattle.pddl_forest.specs.Spans.{holds, some_holds, hold_all, span_at, AreSpans}
 use Rattle.pddl_forest.specs.declared.spans.Span.{Span}
+use Rattle.pddl_forest.proofs.ApartSpans.{held}
 use Rattle.pddl_domain.specs.Declarations.{TypeValue}
 use Rattle.pddl_task.specs.Names.{Name, is_in, number_in}
 use Rattle.pddl_task.specs.Types.{types_of, pairs, is_under, is_subtype, fits}
@@ -12,17 +14,14 @@ use Rattle.pddl_types.specs.TypeTables.{Row, names_in, parents_in, StandsAt, IsT
 use Rattle.pddl_types.specs.TypeSpans.{TypesValue, span_of, IsTold, DoTell, are_types}
 use Rattle.pddl_task.proofs.Lists.{and_left, and_right, and_both, any_found, found_any, all_found, found_all, has_first, has_cases, has_none, mapped_is, is_mapped}
 use Rattle.pddl_task.proofs.Subtypes.{is_under_decides, under_found, under_through}
-use Rattle.pddl_types.proofs.TypeParents.{same_tests, same_types}
+use Rattle.pddl_types.proofs.TypeParents.{same_types}
 use Rattle.pddl_types.proofs.TypePlaces.{below, number_past}
 use Rattle.pddl_types.proofs.TypeForests.{place_in, under_numbered}
 
 -- ---- spans
 
-held : (s : Span) (i : ℕ) → holds s i ≡ true → (s.first ≤ i) × (i ≤ s.last)
-held s i h = (leb-true s.first i (and_left (leb s.first i) (leb i s.last) h), leb-true i s.last (and_right (leb s.first i) (leb i s.last) h))
-
-first_held : (s : Span) → s.first ≤ s.last → holds s s.first ≡ true
-first_held s some = and_both (leb s.first s.first) (leb s.first s.last) (le-leb s.first s.first (omega arith)) (le-leb s.first s.last some)
+is_held : (s : Span) (i : ℕ) → holds s i ≡ true → (s.first ≤ i) × (i ≤ s.last)
+is_held s i h = (leb-true s.first i (and_left (leb s.first i) (leb i s.last) h), leb-true i s.last (and_right (leb s.first i) (leb i s.last) h))
 
 abbrev is_same : Span → Span → Bool
 is_same s u = eqb s.first u.first && eqb s.last u.last
@@ -86,17 +85,17 @@ module _ (t : TypesValue) (h : AreInTable t) where
   abbrev IsKnown : Name → Name → Type 0
   IsKnown n m = IsTrue (is_type n) ⊎ IsTrue (is_type m)
 
-  pub is_test : (n m : Name) → IsKnown n m → test n m ≡ under n m
+  is_test : (n m : Name) → IsKnown n m → test n m ≡ under n m
   is_test n m known =
       elim (is_type n) as (λ b. is_type n ≡ b → test n m ≡ under n m) [
         | true ↦ λ one. elim (is_type m) as (λ b. is_type m ≡ b → test n m ≡ under n m) [
           | true ↦ both one
-          | false ↦ λ off. same_tests (test n m) (under n m)
-              (λ yes. let in_span = held (span_of t m) (span_of t n).first yes in absurd (omega (arith, in_span.0, (behind m off).0, (within n one).0, (within n one).1)))
+          | false ↦ λ off. both_ways (test n m) (under n m)
+              (λ yes. let in_span = is_held (span_of t m) (span_of t n).first yes in absurd (omega (arith, in_span.0, (behind m off).0, (within n one).0, (within n one).1)))
               (λ yes. absurd (true≢false (sym one ∙ same_types t.declared n m h.2.0 yes ∙ off)))
         ] refl
-        | false ↦ λ off. same_tests (test n m) (under n m)
-            (λ yes. let in_span = held (span_of t m) (span_of t n).first yes in absurd (omega (arith, in_span.1, (behind n off).0, (within m (other off)).1)))
+        | false ↦ λ off. both_ways (test n m) (under n m)
+            (λ yes. let in_span = is_held (span_of t m) (span_of t n).first yes in absurd (omega (arith, in_span.1, (behind n off).0, (within m (other off)).1)))
             (λ yes. absurd (true≢false (sym (other off) ∙ sym (same_types t.declared n m h.2.0 yes) ∙ off)))
       ] refl
     where
@@ -109,7 +108,7 @@ module _ (t : TypesValue) (h : AreInTable t) where
           let there = stands m other in
           let spans = h.3.under (number n) (number m) (below h.0 (number n) n at) (below h.0 (number m) m there) in
           let places = under_numbered t.declared h.0 h.2 (number n) (number m) n m at there in
-          same_tests (test n m) (under n m) (λ yes. places.1 (spans.0 yes)) (λ yes. spans.1 (places.0 yes))
+          both_ways (test n m) (under n m) (λ yes. places.1 (spans.0 yes)) (λ yes. spans.1 (places.0 yes))
 
   pub test_told : (n m : Name) (low over : Span) → IsKnown n m → low ≡ span_of t n → over ≡ span_of t m → holds over low.first ≡ under n m
   test_told n m low over known is also = ap (λ s. holds s low.first) also ∙ ap (λ (s : Span). holds (span_of t m) s.first) is ∙ is_test n m known
@@ -137,7 +136,7 @@ module _ (t : TypesValue) (h : AreInTable t) where
 
   pub do_tell : DoTell t
   do_tell n slot tops told known =
-      same_tests (some_holds tops (span_of t n).first) (list_any (under n) slot)
+      both_ways (some_holds tops (span_of t n).first) (list_any (under n) slot)
       (λ yes. let m = in_top slot tops n told yes in found_any (under n) slot m.0 m.1 (sym (is_test n m.0 (with_one m.0 m.1)) ∙ m.3))
       (λ yes.
       let m = any_found (under n) slot yes in
@@ -158,7 +157,7 @@ module _ (t : TypesValue) (h : AreInTable t) where
   pub tops_fit : (types slot : List Name) (told tops : List Span) → IsTold t types told → IsTold t slot tops → IsTrue (are_types t.declared types) ⊎ IsTrue (are_types t.declared slot)
       → hold_all tops told ≡ fits (pairs t.declared) types slot
   tops_fit types slot told tops first second known =
-      same_tests (hold_all tops told) (fits (pairs t.declared) types slot)
+      both_ways (hold_all tops told) (fits (pairs t.declared) types slot)
       (λ yes. found_all (λ n. list_any (under n) slot) types (λ n there.
       let m = in_top types told n first (first.all (span_of t n) (is_mapped (span_of t) types n there)) in
       let u = any_found (under m.0) slot (sym (do_tell m.0 slot tops second (one m.0 m.1)) ∙ all_found (λ s. some_holds tops s.first) told yes (span_of t m.0) m.2) in
@@ -174,15 +173,13 @@ module _ (t : TypesValue) (h : AreInTable t) where
 -- a test of types alone
 pub subtype_is : (declared : List TypeValue) (sub over : Name) (told : Bool) → is_in (types_of declared) sub ≡ true → is_in (types_of declared) over ≡ true → told ≡ is_under (pairs declared) sub over
     → told ≡ is_subtype declared sub over
-subtype_is declared sub over told one other is =
-    let under = is_under (pairs declared) sub over in
-    is ∙ sym (ap (λ b. b && (is_in (types_of declared) over && under)) one ∙ ap (λ b. b && under) other)
+subtype_is declared sub over told one other is = rw (one, other) is
 
 -- the span of a name alone
 pub told_alone : (t : TypesValue) (n : Name) (s : Span) → s.first ≤ s.last → s ≡ span_of t n → IsTold t (n ∷ []) (s ∷ [])
 told_alone t n s low is = record {
   each = λ u there. found_any (is_same u) (span_of t n ∷ []) (span_of t n) (has_first (span_of t n) []) (same u (only s u there ∙ is));
-  all = λ u there. found_any (λ v. holds v u.first) (s ∷ []) s (has_first s []) (ap (λ (v : Span). holds s v.first) (only (span_of t n) u there ∙ sym is) ∙ first_held s low);
+  all = λ u there. found_any (λ v. holds v u.first) (s ∷ []) s (has_first s []) (ap (λ (v : Span). holds s v.first) (only (span_of t n) u there ∙ sym is) ∙ held s s.first (omega arith) low);
   apart = record { own = own; behind = λ i j less inside. absurd (omega (arith, less, inside)) };
 }
   where

@@ -19,7 +19,7 @@ by_first : (b : Bool) (n : Name) (rest : List Name) → word_if b n ++ rest ≡ 
 by_first true n rest h = absurd (nil_cons n rest h)
 by_first false n rest h = (refl, h)
 
-none_found : {X : Type 0} (o : Option X) → is_some o ≡ false → o ≡ None
+pub none_found : {X : Type 0} (o : Option X) → is_some o ≡ false → o ≡ None
 none_found None h = refl
 none_found (Some x) h = absurd (true≢false h)
 

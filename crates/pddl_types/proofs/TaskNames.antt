@@ -1,9 +1,10 @@
 -- Names of predicates and objects by number, as tables have them.
-use Rattle.std.proofs.Common.{◌≡◌, ℕ, suc, ◌+◌, not, cond, List, [], ◌∷◌, map, length, nat_lt, bytes_eq, Option, refl, sym, ap, ◌∙◌}
+use Rattle.std.proofs.Common.{◌≡◌, ℕ, cond, List, map, length, nat_lt, bytes_eq, Option, sym, ap, ◌∙◌}
 use Rattle.std.specs.Prelude.{Some, None, option_map, position}
 use Rattle.std.specs.Borrow.{Bor}
-use Rattle.std.specs.List.{slice_get, position_or_len}
+use Rattle.std.specs.List.{slice_get}
 use Rattle.std.specs.Map.{keys_of}
+use Rattle.std.proofs.lemmas.List.{length-map}
 use Rattle.std.proofs.lemmas.Option.{slice_get-map}
 use Rattle.pddl_formula.specs.declared.type_names.Typed.{Typed}
 use Rattle.pddl_formula.specs.TypedLists.{TypedValue}
@@ -12,6 +13,7 @@ use Rattle.pddl_domain.specs.Declarations.{Signature, predicate_view}
 use Rattle.pddl_task.specs.Names.{Name, item_of}
 use Rattle.pddl_task.specs.Settings.{symbol_of}
 use Rattle.pddl_types.specs.KnownNames.{AreNamed, signature_in, object_in}
+use Rattle.pddl_types.proofs.Lookups.{number_lent}
 use Rattle.pddl_types.proofs.Views.{map-map}
 
 -- the name of a predicate
@@ -29,29 +31,19 @@ item_at es objects i found same named at =
 
 -- ---- the number of a name
 
-module _ {V Y : Type 0} (see : Bor (List ℕ) × V → Y) (key : Y → Name) (same : (e : Bor (List ℕ) × V) → e.0.now ≡ key (see e)) where
-  number_lent : (es : List (Bor (List ℕ) × V)) (n : Name) → position_or_len (λ k. bytes_eq n k.now) (keys_of es) ≡ position_or_len (bytes_eq n) (map key (map see es))
-  number_lent [] n = refl
-  number_lent (e ∷ es) n =
-      ap (λ k. cond (not (bytes_eq n e.0.now)) (1 + k) 0) (number_lent es n)
-      ∙ ap (λ m. cond (not (bytes_eq n m)) (1 + position_or_len (bytes_eq n) (map key (map see es))) 0) (same e)
-
-  as_many : (es : List (Bor (List ℕ) × V)) → length (keys_of es) ≡ length (map key (map see es))
-  as_many [] = refl
-  as_many (e ∷ es) = ap suc (as_many es)
-
-  place_at : (es : List (Bor (List ℕ) × V)) (ys : List Y) (n : Name) (found : Option ℕ)
-      → map see es ≡ ys → found ≡ position (λ k. bytes_eq n k.now) (keys_of es) → found ≡ position (bytes_eq n) (map key ys)
-  place_at es ys n found is at =
-      at
-      ∙ ap (λ k. cond (nat_lt k (length (keys_of es))) (Some k) None) (number_lent es n)
-      ∙ ap (λ l. cond (nat_lt (position_or_len (bytes_eq n) (map key (map see es))) l) (Some (position_or_len (bytes_eq n) (map key (map see es)))) None) (as_many es)
-      ∙ ap (λ zs. position (bytes_eq n) (map key zs)) is
+-- a name that is looked up, and names that are the table's
+place_at : {V : Type 0} (es : List (Bor (List ℕ) × V)) (names : List Name) (n : Name) (found : Option ℕ) → map (λ e. e.0.now) es ≡ names
+    → found ≡ position (λ k. bytes_eq n k.now) (keys_of es) → found ≡ position (bytes_eq n) names
+place_at es names n found same at =
+    at ∙ (λ i. cond (nat_lt (number_lent es n i) (as_many i)) (Some (number_lent es n i)) None) ∙ ap (position (bytes_eq n)) same
+  where
+    as_many : length (keys_of es) ≡ length (map (λ e. e.0.now) es)
+    as_many = length-map es (λ e. e.0) ∙ sym (length-map es (λ e. e.0.now))
 
 pub object_number : {A : Type 0} (es : List (Bor (List ℕ) × Bor (Typed A))) (objects : List TypedValue) (n : Name) (found : Option ℕ)
     → map object_in es ≡ objects → found ≡ position (λ k. bytes_eq n k.now) (keys_of es) → found ≡ position (bytes_eq n) (map item_of objects)
-object_number = place_at object_in item_of (λ e. refl)
+object_number es objects n found same = place_at es (map item_of objects) n found (sym (map-map item_of object_in es) ∙ ap (map item_of) same)
 
 pub predicate_number : {A : Type 0} (es : List (Bor (List ℕ) × Bor (List (Typed A)))) (signatures : List Signature) (n : Name) (found : Option ℕ)
     → map signature_in es ≡ signatures → found ≡ position (λ k. bytes_eq n k.now) (keys_of es) → found ≡ position (bytes_eq n) (map symbol_of signatures)
-predicate_number = place_at signature_in symbol_of (λ e. refl)
+predicate_number es signatures n found same = place_at es (map symbol_of signatures) n found (sym (map-map symbol_of signature_in es) ∙ ap (map symbol_of) same)

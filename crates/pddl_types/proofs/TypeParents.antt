@@ -1,9 +1,9 @@
 -- Types with their parents, as they are declared.
-use Rattle.std.proofs.Common.{◌≡◌, Bool, true, false, not, cond, List, [], ◌∷◌, ◌++◌, map, filter, fold, refl, sym, ap, ◌∙◌, subst, bytes_eq, ◌⊎◌, inl, inr}
+use Rattle.std.proofs.Common.{◌≡◌, true, false, not, ◌&&◌, cond, List, [], ◌∷◌, ◌++◌, map, filter, fold, refl, sym, ap, ◌∙◌, subst, bytes_eq, inl, inr}
 use Rattle.std.specs.Prelude.{Contains}
 use Rattle.std.specs.List.{IsDistinct}
 use Rattle.std.proofs.lemmas.List.Elements.{Contains-append_left, Contains-append_right, Contains-append_cases, All-from_recursion}
-use Rattle.std.proofs.lemmas.List.Folds.{list_any_none}
+use Rattle.std.proofs.lemmas.List.Folds.{list_any_none, list_any-append}
 use Rattle.std.proofs.lemmas.Map.Keys.{IsDistinct-head, IsDistinct-tail}
 use Rattle.std.proofs.lemmas.Bool.{not-true}
 use Rattle.pddl_domain.specs.Declarations.{TypeValue}
@@ -20,7 +20,7 @@ use Rattle.pddl_task.proofs.TypeCycles.{parent_above}
 pub in_has : (ns : List Name) (t : Name) → is_in ns t ≡ true → Contains ns t
 in_has ns t h = let f = any_found (bytes_eq t) ns h in subst (Contains ns) (sym (bytes_same t f.0 f.2)) f.1
 
-pub has_in : (ns : List Name) (t : Name) → Contains ns t → is_in ns t ≡ true
+has_in : (ns : List Name) (t : Name) → Contains ns t → is_in ns t ≡ true
 has_in ns t c = found_any (bytes_eq t) ns t c (same_bytes t t refl)
 
 -- ---- declared parents
@@ -57,23 +57,29 @@ type_declared declared t c = has_in (types_of declared) t (has_later root (map i
 type_above : (declared : List TypeValue) (t : Name) → Contains (map parent_of declared) t → is_in (types_of declared) t ≡ true
 type_above declared t c = has_in (types_of declared) t (has_later root (map item_of declared ++ map parent_of declared) t (Contains-append_right (map item_of declared) (map parent_of declared) t c))
 
--- each pair is of a type with its parent
-pub pair_is : (declared : List TypeValue) (e : TypeValue) → IsDistinct bytes_eq (map item_of declared) → Contains (pairs declared) e
-    → (is_in (types_of declared) e.item ≡ true) × (is_in (types_of declared) e.of ≡ true) × (parent_in declared e.item ≡ e.of)
+-- each pair is of a type with its parent, and says something
+abbrev IsPair : List TypeValue → TypeValue → Type 0
+IsPair declared e = (is_in (types_of declared) e.item ≡ true) × (is_in (types_of declared) e.of ≡ true) × (parent_in declared e.item ≡ e.of) × (says_nothing e ≡ false)
+
+pub pair_is : (declared : List TypeValue) (e : TypeValue) → IsDistinct bytes_eq (map item_of declared) → Contains (pairs declared) e → IsPair declared e
 pair_is declared e once has =
-    elim (Contains-append_cases (filter (λ d. not (says_nothing d)) declared) (map under_root (only_parents declared)) e has) as (λ _. (is_in (types_of declared) e.item ≡ true) × (is_in (types_of declared) e.of ≡ true) × (parent_in declared e.item ≡ e.of)) [
+    elim (Contains-append_cases (filter (λ d. not (says_nothing d)) declared) (map under_root (only_parents declared)) e has) as (λ _. IsPair declared e) [
       | inl kept ↦
-          let c = (kept_is (λ d. not (says_nothing d)) declared e kept).0 in
-          (type_declared declared e.item (is_mapped item_of declared e c), type_above declared e.of (is_mapped parent_of declared e c), parent_declared declared e root once c)
+          let c = kept_is (λ d. not (says_nothing d)) declared e kept in (
+            type_declared declared e.item (is_mapped item_of declared e c.0),
+            type_above declared e.of (is_mapped parent_of declared e c.0),
+            parent_declared declared e root once c.0,
+            not-true (says_nothing e) c.1,
+          )
       | inr added ↦
           let from = mapped_is under_root (only_parents declared) e added in
           let new = kept_is (λ t. not (is_in (root ∷ map item_of declared) t)) (map parent_of declared) from.0 from.1 in
-          let other = none_right (bytes_eq from.0 root) (is_in (map item_of declared) from.0) (not-true (is_in (root ∷ map item_of declared) from.0) new.1) in
-          let item : from.0 ≡ e.item = ap item_of from.2 in
-          let of : root ≡ e.of = ap parent_of from.2 in (
-            type_above declared e.item (subst (Contains (map parent_of declared)) item new.0),
-            subst (λ t. is_in (types_of declared) t ≡ true) of (or_left (bytes_eq root root) (is_in (map item_of declared ++ map parent_of declared) root) (same_bytes root root refl)),
-            ap (parent_in declared) (sym item) ∙ parent_undeclared declared from.0 root other ∙ of,
+          let off = not-true (is_in (root ∷ map item_of declared) from.0) new.1 in
+          subst (IsPair declared) from.2 (
+            type_above declared from.0 new.0,
+            or_left (bytes_eq root root) (is_in (map item_of declared ++ map parent_of declared) root) (same_bytes root root refl),
+            parent_undeclared declared from.0 root (none_right (bytes_eq from.0 root) (is_in (map item_of declared) from.0) off),
+            ap (λ b. b && bytes_eq root root) (none_left (bytes_eq from.0 root) (is_in (map item_of declared) from.0) off),
           )
     ]
 
@@ -85,47 +91,20 @@ under_parent declared t once type =
           let from = mapped_is item_of declared t (in_has (map item_of declared) t h) in
           subst (λ n. Under (pairs declared) n (parent_in declared n)) from.2
           (subst (Under (pairs declared) from.0.item) (sym (parent_declared declared from.0 root once from.1)) (parent_above declared from.0 from.1))
-      | false ↦ λ h. subst (Under (pairs declared) t) (sym (parent_undeclared declared t root h)) (only declared t h type)
+      | false ↦ λ off. subst (Under (pairs declared) t) (sym (parent_undeclared declared t root off))
+          (elim (bytes_eq t root) as (λ b. bytes_eq t root ≡ b → Under (pairs declared) t root) [
+            | true ↦ λ is. itself (bytes_same t root is)
+            | false ↦ λ other.
+                let above : is_in (map parent_of declared) t ≡ true = rw (other, list_any-append (bytes_eq t) (map item_of declared) (map parent_of declared), off) at type in
+                let kept = is_kept (λ n. not (is_in (root ∷ map item_of declared) n)) (map parent_of declared) t (in_has (map parent_of declared) t above) (ap not (or_none (bytes_eq t root) (is_in (map item_of declared) t) other off)) in
+                climb (under_root t) (Contains-append_right (filter (λ d. not (says_nothing d)) declared) (map under_root (only_parents declared)) (under_root t) (is_mapped under_root (only_parents declared) t kept)) refl (itself refl)
+          ] refl)
     ] refl
-  where
-    only : (declared : List TypeValue) (t : Name) → is_in (map item_of declared) t ≡ false → is_in (types_of declared) t ≡ true → Under (pairs declared) t root
-    only declared t h type =
-        elim (has_cases root (map item_of declared ++ map parent_of declared) t (in_has (types_of declared) t type)) as (λ _. Under (pairs declared) t root) [
-          | inl is ↦ itself (sym is)
-          | inr later ↦ elim (Contains-append_cases (map item_of declared) (map parent_of declared) t later) as (λ _. Under (pairs declared) t root) [
-            | inl there ↦ let on : is_in (map item_of declared) t ≡ true = has_in (map item_of declared) t there in cc
-            | inr above ↦ elim (bytes_eq t root) as (λ b. bytes_eq t root ≡ b → Under (pairs declared) t root) [
-              | true ↦ λ is. itself (bytes_same t root is)
-              | false ↦ λ other.
-                  let kept = is_kept (λ n. not (is_in (root ∷ map item_of declared) n)) (map parent_of declared) t above (ap not (or_none (bytes_eq t root) (is_in (map item_of declared) t) other h)) in
-                  climb (under_root t) (Contains-append_right (filter (λ d. not (says_nothing d)) declared) (map under_root (only_parents declared)) (under_root t) (is_mapped under_root (only_parents declared) t kept)) refl (itself refl)
-            ] refl
-          ]
-        ]
 
--- ---- what is under what
-
-pub same_tests : (a b : Bool) → (a ≡ true → b ≡ true) → (b ≡ true → a ≡ true) → a ≡ b
-same_tests true b h k = sym (h refl)
-same_tests false true h k = k refl
-same_tests false false h k = refl
-
--- what is under another is that, or both are types
-under_is : (declared : List TypeValue) (t u : Name) → IsDistinct bytes_eq (map item_of declared) → Under (pairs declared) t u
-    → (t ≡ u) ⊎ ((is_in (types_of declared) t ≡ true) × (is_in (types_of declared) u ≡ true))
-under_is declared t u once (itself same) = inl same
-under_is declared t u once (climb e has named rest) =
-    let p = pair_is declared e once has in
-    let type : is_in (types_of declared) t ≡ true = ap (is_in (types_of declared)) named ∙ p.0 in
-    elim (under_is declared e.of u once rest) as (λ _. (t ≡ u) ⊎ ((is_in (types_of declared) t ≡ true) × (is_in (types_of declared) u ≡ true))) [
-      | inl same ↦ inr (type, ap (is_in (types_of declared)) (sym same) ∙ p.1)
-      | inr both ↦ inr (type, both.1)
-    ]
-
--- so it is a type where that is
+-- what is under a type is one, and what a type is under
 pub same_types : (declared : List TypeValue) (t u : Name) → repeated [] (map item_of declared) ≡ [] → is_under (pairs declared) t u ≡ true → is_in (types_of declared) t ≡ is_in (types_of declared) u
-same_types declared t u declared_once up =
-    elim (under_is declared t u (once_declared declared declared_once) ((is_under_decides (pairs declared) t u).0 up)) as (λ _. is_in (types_of declared) t ≡ is_in (types_of declared) u) [
-      | inl same ↦ ap (is_in (types_of declared)) same
-      | inr both ↦ both.0 ∙ sym both.1
-    ]
+same_types declared t u once up = same t u ((is_under_decides (pairs declared) t u).0 up)
+  where
+    same : (t u : Name) → Under (pairs declared) t u → is_in (types_of declared) t ≡ is_in (types_of declared) u
+    same t u (itself is) = ap (is_in (types_of declared)) is
+    same t u (climb e has named rest) = let p = pair_is declared e (once_declared declared once) has in ap (is_in (types_of declared)) named ∙ p.0 ∙ sym p.1 ∙ same e.of u rest

@@ -10,12 +10,14 @@ use Rattle.std.proofs.lemmas.List.{length-map}
 use Rattle.std.proofs.lemmas.Map.Entries.{lookup_from_place}
 use Rattle.std.proofs.lemmas.Option.{slice_get_within, get_or_from_slice_get}
 use Rattle.indexmap.specs.IndexMap.{insert_entry}
-use Rattle.indexmap.proofs.MapLemmas.{or_len-first, Found-position, some_index}
+use Rattle.indexmap.proofs.MapLemmas.{or_len-first, or_len-absent, absent_from_lookup, Found-position, some_index}
 use Rattle.indexmap.proofs.RemoveLemmas.{own_first}
 use Rattle.pddl_forest.specs.Forests.{parent_of}
 use Rattle.pddl_task.specs.Names.{Name, number_in}
 use Rattle.pddl_types.specs.TypeTables.{Row, names_in, parents_in, StandsAt, parent_place}
 use Rattle.pddl_task.proofs.Lists.{bytes_same}
+use Rattle.pddl_types.proofs.Lookups.{number_lent, entry_at}
+use Rattle.pddl_types.proofs.SignatureTables.{none_found}
 use Rattle.pddl_types.proofs.Views.{seen_entry}
 
 -- ---- by place
@@ -33,26 +35,17 @@ row_at (r ∷ rows) (suc i) t at = row_at rows i t at
 
 -- ---- by name
 
-number_keys : (rows : List Row) (t : Name) → position_or_len (λ k. bytes_eq t k.now) (keys_of rows) ≡ number_in (names_in rows) t
-number_keys [] t = refl
-number_keys (r ∷ rows) t = ap (λ n. cond (not (bytes_eq t r.0.now)) (1 + n) 0) (number_keys rows t)
-
 pub number_at : (rows : List Row) (t : Name) → is_some (parent_place rows t) ≡ true → StandsAt rows (number_in (names_in rows) t) t
-number_at [] t h = cc
-number_at (r ∷ rows) t h =
-    let later = number_in (names_in rows) t in
-    elim (bytes_eq t r.0.now) as (λ b. bytes_eq t r.0.now ≡ b → is_some (cond b (Some r.1) (parent_place rows t)) ≡ true → StandsAt (r ∷ rows) (cond (not b) (1 + later) 0) t) [
-      | true ↦ λ is _. ap Some (sym (bytes_same t r.0.now is))
-      | false ↦ λ _ there. let next : suc later ≡ 1 + later = omega arith in subst (λ i. StandsAt (r ∷ rows) i t) next (number_at rows t there)
+number_at rows t h =
+    elim (parent_place rows t) as (λ o. parent_place rows t ≡ o → is_some o ≡ true → StandsAt rows (number_in (names_in rows) t) t) [
+      | None ↦ λ _ none. cc
+      | Some p ↦ λ is _.
+          let (k, at, named) = entry_at rows t p is in
+          ap (slice_get (names_in rows)) (sym (number_lent rows t)) ∙ seen_entry (λ (r : Row). r.0.now) rows (position_or_len (λ k. bytes_eq t k.now) (keys_of rows)) (k, p) at ∙ ap Some named
     ] refl h
 
 pub number_past : (rows : List Row) (t : Name) → is_some (parent_place rows t) ≡ false → number_in (names_in rows) t ≡ length rows
-number_past [] t h = refl
-number_past (r ∷ rows) t h =
-    elim (bytes_eq t r.0.now) as (λ b. is_some (cond b (Some r.1) (parent_place rows t)) ≡ false → cond (not b) (1 + number_in (names_in rows) t) 0 ≡ suc (length rows)) [
-      | true ↦ λ k. cc
-      | false ↦ λ none. let past = number_past rows t none in omega (arith, past)
-    ] h
+number_past rows t h = sym (number_lent rows t) ∙ or_len-absent (λ k. bytes_eq t k.now) rows (absent_from_lookup (λ k. bytes_eq t k.now) rows (none_found (parent_place rows t) h))
 
 -- a name that stands at a place has that number, and beside it the place of its parent
 pub beside : (rows : List Row) (i : ℕ) (t : Name) → IsDistinct (λ x y. bytes_eq x.now y.now) (keys_of rows) → StandsAt rows i t
@@ -60,7 +53,7 @@ pub beside : (rows : List Row) (i : ℕ) (t : Name) → IsDistinct (λ x y. byte
 beside rows i t once at =
     let (r, here, named) = row_at rows i t at in
     subst (λ n. (number_in (names_in rows) n ≡ i) × (parent_place rows n ≡ Some (parent_of (parents_in rows) i))) named (
-      sym (number_keys rows r.0.now) ∙ or_len-first (λ k. bytes_eq r.0.now k.now) rows i (own_first (λ x y. bytes_eq x.now y.now) equiv rows i r.0 r.1 once here),
+      sym (number_lent rows r.0.now) ∙ or_len-first (λ k. bytes_eq r.0.now k.now) rows i (own_first (λ x y. bytes_eq x.now y.now) equiv rows i r.0 r.1 once here),
       lookup_from_place equiv rows i r.0 r.1 once here ∙ ap Some (sym (get_or_from_slice_get (parents_in rows) i r.1 i (seen_entry (λ (s : Row). s.1) rows i r here))),
     )
   where
@@ -71,7 +64,7 @@ beside rows i t once at =
 
 module _ (rows : List Row) (t : Name) where
   pub found_number : (i : ℕ) → position (λ k. bytes_eq t k.now) (keys_of rows) ≡ Some i → number_in (names_in rows) t ≡ i
-  found_number i at = sym (number_keys rows t) ∙ (Found-position (λ k. bytes_eq t k.now) rows i at).or_len
+  found_number i at = sym (number_lent rows t) ∙ (Found-position (λ k. bytes_eq t k.now) rows i at).or_len
 
   pub found_place : (i : ℕ) → position (λ k. bytes_eq t k.now) (keys_of rows) ≡ Some i → StandsAt rows i t
   found_place i at = subst (λ j. StandsAt rows j t) (found_number i at) (number_at rows t (sym (some_index (λ k. bytes_eq t k.now) rows) ∙ ap is_some at))

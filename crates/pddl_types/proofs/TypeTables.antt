@@ -79,19 +79,11 @@ module _ (rows after : List Row) (k : Bor (List ℕ)) (p : ℕ) (put_there : aft
       either : (c p r i a : Bool) → c || (p || (r || (i || a))) ≡ r || ((i || (c || false)) || (a || (p || false)))
       either c p r i a = grind arith
 
-      more : (f : TypeValue → Name) (t : Name) → is_in (map f told) t || (bytes_eq t (f d) || false) ≡ is_in (map f (told ++ d ∷ [])) t
-      more f t = sym (ap (λ ns. is_in ns t) (map-append f told (d ∷ [])) ∙ list_any-append (bytes_eq t) (map f told) (f d ∷ []))
-
-      split : (ms ns : List Name) (t : Name) → is_in ms t || is_in ns t ≡ is_in (ms ++ ns) t
-      split ms ns t = sym (list_any-append (bytes_eq t) ms ns)
-
       types_more : (t : Name) → is_in (k.now ∷ d.of ∷ types_of told) t ≡ is_in (types_of (told ++ d ∷ [])) t
       types_more t =
-          ap (λ n. bytes_eq t n || (bytes_eq t d.of || (bytes_eq t root || is_in (map item_of told ++ map parent_of told) t))) (sym item)
-          ∙ ap (λ b. bytes_eq t d.item || (bytes_eq t d.of || (bytes_eq t root || b))) (sym (split (map item_of told) (map parent_of told) t))
-          ∙ either (bytes_eq t d.item) (bytes_eq t d.of) (bytes_eq t root) (is_in (map item_of told) t) (is_in (map parent_of told) t)
-          ∙ (λ i. bytes_eq t root || (more item_of t i || more parent_of t i))
-          ∙ ap (λ b. bytes_eq t root || b) (split (map item_of (told ++ d ∷ [])) (map parent_of (told ++ d ∷ [])) t)
+          let is = bytes_eq t in
+          rw (← item, map-append item_of told (d ∷ []), map-append parent_of told (d ∷ []), list_any-append is (map item_of told ++ d.item ∷ []) (map parent_of told ++ d.of ∷ []), list_any-append is (map item_of told) (map parent_of told), list_any-append is (map item_of told) (d.item ∷ []), list_any-append is (map parent_of told) (d.of ∷ []))
+          (either (is d.item) (is d.of) (is root) (is_in (map item_of told) t) (is_in (map parent_of told) t))
 
 -- a type that does not stand there goes under `object`
 pub put_under_root : (told : List TypeValue) (rows after : List Row) (k : Bor (List ℕ)) → IsTableOf (types_of told) told rows → is_some (parent_place rows k.now) ≡ false → after ≡ put rows k 0

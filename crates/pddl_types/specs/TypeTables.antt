@@ -30,7 +30,7 @@ StandsAt rows place n = slice_get (names_in rows) place ≡ Some n
 abbrev pub parent_place : List Row → Name → Option ℕ
 parent_place rows t = lookup (λ k. bytes_eq t k.now) rows
 
--- a type's parent: as declared, or `object`
+-- a type's parent: as it is declared, else `object`
 abbrev pub parent_in : List TypeValue → Name → Name
 parent_in declared t = fold (λ over e. cond (bytes_eq t e.item) e.of over) root declared
 

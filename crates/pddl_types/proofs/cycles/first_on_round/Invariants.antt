@@ -7,5 +7,5 @@ use Rattle.pddl_types.proofs.cycles.first_on_round.Given as goal
 -- the types that are above themselves are among those that are left
 abbrev pub invariant-loop-declared_type : goal.invariant-loop-declared_type
 invariant-loop-declared_type g l =
-    let cyclic = is_cyclic (pairs (map type_view l.declared)) in
-    filter cyclic (map item_of (map type_view (drop l.declared_type-index l.declared))) ≡ filter cyclic (map item_of (map type_view l.declared))
+    let declared = map type_view l.declared in
+    filter (is_cyclic (pairs declared)) (drop l.declared_type-index (map item_of declared)) ≡ filter (is_cyclic (pairs declared)) (map item_of declared)
