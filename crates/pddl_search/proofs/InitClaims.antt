@@ -1,122 +1,155 @@
--- What is said in `:init`, as claims: items one after another, beside a table of what was claimed so far.
-use Rattle.std.proofs.Common.{◌≡◌, ℕ, ◌+◌, ◌<◌, ◌≤◌, Bool, true, false, ◌&&◌, ◌||◌, ◌==◌, not, cond, List, [], ◌∷◌, ◌++◌, map, length, get_or, drop, Option, Some, None, refl, ap, sym, ◌∙◌, subst, true≢false, arith}
+-- What is claimed in `:init`, one item after another, beside a table of what was claimed so far.
+use Rattle.std.proofs.Common.{◌≡◌, ℕ, suc, ◌+◌, ◌<◌, ◌≤◌, Bool, true, false, ◌&&◌, ◌||◌, ◌==◌, not, cond, List, [], ◌∷◌, ◌++◌, map, length, get_or, Option, Some, None, refl, ap, sym, ◌∙◌, subst, true≢false, arith}
 use Rattle.std.specs.Prelude.{Contains, unwrap_or}
-use Rattle.std.specs.Bool.{beq}
-use Rattle.std.specs.List.{list_any, filter_map}
+use Rattle.std.specs.List.{list_any, filter_map, cons_option}
 use Rattle.std.specs.Map.{lookup}
+use Rattle.std.proofs.Math.Bool.{and-true, and-false, or-false, or_comm}
 use Rattle.std.proofs.lemmas.List.{take_all}
-use Rattle.std.proofs.lemmas.List.Folds.{list_any-append}
 use Rattle.std.proofs.lemmas.Bool.Decides.{nat_tests}
 use Rattle.pddl_problem.specs.Inits.{GroundValue, InitValue, holds, fails, value}
-use Rattle.pddl_task.specs.Names.{Name, word_if}
-use Rattle.pddl_task.specs.Faults.{same_ground, contradicts, revalues, starts_above_zero, init_name, clashing, wrong_values}
-use Rattle.pddl_task.proofs.Lists.{or_right, or_none, none_left, none_right}
-use Rattle.pddl_search.specs.Claims.{literal_in, value_in, is_failure, HoldsValues}
+use Rattle.pddl_task.specs.Names.{word_if, wrong_words}
+use Rattle.pddl_task.specs.Faults.{same_ground, contradicts, revalues, starts_above_zero, init_name, clashing}
+use Rattle.pddl_task.proofs.Lists.{or_left, or_none, none_left, none_right, none_of, any_none}
+use Rattle.pddl_search.specs.declared.init.Claimed.{Claimed}
+use Rattle.pddl_search.specs.declared.init.Claimed.TheVariants.{Literals, Values}
+use Rattle.pddl_search.specs.Claims.{claim_in, wrong_in, is_failure, HoldsClaims}
 use Rattle.pddl_search.specs.Grounds.{ground_equiv, ground_is}
-use Rattle.pddl_search.proofs.Claims.{disagree, at_odds, Tells, tells_none, tells_more, holds_none, holds_more, clash_told, clash_none}
-use Rattle.pddl_faults.proofs.ListPasses.{views_drop}
-use Rattle.pddl_search.proofs.SeenItems.{seen_at, seen_more, seen_bad, seen_good}
+use Rattle.pddl_search.proofs.Claims.{any_more, disagree, at_odds, Tells, tells_none, tells_more, clash_told}
+use Rattle.pddl_search.proofs.SeenItems.{seen_at, seen_more, AreLeft, seen_bad, seen_good}
+
+-- ---- which claims clash
+
+-- two different numbers
+abbrev pub unequal : ℕ → ℕ → Bool
+unequal m n = not (m == n)
+
+unequal_own : (n : ℕ) → unequal n n ≡ false
+unequal_own n = grind (arith, nat_tests)
+
+unequal_is : (m n : ℕ) → unequal m n ≡ false → m ≡ n
+unequal_is m n h = grind (arith, nat_tests, h)
+
+pub unequal_yes : (m n : ℕ) → (m ≡ n → ⊥) → unequal m n ≡ true
+unequal_yes m n h = grind (arith, nat_tests, h)
+
+pub unequal_no : (m n : ℕ) → m ≡ n → unequal m n ≡ false
+unequal_no m n h = ap (unequal m) (sym h) ∙ unequal_own m
+
+-- which items clash
+abbrev clash_in : Claimed → InitValue → InitValue → Bool
+clash_in Literals = contradicts
+clash_in Values = revalues
+
+clash_is : (kind : Claimed) (i j : InitValue) → clash_in kind i j ≡ disagree same_ground unequal (claim_in kind i) (claim_in kind j)
+clash_is Literals (holds f) (holds g) = sym (and-false (same_ground f g))
+clash_is Literals (holds f) (fails g) = sym (and-true (same_ground f g))
+clash_is Literals (holds f) (value g n) = refl
+clash_is Literals (fails f) (holds g) = sym (and-true (same_ground f g))
+clash_is Literals (fails f) (fails g) = sym (and-false (same_ground f g))
+clash_is Literals (fails f) (value g n) = refl
+clash_is Literals (value f m) j = refl
+clash_is Values (value f m) (value g n) = refl
+clash_is Values (value f m) (holds g) = refl
+clash_is Values (value f m) (fails g) = refl
+clash_is Values (holds f) j = refl
+clash_is Values (fails f) j = refl
+
+-- an item that claims something is wrong alone, or clashes with one before it
+wrong_is : (kind : Claimed) (seen : List InitValue) (x : InitValue) (c : GroundValue × ℕ) → claim_in kind x ≡ Some c → wrong_in kind seen x ≡ list_any (clash_in kind x) seen || starts_above_zero x
+wrong_is Literals seen (holds f) c is = sym (or-false (list_any (contradicts (holds f)) seen))
+wrong_is Literals seen (fails f) c is = sym (or-false (list_any (contradicts (fails f)) seen))
+wrong_is Literals seen (value f n) c is = cc
+wrong_is Values seen x c is = or_comm (starts_above_zero x) (list_any (revalues x) seen)
+
+-- and one that claims nothing is not
+wrong_none : (kind : Claimed) (seen : List InitValue) (x : InitValue) → claim_in kind x ≡ None → wrong_in kind seen x ≡ list_any (clash_in kind x) seen
+wrong_none Literals seen x is = refl
+wrong_none Values seen (holds f) is = refl
+wrong_none Values seen (fails f) is = refl
+wrong_none Values seen (value f n) is = cc
+
+-- ---- a table of claims
 
 -- what a table says of each key
-abbrev pub told_by : {V : Type 0} → List (GroundValue × V) → GroundValue → Option V
+abbrev told_by : List (GroundValue × ℕ) → GroundValue → Option ℕ
 told_by es k = lookup (same_ground k) es
 
--- what an insertion answers tells whether the table said another value
-pub was_at_odds : {V : Type 0} (other : V → V → Bool) (v before : V) (old : Option V) (found : Option V) (b : Bool) → before ≡ unwrap_or old v → old ≡ found → other v before ≡ b → at_odds other found v ≡ b
-was_at_odds other v before old found b before_is old_is odds = ap (λ o. other v (unwrap_or o v)) (sym old_is) ∙ ap (other v) (sym before_is) ∙ odds
+-- what was told before, as an insertion answers it
+pub told_before : (es : List (GroundValue × ℕ)) (k : GroundValue) (v before : ℕ) (old : Option ℕ) → before ≡ unwrap_or old v → old ≡ told_by es k → before ≡ unwrap_or (told_by es k) v
+told_before es k v before old before_is old_is = before_is ∙ ap (λ o. unwrap_or o v) old_is
 
--- Items that follow those seen: each that is wrong alone, or clashes with one before, has its word. In front of item i, the table
--- tells what was claimed, and the words of the whole are those of what is left.
-pub record Checked {X V : Type 0} (view : X → InitValue) (other : V → V → Bool) (claim : InitValue → Option (GroundValue × V)) (words : List InitValue → List InitValue → List Name)
-    (xs : List X) (i : ℕ) (table : GroundValue → Option V) : Type 0 where
-  pub told : Tells same_ground other claim table (seen_at view [] xs i)
-  pub rest : words (seen_at view [] xs i) (map view (drop i xs)) ≡ words [] (map view xs)
+abbrev TellsClaims : Claimed → List (GroundValue × ℕ) → List InitValue → Type 0
+TellsClaims kind es seen = Tells same_ground unequal (claim_in kind) (told_by es) seen
 
-module _ {X V : Type 0} (view : X → InitValue) (other : V → V → Bool) (own : (v : V) → other v v ≡ false) (values_are : (v w : V) → other v w ≡ false → v ≡ w)
-    (claim : InitValue → Option (GroundValue × V)) (clash : InitValue → InitValue → Bool) (clash_is : (i j : InitValue) → clash i j ≡ disagree same_ground other (claim i) (claim j))
-    (alone : InitValue → Bool) (words : List InitValue → List InitValue → List Name)
-    (step : (seen : List InitValue) (x : InitValue) (rest : List InitValue) → words seen (x ∷ rest) ≡ word_if (alone x || list_any (clash x) seen) (init_name x) ++ words (seen ++ x ∷ []) rest)
-    (xs : List X) where
-  pub checked_start : (es : List (GroundValue × V)) → es ≡ [] → Checked view other claim words xs 0 (told_by es)
-  checked_start es empty = record { told = λ k v. sym (ap (λ ds. other v (unwrap_or (told_by ds k) v)) empty ∙ own v); rest = refl }
+-- what it says of a key is what is claimed first of it
+told_first : (kind : Claimed) (q : GroundValue) (o : Option ℕ) (seen : List InitValue)
+    → ((v : ℕ) → list_any (λ j. disagree same_ground unequal (Some (q, v)) (claim_in kind j)) seen ≡ at_odds unequal o v) → o ≡ lookup (same_ground q) (filter_map (claim_in kind) seen)
+told_first kind q None [] told = refl
+told_first kind q (Some u) [] told = absurd (true≢false (sym (unequal_yes (suc u) u (λ e. omega (arith, e))) ∙ sym (told (suc u))))
+told_first kind q o (x ∷ seen) told =
+    claimed (claim_in kind x) (λ v. list_any (λ j. disagree same_ground unequal (Some (q, v)) (claim_in kind j)) seen) (filter_map (claim_in kind) seen) (told_first kind q o seen) told
+  where
+    agreed : (p : Option ℕ) (n : ℕ) (later : ℕ → Bool) → ((v : ℕ) → unequal v n || later v ≡ at_odds unequal p v) → p ≡ Some n
+    agreed None n later k = absurd (true≢false (sym (or_left (unequal (suc n) n) (later (suc n)) (unequal_yes (suc n) n (λ e. omega (arith, e)))) ∙ k (suc n) ∙ unequal_own (suc n)))
+    agreed (Some u) n later k = ap Some (unequal_is u n (none_left (unequal u n) (later u) (k u ∙ unequal_own u)))
 
-  module _ (i : ℕ) (x : X) (table : GroundValue → Option V) (h : i < length xs) (at : x ≡ get_or xs i x) (l : Checked view other claim words xs i table) where
-    -- an item that is wrong alone
-    pub wrong_alone : alone (view x) ≡ true → Contains (words [] (map view xs)) (init_name (view x))
-    wrong_alone is =
-        seen_bad view init_name (λ seen y. alone y || list_any (clash y) seen) words step [] xs i x (words [] (map view xs)) h at l.rest
-        (ap (λ b. b || list_any (clash (view x)) (seen_at view [] xs i)) is)
+    joined : (b : Bool) (n : ℕ) (later : ℕ → Bool) (found : Option ℕ) → (((v : ℕ) → later v ≡ at_odds unequal o v) → o ≡ found)
+        → ((v : ℕ) → (b && unequal v n) || later v ≡ at_odds unequal o v) → o ≡ cond b (Some n) found
+    joined true n later found rest k = agreed o n later k
+    joined false n later found rest k = rest k
 
-    -- one whose claim disagrees with the table
-    pub wrong_beside : (k : GroundValue) (v : V) → claim (view x) ≡ Some (k, v) → at_odds other (table k) v ≡ true → Contains (words [] (map view xs)) (init_name (view x))
-    wrong_beside k v claims odds =
-        seen_bad view init_name (λ seen y. alone y || list_any (clash y) seen) words step [] xs i x (words [] (map view xs)) h at l.rest
-        (or_right (alone (view x)) (list_any (clash (view x)) (seen_at view [] xs i))
-        (clash_told same_ground ground_equiv ground_is other own values_are claim clash clash_is table (seen_at view [] xs i) (view x) k v claims l.told ∙ odds))
+    claimed : (c : Option (GroundValue × ℕ)) (later : ℕ → Bool) (cs : List (GroundValue × ℕ)) → (((v : ℕ) → later v ≡ at_odds unequal o v) → o ≡ lookup (same_ground q) cs)
+        → ((v : ℕ) → disagree same_ground unequal (Some (q, v)) c || later v ≡ at_odds unequal o v) → o ≡ lookup (same_ground q) (cons_option c cs)
+    claimed None later cs rest k = rest k
+    claimed (Some d) later cs rest k = joined (same_ground q d.0) d.1 later (lookup (same_ground q) cs) rest k
 
-    -- one that claims nothing
-    pub checked_none : alone (view x) ≡ false → claim (view x) ≡ None → Checked view other claim words xs (i + 1) table
-    checked_none fine none = record {
-      told = subst (λ s. Tells same_ground other claim table s) (sym (seen_more view [] xs i x h at))
-          (tells_none same_ground ground_equiv ground_is other own values_are claim table (seen_at view [] xs i) (view x) none l.told);
-      rest = seen_good view init_name (λ seen y. alone y || list_any (clash y) seen) words step [] xs i x (words [] (map view xs)) h at l.rest
-          (or_none (alone (view x)) (list_any (clash (view x)) (seen_at view [] xs i)) fine
-          (clash_none same_ground ground_equiv ground_is other own values_are claim clash clash_is (seen_at view [] xs i) (view x) none));
-    }
+-- In front of item i, a table tells what was claimed so far, and the words of the whole are those of what is left.
+pub record Checked {X : Type 0} (view : X → InitValue) (kind : Claimed) (xs : List X) (i : ℕ) (es : List (GroundValue × ℕ)) : Type 0 where
+  pub told : TellsClaims kind es (seen_at view [] xs i)
+  pub rest : AreLeft view init_name (wrong_in kind) [] xs i
 
-    -- one whose claim the table did not gainsay, and now has
-    pub checked_more : (next : GroundValue → Option V) (k : GroundValue) (v : V) → alone (view x) ≡ false → claim (view x) ≡ Some (k, v) → at_odds other (table k) v ≡ false
-        → ((q : GroundValue) → next q ≡ cond (same_ground k q) (Some v) (table q)) → Checked view other claim words xs (i + 1) next
-    checked_more next k v fine claims agrees grows = record {
-      told = subst (λ s. Tells same_ground other claim next s) (sym (seen_more view [] xs i x h at))
-          (tells_more same_ground ground_equiv ground_is other own values_are claim table next (seen_at view [] xs i) (view x) k v claims l.told agrees grows);
-      rest = seen_good view init_name (λ seen y. alone y || list_any (clash y) seen) words step [] xs i x (words [] (map view xs)) h at l.rest
-          (or_none (alone (view x)) (list_any (clash (view x)) (seen_at view [] xs i)) fine
-          (clash_told same_ground ground_equiv ground_is other own values_are claim clash clash_is table (seen_at view [] xs i) (view x) k v claims l.told ∙ agrees));
-    }
+module _ {X : Type 0} (view : X → InitValue) (kind : Claimed) (xs : List X) where
+  pub checked_start : (es : List (GroundValue × ℕ)) → es ≡ [] → Checked view kind xs 0 es
+  checked_start es empty = record { told = λ k v. sym (ap (λ ds. at_odds unequal (told_by ds k) v) empty ∙ unequal_own v); rest = refl }
 
--- ---- atoms that hold and fail
+  module _ (i : ℕ) (x : X) (es : List (GroundValue × ℕ)) (h : i < length xs) (at : x ≡ get_or xs i x) (l : Checked view kind xs i es) where
+    abbrev so_far : List InitValue
+    so_far = seen_at view [] xs i
 
-and_no : (b : Bool) → false ≡ b && false
-and_no true = refl
-and_no false = refl
+    -- one more item that is right
+    pass : (next : List (GroundValue × ℕ)) → TellsClaims kind next (so_far ++ view x ∷ []) → wrong_in kind so_far (view x) ≡ false → Checked view kind xs (i + 1) next
+    pass next tells fine = record { told = subst (TellsClaims kind next) (sym (seen_more view [] xs i x h at)) tells; rest = seen_good view init_name (wrong_in kind) [] xs i x h at l.rest fine }
 
-and_yes : (b : Bool) → b ≡ b && true
-and_yes true = refl
-and_yes false = refl
+    -- an item that claims nothing
+    pub checked_none : claim_in kind (view x) ≡ None → Checked view kind xs (i + 1) es
+    checked_none none =
+        pass es (tells_none same_ground unequal (claim_in kind) (told_by es) so_far (view x) none l.told)
+        (wrong_none kind so_far (view x) none ∙ none_of (clash_in kind (view x)) so_far (λ j c. clash_is kind (view x) j ∙ ap (λ d. disagree same_ground unequal d (claim_in kind j)) none))
 
--- one of two holds and the other fails
-abbrev pub opposite : Bool → Bool → Bool
-opposite b c = not (beq b c)
+    -- one that claims a number of a key, where the table says the same or another one
+    module _ (k : GroundValue) (v before : ℕ) (claims : claim_in kind (view x) ≡ Some (k, v)) (before_is : before ≡ unwrap_or (told_by es k) v) where
+      wrong_here : wrong_in kind so_far (view x) ≡ unequal v before || starts_above_zero (view x)
+      wrong_here =
+          wrong_is kind so_far (view x) (k, v) claims
+          ∙ ap (λ b. b || starts_above_zero (view x))
+          (clash_told same_ground ground_equiv ground_is unequal unequal_own unequal_is (claim_in kind) (clash_in kind) (clash_is kind) (told_by es) so_far (view x) k v claims l.told
+          ∙ ap (unequal v) (sym before_is))
 
-pub opposite_own : (b : Bool) → opposite b b ≡ false
-opposite_own true = refl
-opposite_own false = refl
+      pub checked_wrong : unequal v before || starts_above_zero (view x) ≡ true → Contains (wrong_words (wrong_in kind) init_name [] (map view xs)) (init_name (view x))
+      checked_wrong is = seen_bad view init_name (wrong_in kind) [] xs i x h at l.rest (wrong_here ∙ is)
 
-pub opposite_is : (b c : Bool) → opposite b c ≡ false → b ≡ c
-opposite_is true true h = refl
-opposite_is true false h = absurd (true≢false h)
-opposite_is false true h = absurd (true≢false h)
-opposite_is false false h = refl
+      pub checked_more : (next : List (GroundValue × ℕ)) → unequal v before || starts_above_zero (view x) ≡ false → ((q : GroundValue) → told_by next q ≡ cond (same_ground k q) (Some v) (told_by es q)) → Checked view kind xs (i + 1) next
+      checked_more next fine grows =
+          pass next
+          (tells_more same_ground ground_equiv ground_is unequal unequal_own unequal_is (claim_in kind) (told_by es) (told_by next) so_far (view x) k v claims l.told
+          (ap (unequal v) (sym before_is) ∙ none_left (unequal v before) (starts_above_zero (view x)) fine) grows)
+          (wrong_here ∙ fine)
 
-pub contradicts_is : (i j : InitValue) → contradicts i j ≡ disagree same_ground opposite (literal_in i) (literal_in j)
-contradicts_is (holds f) (holds g) = and_no (same_ground f g)
-contradicts_is (holds f) (fails g) = and_yes (same_ground f g)
-contradicts_is (holds f) (value g n) = refl
-contradicts_is (fails f) (holds g) = and_yes (same_ground f g)
-contradicts_is (fails f) (fails g) = and_no (same_ground f g)
-contradicts_is (fails f) (value g n) = refl
-contradicts_is (value f m) j = refl
+  -- all have been looked at
+  pub all_checked : (i : ℕ) (es : List (GroundValue × ℕ)) → length xs ≤ i → Checked view kind xs i es → HoldsClaims kind (map view xs) es
+  all_checked i es past l = λ q. told_first kind q (told_by es q) (map view xs) (λ v. subst (λ ys. TellsClaims kind es (map view ys)) (take_all i xs past) l.told q v)
 
--- no literal is wrong alone
-abbrev pub no_item : InitValue → Bool
-no_item x = false
-
-pub clashing_step : (seen : List InitValue) (x : InitValue) (rest : List InitValue)
-    → clashing contradicts seen (x ∷ rest) ≡ word_if (no_item x || list_any (contradicts x) seen) (init_name x) ++ clashing contradicts (seen ++ x ∷ []) rest
-clashing_step seen x rest = refl
-
--- ---- where no atom fails
+-- ---- where no atom fails, none holds and fails
 
 neither_fails : (i j : InitValue) → is_failure i ≡ false → is_failure j ≡ false → contradicts i j ≡ false
 neither_fails (holds f) (holds g) h k = refl
@@ -125,92 +158,11 @@ neither_fails (holds f) (value g n) h k = refl
 neither_fails (fails f) j h k = absurd (true≢false h)
 neither_fails (value f n) j h k = refl
 
-none_beside : (i : InitValue) (seen : List InitValue) → is_failure i ≡ false → list_any is_failure seen ≡ false → list_any (contradicts i) seen ≡ false
-none_beside i [] h k = refl
-none_beside i (j ∷ seen) h k =
-    or_none (contradicts i j) (list_any (contradicts i) seen)
-    (neither_fails i j h (none_left (is_failure j) (list_any is_failure seen) k))
-    (none_beside i seen h (none_right (is_failure j) (list_any is_failure seen) k))
-
-none_seen : (seen : List InitValue) (i : InitValue) → list_any is_failure seen ≡ false → is_failure i ≡ false → list_any is_failure (seen ++ i ∷ []) ≡ false
-none_seen seen i h k =
-    list_any-append is_failure seen (i ∷ []) ∙ or_none (list_any is_failure seen) (is_failure i || false) h (or_none (is_failure i) false k refl)
-
--- an item is in turn, and then those that are left
-pub failures_left : {X : Type 0} (view : X → InitValue) (xs : List X) (i : ℕ) (x : X) → i < length xs → x ≡ get_or xs i x
-    → list_any is_failure (map view (drop i xs)) ≡ is_failure (view x) || list_any is_failure (map view (drop (i + 1) xs))
-failures_left view xs i x h at = ap (list_any is_failure) (views_drop view xs i x h at)
-
-pub no_failures : (seen xs : List InitValue) → list_any is_failure seen ≡ false → list_any is_failure xs ≡ false → clashing contradicts seen xs ≡ []
-no_failures seen [] h k = refl
-no_failures seen (x ∷ xs) h k =
-    let fine = none_left (is_failure x) (list_any is_failure xs) k in
-    ap (λ b. word_if b (init_name x) ++ clashing contradicts (seen ++ x ∷ []) xs) (none_beside x seen fine h)
-    ∙ no_failures (seen ++ x ∷ []) xs (none_seen seen x h fine) (none_right (is_failure x) (list_any is_failure xs) k)
-
--- ---- values of functions
-
--- two different numbers
-abbrev pub unequal : ℕ → ℕ → Bool
-unequal m n = not (m == n)
-
-pub unequal_own : (n : ℕ) → unequal n n ≡ false
-unequal_own n = grind (arith, nat_tests)
-
-pub unequal_is : (m n : ℕ) → unequal m n ≡ false → m ≡ n
-unequal_is m n h = grind (arith, nat_tests, h)
-
-pub unequal_yes : (m n : ℕ) → (m ≡ n → ⊥) → unequal m n ≡ true
-unequal_yes m n h = grind (arith, nat_tests, h)
-
-pub unequal_no : (m n : ℕ) → m ≡ n → unequal m n ≡ false
-unequal_no m n h = grind (arith, nat_tests, h)
-
-pub revalues_is : (i j : InitValue) → revalues i j ≡ disagree same_ground unequal (value_in i) (value_in j)
-revalues_is (value f m) (value g n) = refl
-revalues_is (value f m) (holds g) = refl
-revalues_is (value f m) (fails g) = refl
-revalues_is (holds f) j = refl
-revalues_is (fails f) j = refl
-
-pub wrong_step : (seen : List InitValue) (x : InitValue) (rest : List InitValue)
-    → wrong_values seen (x ∷ rest) ≡ word_if (starts_above_zero x || list_any (revalues x) seen) (init_name x) ++ wrong_values (seen ++ x ∷ []) rest
-wrong_step seen x rest = refl
-
--- items with values, in front of one of them: so far none is wrong, and the table has the value of each function of objects
-pub record Valued {X : Type 0} (view : X → InitValue) (xs : List X) (i : ℕ) (table : GroundValue → Option ℕ) : Type 0 where
-  pub checked : Checked view unequal value_in wrong_values xs i table
-  pub has : (g : GroundValue) → table g ≡ lookup (same_ground g) (filter_map value_in (seen_at view [] xs i))
-
-module _ {X : Type 0} (view : X → InitValue) (xs : List X) where
-  pub valued_start : (es : List (GroundValue × ℕ)) → es ≡ [] → Valued view xs 0 (told_by es)
-  valued_start es empty = record {
-    checked = checked_start view unequal unequal_own unequal_is value_in revalues revalues_is starts_above_zero wrong_values wrong_step xs es empty;
-    has = λ g. ap (lookup (same_ground g)) empty;
-  }
-
-  module _ (i : ℕ) (x : X) (table : GroundValue → Option ℕ) (h : i < length xs) (at : x ≡ get_or xs i x) (l : Valued view xs i table) where
-    pub starts_wrong : starts_above_zero (view x) ≡ true → Contains (wrong_values [] (map view xs)) (init_name (view x))
-    starts_wrong = wrong_alone view unequal unequal_own unequal_is value_in revalues revalues_is starts_above_zero wrong_values wrong_step xs i x table h at l.checked
-
-    pub valued_otherwise : (g : GroundValue) (n : ℕ) → value_in (view x) ≡ Some (g, n) → at_odds unequal (table g) n ≡ true → Contains (wrong_values [] (map view xs)) (init_name (view x))
-    valued_otherwise = wrong_beside view unequal unequal_own unequal_is value_in revalues revalues_is starts_above_zero wrong_values wrong_step xs i x table h at l.checked
-
-    pub valued_none : starts_above_zero (view x) ≡ false → value_in (view x) ≡ None → Valued view xs (i + 1) table
-    valued_none fine none = record {
-      checked = checked_none view unequal unequal_own unequal_is value_in revalues revalues_is starts_above_zero wrong_values wrong_step xs i x table h at l.checked fine none;
-      has = λ g. holds_none same_ground ground_equiv ground_is unequal unequal_own unequal_is value_in table (seen_at view [] xs i) (view x) none l.has g
-          ∙ ap (λ s. lookup (same_ground g) (filter_map value_in s)) (sym (seen_more view [] xs i x h at));
-    }
-
-    pub valued_more : (next : GroundValue → Option ℕ) (g : GroundValue) (n : ℕ) → starts_above_zero (view x) ≡ false → value_in (view x) ≡ Some (g, n) → at_odds unequal (table g) n ≡ false
-        → ((q : GroundValue) → next q ≡ cond (same_ground g q) (Some n) (table q)) → Valued view xs (i + 1) next
-    valued_more next g n fine claims agrees grows = record {
-      checked = checked_more view unequal unequal_own unequal_is value_in revalues revalues_is starts_above_zero wrong_values wrong_step xs i x table h at l.checked next g n fine claims agrees grows;
-      has = λ q. holds_more same_ground ground_equiv ground_is unequal unequal_own unequal_is value_in table next (seen_at view [] xs i) (view x) g n claims l.has agrees grows q
-          ∙ ap (λ s. lookup (same_ground q) (filter_map value_in s)) (sym (seen_more view [] xs i x h at));
-    }
-
-  -- all have been looked at
-  pub all_valued : (i : ℕ) (es : List (GroundValue × ℕ)) → length xs ≤ i → Valued view xs i (told_by es) → HoldsValues (map view xs) es
-  all_valued i es past l = λ g. l.has g ∙ ap (λ ys. lookup (same_ground g) (filter_map value_in (map view ys))) (take_all i xs past)
+pub no_failures : {X : Type 0} (view : X → InitValue) (seen : List InitValue) (xs : List X) → list_any is_failure seen ≡ false → list_any (λ x. is_failure (view x)) xs ≡ false
+    → clashing contradicts seen (map view xs) ≡ []
+no_failures view seen [] h k = refl
+no_failures view seen (x ∷ xs) h k =
+    let own = none_left (is_failure (view x)) (list_any (λ y. is_failure (view y)) xs) k in
+    let more = any_more is_failure seen (view x) ∙ or_none (list_any is_failure seen) (is_failure (view x)) h own in
+    ap (λ b. word_if b (init_name (view x)) ++ clashing contradicts (seen ++ view x ∷ []) (map view xs)) (none_of (contradicts (view x)) seen (λ j c. neither_fails (view x) j own (any_none is_failure seen j h c)))
+    ∙ no_failures view (seen ++ view x ∷ []) xs more (none_right (is_failure (view x)) (list_any (λ y. is_failure (view y)) xs) k)

@@ -2,7 +2,7 @@
 use Rattle.std.proofs.Common.{◌≡◌, ℕ, ◌+◌, ◌<◌, Bool, true, false, List, [], ◌∷◌, ◌++◌, map, length, get_or, take, drop, refl, ap, sym, ◌∙◌, subst, arith}
 use Rattle.std.specs.Prelude.{Contains}
 use Rattle.std.proofs.lemmas.List.{take_more, map-append, append_assoc}
-use Rattle.pddl_task.specs.Names.{Name, word_if}
+use Rattle.pddl_task.specs.Names.{Name, word_if, wrong_words}
 use Rattle.pddl_faults.proofs.ListPasses.{views_drop}
 
 -- what was seen before the walk, and what the walk has seen
@@ -17,27 +17,26 @@ seen_more view before xs i x h at =
     ∙ sym (append_assoc before (map view (take i xs)) (view (get_or xs i x) ∷ []))
     ∙ ap (λ y. seen_at view before xs i ++ view y ∷ []) (sym at)
 
--- the words of items that follow those seen: that of the first, where it is bad beside them, and those of the rest
-module _ {X I : Type 0} (view : X → I) (word : I → Name) (bad : List I → I → Bool) (words : List I → List I → List Name)
-    (step : (seen : List I) (x : I) (rest : List I) → words seen (x ∷ rest) ≡ word_if (bad seen x) (word x) ++ words (seen ++ x ∷ []) rest) where
-  here : (before : List I) (xs : List X) (i : ℕ) (x : X) (whole : List Name) → i < length xs → x ≡ get_or xs i x
-      → words (seen_at view before xs i) (map view (drop i xs)) ≡ whole
-      → word_if (bad (seen_at view before xs i) (view x)) (word (view x)) ++ words (seen_at view before xs i ++ view x ∷ []) (map view (drop (i + 1) xs)) ≡ whole
-  here before xs i x whole h at is =
-      sym (step (seen_at view before xs i) (view x) (map view (drop (i + 1) xs))) ∙ sym (ap (words (seen_at view before xs i)) (views_drop view xs i x h at)) ∙ is
+-- the words of items behind others: that of each that is bad beside those seen
+module _ {X I : Type 0} (view : X → I) (word : I → Name) (bad : List I → I → Bool) (before : List I) (xs : List X) where
+  abbrev whole : List Name
+  whole = wrong_words bad word before (map view xs)
 
-  -- an item that is bad beside those seen has its word
-  pub seen_bad : (before : List I) (xs : List X) (i : ℕ) (x : X) (whole : List Name) → i < length xs → x ≡ get_or xs i x
-      → words (seen_at view before xs i) (map view (drop i xs)) ≡ whole → bad (seen_at view before xs i) (view x) ≡ true → Contains whole (word (view x))
-  seen_bad before xs i x whole h at is is_bad =
-      let first : word (view x) ∷ words (seen_at view before xs i ++ view x ∷ []) (map view (drop (i + 1) xs)) ≡ whole =
-      ap (λ b. word_if b (word (view x)) ++ words (seen_at view before xs i ++ view x ∷ []) (map view (drop (i + 1) xs))) (sym is_bad) ∙ here before xs i x whole h at is in
-      subst (λ ws. Contains ws (word (view x))) first (0, omega arith, refl)
+  -- in front of an item, the words of the whole are those of what is left
+  abbrev pub AreLeft : ℕ → Type 0
+  AreLeft i = wrong_words bad word (seen_at view before xs i) (map view (drop i xs)) ≡ whole
 
-  -- another one is seen, and the walk goes on
-  pub seen_good : (before : List I) (xs : List X) (i : ℕ) (x : X) (whole : List Name) → i < length xs → x ≡ get_or xs i x
-      → words (seen_at view before xs i) (map view (drop i xs)) ≡ whole → bad (seen_at view before xs i) (view x) ≡ false
-      → words (seen_at view before xs (i + 1)) (map view (drop (i + 1) xs)) ≡ whole
-  seen_good before xs i x whole h at is is_good =
-      ap (λ s. words s (map view (drop (i + 1) xs))) (seen_more view before xs i x h at)
-      ∙ ap (λ b. word_if b (word (view x)) ++ words (seen_at view before xs i ++ view x ∷ []) (map view (drop (i + 1) xs))) (sym is_good) ∙ here before xs i x whole h at is
+  module _ (i : ℕ) (x : X) (h : i < length xs) (at : x ≡ get_or xs i x) (left : AreLeft i) where
+    here : (b : Bool) → bad (seen_at view before xs i) (view x) ≡ b
+        → word_if b (word (view x)) ++ wrong_words bad word (seen_at view before xs i ++ view x ∷ []) (map view (drop (i + 1) xs)) ≡ whole
+    here b is =
+        ap (λ c. word_if c (word (view x)) ++ wrong_words bad word (seen_at view before xs i ++ view x ∷ []) (map view (drop (i + 1) xs))) (sym is)
+        ∙ ap (wrong_words bad word (seen_at view before xs i)) (sym (views_drop view xs i x h at)) ∙ left
+
+    -- an item that is bad beside those seen has its word
+    pub seen_bad : bad (seen_at view before xs i) (view x) ≡ true → Contains whole (word (view x))
+    seen_bad is = subst (λ ws. Contains ws (word (view x))) (here true is) (0, omega arith, refl)
+
+    -- another one is seen, and the walk goes on
+    pub seen_good : bad (seen_at view before xs i) (view x) ≡ false → AreLeft (i + 1)
+    seen_good is = ap (λ s. wrong_words bad word s (map view (drop (i + 1) xs))) (seen_more view before xs i x h at) ∙ here false is

@@ -1,11 +1,12 @@
 //! Atoms that hold and fail in `:init`, and functions of objects that have two values there.
 
-ghost use Rattle.std.specs.Prelude.{◌≡◌, [], map, OnOk};
+ghost use Rattle.std.specs.Prelude.{◌≡◌, [], map, Some, OnOk};
 ghost use Rattle.std.specs.List.{list_any};
 ghost use Rattle.pddl_problem.specs.Inits.{init_view};
+ghost use Rattle.pddl_task.specs.Names.{wrong_words};
 ghost use Rattle.pddl_task.specs.Faults.{contradicts, init_name, clashing, wrong_values, starts_above_zero};
-ghost use Rattle.pddl_search.specs.Claims.{literal_in, value_in, is_failure, HoldsValues};
-ghost use Rattle.pddl_faults.specs.Passes.{Passes};
+ghost use Rattle.pddl_faults.specs.Passes.{fault_of, Passes};
+ghost use Rattle.pddl_search.specs.Claims.{claim_in, wrong_in, fault_number, is_failure, HoldsClaims, HoldsValues};
 
 use crate::ground::Ground;
 use indexmap::IndexMap;
@@ -16,42 +17,39 @@ use std::alloc::Allocator;
 /// Functions of objects, each with its value in billionths.
 pub type Values<'d, 'a, A, B> = IndexMap<Ground<'d, A>, u64, Hashed, &'a B>;
 
-/// The atom that an item of `:init` is about, and whether it holds there.
-fn literal<'d, A: Allocator>(item: &'d InitItem<A>) -> Option<(Ground<'d, A>, bool)>
-    ensures { result ≡ literal_in (init_view item.now) }
-{
-    match item {
-        InitItem::Holds(fact) => Some((Ground::of(fact.predicate.as_bytes(), &fact.objects), true)),
-        InitItem::Fails(fact) => Some((
-            Ground::of(fact.predicate.as_bytes(), &fact.objects),
-            false,
-        )),
-        InitItem::Value(_, _) => None,
-    }
+/// What is looked at: which atoms hold, or the values of functions of objects.
+#[derive(Clone, Copy)]
+enum Claimed {
+    Literals,
+    Values,
 }
 
-/// The function of objects that an item of `:init` is about, and its value in billionths.
-fn value<'d, A: Allocator>(item: &'d InitItem<A>) -> Option<(Ground<'d, A>, u64)>
-    ensures { result ≡ value_in (init_view item.now) }
+/// What an item claims: 1 of an atom that holds, 0 of one that fails, or the value of a function of objects in billionths.
+fn claim<'d, A: Allocator>(item: &'d InitItem<A>, kind: Claimed) -> Option<(Ground<'d, A>, u64)>
+    ensures { result ≡ claim_in kind (init_view item.now) }
 {
-    match item {
-        InitItem::Holds(_) => None,
-        InitItem::Fails(_) => None,
-        InitItem::Value(call, amount) => Some((
-            Ground::of(call.function.as_bytes(), &call.objects),
-            amount.billionths(),
-        )),
-    }
+    let (name, objects, number) = match (kind, item) {
+        (Claimed::Literals, InitItem::Holds(fact)) => (fact.predicate.as_bytes(), &fact.objects, 1),
+        (Claimed::Literals, InitItem::Fails(fact)) => (fact.predicate.as_bytes(), &fact.objects, 0),
+        (Claimed::Values, InitItem::Value(call, amount)) => {
+            (call.function.as_bytes(), &call.objects, amount.billionths())
+        }
+        _ => return None,
+    };
+    Some((Ground::of(name, objects), number))
 }
 
-/// The predicate or the function of an item of `:init`.
-fn name_of<'d, A: Allocator>(item: &'d InitItem<A>) -> &'d [u8]
-    ensures { result.now ≡ init_name (init_view item.now) }
+/// The fault of an item that is wrong.
+fn wrong_item<'d, A: Allocator>(item: &'d InitItem<A>, kind: Claimed) -> LinkFault<'d>
+    ensures { fault_of result ≡ Some (fault_number kind, init_name (init_view item.now)) }
 {
-    match item {
-        InitItem::Holds(fact) => fact.predicate.as_bytes(),
-        InitItem::Fails(fact) => fact.predicate.as_bytes(),
+    let name = match item {
+        InitItem::Holds(fact) | InitItem::Fails(fact) => fact.predicate.as_bytes(),
         InitItem::Value(call, _) => call.function.as_bytes(),
+    };
+    match kind {
+        Claimed::Literals => LinkFault::InitContradiction(name),
+        Claimed::Values => LinkFault::CostValue(name),
     }
 }
 
@@ -59,55 +57,36 @@ fn name_of<'d, A: Allocator>(item: &'d InitItem<A>) -> &'d [u8]
 fn starts_above_zero<A: Allocator>(item: &InitItem<A>) -> bool
     ensures { result ≡ starts_above_zero (init_view item.now) }
 {
-    match item {
-        InitItem::Holds(_) => false,
-        InitItem::Fails(_) => false,
-        InitItem::Value(call, amount) => {
-            call.function.as_bytes() == b"total-cost".as_slice() && amount.billionths() != 0
-        }
-    }
+    matches!(item, InitItem::Value(call, amount)
+        if call.function.as_bytes() == b"total-cost".as_slice() && amount.billionths() != 0)
 }
 
-/// Whether an item of `:init` says of an atom that it fails.
-fn is_failure<A: Allocator>(item: &InitItem<A>) -> bool
-    ensures { result ≡ is_failure (init_view item.now) }
-{
-    match item {
-        InitItem::Holds(_) => false,
-        InitItem::Fails(_) => true,
-        InitItem::Value(_, _) => false,
-    }
-}
-
-/// Whether some item of `:init` says so.
-fn some_failure<A: Allocator>(init: &[InitItem<A>]) -> bool
-    ensures { result ≡ list_any is_failure (map init_view init.now) }
-{
-    for item in init {
-        if is_failure(item) {
-            return true;
-        }
-    }
-    false
-}
-
-/// Adds what is said of atoms. None of them holds and fails.
-fn literals_agree<'d, 'a, A: Allocator, B: Allocator>(
-    said: &mut IndexMap<Ground<'d, A>, bool, Hashed, &'a B>,
+/// Adds what is claimed. No item claims another number than one before it, and none a total cost above 0.
+fn claims_agree<'d, 'a, A: Allocator, B: Allocator>(
+    claims: &mut Values<'d, 'a, A, B>,
     init: &'d [InitItem<A>],
+    kind: Claimed,
 ) -> Result<(), LinkFault<'d>>
-    requires { said.old.entries ≡ [] }
-    ensures { Passes 29 (clashing contradicts [] (map init_view init.now)) result }
+    requires { claims.old.entries ≡ [] }
+    ensures passes { Passes (fault_number kind) (wrong_words (wrong_in kind) init_name [] (map init_view init.now)) result }
+    ensures claims { OnOk result (HoldsClaims kind (map init_view init.now) claims.new.entries) }
 {
     for item in init {
-        if let Some((atom, holds)) = literal(item) {
-            let before = said.insert(atom, holds)?.unwrap_or(holds);
-            if holds != before {
-                return Err(LinkFault::InitContradiction(name_of(item)));
+        if let Some((ground, number)) = claim(item, kind) {
+            let before = claims.insert(ground, number)?.unwrap_or(number);
+            if number != before || starts_above_zero(item) {
+                return Err(wrong_item(item, kind));
             }
         }
     }
     Ok(())
+}
+
+/// Whether an item says of an atom that it fails.
+fn is_failure<A: Allocator>(item: &InitItem<A>) -> bool
+    ensures { result ≡ is_failure (init_view item.now) }
+{
+    matches!(item, InitItem::Fails(_))
 }
 
 /// No atom holds and fails. Where no atom fails, nothing is looked up.
@@ -117,11 +96,11 @@ pub fn contradictions<'d, 'a, A: Allocator, B: Allocator>(
 ) -> Result<(), LinkFault<'d>>
     ensures { Passes 29 (clashing contradicts [] (map init_view init.now)) result }
 {
-    if !some_failure(init) {
+    if !init.iter().any(is_failure) {
         return Ok(());
     }
     let mut said = IndexMap::new(alloc);
-    literals_agree(&mut said, init)
+    claims_agree(&mut said, init, Claimed::Literals)
 }
 
 /// Adds the values of functions of objects. None of them has two, and `total-cost` starts at none but 0.
@@ -133,16 +112,5 @@ pub fn cost_values<'d, 'a, A: Allocator, B: Allocator>(
     ensures passes { Passes 31 (wrong_values [] (map init_view init.now)) result }
     ensures values { OnOk result (HoldsValues (map init_view init.now) values.new.entries) }
 {
-    for item in init {
-        if starts_above_zero(item) {
-            return Err(LinkFault::CostValue(name_of(item)));
-        }
-        if let Some((call, number)) = value(item) {
-            let before = values.insert(call, number)?.unwrap_or(number);
-            if number != before {
-                return Err(LinkFault::CostValue(name_of(item)));
-            }
-        }
-    }
-    Ok(())
+    claims_agree(values, init, Claimed::Values)
 }
