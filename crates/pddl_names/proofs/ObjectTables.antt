@@ -11,14 +11,14 @@ use Rattle.std.proofs.lemmas.List.Elements.{filter-append}
 use Rattle.indexmap.specs.IndexMap.{insert_entry}
 use Rattle.pddl_formula.specs.TypedLists.{TypedValue, typed_view}
 use Rattle.pddl_formula.specs.declared.type_names.Typed.{Typed}
-use Rattle.pddl_task.specs.Names.{Name, same_names, word_if, is_named, firsts}
-use Rattle.pddl_task.specs.Faults.{retyped}
+use Rattle.pddl_task.specs.Names.{Name, same_names, word_if, item_of, is_named, firsts}
+use Rattle.pddl_task.specs.Faults.{has_other_type, retyped}
 use Rattle.pddl_task.proofs.DistinctNames.{word_none}
 use Rattle.pddl_task.proofs.Lists.{append-none, bytes_same, nil_parts}
 use Rattle.pddl_types.specs.KnownNames.{AreNamed, object_in}
 use Rattle.pddl_names.specs.ObjectTables.{type_in, is_at_odds, put}
 use Rattle.pddl_search.proofs.Claims.{disagree, at_odds, Tells, tells_more, clash_told}
-use Rattle.pddl_search.proofs.SeenItems.{seen_at, seen_more, seen_bad, seen_good}
+use Rattle.pddl_search.proofs.SeenItems.{seen_at, seen_more, AreLeft, seen_bad, seen_good}
 
 -- ---- a table of names with types
 
@@ -262,7 +262,7 @@ module _ {A : Type 0} (es : List (Bor (List ℕ) × Bor (Typed A))) (n : Name) (
 pub record ListedUpTo {A : Type 0} (before : List TypedValue) (xs : List (Typed A)) (i : ℕ) (es : List TypedValue) : Type 0 where
   pub told : TellsTypes (seen_at typed_view before xs i)
   pub kept : es ≡ firsts (seen_at typed_view before xs i)
-  pub rest : retyped (seen_at typed_view before xs i) (map typed_view (drop i xs)) ≡ retyped before (map typed_view xs)
+  pub rest : AreLeft typed_view item_of has_other_type before xs i
 
 pub listed_start : {A : Type 0} (before : List TypedValue) (xs : List (Typed A)) (es : List TypedValue) → retyped [] before ≡ [] → es ≡ firsts before → ListedUpTo before xs 0 es
 listed_start before xs es none is =
@@ -278,7 +278,7 @@ module _ {A : Type 0} (before : List TypedValue) (xs : List (Typed A)) (i : ℕ)
   -- one of another type
   pub listed_twice : is_at_odds es (typed_view x) ≡ true → Contains (retyped before (map typed_view xs)) x.name
   listed_twice odds =
-      seen_bad typed_view (λ y. y.item) (λ seen y. list_any (clash y) seen) retyped (λ seen y ys. refl) before xs i x (retyped before (map typed_view xs)) h at l.rest
+      seen_bad typed_view item_of has_other_type before xs i x h at l.rest
       (told (seen_at typed_view before xs i) (typed_view x) l.told ∙ sym (ap (λ fs. at_odds retypes (type_in fs x.name) x.types) l.kept) ∙ odds)
 
   -- another one
@@ -290,8 +290,7 @@ module _ {A : Type 0} (before : List TypedValue) (xs : List (Typed A)) (i : ℕ)
       record {
         told = subst TellsTypes (sym more) (tells_push seen (typed_view x) l.told agrees);
         kept = is ∙ ap (put (typed_view x)) l.kept ∙ firsts_put seen (typed_view x) agrees ∙ ap firsts (sym more);
-        rest = seen_good typed_view (λ y. y.item) (λ s y. list_any (clash y) s) retyped (λ s y ys. refl) before xs i x (retyped before (map typed_view xs)) h at l.rest
-            (told seen (typed_view x) l.told ∙ agrees);
+        rest = seen_good typed_view item_of has_other_type before xs i x h at l.rest (told seen (typed_view x) l.told ∙ agrees);
       }
 
 -- all of them
