@@ -1,16 +1,18 @@
--- Settings by their parts.
-use Rattle.std.proofs.Common.{◌≡◌, List, ap, ◌∙◌}
+-- Settings by the tables that hold them.
+use Rattle.std.proofs.Common.{◌≡◌, List, map, refl}
 use Rattle.pddl_formula.specs.TypedLists.{TypedValue}
-use Rattle.pddl_domain.specs.Declarations.{TypeValue, Signature}
 use Rattle.pddl_domain.specs.Domains.{DomainValue}
 use Rattle.pddl_task.specs.Types.{pairs}
-use Rattle.pddl_task.specs.Settings.{function_signatures, Setting, setting}
+use Rattle.pddl_task.specs.Settings.{Setting, setting}
+use Rattle.pddl_types.specs.KnownNames.{signature_in}
+use Rattle.pddl_types.specs.TypeSpans.{TypesValue}
+use Rattle.pddl_types.specs.Settings.{AreDeclared}
+use Rattle.pddl_types.specs.declared.declared.Declared.{Declared}
 
-abbrev pub parts : List TypeValue → List Signature → List Signature → List TypedValue → Setting
-parts ts ps fs os = record { pairs = pairs ts; predicates = ps; functions = fs; objects = os }
+-- what may be named by tables, beside these objects
+abbrev pub named_by : {A B : Type 0} → TypesValue → Declared A B → List TypedValue → Setting
+named_by t declared os = record { pairs = pairs t.declared; predicates = map signature_in declared.predicates.entries; functions = map signature_in declared.functions.entries; objects = os }
 
-pub setting_by_parts : (d : DomainValue) (ts : List TypeValue) (ps fs : List Signature) (os objects : List TypedValue)
-    → ts ≡ d.types → ps ≡ d.predicates → fs ≡ function_signatures d → os ≡ objects → parts ts ps fs os ≡ setting d objects
-setting_by_parts d ts ps fs os objects types predicates functions same =
-    ap (λ xs. parts xs ps fs os) types ∙ ap (λ xs. parts d.types xs fs os) predicates
-    ∙ ap (λ xs. parts d.types d.predicates xs os) functions ∙ ap (λ xs. parts d.types d.predicates (function_signatures d) xs) same
+pub setting_by_tables : {A B : Type 0} (d : DomainValue) (t : TypesValue) (declared : Declared A B) (os objects : List TypedValue) → t.declared ≡ d.types → AreDeclared t d declared → os ≡ objects
+    → named_by t declared os ≡ setting d objects
+setting_by_tables d t declared os objects types are same = rw (types, are.predicates, are.functions, same) refl

@@ -1,19 +1,17 @@
 //! Links a domain and a problem.
 
-ghost use Rattle.std.specs.Prelude.{◌≡◌, [], ◌++◌, map, take, drop, IfOk, OnOk};
+ghost use Rattle.std.specs.Prelude.{◌≡◌, [], map, take, drop, IfOk, OnOk};
 ghost use Rattle.pddl_domain.specs.Domains.{domain_view};
 ghost use Rattle.pddl_problem.specs.Problems.{problem_view};
 ghost use Rattle.pddl_task.specs.Names.{firsts};
-ghost use Rattle.pddl_task.specs.Settings.{objects_of, function_signatures};
+ghost use Rattle.pddl_task.specs.Settings.{objects_of};
 ghost use Rattle.pddl_task.specs.Linked.{domain_fault, fault_in, faults, rules, NoneStands};
 ghost use Rattle.pddl_faults.specs.Passes.{Verdict};
 ghost use Rattle.pddl_search.specs.Claims.{HoldsValues};
-ghost use Rattle.pddl_types.specs.KnownNames.{signature_in, object_in, action_signature};
+ghost use Rattle.pddl_types.specs.KnownNames.{object_in};
 ghost use Rattle.pddl_types.specs.TypeSpans.{IsEmpty, AreListed};
-ghost use Rattle.pddl_types.specs.ToldTops.{AreSlotTops};
-ghost use Rattle.pddl_sizes.specs.ObjectOrders.{IsOrderOf};
 ghost use Rattle.pddl_names.specs.FaultParts.{first_rules, name_rules, use_rules};
-ghost use Rattle.pddl_linked_task.specs.TaskTables.{HoldBehindTypes};
+ghost use Rattle.pddl_linked_task.specs.TaskTables.{HoldDeclared, HoldBehindTypes};
 ghost use Rattle.pddl_linked_task.specs.LinkedTasks.{files};
 
 use indexmap::IndexMap;
@@ -66,10 +64,7 @@ fn look_at_uses<'t, 'm, 'a, A: Allocator, B: Allocator>(
     requires objects { map object_in listed.now.objects.entries ≡ objects_of (domain_view domain.now) (problem_view problem.now) }
     requires constants { take listed.now.constants (map object_in listed.now.objects.entries) ≡ firsts (domain_view domain.now).constants }
     requires listed { AreListed types.now listed.now }
-    requires predicates { map signature_in tables.now.declared.predicates.entries ≡ (domain_view domain.now).predicates }
-    requires functions { map signature_in tables.now.declared.functions.entries ≡ function_signatures (domain_view domain.now) }
-    requires slots { AreSlotTops types.now ((domain_view domain.now).predicates ++ function_signatures (domain_view domain.now)) tables.now.declared.slots }
-    requires ordered { ∥ IsOrderOf listed.now.spans.items tables.now.order ∥₁ }
+    requires tables { HoldDeclared (domain_view domain.now) types.now listed.now tables.now }
     requires none { values.old.entries ≡ [] }
     ensures values { OnOk result (HoldsValues (problem_view problem.now).init values.new.entries) }
     ensures verdict { Verdict (map (fault_in (domain_view domain.now) (problem_view problem.now)) use_rules) result }
@@ -100,11 +95,7 @@ fn tables_of<'m, 'a, A: Allocator, B: Allocator>(
     domain: &'m Domain<A>,
 ) -> Result<Tables<'m, 'a, A, B>, AllocError>
     requires { NoneStands (map (domain_fault (domain_view domain.now)) name_rules) }
-    ensures predicates { IfOk result (λ tables. map signature_in tables.declared.predicates.entries ≡ (domain_view domain.now).predicates) }
-    ensures functions { IfOk result (λ tables. map signature_in tables.declared.functions.entries ≡ function_signatures (domain_view domain.now)) }
-    ensures slots { IfOk result (λ tables. AreSlotTops types.now ((domain_view domain.now).predicates ++ function_signatures (domain_view domain.now)) tables.declared.slots) }
-    ensures parameters { IfOk result (λ tables. AreSlotTops types.now (map action_signature (domain_view domain.now).actions) tables.parameters) }
-    ensures ordered { IfOk result (λ tables. ∥ IsOrderOf listed.now.spans.items tables.order ∥₁) }
+    ensures { IfOk result (HoldDeclared (domain_view domain.now) types.now listed.now) }
 {
     let order = ObjectOrder::of(alloc, &listed.spans)?;
     let mut parameters = SlotTops::new(alloc);

@@ -6,7 +6,7 @@ ghost use Rattle.pddl_task.specs.Names.{repeated};
 ghost use Rattle.pddl_task.specs.Types.{pairs};
 ghost use Rattle.pddl_task.specs.Settings.{symbol_of, function_signatures};
 ghost use Rattle.pddl_types.specs.KnownNames.{signature_in, object_in};
-ghost use Rattle.pddl_types.specs.Settings.{setting_of};
+ghost use Rattle.pddl_types.specs.Settings.{AreDeclared, setting_of};
 ghost use Rattle.pddl_types.specs.TypeSpans.{HaveTypes, AreSingle, AreListed};
 ghost use Rattle.pddl_types.specs.ToldTops.{AreSlotTops};
 
@@ -53,9 +53,7 @@ impl<'m, 'a, A: Allocator, B: Allocator> Declared<'m, 'a, A, B> {
     ) -> Result<Declared<'m, 'a, A, B>, AllocError>
         requires predicates { repeated [] (map symbol_of (domain_view domain.now).predicates) ≡ [] }
         requires functions { repeated [] (map symbol_of (function_signatures (domain_view domain.now))) ≡ [] }
-        ensures predicates { IfOk result (λ declared. map signature_in declared.predicates.entries ≡ (domain_view domain.now).predicates) }
-        ensures functions { IfOk result (λ declared. map signature_in declared.functions.entries ≡ function_signatures (domain_view domain.now)) }
-        ensures slots { IfOk result (λ declared. AreSlotTops types.now ((domain_view domain.now).predicates ++ function_signatures (domain_view domain.now)) declared.slots) }
+        ensures { IfOk result (AreDeclared types.now (domain_view domain.now)) }
     {
         let slots = slots_of(alloc, types, domain);
         let predicates = signatures(alloc, &domain.predicates);

@@ -3,10 +3,10 @@ use Rattle.std.proofs.lemmas.List.{length-map, take_all}
 use Rattle.pddl_domain.specs.Domains.{domain_view}
 use Rattle.pddl_task.specs.Names.{firsts}
 use Rattle.pddl_task.specs.Linked.{domain_fault}
-use Rattle.pddl_types.specs.KnownNames.{signature_in, object_in}
+use Rattle.pddl_types.specs.KnownNames.{object_in}
 use Rattle.pddl_names.specs.FaultParts.{joined, domain_uses, use_rules}
 use Rattle.pddl_names.proofs.RuleParts.{domain_uses_stand}
-use Rattle.pddl_link.proofs.Settings.{setting_by_parts}
+use Rattle.pddl_link.proofs.Settings.{setting_by_tables}
 use Rattle.pddl_link.proofs.Stages.{verdict_of}
 use Rattle.pddl_linked_task.proofs.OnceNamed.{no_repeats}
 use Rattle.pddl_link.proofs.NamedWell.{slot_types, single_constants}
@@ -15,10 +15,10 @@ use Rattle.pddl_link.proofs.check.look_at_uses.Goals as goal
 pub look_at_domain_uses-used-requires : goal.look_at_domain_uses-used-requires
 look_at_domain_uses-used-requires g c =
     let d = domain_view c.args.domain.now in
-    let constants = map object_in c.args.constants.now.objects.entries in
-    c.known-known.ensures ∙ setting_by_parts d c.args.types.now.declared (map signature_in c.in_ok-declared.declared.predicates.entries) (map signature_in c.in_ok-declared.declared.functions.entries) (take c.len.result constants) (firsts d.constants)
-    c.requires.types c.in_ok-declared.ensures.predicates c.in_ok-declared.ensures.functions
-    (take_all c.len.result constants (omega (arith, length-map c.args.constants.now.objects.entries object_in, c.len.ensures)) ∙ c.requires.constants)
+    let entries = c.args.constants.now.objects.entries in
+    c.known-known.ensures
+    ∙ setting_by_tables d c.args.types.now c.in_ok-declared.declared (take c.len.result (map object_in entries)) (firsts d.constants) c.requires.types c.in_ok-declared.ensures
+    (take_all c.len.result (map object_in entries) (omega (arith, length-map entries object_in, c.len.ensures)) ∙ c.requires.constants)
 
 pub returns : goal.returns
 returns g c =

@@ -11,12 +11,10 @@ tables_of-requires g c = in_the_domain (domain_view c.args.domain.now) (problem_
 pub returns-in-Ok-clause-tables : goal.returns-in-Ok-clause-tables
 returns-in-Ok-clause-tables g c =
     record {
-      predicates_are = c.in_ok-tables.ensures.predicates;
-      parameters_are = c.in_ok-tables.ensures.parameters;
+      tables_are = c.in_ok-tables.ensures;
       objects_are = c.requires.objects;
       spans_are = c.requires.listed;
       single = single_objects (domain_view c.args.domain.now) (problem_view c.args.problem.now) c.args.types.now (map object_in c.args.listed.now.objects.entries) c.args.listed.now.spans.items
           c.requires.named c.requires.types c.requires.objects c.requires.listed.spans;
-      ordered = c.in_ok-tables.ensures.ordered;
       values_are = c.in-Ok.ensures.values;
     }

@@ -15,9 +15,12 @@ of-requires-2-clause-predicates g c = (no_repeats (domain_view c.args.domain.now
 pub of-requires-2-clause-functions : goal.of-requires-2-clause-functions
 of-requires-2-clause-functions g c = (no_repeats (domain_view c.args.domain.now) c.requires.1.0).1
 
-pub returns-clause-parameters : goal.returns-clause-parameters
-returns-clause-parameters g c =
-    subst (λ fs. AreSlotTops c.args.types.now fs c.add.new.self) (seen_of action_signature action_view c.deref-2.ensures.value) (c.in_ok-add.ensures [] (subst (AreSlotTops c.args.types.now []) (sym c.new-parameters.ensures) (slots_none c.args.types.now)))
-
-pub returns-clause-ordered : goal.returns-clause-ordered
-returns-clause-ordered g c = subst (λ spans. ∥ IsOrderOf spans c.in_ok-order.order ∥₁) c.deref.ensures.value c.in_ok-order.ensures
+pub returns : goal.returns
+returns g c =
+    let t = c.args.types.now in
+    record {
+      declared = c.in_ok-declared.ensures;
+      parameters = subst (λ fs. AreSlotTops t fs c.add.new.self) (seen_of action_signature action_view c.deref-2.ensures.value)
+          (c.in_ok-add.ensures [] (subst (AreSlotTops t []) (sym c.new-parameters.ensures) (slots_none t)));
+      ordered = subst (λ spans. ∥ IsOrderOf spans c.in_ok-order.order ∥₁) c.deref.ensures.value c.in_ok-order.ensures;
+    }

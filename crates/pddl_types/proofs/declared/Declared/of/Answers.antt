@@ -13,23 +13,22 @@ use Rattle.pddl_types.proofs.declared.Declared.of.Goals as goal
 pub signatures-functions-requires : goal.signatures-functions-requires
 signatures-functions-requires g c = ap (λ gs. repeated [] (map symbol_of gs)) (seen_of item_of function_view c.deref-2.ensures.value) ∙ c.requires.functions
 
-pub returns-clause-predicates : goal.returns-clause-predicates
-returns-clause-predicates g c =
-    let all = map predicate_view c.deref.result.now in
-    second_made c.slots_of-slots.result c.both_made.result _ (λ z. map signature_in z.0.entries ≡ all) c.in_ok-slots.ensures
-    (subst (λ r. IfOk r (λ z. map signature_in z.0.entries ≡ all)) (sym c.both_made.ensures)
-    (first_of_both c.signatures-predicates.result c.signatures-functions.result (λ t. map signature_in t.entries ≡ all) c.signatures-predicates.ensures))
-    ∙ ap (map predicate_view) c.deref.ensures.value
-
-pub returns-clause-functions : goal.returns-clause-functions
-returns-clause-functions g c =
-    let all = map (λ f. item_of (function_view f)) c.deref-2.result.now in
-    second_made c.slots_of-slots.result c.both_made.result _ (λ z. map signature_in z.1.entries ≡ all) c.in_ok-slots.ensures
-    (subst (λ r. IfOk r (λ z. map signature_in z.1.entries ≡ all)) (sym c.both_made.ensures)
-    (second_of_both c.signatures-predicates.result c.signatures-functions.result (λ t. map signature_in t.entries ≡ all) c.signatures-functions.ensures))
-    ∙ seen_of item_of function_view c.deref-2.ensures.value
-
-pub returns-clause-slots : goal.returns-clause-slots
-returns-clause-slots g c =
-    let d = domain_view c.args.domain.now in
-    first_made c.slots_of-slots.result c.both_made.result _ (AreSlotTops c.args.types.now (d.predicates ++ function_signatures d)) c.in_ok-slots.ensures c.slots_of-slots.ensures
+pub returns : goal.returns
+returns g c =
+    let predicates = map predicate_view c.deref.result.now in
+    let functions = map (λ f. item_of (function_view f)) c.deref-2.result.now in
+    record {
+      predicates =
+          second_made c.slots_of-slots.result c.both_made.result _ (λ z. map signature_in z.0.entries ≡ predicates) c.in_ok-slots.ensures
+              (subst (λ r. IfOk r (λ z. map signature_in z.0.entries ≡ predicates)) (sym c.both_made.ensures)
+              (first_of_both c.signatures-predicates.result c.signatures-functions.result (λ t. map signature_in t.entries ≡ predicates) c.signatures-predicates.ensures))
+              ∙ ap (map predicate_view) c.deref.ensures.value;
+      functions =
+          second_made c.slots_of-slots.result c.both_made.result _ (λ z. map signature_in z.1.entries ≡ functions) c.in_ok-slots.ensures
+              (subst (λ r. IfOk r (λ z. map signature_in z.1.entries ≡ functions)) (sym c.both_made.ensures)
+              (second_of_both c.signatures-predicates.result c.signatures-functions.result (λ t. map signature_in t.entries ≡ functions) c.signatures-functions.ensures))
+              ∙ seen_of item_of function_view c.deref-2.ensures.value;
+      slots =
+          let d = domain_view c.args.domain.now in
+          first_made c.slots_of-slots.result c.both_made.result _ (AreSlotTops c.args.types.now (d.predicates ++ function_signatures d)) c.in_ok-slots.ensures c.slots_of-slots.ensures;
+    }
