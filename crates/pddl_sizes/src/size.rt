@@ -56,6 +56,7 @@ fn count_of<A: Allocator, C: FittingCount<A>>(
 }
 
 /// The size of a quantifier over variables, where what is quantified has a size. How many objects fit is counted once for each group of variables.
+#[tactic(auto, using(crate::proofs::Capped::within))]
 pub fn quantifier_size<A: Allocator, C: FittingCount<A>>(
     counts: &C,
     variables: &TypedList<A>,
@@ -75,24 +76,20 @@ pub fn quantifier_size<A: Allocator, C: FittingCount<A>>(
 
 /// The ground size of a formula, or 1,000,001 where it is more than 1,000,000.
 #[cycle(sizes)]
+#[tactic(auto, using(crate::proofs::Capped::within, pddl_formula::specs::declared::formula::Formula::TheFolds::the_lemmas))]
 pub fn ground_size<A: Allocator, C: FittingCount<A>>(counts: &C, formula: &Formula<A>) -> u32
     ensures { result ≡ capped (formula_size (C.count counts.now) (formula_view formula.now)) }
 {
     match formula {
-        Formula::Atom(_) => 1,
-        Formula::Equal(_, _) => 1,
+        Formula::Atom(_) | Formula::Equal(_, _) => 1,
         Formula::Not(inner) => sum(1, ground_size(counts, inner)),
         Formula::Imply(first, second) => {
             let first = ground_size(counts, first);
             let second = ground_size(counts, second);
             sum(1, sum(first, second))
         }
-        Formula::And(parts) => sum(1, ground_sizes(counts, parts)),
-        Formula::Or(parts) => sum(1, ground_sizes(counts, parts)),
-        Formula::Exists(variables, inner) => {
-            quantifier_size(counts, variables, ground_size(counts, inner))
-        }
-        Formula::Forall(variables, inner) => {
+        Formula::And(parts) | Formula::Or(parts) => sum(1, ground_sizes(counts, parts)),
+        Formula::Exists(variables, inner) | Formula::Forall(variables, inner) => {
             quantifier_size(counts, variables, ground_size(counts, inner))
         }
     }
@@ -100,6 +97,7 @@ pub fn ground_size<A: Allocator, C: FittingCount<A>>(counts: &C, formula: &Formu
 
 /// The ground sizes of formulas, added up, or 1,000,001 where that is more than 1,000,000.
 #[cycle(sizes)]
+#[tactic(auto, using(crate::proofs::Capped::within, pddl_formula::specs::declared::formula::Formula::TheFolds::the_lemmas))]
 fn ground_sizes<A: Allocator, C: FittingCount<A>>(counts: &C, formulas: &[Formula<A>]) -> u32
     ensures { result ≡ capped (formulas_size (C.count counts.now) (formulas_of (map formula_view formulas.now))) }
 {

@@ -8,5 +8,5 @@ invariant-effect_ground_sizes-loop-effect g l =
     let count = g.C.FittingCount.count l.counts in
     record {
       low : l.total ≤ 1000001;
-      whole : capped (l.total + effects_size count (effects_of (map effect_view (drop l.effect-index l.effects.items)))) ≡ capped (effects_size count (effects_of (map effect_view l.effects.items)));
+      whole : capped (l.total + effects_size count (effects_of (map effect_view (drop l.effect-index l.effects)))) ≡ capped (effects_size count (effects_of (map effect_view l.effects)));
     }

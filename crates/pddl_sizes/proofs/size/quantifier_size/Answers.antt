@@ -1,17 +1,10 @@
-use Rattle.std.proofs.Common.{◌<◌, ◌≤◌, ◌*◌, ◌-◌, ◌∙◌, [], get_or, map, length, sym, ap, arith}
+use Rattle.std.proofs.Common.{◌∷◌, ◌≡◌, suc, drop, drop-cons, ◌<◌, ◌≤◌, ◌-◌, ◌∙◌, [], get_or, map, length, sym, ap, arith}
 use Rattle.std.proofs.lemmas.List.{drop_all, length-map}
 use Rattle.std.proofs.lemmas.Option.{slice_get_past, slice_get-get_or}
-use Rattle.pddl_formula.specs.TypedLists.{typed_view}
+use Rattle.pddl_formula.specs.TypedLists.{TypedValue, typed_view}
 use Rattle.pddl_task.specs.GroundSize.{capped, quantifier_size}
-use Rattle.pddl_sizes.proofs.Capped.{within}
-use Rattle.pddl_sizes.proofs.Sizes.{size_more}
+use Rattle.pddl_sizes.proofs.Capped.{capped_product}
 use Rattle.pddl_sizes.proofs.size.quantifier_size.Goals as goal
-
-pub product-requires : goal.product-requires
-product-requires g c = within c.loop-i.size _ c.loop-i.invariant.so_far
-
-pub sum-size-requires-in-loop-i-clause-second : goal.sum-size-requires-in-loop-i-clause-second
-sum-size-requires-in-loop-i-clause-second g c = within c.product.result _ c.product.ensures
 
 pub loop-i-init : goal.loop-i-init
 loop-i-init g c =
@@ -26,13 +19,13 @@ loop-i-init g c =
 pub loop-i-preserved : goal.loop-i-preserved
 loop-i-preserved g c =
     let l = c.loop-i in
-    let items = c.args.variables.now.items in
-    let all = map typed_view items in
-    let x = get_or all (l.i - 1) (record { item = []; of = [] }) in
-    let lt : l.i - 1 < length all = omega (arith, length-map items typed_view, c.loop-i-test.true, l.auto.i) in
-    let at = slice_get-get_or all (l.i - 1) _ lt in
-    record {
-      so_far = size_more (g.C.FittingCount.count c.args.counts.now) all l.i x l.size c.product.result c.sum-size-in-loop-i.result c.args.body c.loop-i-test.true at l.invariant.so_far
-          (c.product.ensures ∙ ap (λ n. capped (n * l.size)) (c.count_of-count.ensures x at)) c.sum-size-in-loop-i.ensures;
-      last = c.count_of-count.ensures;
-    }
+    let all = map typed_view c.args.variables.now.items in
+    let count = g.C.FittingCount.count c.args.counts.now in
+    let none : TypedValue = record { item = []; of = [] } in
+    let x = get_or all (l.i - 1) none in
+    let low : l.i - 1 < length all = omega (arith, length-map c.args.variables.now.items typed_view, c.loop-i-test.true, l.auto.i) in
+    let next : suc (l.i - 1) ≡ l.i = omega (arith, c.loop-i-test.true) in
+    let front : drop (l.i - 1) all ≡ x ∷ drop l.i all = drop-cons all (l.i - 1) none low ∙ ap (λ n. x ∷ drop n all) next in
+    let part = capped_product (count x.of) l.size (quantifier_size count (drop l.i all) c.args.body) (omega (arith, l.invariant.so_far)) in
+    let product = rw (c.count_of-count.ensures x (slice_get-get_or all (l.i - 1) _ low)) at c.product.ensures in
+    record { so_far = rw front (omega (arith, part, product, c.sum-size-in-loop-i.ensures)); last = c.count_of-count.ensures }
