@@ -1,10 +1,12 @@
 -- Places that are peeled off in turn, each once no child of it is left.
 use Rattle.std.proofs.Common.{◌≡◌, ◌≢◌, ℕ, zero, suc, ◌+◌, ◌<◌, ◌≤◌, ◌==◌, true, false, true≢false, List, [], ◌∷◌, ◌++◌, length, slice_set, refl, sym, ap, ◌∙◌, subst, arith, inl, inr}
-use Rattle.std.proofs.lemmas.Bool.{cases_eq, cases_lt, eq-eqb, ne_eqb, or_left, or_right}
+use Rattle.std.proofs.lemmas.Bool.{cases_eq, eq-eqb, ne_eqb, or_left, or_right}
+use Rattle.std.proofs.lemmas.List.Elements.{All-from_get_or, All-push}
 use Rattle.std.proofs.lemmas.List.{get_or_append_left, get_or_push, get_or-set_same, get_or-set_other, length_push, length-set}
 use Rattle.pddl_forest.specs.Forests.{parent_of, number_at}
-use Rattle.pddl_forest.specs.Inner.Orders.{IsUpTo, is_up_to, total, child_left, AreCounted, AreLeaves, ArePeeled}
-use Rattle.pddl_forest.proofs.Lists.{next_too}
+use Rattle.pddl_forest.specs.Inner.Orders.{IsUpTo, is_up_to, total, child_left, AreCounted, AreWithoutChildren, ArePeeled}
+use borrow.Author.Count.{below_more}
+use Rattle.pddl_forest.proofs.Lists.{places_more}
 use Rattle.pddl_forest.proofs.Totals.{total_low, total_same, total_less, total_some, total_few}
 
 -- ---- places before a turn
@@ -79,12 +81,12 @@ module _ {ps order left : List ℕ} {turn many : ℕ} (h : AreCounted ps order t
 
 -- ---- leaves
 
-pub first_peeled : {ps left order : List ℕ} → AreCounted ps [] 0 (length ps) left → AreLeaves left (length left) order → ArePeeled ps left order 0
+pub first_peeled : {ps left order : List ℕ} → AreCounted ps [] 0 (length ps) left → AreWithoutChildren left (length left) order → ArePeeled ps left order 0
 first_peeled {ps} {left} {order} counted leaves = record {
   counted = record { long = counted.long; each = counted.each };
-  leaves = subst (λ n. AreLeaves left n order) counted.long leaves;
+  without_children = subst (λ n. AreWithoutChildren left n order) counted.long leaves;
   behind = λ u c less low is.
-      let inside = leaves.in_range u less in
+      let inside = leaves.places.in_range u less in
       let long = counted.long in
       let (v, before, at) = all_gone counted (number_at order u) (omega (arith, inside, long)) (leaves.none u less) c low is in
       absurd (omega (arith, before));
@@ -103,7 +105,7 @@ module _ {ps left order : List ℕ} {turn : ℕ} (h : ArePeeled ps left order tu
   next_turn = omega arith
 
   place_low : place < length ps
-  place_low = h.leaves.in_range turn low
+  place_low = h.without_children.places.in_range turn low
 
   parent_low : parent < length ps
   parent_low = within place place_low
@@ -112,7 +114,7 @@ module _ {ps left order : List ℕ} {turn : ℕ} (h : ArePeeled ps left order tu
   parent_inside = let inside = parent_low in let long = h.counted.long in omega (arith, inside, long)
 
   new : is_up_to order turn place ≡ false
-  new = elim (is_up_to order turn place) as (λ b. is_up_to order turn place ≡ b → b ≡ false) [ true ↦ λ there. let (u, less, is) = up_to order turn place there in absurd (h.leaves.once u turn less low is) | false ↦ λ _. refl ] refl
+  new = elim (is_up_to order turn place) as (λ b. is_up_to order turn place ≡ b → b ≡ false) [ true ↦ λ there. let (u, less, is) = up_to order turn place there in absurd (h.without_children.places.once u turn less low is) | false ↦ λ _. refl ] refl
 
   gone : is_up_to order (suc turn) place ≡ true
   gone = or_left (place == place) (is_up_to order turn place) (eq-eqb place place refl)
@@ -137,7 +139,7 @@ module _ {ps left order : List ℕ} {turn : ℕ} (h : ArePeeled ps left order tu
   some_children none = let is = h.counted.each parent parent_low in let one = of_parent in omega (arith, is, one, none)
 
   unlisted : (u : ℕ) → u < length order → number_at order u ≢ parent
-  unlisted u less is = some_children (ap (number_at left) (sym is) ∙ h.leaves.none u less)
+  unlisted u less is = some_children (ap (number_at left) (sym is) ∙ h.without_children.none u less)
 
   module _ (fewer : ℕ) (fewer_is : fewer + 1 ≡ number_at left parent) where
     now : number_at (slice_set left parent fewer) parent ≡ fewer
@@ -160,18 +162,17 @@ module _ {ps left order : List ℕ} {turn : ℕ} (h : ArePeeled ps left order tu
     }
 
     none_still : (u : ℕ) → u < length order → number_at (slice_set left parent fewer) (number_at order u) ≡ 0
-    none_still u less = kept (number_at order u) (unlisted u less) ∙ h.leaves.none u less
+    none_still u less = kept (number_at order u) (unlisted u less) ∙ h.without_children.none u less
 
     pub peeled : fewer ≢ 0 → ArePeeled ps (slice_set left parent fewer) order (turn + 1)
     peeled some = subst (ArePeeled ps (slice_set left parent fewer) order) next_turn record {
       counted = counted;
-      leaves = record {
-        in_range = h.leaves.in_range;
-        once = h.leaves.once;
+      without_children = record {
+        places = h.without_children.places;
         none = none_still;
         all = λ i i_low is. elim (cases_eq i parent) as (λ _. IsUpTo order (length order) i) [
           | inl here ↦ absurd (some (sym now ∙ ap (number_at (slice_set left parent fewer)) (sym here) ∙ is))
-          | inr other ↦ h.leaves.all i i_low (sym (kept i other) ∙ is)
+          | inr other ↦ h.without_children.all i i_low (sym (kept i other) ∙ is)
         ];
       };
       behind = h.behind;
@@ -199,23 +200,15 @@ module _ {ps left order : List ℕ} {turn : ℕ} (h : ArePeeled ps left order tu
           long = counted.long;
           each = λ i i_low. counted.each i i_low ∙ total_same (child_left ps order (suc turn) i) (child_left ps next (suc turn) i) (length ps) (λ c _. rw (before_push order (parent ∷ []) (suc turn) c low) refl);
         };
-        leaves = record {
-          in_range = λ u less. next_too (λ v. number_at next v < length ps) (length order) (λ v before. subst (λ i. i < length ps) (sym (front v before)) (h.leaves.in_range v before)) (subst (λ i. i < length ps) (sym last) parent_low) u (let l = long in omega (arith, less, l));
-          once = λ u v less inside same. elim (cases_lt v (length order)) as (λ _. ⊥) [
-            | inl before ↦ h.leaves.once u v less before (sym (front u (omega (arith, less, before))) ∙ same ∙ front v before)
-            | inr past ↦
-                let l = long in
-                let u_low : u < length order = omega (arith, less, inside, l) in
-                let is : v ≡ length order = omega (arith, past, inside, l) in
-                unlisted u u_low (sym (front u u_low) ∙ same ∙ ap (number_at next) is ∙ last)
-          ];
-          none = λ u less. next_too (λ v. number_at (slice_set left parent fewer) (number_at next v) ≡ 0) (length order) (λ v before. ap (number_at (slice_set left parent fewer)) (front v before) ∙ none_still v before) (ap (number_at (slice_set left parent fewer)) last ∙ now ∙ none) u (let l = long in omega (arith, less, l));
+        without_children = record {
+          places = places_more h.without_children.places parent parent_low unlisted;
+          none = λ u less. All-push (λ i. number_at (slice_set left parent fewer) i ≡ 0) order parent (All-from_get_or (λ i. number_at (slice_set left parent fewer) i ≡ 0) order 0 none_still) (now ∙ none) u 0 less;
           all = λ i i_low is. elim (cases_eq i parent) as (λ _. IsUpTo next (length next) i) [
             | inl here ↦ (length order, (let l = long in omega (arith, l)), last ∙ sym here)
-            | inr other ↦ let (u, less, at) = h.leaves.all i i_low (sym (kept i other) ∙ is) in (u, (let l = long in omega (arith, l, less)), front u less ∙ at)
+            | inr other ↦ let (u, less, at) = h.without_children.all i i_low (sym (kept i other) ∙ is) in (u, (let l = long in omega (arith, l, less)), front u less ∙ at)
           ];
         };
-        behind = λ u c less c_low is. next_too (λ v. parent_of ps c ≡ number_at next v → IsUpTo next v c) (length order)
+        behind = λ u c less c_low is. below_more (λ v. parent_of ps c ≡ number_at next v → IsUpTo next v c) (length order)
             (λ v before e. in_next v c (omega (arith, before)) (h.behind v c before c_low (e ∙ front v before)))
             (λ e. let (v, before, at) = all_gone counted parent parent_low (now ∙ none) c c_low (e ∙ last) in (v, omega (arith, before, low), front v (omega (arith, before, low)) ∙ at)) u (let l = long in omega (arith, less, l)) is;
       }

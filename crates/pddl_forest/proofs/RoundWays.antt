@@ -1,61 +1,10 @@
 -- Places on ways that go round: those of which children are left where no more can be peeled off.
-use Rattle.std.proofs.Common.{◌≡◌, ◌≢◌, ℕ, zero, suc, ◌+◌, ◌-◌, ◌<◌, ◌≤◌, ◌==◌, cond, List, length, refl, sym, ap, ◌∙◌, subst, arith, inl, inr, ◌⊎◌}
-use Rattle.std.proofs.lemmas.Bool.{cases_eq, cases_lt, eq-eqb, ne_eqb, cond-true, cond-false}
+use Rattle.std.proofs.Common.{◌≡◌, ◌≢◌, ℕ, zero, suc, ◌+◌, ◌-◌, ◌<◌, List, length, refl, sym, ap, ◌∙◌, subst, arith}
 use Rattle.pddl_forest.specs.Forests.{parent_of, up, number_at}
 use Rattle.pddl_forest.specs.Rounds.{GoesRound, AreRounds}
 use Rattle.pddl_forest.specs.Inner.Orders.{ArePeeled}
-use Rattle.pddl_forest.proofs.Lists.{next_too}
+use Rattle.pddl_forest.proofs.Lists.{has_two}
 use Rattle.pddl_forest.proofs.Peels.{some_left}
-
--- ---- more numbers than there are below a bound
-
--- two of the numbers up to one are equal
-abbrev HasTwo : ℕ → (ℕ → ℕ) → Type 0
-HasTwo n f = (a b : ℕ) × (a < b) × (b ≤ n) × (f a ≡ f b)
-
--- a number is among the first so many, or is none of them
-met : (f : ℕ → ℕ) (m x : ℕ) → ((k : ℕ) × (k < m) × (f k ≡ x)) ⊎ ((k : ℕ) → k < m → f k ≢ x)
-met f zero x = inr (λ k low. absurd (omega (arith, low)))
-met f (suc m) x =
-    elim (cases_eq (f m) x) as (λ _. ((k : ℕ) × (k < suc m) × (f k ≡ x)) ⊎ ((k : ℕ) → k < suc m → f k ≢ x)) [
-      | inl is ↦ inl (m, omega arith, is)
-      | inr other ↦ elim (met f m x) as (λ _. ((k : ℕ) × (k < suc m) × (f k ≡ x)) ⊎ ((k : ℕ) → k < suc m → f k ≢ x)) [ inl (k, low, is) ↦ inl (k, omega (arith, low), is) | inr none ↦ inr (λ k low. next_too (λ j. f j ≢ x) m none other k (omega (arith, low))) ]
-    ]
-
-pub has_two : (n : ℕ) (f : ℕ → ℕ) → ((k : ℕ) → k ≤ n → f k < n) → HasTwo n f
-has_two zero f below = absurd (let low = below 0 (omega arith) in omega (arith, low))
-has_two (suc n) f below =
-    let m = f (suc n) in
-    elim (met f (suc n) m) as (λ _. HasTwo (suc n) f) [
-      | inl (k, low, is) ↦ (k, suc n, low, omega arith, is)
-      | inr new ↦
-          let g : ℕ → ℕ = λ k. cond (f k == n) m (f k) in
-          let last : (k : ℕ) → f k ≡ n → g k ≡ m = λ k is. cond-true {A = ℕ} (f k == n) m (f k) (eq-eqb (f k) n is) in
-          let other : (k : ℕ) → f k ≢ n → g k ≡ f k = λ k not. cond-false {A = ℕ} (f k == n) m (f k) (ne_eqb (f k) n not) in
-          let (a, b, less, high, same) = has_two n g (λ k low. elim (cases_eq (f k) n) as (λ _. g k < n) [
-            | inl is ↦ let e = last k is in let top = below (suc n) (omega arith) in let apart = new k (omega (arith, low)) in omega (arith, e, top, is, apart)
-            | inr not ↦ let e = other k not in let top = below k (omega (arith, low)) in omega (arith, e, top, not)
-          ]) in
-          elim (cases_eq (f a) n) as (λ _. HasTwo (suc n) f) [
-            | inl a_is ↦ elim (cases_eq (f b) n) as (λ _. HasTwo (suc n) f) [
-              | inl b_is ↦ (a, b, less, omega (arith, high), a_is ∙ sym b_is)
-              | inr b_not ↦ absurd (new b (omega (arith, high)) (sym (other b b_not) ∙ sym same ∙ last a a_is))
-            ]
-            | inr a_not ↦ elim (cases_eq (f b) n) as (λ _. HasTwo (suc n) f) [
-              | inl b_is ↦ absurd (new a (omega (arith, less, high)) (sym (other a a_not) ∙ same ∙ last b b_is))
-              | inr b_not ↦ (a, b, less, omega (arith, high), sym (other a a_not) ∙ same ∙ other b b_not)
-            ]
-          ]
-    ]
-
-pub few_of : (xs : List ℕ) (n : ℕ) → ((u : ℕ) → u < length xs → number_at xs u < n) → ((u v : ℕ) → u < v → v < length xs → number_at xs u ≢ number_at xs v) → length xs ≤ n
-few_of xs n low once =
-    elim (cases_lt n (length xs)) as (λ _. length xs ≤ n) [
-      | inl more ↦ let (a, b, less, high, same) = has_two n (number_at xs) (λ k inside. low k (omega (arith, inside, more))) in absurd (once a b less (omega (arith, high, more)) same)
-      | inr not ↦ not
-    ]
-
--- ---- ways from parent to parent
 
 -- so many steps, and so many more
 up_more : (ps : List ℕ) (m n i : ℕ) → up ps m (up ps n i) ≡ up ps (n + m) i
@@ -81,7 +30,7 @@ module _ (ps : List ℕ) (within : (i : ℕ) → i < length ps → parent_of ps 
   -- from each place a round is come to
   pub some_round : (i : ℕ) → i < length ps → (k : ℕ) × (k < length ps) × GoesRound ps k
   some_round i low =
-      let (a, b, less, high, same) = has_two (length ps) (λ n. up ps n i) (λ n _. up_low n i low) in
+      let (a, b, less, _, same) = has_two (length ps) (λ n. up ps n i) (λ n _. up_low n i low) in
       (up ps a i, up_low a i low, comes_back ps a b i (up ps a i) less refl (sym same))
 
   -- ---- what is left where all that was listed is peeled off
@@ -93,19 +42,19 @@ module _ (ps : List ℕ) (within : (i : ℕ) → i < length ps → parent_of ps 
     down i low some (suc n) =
         let (k, k_low, k_some, is) = down i low some n in
         let (c, c_low, child, out) = some_left h.counted k k_low k_some in
-        (c, c_low, λ none. out (h.leaves.all c c_low none), ap (up ps n) child ∙ is)
+        (c, c_low, λ none. out (h.without_children.all c c_low none), ap (up ps n) child ∙ is)
 
     on_round : (i : ℕ) → i < length ps → number_at left i ≢ 0 → GoesRound ps i
     on_round i low some =
         let way = down i low some in
-        let (a, b, less, high, same) = has_two (length ps) (λ n. (way n).0) (λ n _. (way n).1) in
+        let (a, b, less, _, same) = has_two (length ps) (λ n. (way n).0) (λ n _. (way n).1) in
         comes_back ps a b (way a).0 i less (way a).3 (ap (up ps b) same ∙ (way b).3)
 
     -- a place that is peeled off comes behind its children, so it is none of those below it
     off_round : (b u i : ℕ) → u < b → u < length order → number_at order u ≡ i → GoesRound ps i → ⊥
     off_round zero u i less low at round = omega (arith, less)
     off_round (suc b) u i less low at (n, round) =
-        let c_low : up ps n i < length ps = up_low n i (subst (λ k. k < length ps) at (h.leaves.in_range u low)) in
+        let c_low : up ps n i < length ps = up_low n i (subst (λ k. k < length ps) at (h.without_children.places.in_range u low)) in
         let (v, before, is) = h.behind u (up ps n i) low c_low (sym (up_last ps n i) ∙ round ∙ sym at) in
         let e : n + suc n ≡ suc n + n = omega arith in
         off_round b v (up ps n i) (omega (arith, before, less)) (omega (arith, before, low)) is
@@ -113,6 +62,6 @@ module _ (ps : List ℕ) (within : (i : ℕ) → i < length ps → parent_of ps 
 
     pub are_rounds : AreRounds ps left
     are_rounds = record {
-      off = λ i low none. let (u, inside, at) = h.leaves.all i low none in off_round (u + 1) u i (omega arith) inside at;
+      off = λ i low none. let (u, inside, at) = h.without_children.all i low none in off_round (u + 1) u i (omega arith) inside at;
       on = on_round;
     }

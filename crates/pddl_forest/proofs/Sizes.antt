@@ -5,6 +5,7 @@ use Rattle.std.proofs.lemmas.List.{get_or-set_same, get_or-set_other, get_or-rep
 use Rattle.pddl_forest.specs.Forests.{parent_of, number_at}
 use Rattle.pddl_forest.specs.Inner.Orders.{IsUpTo, IsOrder}
 use Rattle.pddl_forest.specs.Inner.Sizes.{IsFrom, AreSized, AreNumbered}
+use Rattle.pddl_forest.proofs.Lists.{few_places}
 use Rattle.pddl_forest.proofs.Totals.{total_raised, total_low, total_few}
 
 -- ---- sizes, from the end of the order
@@ -14,7 +15,9 @@ none_sized {ps} {order} o offsets long = record {
   long = length-replicate (length ps) 1;
   offsets_long = long;
   some = λ i low. let one : number_at (replicate (length ps) 1) i ≡ 1 = get_or-replicate (length ps) i 1 0 low in omega (arith, one);
-  whole = total_few (λ u. number_at (replicate (length ps) 1) (number_at order u)) (length order) (λ u low. let one : number_at (replicate (length ps) 1) (number_at order u) ≡ 1 = get_or-replicate (length ps) (number_at order u) 1 0 (o.in_range u low) in omega (arith, one));
+  whole =
+      let each = total_few (λ u. number_at (replicate (length ps) 1) (number_at order u)) (length order) (λ u low. let one : number_at (replicate (length ps) 1) (number_at order u) ≡ 1 = get_or-replicate (length ps) (number_at order u) 1 0 (o.places.in_range u low) in omega (arith, one)) in
+      omega (arith, each, few_places o.places);
   behind = λ i (u, past, low, is). absurd (omega (arith, past, low));
   inside = λ i (u, past, low, is). absurd (omega (arith, past, low));
   apart = λ i k (u, past, low, is). absurd (omega (arith, past, low));
@@ -30,7 +33,7 @@ module _ {ps order : List ℕ} (o : IsOrder ps order) (turn : ℕ) (low : turn <
 
   apart_at : (u w : ℕ) → u < length order → w < length order → u ≢ w → number_at order u ≢ number_at order w
   apart_at u w u_low w_low other same =
-      elim (cases_lt u w) as (λ _. ⊥) [ inl less ↦ o.once u w less w_low same | inr past ↦ o.once w u (omega (arith, past, other)) u_low (sym same) ]
+      elim (cases_lt u w) as (λ _. ⊥) [ inl less ↦ o.places.once u w less w_low same | inr past ↦ o.places.once w u (omega (arith, past, other)) u_low (sym same) ]
 
   -- the parent comes before
   over : IsUpTo order turn parent
@@ -40,7 +43,7 @@ module _ {ps order : List ℕ} (o : IsOrder ps order) (turn : ℕ) (low : turn <
   over_low = let before = over.1 in omega (arith, before, low)
 
   place_low : place < length ps
-  place_low = o.in_range turn low
+  place_low = o.places.in_range turn low
 
   parent_low : parent < length ps
   parent_low = o.within place place_low
@@ -49,13 +52,13 @@ module _ {ps order : List ℕ} (o : IsOrder ps order) (turn : ℕ) (low : turn <
   place_other is = apart_at turn 0 low o.some later (is ∙ sym o.start)
 
   before_place : (i : ℕ) → IsUpTo order turn i → i ≢ place
-  before_place i (u, before, at) is = o.once u turn before low (at ∙ is)
+  before_place i (u, before, at) is = o.places.once u turn before low (at ∙ is)
 
   past_place : (i : ℕ) → IsFrom order (suc turn) i → i ≢ place
-  past_place i (u, past, inside, at) is = o.once turn u (omega (arith, past)) inside (sym is ∙ sym at)
+  past_place i (u, past, inside, at) is = o.places.once turn u (omega (arith, past)) inside (sym is ∙ sym at)
 
   past_parent : (i : ℕ) → IsFrom order (suc turn) i → i ≢ parent
-  past_parent i (u, past, inside, at) is = o.once over.0 u (let before = over.1 in omega (arith, past, before)) inside (over.2 ∙ sym is ∙ sym at)
+  past_parent i (u, past, inside, at) is = o.places.once over.0 u (let before = over.1 in omega (arith, past, before)) inside (over.2 ∙ sym is ∙ sym at)
 
   here_or_past : (i : ℕ) → IsFrom order turn i → (place ≡ i) ⊎ IsFrom order (suc turn) i
   here_or_past i (u, from, inside, at) = elim (cases_eq turn u) as (λ _. (place ≡ i) ⊎ IsFrom order (suc turn) i) [
@@ -77,8 +80,7 @@ module _ {ps order : List ℕ} (o : IsOrder ps order) (turn : ℕ) (low : turn <
         let other = total_low f turn over.0 over.1 in
         let a : f over.0 ≡ number_at sizes parent = ap (number_at sizes) over.2 in
         let whole = h.whole in
-        let few = o.few in
-        omega (arith, other, a, whole, few)
+        omega (arith, other, a, whole)
 
     module _ (offset size : ℕ) (offset_is : offset ≡ number_at sizes parent) (size_is : size ≡ offset + number_at sizes place) where
       abbrev size_of : ℕ → ℕ

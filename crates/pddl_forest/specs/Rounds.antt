@@ -14,7 +14,7 @@ IsOnRound ps i = GoesRound ps i × (i ≡ 0 → parent_of ps 0 ≢ 0)
 abbrev pub HasRound : List ℕ → Type 0
 HasRound ps = (i : ℕ) × (i < length ps) × IsOnRound ps i
 
--- places have the number 0 where they are not, and only there
+-- places have the number 0 where they are not come to again from their parents, and only there
 pub record AreRounds (ps numbers : List ℕ) : Type 0 where
   pub off : (i : ℕ) → i < length ps → number_at numbers i ≡ 0 → GoesRound ps i → ⊥
   pub on : (i : ℕ) → i < length ps → number_at numbers i ≢ 0 → GoesRound ps i

@@ -2,7 +2,7 @@
 
 ghost use Rattle.std.specs.Prelude.{◌≡◌, ◌<◌, ℕ, [], length, IfOk, OnOk};
 ghost use Rattle.pddl_forest.specs.Forests.{parent_of};
-ghost use Rattle.pddl_forest.specs.Inner.Orders.{AreCounted, AreLeaves, ArePeeled};
+ghost use Rattle.pddl_forest.specs.Inner.Orders.{AreCounted, AreWithoutChildren, ArePeeled};
 
 use crate::places::{number_at, parent_of, put};
 use std::alloc::{AllocError, Allocator};
@@ -34,7 +34,7 @@ fn list_leaves<'a, B: Allocator>(
     order: &mut Vec<usize, &'a B>,
 ) -> Result<(), AllocError>
     requires { order.old.items ≡ [] }
-    ensures { OnOk result (AreLeaves left.now (length left.now) order.new.items) }
+    ensures { OnOk result (AreWithoutChildren left.now (length left.now) order.new.items) }
 {
     for place in 0..left.len() {
         if number_at(left, place) == 0 {

@@ -15,7 +15,7 @@ pub record AreSized (ps order sizes offsets : List ℕ) (turn : ℕ) : Type 0 wh
   pub long : length sizes ≡ length ps
   pub offsets_long : length offsets ≡ length ps
   pub some : (i : ℕ) → i < length ps → 0 < number_at sizes i
-  pub whole : total (λ u. number_at sizes (number_at order u)) turn ≤ length order
+  pub whole : total (λ u. number_at sizes (number_at order u)) turn ≤ length ps
   pub behind : (i : ℕ) → IsFrom order turn i → 0 < number_at offsets i
   pub inside : (i : ℕ) → IsFrom order turn i → number_at offsets i + number_at sizes i ≤ number_at sizes (parent_of ps i)
   pub apart : (i k : ℕ) (u : IsFrom order turn i) (w : IsFrom order turn k) → u.0 < w.0 → parent_of ps k ≡ parent_of ps i → number_at offsets k + number_at sizes k ≤ number_at offsets i

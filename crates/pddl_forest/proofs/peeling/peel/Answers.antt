@@ -3,7 +3,7 @@ use Rattle.std.proofs.lemmas.List.{length_push}
 use Rattle.pddl_forest.specs.Forests.{parent_of, number_at}
 use Rattle.pddl_forest.specs.Inner.Orders.{ArePeeled}
 use Rattle.pddl_forest.proofs.Peels.{some_children, peeled, peeled_more}
-use Rattle.pddl_forest.proofs.RoundWays.{few_of}
+use Rattle.pddl_forest.proofs.Lists.{few_places}
 use Rattle.pddl_forest.proofs.peeling.peel.Goals.{then-fewer-eq0+in_ok-push, else-fewer-eq0}
 use Rattle.pddl_forest.proofs.peeling.peel.Goals as goal
 
@@ -41,6 +41,6 @@ pub returns : goal.returns
 returns g c =
     let l = c.loop-turn in
     let h = l.invariant.peeled in
-    let few = few_of l.order.items (length c.args.parents.now) h.leaves.in_range h.leaves.once in
+    let few = few_places h.without_children.places in
     let is : l.turn ≡ length l.order.items = omega (arith, few, c.loop-turn-test.false, l.invariant.listed) in
     subst (ArePeeled c.args.parents.now l.left.items l.order.items) is h
