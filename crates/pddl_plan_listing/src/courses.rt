@@ -12,7 +12,7 @@ use pddl_linked_plan::Steps;
 use pddl_linked_task::Task;
 use pddl_row_driver::Lines;
 use pddl_state::AtomStore;
-use pddl_step::{compile_plan, initial_state, let_go_plan};
+use pddl_step::{compile_plan, initial_state, let_go_compiled_plan};
 use std::alloc::{AllocError, Allocator};
 use std::fmt::Debug;
 
@@ -172,7 +172,7 @@ where
     match compile_plan(alloc, task, steps) {
         Ok(plan) => {
             add_course_in(asked, steps.len(), task, &plan, store, state, lines);
-            let_go_plan(plan);
+            let_go_compiled_plan(plan);
         }
         Err(_) => lines.refuse(),
     }

@@ -119,6 +119,8 @@ where
 }
 
 /// Lets a plan go. A crate in which one ends proves how it is taken apart, with each type in it; crates that call this do not.
-pub fn let_go_plan<'s, 'b, 'c, C: Allocator, D: Allocator>(plan: CompiledPlan<'s, 'b, 'c, C, D>) {
+pub fn let_go_compiled_plan<'s, 'b, 'c, C: Allocator, D: Allocator>(
+    plan: CompiledPlan<'s, 'b, 'c, C, D>,
+) {
     drop(plan);
 }

@@ -8,6 +8,6 @@ mod actions;
 mod compiling;
 mod starting;
 
-pub use compiling::{compile_plan, let_go_plan};
+pub use compiling::{compile_plan, let_go_compiled_plan};
 pub use pddl_compiled_plan::CompiledPlan;
 pub use starting::initial_state;

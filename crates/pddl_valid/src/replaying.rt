@@ -12,7 +12,7 @@ use pddl_linked_plan::Steps;
 use pddl_linked_task::Task;
 use pddl_serial::{End, Replayed};
 use pddl_state::AtomStore;
-use pddl_step::{compile_plan, initial_state, let_go_plan};
+use pddl_step::{compile_plan, initial_state, let_go_compiled_plan};
 use std::alloc::{AllocError, Allocator};
 
 /// The end of a list that was executed, or why there is none.
@@ -58,7 +58,7 @@ where
     let groups = happenings(alloc, steps)?;
     let plan = compile_plan(alloc, task, steps)?;
     let run = pddl_serial::replay(alloc, &plan, &groups, order, store, start);
-    let_go_plan(plan);
+    let_go_compiled_plan(plan);
     drop(groups);
     end_of(run)
 }

@@ -20,7 +20,7 @@ use pddl_judge::{Verdict, judge};
 use pddl_linked_plan::Steps;
 use pddl_linked_task::Task;
 use pddl_state::AtomStore;
-use pddl_step::{compile_plan, initial_state, let_go_plan};
+use pddl_step::{compile_plan, initial_state, let_go_compiled_plan};
 use std::alloc::{AllocError, Allocator};
 
 /// The verdict on linked steps, over a store.
@@ -60,6 +60,6 @@ where
     let groups = happenings(alloc, steps)?;
     let plan = compile_plan(alloc, task, steps)?;
     let verdict = judge(&plan, groups, store, start);
-    let_go_plan(plan);
+    let_go_compiled_plan(plan);
     verdict
 }

@@ -20,14 +20,14 @@ returns g c =
     record {
       predicates =
           second_made c.slots_of-slots.result c.both_made.result _ (λ z. map signature_in z.0.entries ≡ predicates) c.in_ok-slots.ensures
-              (subst (λ r. IfOk r (λ z. map signature_in z.0.entries ≡ predicates)) (sym c.both_made.ensures)
-              (first_of_both c.signatures-predicates.result c.signatures-functions.result (λ t. map signature_in t.entries ≡ predicates) c.signatures-predicates.ensures))
-              ∙ ap (map predicate_view) c.deref.ensures.value;
+          (subst (λ r. IfOk r (λ z. map signature_in z.0.entries ≡ predicates)) (sym c.both_made.ensures)
+          (first_of_both c.signatures-predicates.result c.signatures-functions.result (λ t. map signature_in t.entries ≡ predicates) c.signatures-predicates.ensures))
+          ∙ ap (map predicate_view) c.deref.ensures.value;
       functions =
           second_made c.slots_of-slots.result c.both_made.result _ (λ z. map signature_in z.1.entries ≡ functions) c.in_ok-slots.ensures
-              (subst (λ r. IfOk r (λ z. map signature_in z.1.entries ≡ functions)) (sym c.both_made.ensures)
-              (second_of_both c.signatures-predicates.result c.signatures-functions.result (λ t. map signature_in t.entries ≡ functions) c.signatures-functions.ensures))
-              ∙ seen_of item_of function_view c.deref-2.ensures.value;
+          (subst (λ r. IfOk r (λ z. map signature_in z.1.entries ≡ functions)) (sym c.both_made.ensures)
+          (second_of_both c.signatures-predicates.result c.signatures-functions.result (λ t. map signature_in t.entries ≡ functions) c.signatures-functions.ensures))
+          ∙ seen_of item_of function_view c.deref-2.ensures.value;
       slots =
           let d = domain_view c.args.domain.now in
           first_made c.slots_of-slots.result c.both_made.result _ (AreSlotTops c.args.types.now (d.predicates ++ function_signatures d)) c.in_ok-slots.ensures c.slots_of-slots.ensures;
