@@ -1,13 +1,13 @@
 -- Places that are peeled off in turn, each once no child of it is left.
-use Rattle.std.proofs.Common.{◌≡◌, ◌≢◌, ℕ, zero, suc, ◌+◌, ◌<◌, ◌≤◌, ◌==◌, true, false, true≢false, List, [], ◌∷◌, ◌++◌, length, slice_set, refl, sym, ap, ◌∙◌, subst, arith, inl, inr}
-use Rattle.std.proofs.lemmas.Bool.{cases_eq, eq-eqb, ne_eqb, or_left, or_right}
+use Rattle.std.proofs.Common.{◌≡◌, ◌≢◌, ℕ, zero, suc, ◌+◌, ◌<◌, ◌≤◌, ◌==◌, cond, true, false, true≢false, List, [], ◌∷◌, ◌++◌, length, slice_set, refl, sym, ap, ◌∙◌, subst, arith, inl, inr}
+use Rattle.std.proofs.lemmas.Bool.{cond_both, false_from_ne_true, true_from_ne_false, cases_eq, eq-eqb, ne_eqb, or_left, or_right}
 use Rattle.std.proofs.lemmas.List.Elements.{All-from_get_or, All-push}
 use Rattle.std.proofs.lemmas.List.{get_or_append_left, get_or_push, get_or-set_same, get_or-set_other, length_push, length-set}
 use Rattle.pddl_forest.specs.Forests.{parent_of, number_at}
 use Rattle.pddl_forest.specs.Inner.Orders.{IsUpTo, is_up_to, total, child_left, AreCounted, AreWithoutChildren, ArePeeled}
 use borrow.Author.Count.{below_more}
 use Rattle.pddl_forest.proofs.Lists.{places_more}
-use Rattle.pddl_forest.proofs.Totals.{total_low, total_same, total_less, total_some, total_few}
+use Rattle.pddl_forest.proofs.Totals.{total_low, total_same, total_changed, total_some, total_few}
 
 -- ---- places before a turn
 
@@ -44,14 +44,7 @@ module _ (ps order : List ℕ) (turn i c : ℕ) where
   child_still is out = rw (eq-eqb (parent_of ps c) i is, out) refl
 
   one_at_most : child_left ps order turn i c ≤ 1
-  one_at_most =
-      elim (cases_eq (parent_of ps c) i) as (λ _. child_left ps order turn i c ≤ 1) [
-        | inl is ↦ elim (is_up_to order turn c) as (λ b. is_up_to order turn c ≡ b → child_left ps order turn i c ≤ 1) [
-          | true ↦ λ gone. let none = child_gone gone in omega (arith, none)
-          | false ↦ λ out. let one = child_still is out in omega (arith, one)
-        ] refl
-        | inr other ↦ let none = no_child other in omega (arith, none)
-      ]
+  one_at_most = cond_both (parent_of ps c == i) (cond (is_up_to order turn c) 0 1) 0 (λ n. n ≤ 1) (λ _. cond_both (is_up_to order turn c) 0 1 (λ n. n ≤ 1) (λ _. omega arith) (λ _. omega arith)) (λ _. omega arith)
 
 module _ {ps order left : List ℕ} {turn many : ℕ} (h : AreCounted ps order turn many left) (i : ℕ) (low : i < length ps) where
   pub few_children : number_at left i ≤ many
@@ -59,15 +52,9 @@ module _ {ps order left : List ℕ} {turn many : ℕ} (h : AreCounted ps order t
 
   -- where none is left, all children are peeled off
   all_gone : number_at left i ≡ 0 → (c : ℕ) → c < many → parent_of ps c ≡ i → IsUpTo order turn c
-  all_gone none c inside is =
-      elim (is_up_to order turn c) as (λ b. is_up_to order turn c ≡ b → IsUpTo order turn c) [
-        | true ↦ up_to order turn c
-        | false ↦ λ out.
-            let one = child_still ps order turn i c is out in
-            let among = total_low (child_left ps order turn i) many c inside in
-            let counted = h.each i low in
-            absurd (omega (arith, one, among, counted, none))
-      ] refl
+  all_gone none c inside is = up_to order turn c (true_from_ne_false (is_up_to order turn c) (λ out.
+      let among = total_low (child_left ps order turn i) many c inside in
+      omega (arith, child_still ps order turn i c is out, among, h.each i low, none)))
 
   -- and where some are, one is not
   pub some_left : number_at left i ≢ 0 → (c : ℕ) × (c < many) × (parent_of ps c ≡ i) × (IsUpTo order turn c → ⊥)
@@ -114,7 +101,7 @@ module _ {ps left order : List ℕ} {turn : ℕ} (h : ArePeeled ps left order tu
   parent_inside = let inside = parent_low in let long = h.counted.long in omega (arith, inside, long)
 
   new : is_up_to order turn place ≡ false
-  new = elim (is_up_to order turn place) as (λ b. is_up_to order turn place ≡ b → b ≡ false) [ true ↦ λ there. let (u, less, is) = up_to order turn place there in absurd (h.without_children.places.once u turn less low is) | false ↦ λ _. refl ] refl
+  new = false_from_ne_true (is_up_to order turn place) (λ there. let (u, less, is) = up_to order turn place there in h.without_children.places.once u turn less low is)
 
   gone : is_up_to order (suc turn) place ≡ true
   gone = or_left (place == place) (is_up_to order turn place) (eq-eqb place place refl)
@@ -122,21 +109,17 @@ module _ {ps left order : List ℕ} {turn : ℕ} (h : ArePeeled ps left order tu
   still : (i c : ℕ) → c ≢ place → child_left ps order turn i c ≡ child_left ps order (suc turn) i c
   still i c other = rw (ne_eqb place c (λ e. other (sym e))) refl
 
+  changed : (i : ℕ) → total (child_left ps order turn i) (length ps) + child_left ps order (suc turn) i place ≡ total (child_left ps order (suc turn) i) (length ps) + child_left ps order turn i place
+  changed i = total_changed (child_left ps order turn i) (child_left ps order (suc turn) i) (length ps) place place_low (λ c _. still i c)
+
   of_parent : total (child_left ps order turn parent) (length ps) ≡ total (child_left ps order (suc turn) parent) (length ps) + 1
-  of_parent = total_less (child_left ps order turn parent) (child_left ps order (suc turn) parent) (length ps) place place_low
-      (let one = child_still ps order turn parent place refl new in let none = child_gone ps order (suc turn) parent place gone in omega (arith, one, none))
-      (λ c _. still parent c)
+  of_parent = omega (arith, changed parent, child_still ps order turn parent place refl new, child_gone ps order (suc turn) parent place gone)
 
   of_others : (i : ℕ) → i ≢ parent → total (child_left ps order turn i) (length ps) ≡ total (child_left ps order (suc turn) i) (length ps)
-  of_others i other = total_same (child_left ps order turn i) (child_left ps order (suc turn) i) (length ps) (λ c _. elim (cases_eq c place) as (λ _. child_left ps order turn i c ≡ child_left ps order (suc turn) i c) [
-    | inl is ↦
-        let apart : parent_of ps c ≢ i = λ e. other (sym e ∙ ap (parent_of ps) is) in
-        no_child ps order turn i c apart ∙ sym (no_child ps order (suc turn) i c apart)
-    | inr differ ↦ still i c differ
-  ])
+  of_others i other = let none = λ (t : ℕ). no_child ps order t i place (λ e. other (sym e)) in omega (arith, changed i, none turn, none (suc turn))
 
   pub some_children : number_at left parent ≢ 0
-  some_children none = let is = h.counted.each parent parent_low in let one = of_parent in omega (arith, is, one, none)
+  some_children none = omega (arith, h.counted.each parent parent_low, of_parent, none)
 
   unlisted : (u : ℕ) → u < length order → number_at order u ≢ parent
   unlisted u less is = some_children (ap (number_at left) (sym is) ∙ h.without_children.none u less)
@@ -156,7 +139,7 @@ module _ {ps left order : List ℕ} {turn : ℕ} (h : ArePeeled ps left order tu
           elim (cases_eq i parent) as (λ _. number_at (slice_set left parent fewer) i ≡ total (child_left ps order (suc turn) i) (length ps)) [
             | inl is ↦
                 subst (λ k. number_at (slice_set left parent fewer) k ≡ total (child_left ps order (suc turn) k) (length ps)) (sym is)
-                (let here = now in let before = h.counted.each parent parent_low in let less = of_parent in omega (arith, here, before, less, fewer_is))
+                (omega (arith, now, h.counted.each parent parent_low, of_parent, fewer_is))
             | inr other ↦ kept i other ∙ was ∙ of_others i other
           ];
     }

@@ -24,16 +24,10 @@ module _ {ps order sizes offsets first : List ℕ} (o : IsOrder ps order) (s : A
       (turn.0, omega (arith, later), turn.1, turn.2)
 
   behind : (i : ℕ) → i < length ps → i ≢ 0 → at (parent_of ps i) < at i
-  behind i low other =
-      let next = f.next i (o.all i low) other in
-      let behind = s.behind i (some_turn i low other) in
-      omega (arith, next, behind)
+  behind i low other = omega (arith, f.next i (o.all i low) other, s.behind i (some_turn i low other))
 
   inside : (i : ℕ) → i < length ps → i ≢ 0 → end i ≤ end (parent_of ps i)
-  inside i low other =
-      let next = f.next i (o.all i low) other in
-      let inside = s.inside i (some_turn i low other) in
-      omega (arith, next, inside)
+  inside i low other = omega (arith, f.next i (o.all i low) other, s.inside i (some_turn i low other))
 
   -- of two places with one parent the second comes behind all that is under the first
   apart : (i k : ℕ) → i < length ps → k < length ps → i ≢ 0 → k ≢ 0 → k ≢ i → parent_of ps k ≡ parent_of ps i → at k ≤ at i → end k ≤ at i
@@ -44,7 +38,7 @@ module _ {ps order sizes offsets first : List ℕ} (o : IsOrder ps order) (s : A
       let u = some_turn i low other in
       let w = some_turn k also some in
       elim (cases_lt u.0 w.0) as (λ _. end k ≤ at i) [
-        | inl later ↦ let apart = s.apart i k u w later same in omega (arith, next, next', e, apart)
+        | inl later ↦ omega (arith, next, next', e, s.apart i k u w later same)
         | inr not ↦
             let apart_turns : u.0 ≢ w.0 = λ is. differ (sym w.3 ∙ ap (number_at order) (sym is) ∙ u.3) in
             let apart = s.apart k i w u (omega (arith, not, apart_turns)) (sym same) in
@@ -54,13 +48,13 @@ module _ {ps order sizes offsets first : List ℕ} (o : IsOrder ps order) (s : A
 
   -- what is under a place comes behind it, and not behind what is below it
   nested : (n i g : ℕ) → i < length ps → up ps n i ≡ g → (at g ≤ at i) × (end i ≤ end g)
-  nested zero i g low is = let e = ap at is in let e' = ap end is in (omega (arith, e), omega (arith, e'))
+  nested zero i g low is = (omega (arith, ap at is), omega (arith, ap end is))
   nested (suc n) i g low is =
       let more = nested n (parent_of ps i) g (o.within i low) is in
       let (m0, m1) = more in
       elim (cases_eq i 0) as (λ _. (at g ≤ at i) × (end i ≤ end g)) [
         | inl zeroth ↦ subst (λ k. (at g ≤ at k) × (end k ≤ end g)) (ap (parent_of ps) zeroth ∙ o.top ∙ sym zeroth) more
-        | inr other ↦ let b = behind i low other in let c = inside i low other in (omega (arith, b, m0), omega (arith, c, m1))
+        | inr other ↦ (omega (arith, behind i low other, m0), omega (arith, inside i low other, m1))
       ]
 
   -- what is under a place is that place, or under one whose parent that is
@@ -84,10 +78,7 @@ module _ {ps order sizes offsets first : List ℕ} (o : IsOrder ps order) (s : A
       elim (by_child n g i also is) as (λ _. g ≡ i) [
         | inl here ↦ here
         | inr (k, in_range, other, is_child, under) ↦
-            let past = behind k in_range other in
-            let e = ap at is_child in
-            let in_child = (nested under.0 g k also under.1).0 in
-            absurd (omega (arith, past, e, in_child, from))
+            absurd (omega (arith, behind k in_range other, ap at is_child, (nested under.0 g k also under.1).0, from))
       ]
 
   -- what is numbered from a place's number to that of the last below it is under it
@@ -97,26 +88,21 @@ module _ {ps order sizes offsets first : List ℕ} (o : IsOrder ps order) (s : A
       elim (cases_eq i 0) as (λ _. IsUnder ps i g) [
         | inl zeroth ↦
             let none = ap at zeroth ∙ f.start in
-            elim (cases_eq g 0) as (λ _. IsUnder ps i g) [ inl is ↦ (0, zeroth ∙ sym is) | inr other ↦ let past = behind g also other in absurd (omega (arith, none, past, from)) ]
+            elim (cases_eq g 0) as (λ _. IsUnder ps i g) [ inl is ↦ (0, zeroth ∙ sym is) | inr other ↦ absurd (omega (arith, none, behind g also other, from)) ]
         | inr other ↦
             let p = parent_of ps i in
             let up_one = behind i low other in
             elim (cases_lt (at p) (at g)) as (λ _. IsUnder ps i g) [
               | inr here ↦ let rest = under_by b p g (o.within i low) also (omega (arith, up_one, less)) here (omega (arith, up_one, to)) in (suc rest.0, rest.1)
               | inl between ↦
-                  let own = s.some i low in
-                  let within = inside i low other in
-                  let above = under_by b g p also (o.within i low) (omega (arith, up_one, less)) (omega (arith, between)) (omega (arith, from, own, within)) in
+                  let above = under_by b g p also (o.within i low) (omega (arith, up_one, less)) (omega (arith, between)) (omega (arith, from, s.some i low, inside i low other)) in
                   elim (by_child above.0 g p also above.1) as (λ _. IsUnder ps i g) [
-                    | inl is ↦ let e = ap at is in absurd (omega (arith, e, between))
+                    | inl is ↦ absurd (omega (arith, ap at is, between))
                     | inr (k, in_range, some, is_child, under) ↦ elim (cases_eq k i) as (λ _. IsUnder ps i g) [
                       | inl is ↦ (0, sym (same i g (subst (IsUnder ps g) is under) also from))
                       | inr differ ↦
-                          let in_child = nested under.0 g k also under.1 in
-                          let c0 = in_child.0 in
-                          let c1 = in_child.1 in
-                          let past = apart i k low in_range other some differ is_child (omega (arith, c0, from)) in
-                          absurd (omega (arith, past, c1, to))
+                          let (begun, ended) = nested under.0 g k also under.1 in
+                          absurd (omega (arith, apart i k low in_range other some differ is_child (omega (arith, begun, from)), ended, to))
                     ]
                   ]
             ]
@@ -125,8 +111,8 @@ module _ {ps order sizes offsets first : List ℕ} (o : IsOrder ps order) (s : A
   pub are_spans : {spans : List Span} → AreSpansOf ps sizes first spans → AreSpans ps spans
   are_spans {spans} l = record {
     many = l.many;
-    some = λ i low. let a = l.first_is i low in let b = l.last_is i low in let own = s.some i low in omega (arith, a, b, own);
-    low = λ i low. let b = l.last_is i low in let fits = f.fits i (o.all i low) in omega (arith, b, fits);
+    some = λ i low. omega (arith, l.first_is i low, l.last_is i low, s.some i low);
+    low = λ i low. omega (arith, l.last_is i low, f.fits i (o.all i low));
     under = λ i g low also.
         let a = l.first_is i low in
         let b = l.first_is g also in
@@ -138,7 +124,6 @@ module _ {ps order sizes offsets first : List ℕ} (o : IsOrder ps order) (s : A
               under_by (at i + at g + 1) i g low also (omega arith) (omega (arith, from, a, b)) (omega (arith, to, a, c)),
           λ (n, is).
               let (from, to) = nested n i g low is in
-              let own = s.some i low in
-              held (span_at spans g) (span_at spans i).first (omega (arith, from, a, b)) (omega (arith, to, own, a, c)),
+              held (span_at spans g) (span_at spans i).first (omega (arith, from, a, b)) (omega (arith, to, s.some i low, a, c)),
         );
   }

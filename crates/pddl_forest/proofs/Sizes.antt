@@ -1,12 +1,12 @@
 -- How many places are under each, found in an order in which each comes behind its parent.
-use Rattle.std.proofs.Common.{◌≡◌, ◌≢◌, ℕ, suc, ◌+◌, ◌<◌, ◌≤◌, List, length, replicate, slice_set, refl, sym, ap, ◌∙◌, arith, inl, inr, ◌⊎◌}
-use Rattle.std.proofs.lemmas.Bool.{cases_eq, cases_lt}
+use Rattle.std.proofs.Common.{◌≡◌, ◌≢◌, ℕ, suc, ◌+◌, ◌<◌, ◌≤◌, List, length, replicate, slice_set, refl, sym, ap, ◌∙◌, subst, arith, inl, inr, ◌⊎◌}
+use Rattle.std.proofs.lemmas.Bool.{cases_eq}
 use Rattle.std.proofs.lemmas.List.{get_or-set_same, get_or-set_other, get_or-replicate, length-set, length-replicate}
 use Rattle.pddl_forest.specs.Forests.{parent_of, number_at}
 use Rattle.pddl_forest.specs.Inner.Orders.{IsUpTo, IsOrder}
 use Rattle.pddl_forest.specs.Inner.Sizes.{IsFrom, AreSized, AreNumbered}
-use Rattle.pddl_forest.proofs.Lists.{few_places}
-use Rattle.pddl_forest.proofs.Totals.{total_raised, total_low, total_few}
+use Rattle.pddl_forest.proofs.Lists.{few_places, one_turn}
+use Rattle.pddl_forest.proofs.Totals.{total_changed, total_low, total_few}
 
 -- ---- sizes, from the end of the order
 
@@ -31,16 +31,12 @@ module _ {ps order : List ℕ} (o : IsOrder ps order) (turn : ℕ) (low : turn <
   abbrev parent : ℕ
   parent = parent_of ps place
 
-  apart_at : (u w : ℕ) → u < length order → w < length order → u ≢ w → number_at order u ≢ number_at order w
-  apart_at u w u_low w_low other same =
-      elim (cases_lt u w) as (λ _. ⊥) [ inl less ↦ o.places.once u w less w_low same | inr past ↦ o.places.once w u (omega (arith, past, other)) u_low (sym same) ]
-
   -- the parent comes before
   over : IsUpTo order turn parent
   over = o.behind turn low later
 
   over_low : over.0 < length order
-  over_low = let before = over.1 in omega (arith, before, low)
+  over_low = omega (arith, over.1, low)
 
   place_low : place < length ps
   place_low = o.places.in_range turn low
@@ -49,7 +45,7 @@ module _ {ps order : List ℕ} (o : IsOrder ps order) (turn : ℕ) (low : turn <
   parent_low = o.within place place_low
 
   place_other : place ≢ 0
-  place_other is = apart_at turn 0 low o.some later (is ∙ sym o.start)
+  place_other is = later (one_turn o.places turn 0 low o.some (is ∙ sym o.start))
 
   before_place : (i : ℕ) → IsUpTo order turn i → i ≢ place
   before_place i (u, before, at) is = o.places.once u turn before low (at ∙ is)
@@ -58,7 +54,7 @@ module _ {ps order : List ℕ} (o : IsOrder ps order) (turn : ℕ) (low : turn <
   past_place i (u, past, inside, at) is = o.places.once turn u (omega (arith, past)) inside (sym is ∙ sym at)
 
   past_parent : (i : ℕ) → IsFrom order (suc turn) i → i ≢ parent
-  past_parent i (u, past, inside, at) is = o.places.once over.0 u (let before = over.1 in omega (arith, past, before)) inside (over.2 ∙ sym is ∙ sym at)
+  past_parent i (u, past, inside, at) is = o.places.once over.0 u (omega (arith, past, over.1)) inside (over.2 ∙ sym is ∙ sym at)
 
   here_or_past : (i : ℕ) → IsFrom order turn i → (place ≡ i) ⊎ IsFrom order (suc turn) i
   here_or_past i (u, from, inside, at) = elim (cases_eq turn u) as (λ _. (place ≡ i) ⊎ IsFrom order (suc turn) i) [
@@ -79,8 +75,7 @@ module _ {ps order : List ℕ} (o : IsOrder ps order) (turn : ℕ) (low : turn <
         let f : ℕ → ℕ = λ u. number_at sizes (number_at order u) in
         let other = total_low f turn over.0 over.1 in
         let a : f over.0 ≡ number_at sizes parent = ap (number_at sizes) over.2 in
-        let whole = h.whole in
-        omega (arith, other, a, whole)
+        omega (arith, other, a, h.whole)
 
     module _ (offset size : ℕ) (offset_is : offset ≡ number_at sizes parent) (size_is : size ≡ offset + number_at sizes place) where
       abbrev size_of : ℕ → ℕ
@@ -90,20 +85,20 @@ module _ {ps order : List ℕ} (o : IsOrder ps order) (turn : ℕ) (low : turn <
       offset_of = number_at (slice_set offsets place offset)
 
       raised : size_of parent ≡ number_at sizes parent + number_at sizes place
-      raised = get_or-set_same sizes parent size 0 (let long = h.long in let inside = parent_low in omega (arith, long, inside)) ∙ size_is ∙ ap (λ n. n + number_at sizes place) offset_is
+      raised = get_or-set_same sizes parent size 0 (omega (arith, h.long, parent_low)) ∙ size_is ∙ ap (λ n. n + number_at sizes place) offset_is
 
       kept : (i : ℕ) → i ≢ parent → size_of i ≡ number_at sizes i
       kept i other = get_or-set_other sizes parent i size 0 other
 
       grown : (i : ℕ) → number_at sizes i ≤ size_of i
       grown i = elim (cases_eq i parent) as (λ _. number_at sizes i ≤ size_of i) [
-        | inl is ↦ let now = ap size_of is ∙ raised in let was = ap (number_at sizes) is in omega (arith, now, was)
-        | inr other ↦ let same = kept i other in omega (arith, same)
+        | inl is ↦ omega (arith, ap size_of is ∙ raised, ap (number_at sizes) is)
+        | inr other ↦ omega (arith, kept i other)
       ]
 
       -- the place begins where its parent ended, and its size is final
       put_here : offset_of place ≡ number_at sizes parent
-      put_here = get_or-set_same offsets place offset 0 (let long = h.offsets_long in let inside = place_low in omega (arith, long, inside)) ∙ offset_is
+      put_here = get_or-set_same offsets place offset 0 (omega (arith, h.offsets_long, place_low)) ∙ offset_is
 
       kept_here : size_of place ≡ number_at sizes place
       kept_here = kept place (λ e. before_place parent over (sym e))
@@ -118,48 +113,30 @@ module _ {ps order : List ℕ} (o : IsOrder ps order) (turn : ℕ) (low : turn <
       sized = record {
         long = length-set sizes parent size ∙ h.long;
         offsets_long = length-set offsets place offset ∙ h.offsets_long;
-        some = λ i i_low. let was = h.some i i_low in let more = grown i in omega (arith, was, more);
+        some = λ i i_low. omega (arith, h.some i i_low, grown i);
         whole =
             let f : ℕ → ℕ = λ u. number_at sizes (number_at order u) in
             let g : ℕ → ℕ = λ u. size_of (number_at order u) in
-            let more : g over.0 ≡ f over.0 + number_at sizes place = ap size_of over.2 ∙ raised ∙ ap (λ n. n + number_at sizes place) (ap (number_at sizes) (sym over.2)) in
-            let sum = total_raised f g turn over.0 (number_at sizes place) (λ _. omega (arith, more))
-            (λ u before other. let same = kept (number_at order u) (λ e. apart_at u over.0 (omega (arith, before, low)) over_low other (e ∙ sym over.2)) in omega (arith, same)) in
-            let whole = h.whole in
-            omega (arith, sum, whole);
+            let more : g over.0 ≡ f over.0 + number_at sizes place = subst (λ k. size_of k ≡ number_at sizes k + number_at sizes place) (sym over.2) raised in
+            let changed = total_changed f g turn over.0 over.1 (λ u before other. sym (kept (number_at order u) (λ e. other (one_turn o.places u over.0 (omega (arith, before, low)) over_low (e ∙ sym over.2))))) in
+            omega (arith, changed, more, h.whole);
         behind = λ i from. elim (here_or_past i from) as (λ _. 0 < offset_of i) [
-          | inl is ↦ let now = ap offset_of (sym is) ∙ put_here in let some = h.some parent parent_low in omega (arith, now, some)
-          | inr past ↦ let now = offset_past i past in let was = h.behind i past in omega (arith, now, was)
+          | inl is ↦ subst (λ k. 0 < offset_of k) is (omega (arith, put_here, h.some parent parent_low))
+          | inr past ↦ omega (arith, offset_past i past, h.behind i past)
         ];
         inside = λ i from. elim (here_or_past i from) as (λ _. offset_of i + size_of i ≤ size_of (parent_of ps i)) [
-          | inl is ↦
-              let a = ap offset_of (sym is) ∙ put_here in
-              let b = ap size_of (sym is) ∙ kept_here in
-              let c = ap size_of (ap (parent_of ps) (sym is)) ∙ raised in
-              omega (arith, a, b, c)
-          | inr past ↦
-              let a = offset_past i past in
-              let b = size_past i past in
-              let was = h.inside i past in
-              let more = grown (parent_of ps i) in
-              omega (arith, a, b, was, more)
+          | inl is ↦ subst (λ k. offset_of k + size_of k ≤ size_of (parent_of ps k)) is (omega (arith, put_here, kept_here, raised))
+          | inr past ↦ omega (arith, offset_past i past, size_past i past, h.inside i past, grown (parent_of ps i))
         ];
         apart = λ i k (u, from, low, at) (w, _, inside, at_k) later same.
             let past : IsFrom order (suc turn) k = (w, omega (arith, from, later), inside, at_k) in
-            let b = offset_past k past in
-            let c = size_past k past in
             elim (cases_eq turn u) as (λ _. offset_of k + size_of k ≤ offset_of i) [
               | inl is ↦
-                  let here : place ≡ i = ap (number_at order) is ∙ at in
-                  let a = ap offset_of (sym here) ∙ put_here in
-                  let within = h.inside k past in
-                  let e = ap (number_at sizes) (same ∙ ap (parent_of ps) (sym here)) in
-                  omega (arith, a, b, c, within, e)
+                  let e = ap (number_at sizes) (same ∙ ap (parent_of ps) (sym (ap (number_at order) is ∙ at))) in
+                  subst (λ j. offset_of k + size_of k ≤ offset_of j) (ap (number_at order) is ∙ at) (omega (arith, put_here, offset_past k past, size_past k past, h.inside k past, e))
               | inr other ↦
                   let done : IsFrom order (suc turn) i = (u, omega (arith, from, other), low, at) in
-                  let a = offset_past i done in
-                  let was = h.apart i k done past later same in
-                  omega (arith, a, b, c, was)
+                  omega (arith, offset_past i done, offset_past k past, size_past k past, h.apart i k done past later same)
             ];
       }
 
@@ -169,16 +146,14 @@ module _ {ps order : List ℕ} (o : IsOrder ps order) (turn : ℕ) (low : turn <
     -- what is under the place has numbers within those of what is under its parent
     pub number_fits : number_at first parent + number_at offsets place + number_at sizes place ≤ length ps
     number_fits =
-        let fits = h.fits parent over in
-        let within = s.inside place (turn, omega (arith, later), low, refl) in
-        omega (arith, fits, within)
+        omega (arith, h.fits parent over, s.inside place (turn, omega (arith, later), low, refl))
 
     module _ (number : ℕ) (number_is : number ≡ number_at first parent + number_at offsets place) where
       abbrev first_of : ℕ → ℕ
       first_of = number_at (slice_set first place number)
 
       set_here : first_of place ≡ number
-      set_here = get_or-set_same first place number 0 (let long = h.long in let inside = place_low in omega (arith, long, inside))
+      set_here = get_or-set_same first place number 0 (omega (arith, h.long, place_low))
 
       set_before : (i : ℕ) → IsUpTo order turn i → first_of i ≡ number_at first i
       set_before i before = get_or-set_other first place i number 0 (before_place i before)
@@ -188,20 +163,14 @@ module _ {ps order : List ℕ} (o : IsOrder ps order) (turn : ℕ) (low : turn <
         long = length-set first place number ∙ h.long;
         start = get_or-set_other first place 0 number 0 (λ e. place_other (sym e)) ∙ h.start;
         next = λ i up_to other. elim (here_or_before i up_to) as (λ _. first_of i ≡ first_of (parent_of ps i) + number_at offsets i) [
-          | inl is ↦
-              let a = ap first_of (sym is) ∙ set_here in
-              let b = ap first_of (ap (parent_of ps) (sym is)) ∙ set_before parent over in
-              let c = ap (number_at offsets) (sym is) in
-              omega (arith, a, b, c, number_is)
+          | inl is ↦ subst (λ k. first_of k ≡ first_of (parent_of ps k) + number_at offsets k) is (omega (arith, set_here, set_before parent over, number_is))
           | inr before ↦
-              let v = o.behind before.0 (let early = before.1 in omega (arith, early, low)) (λ e. other (sym before.2 ∙ ap (number_at order) e ∙ o.start)) in
-              let a = set_before i before in
-              let b = set_before (parent_of ps i) (v.0, let u = before.1 in let w = v.1 in omega (arith, u, w), v.2 ∙ ap (parent_of ps) before.2) in
-              let was = h.next i before other in
-              omega (arith, a, b, was)
+              let v = o.behind before.0 (omega (arith, before.1, low)) (λ e. other (sym before.2 ∙ ap (number_at order) e ∙ o.start)) in
+              let over = set_before (parent_of ps i) (v.0, omega (arith, before.1, v.1), v.2 ∙ ap (parent_of ps) before.2) in
+              omega (arith, set_before i before, over, h.next i before other)
         ];
         fits = λ i up_to. elim (here_or_before i up_to) as (λ _. first_of i + number_at sizes i ≤ length ps) [
-          | inl is ↦ let a = ap first_of (sym is) ∙ set_here in let b = ap (number_at sizes) (sym is) in let fits = number_fits in omega (arith, a, b, fits, number_is)
-          | inr before ↦ let a = set_before i before in let was = h.fits i before in omega (arith, a, was)
+          | inl is ↦ subst (λ k. first_of k + number_at sizes k ≤ length ps) is (omega (arith, set_here, number_fits, number_is))
+          | inr before ↦ omega (arith, set_before i before, h.fits i before)
         ];
       }
