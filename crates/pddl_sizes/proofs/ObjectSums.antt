@@ -1,11 +1,11 @@
 -- The objects under tops that are apart: by sums over an order of all objects, and as parts of it.
-use Rattle.std.proofs.Common.{◌≡◌, ℕ, zero, suc, ◌+◌, ◌-◌, ◌<◌, ◌≤◌, Bool, true, false, cond, ltb, leb, ◌&&◌, List, [], ◌∷◌, filter, length, take, drop, refl, sym, ap, ◌∙◌, subst, arith, slice_index_or, take-suc}
+use Rattle.std.proofs.Common.{◌≡◌, ℕ, zero, suc, ◌+◌, ◌-◌, ◌<◌, ◌≤◌, Bool, true, false, cond, ltb, leb, ◌&&◌, List, [], ◌∷◌, filter, length, take, drop, refl, sym, ap, ◌∙◌, subst, arith, slice_index_or}
 use Rattle.std.proofs.Math.Nat.{ℕ_set}
 use Rattle.std.specs.Coded.{le_prop}
-use Rattle.std.specs.List.{sum_by}
+use Rattle.std.specs.List.{sum_by, range_with_len}
 use Rattle.std.proofs.lemmas.Bool.{leb-true, lt-leb, ltb-true, ltb-false, and_parts}
-use Rattle.std.proofs.lemmas.List.{get_or_default, get_or-take, length-drop, length-take-le, take_all}
-use Rattle.std.proofs.lemmas.List.Folds.{list_any-append, Any-from_list_any}
+use Rattle.std.proofs.lemmas.List.{get_or_default, get_or-take, length-take-le, take_all, take_rest}
+use Rattle.std.proofs.lemmas.List.Folds.{list_any_more, Any-from_list_any}
 use Rattle.std.proofs.lemmas.List.Sorted.{sum_by-IsPermutation}
 use Rattle.std.specs.List.Sorted.{IsNonDecreasingBy, IsPartitionPoint}
 use Rattle.std.proofs.Math.Logic.{∥∥₁_elim}
@@ -14,7 +14,7 @@ use Rattle.pddl_task.specs.Tasks.{places_from}
 use Rattle.pddl_forest.specs.Spans.{holds, some_holds, span_at, AreApart}
 use Rattle.pddl_forest.specs.declared.spans.Span.{Span}
 use Rattle.pddl_forest.proofs.ApartSpans.{held}
-use Rattle.pddl_sizes.specs.ObjectOrders.{numbers_below, IsOrderOf}
+use Rattle.pddl_sizes.specs.ObjectOrders.{IsOrderOf}
 use Rattle.pddl_sizes.specs.declared.object_order.ObjectOrder.{ObjectOrder}
 use Rattle.pddl_sizes.proofs.ListSums.{if_passes, if_either, sum_filter, sum_two, sum_ones, few_pass, places_are}
 
@@ -29,8 +29,7 @@ module _ (spans tops : List Span) (order : List ℕ) where
   pub none_under : (f : ℕ → ℕ) → 0 ≡ sum_under f 0
   none_under f =
       let g : ℕ → ℕ = λ o. if_passes (some_holds (take 0 tops) (number o)) (f o) in
-      let twice = sum_two g g g (λ o. refl) order in
-      omega (arith, twice)
+      omega (arith, sum_two g g g (λ o. refl) order)
 
   -- no more are than there are
   pub few_under : (i : ℕ) → sum_under (λ _. 1) i ≤ length order
@@ -51,15 +50,11 @@ module _ (spans tops : List Span) (order : List ℕ) where
         let also : span_at tops i ≡ top = get_or_default tops i _ none low in
         let to = leb-true n s.last (and_parts (leb s.first n) (leb n s.last) on).1 in
         let from = leb-true top.first n (and_parts (leb top.first n) (leb n top.last) here).0 in
-        let a = ap (λ t. t.last) at in
-        let b = ap (λ t. t.first) also in
-        omega (arith, past, to, from, a, b)
+        omega (arith, past, to, from, ap (λ t. t.last) at, ap (λ t. t.first) also)
 
     one_of : (n m : ℕ) → if_passes (some_holds (take (i + 1) tops) n) m ≡ if_passes (some_holds (take i tops) n) m + if_passes (holds top n) m
     one_of n m =
-        let next : i + 1 ≡ suc i = omega arith in
-        ap (λ ts. if_passes (some_holds ts n) m) (ap (λ k. take k tops) next ∙ take-suc tops i none low) ∙ ap (λ b. if_passes b m) (list_any-append (λ t. holds t n) (take i tops) (top ∷ []))
-        ∙ if_either (some_holds (take i tops) n) (holds top n) m (no_other n)
+        ap (λ b. if_passes b m) (list_any_more (λ t. holds t n) tops i none low) ∙ if_either (some_holds (take i tops) n) (holds top n) m (no_other n)
 
     pub next_top : (f : ℕ → ℕ) → sum_under f (i + 1) ≡ sum_under f i + sum_by f (filter (λ o. holds top (number o)) order)
     next_top f =
@@ -74,8 +69,8 @@ sum_under_all spans tops order i f ordered past =
     let none : Span = record { first = length spans; last = length spans } in
     let g : ℕ → ℕ = λ o. if_passes (test (span_at spans o)) (f o) in
     ap (λ ts. sum_by (λ o. if_passes (some_holds ts (span_at spans o).first) (f o)) order.objects.items) (take_all i tops past)
-    ∙ ∥∥₁_elim ordered (hlevel ℕ_set) (λ is. sum_by-IsPermutation g (numbers_below (length spans)) order.objects.items is.all)
-    ∙ sym (sum_filter (λ o. test (span_at spans o)) f (numbers_below (length spans)))
+    ∙ ∥∥₁_elim ordered (hlevel ℕ_set) (λ is. sum_by-IsPermutation g (range_with_len 0 (length spans)) order.objects.items is.all)
+    ∙ sym (sum_filter (λ o. test (span_at spans o)) f (range_with_len 0 (length spans)))
     ∙ ap (sum_by f) (places_are test spans none)
 
 -- their types have numbers that do not fall
@@ -116,6 +111,5 @@ module _ {X : Type 0} (n : X → ℕ) (top : Span) where
   pub rest_holds : (xs : List X) (start many : ℕ) → many ≤ length (take (length xs - start) (drop start xs)) → IsStart xs start → IsEnd (take (length xs - start) (drop start xs)) many
       → take many (take (length xs - start) (drop start xs)) ≡ filter (λ x. holds top (n x)) xs
   rest_holds xs start many few from to =
-      let same : take (length xs - start) (drop start xs) ≡ drop start xs = take_all (length xs - start) (drop start xs) (omega (arith, length-drop start xs)) in
-      ap (take many) same
-      ∙ part_holds xs start many (subst (λ ys. many ≤ length ys) same few) from (subst (λ ys. IsEnd ys many) same to)
+      let same = take_rest xs start in
+      ap (take many) same ∙ part_holds xs start many (subst (λ ys. many ≤ length ys) same few) from (subst (λ ys. IsEnd ys many) same to)
