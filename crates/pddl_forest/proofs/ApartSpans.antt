@@ -1,6 +1,6 @@
 -- Spans that are apart, and tops of spans.
 use Rattle.std.proofs.Common.{◌≡◌, ◌≢◌, ℕ, zero, suc, ◌+◌, ◌-◌, ◌<◌, ◌≤◌, ◌==◌, ◌&&◌, leb, Bool, true, false, List, [], ◌∷◌, length, sym, ap, ◌∙◌, subst, arith, inl, inr, ◌⊎◌}
-use Rattle.std.proofs.lemmas.Bool.{leb-true, leb-false, le-leb, eq-eqb, and_parts, and_from, cases_lt, cond_both, false_from_ne_true, true≢false, or_left, or_right}
+use Rattle.std.proofs.lemmas.Bool.{leb-true, leb-false, le-leb, eq-eqb, and_parts, and_from, cases_lt, cond_both, true≢false, or_left, or_right}
 use Rattle.std.proofs.lemmas.List.{get_or_default}
 use Rattle.std.proofs.lemmas.List.Elements.{Contains-get_or}
 use Rattle.std.proofs.lemmas.List.Filters.{All-dedup}
@@ -8,7 +8,6 @@ use Rattle.std.proofs.lemmas.List.Folds.{list_any_at, Any-from_list_any}
 use Rattle.std.proofs.lemmas.List.Kept.{AllPairs-cons, Contains-from_dedup}
 use Rattle.std.proofs.lemmas.List.Sorted.{Contains-permutation, IsPermutation-sym, IsNonDecreasingBy-drop, IsNonDecreasingBy-from_default, IsPartitionedBy-leb}
 use Rattle.std.specs.Prelude.{Contains}
-use Rattle.std.specs.Cmp.{both_ways}
 use Rattle.std.specs.List.{AllPairs, slice_index_or, dedup, dedup_from}
 use Rattle.std.specs.List.Sorted.{IsNonDecreasingBy, IsPartitionPoint, IsPartitionedBy, IsPermutation}
 use Rattle.pddl_forest.specs.Spans.{holds, some_holds, span_at, AreApart, AreTops}
@@ -31,7 +30,7 @@ parted spans n h =
 -- a number that some span holds is held by the last that begins at or before it
 module _ (spans : List Span) (n behind : ℕ) (apart : AreApart spans) (bound : behind ≤ length spans)
     (point : IsPartitionPoint (λ s. leb s.first n ≡ true) (λ s. leb s.first n ≡ false) spans behind) where
-  held_before : some_holds spans n ≡ true → (behind ≢ 0) × ((d : Span) → holds (slice_index_or spans (behind - 1) d) n ≡ true)
+  pub held_before : some_holds spans n ≡ true → (behind ≢ 0) × ((d : Span) → holds (slice_index_or spans (behind - 1) d) n ≡ true)
   held_before some =
       let (k, s, low, is, on) = Any-from_list_any (λ s. holds s n) spans some in
       let (from, to) = and_parts (leb s.first n) (leb n s.last) on in
@@ -51,12 +50,6 @@ module _ (spans : List Span) (n behind : ℕ) (apart : AreApart spans) (bound : 
       ] in
       let at : behind - 1 ≡ k = omega (arith, begun, last) in
       (λ none. omega (arith, none, begun), λ d. ap (λ t. holds t n) (ap (λ i. slice_index_or spans i d) at ∙ get_or_default spans k d s low ∙ is) ∙ on)
-
-  pub held_by_last : (d : Span) → behind ≢ 0 → holds (slice_index_or spans (behind - 1) d) n ≡ some_holds spans n
-  held_by_last d some = both_ways _ _ (list_any_at (λ s. holds s n) spans (behind - 1) d (omega (arith, bound, some))) (λ is. (held_before is).1 d)
-
-  pub none_held : behind ≡ 0 → some_holds spans n ≡ false
-  none_held none = false_from_ne_true (some_holds spans n) (λ some. (held_before some).0 none)
 
 -- ---- tops
 

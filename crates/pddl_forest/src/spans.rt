@@ -25,10 +25,7 @@ fn behind_holder(spans: &[Span], number: usize) -> usize
     ensures { some_holds spans.now number ≡ not (result == 0) }
 {
     let behind = spans.partition_point(|span| span.first <= number);
-    if behind == 0 {
-        return 0;
-    }
-    if spans[behind - 1].holds(number) {
+    if behind > 0 && spans[behind - 1].holds(number) {
         behind
     } else {
         0

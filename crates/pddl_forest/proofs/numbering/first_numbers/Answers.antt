@@ -1,22 +1,17 @@
-use Rattle.std.proofs.Common.{◌≡◌, ◌+◌, length, ap, ◌∙◌, subst, arith}
-use Rattle.pddl_forest.specs.Forests.{number_at}
+use Rattle.std.proofs.Common.{◌≡◌, ◌+◌, length, ap, subst, arith}
 use Rattle.pddl_forest.specs.Inner.Sizes.{AreNumbered}
 use Rattle.pddl_forest.proofs.Sizes.{number_fits, numbered}
 use Rattle.pddl_forest.proofs.numbering.first_numbers.Goals as goal
 
 pub overflow_add-number : goal.overflow_add-number
 overflow_add-number g c =
-    let first = c.loop-turn.first.items in
-    let parent = c.number_at.ensures ∙ ap (λ ns. number_at ns c.parent_of.result) c.deref.ensures.value ∙ ap (number_at first) c.parent_of.ensures in
+    let parent = rw (c.deref.ensures.value, c.parent_of.ensures) at c.number_at.ensures in
     let fits = number_fits c.requires.order c.loop-turn.turn c.loop-turn-test.true (omega (arith, c.loop-turn.auto.turn)) c.requires.sizes c.loop-turn.invariant in
-    let long = ap length c.deref.ensures.value ∙ c.loop-turn.invariant.long in
-    let small = c.deref.type_inv.0 in
-    omega (arith, parent, c.number_at-in-loop-turn.ensures, fits, long, small)
+    omega (arith, parent, c.number_at-in-loop-turn.ensures, fits, ap length c.deref.ensures.value, c.loop-turn.invariant.long, c.deref.type_inv.0)
 
 pub loop-turn-preserved : goal.loop-turn-preserved
 loop-turn-preserved g c =
-    let first = c.loop-turn.first.items in
-    let parent = c.number_at.ensures ∙ ap (λ ns. number_at ns c.parent_of.result) c.deref.ensures.value ∙ ap (number_at first) c.parent_of.ensures in
+    let parent = rw (c.deref.ensures.value, c.parent_of.ensures) at c.number_at.ensures in
     rw (c.put.ensures)
     (numbered c.requires.order c.loop-turn.turn c.loop-turn-test.true (omega (arith, c.loop-turn.auto.turn)) c.requires.sizes c.loop-turn.invariant
     (c.number_at.result + c.number_at-in-loop-turn.result) (omega (arith, parent, c.number_at-in-loop-turn.ensures)))

@@ -1,5 +1,4 @@
-use Rattle.std.proofs.Common.{◌≡◌, ◌+◌, ◌-◌, suc, length, ap, ◌∙◌, subst, arith}
-use Rattle.pddl_forest.specs.Forests.{parent_of, number_at}
+use Rattle.std.proofs.Common.{◌≡◌, ◌+◌, ◌-◌, suc, length, ap, subst, arith}
 use Rattle.pddl_forest.specs.Inner.Sizes.{AreSized}
 use Rattle.pddl_forest.proofs.Sizes.{none_sized, sizes_fit, sized}
 use Rattle.pddl_forest.proofs.numbering.sizes_of.Goals as goal
@@ -16,14 +15,11 @@ overflow_add-size g c =
     let turn = c.loop-turn.turn - 1 in
     let sizes = c.loop-turn.sizes.items in
     let is : c.loop-turn.turn ≡ suc turn = omega (arith, c.loop-turn-test.true) in
-    let offset : c.number_at-offset.result ≡ number_at sizes (parent_of c.args.parents.now (number_at order turn)) =
-    c.number_at-offset.ensures ∙ ap (λ ns. number_at ns c.parent_of-parent.result) c.deref.ensures.value ∙ ap (number_at sizes) c.parent_of-parent.ensures in
-    let size : c.number_at.result ≡ number_at sizes (number_at order turn) = c.number_at.ensures ∙ ap (λ ns. number_at ns (number_at order turn)) c.deref-in-loop-turn.ensures.value in
+    let offset = rw (c.deref.ensures.value, c.parent_of-parent.ensures) at c.number_at-offset.ensures in
+    let size = rw c.deref-in-loop-turn.ensures.value at c.number_at.ensures in
     let fits = sizes_fit c.requires.order turn (omega (arith, is, c.loop-turn.auto.turn)) (omega (arith, is, c.loop-turn-test.true))
     (subst (AreSized c.args.parents.now order sizes c.loop-turn.offsets.items) is c.loop-turn.invariant.sized) in
-    let long = ap length c.deref.ensures.value ∙ c.loop-turn.invariant.sized.long in
-    let small = c.deref.type_inv.0 in
-    omega (arith, offset, size, fits, long, small)
+    omega (arith, offset, size, fits, ap length c.deref.ensures.value, c.loop-turn.invariant.sized.long, c.deref.type_inv.0)
 
 pub loop-turn-preserved : goal.loop-turn-preserved
 loop-turn-preserved g c =
@@ -36,8 +32,7 @@ loop-turn-preserved g c =
       sized = rw (c.put-in-loop-turn.ensures, c.put.ensures, c.parent_of-parent.ensures)
           (sized c.requires.order turn (omega (arith, is, c.loop-turn.auto.turn)) (omega (arith, is, c.loop-turn-test.true))
           (subst (AreSized c.args.parents.now order sizes c.loop-turn.offsets.items) is c.loop-turn.invariant.sized) c.number_at-offset.result (c.number_at-offset.result + c.number_at.result)
-          (c.number_at-offset.ensures ∙ ap (λ ns. number_at ns c.parent_of-parent.result) c.deref.ensures.value ∙ ap (number_at sizes) c.parent_of-parent.ensures)
-          (ap (λ n. c.number_at-offset.result + n) (c.number_at.ensures ∙ ap (λ ns. number_at ns (number_at order turn)) c.deref-in-loop-turn.ensures.value)));
+          (rw (c.deref.ensures.value, c.parent_of-parent.ensures) at c.number_at-offset.ensures) (ap (λ n. c.number_at-offset.result + n) (rw c.deref-in-loop-turn.ensures.value at c.number_at.ensures)));
     }
 
 pub returns : goal.returns

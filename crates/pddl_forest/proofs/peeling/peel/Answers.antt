@@ -10,9 +10,9 @@ use Rattle.pddl_forest.proofs.peeling.peel.Goals as goal
 pub overflow_sub-fewer : goal.overflow_sub-fewer
 overflow_sub-fewer g c =
     let l = c.loop-turn in
-    let place = c.number_at.ensures ∙ ap (λ ns. number_at ns l.turn) c.deref.ensures.value in
+    let place = rw c.deref.ensures.value at c.number_at.ensures in
     let parent = c.parent_of-parent.ensures ∙ ap (parent_of c.args.parents.now) place in
-    let is = c.number_at-fewer.ensures ∙ ap (λ ns. number_at ns c.parent_of-parent.result) c.deref-in-loop-turn.ensures.value ∙ ap (number_at l.left.items) parent in
+    let is = rw (c.deref-in-loop-turn.ensures.value, parent) at c.number_at-fewer.ensures in
     let some = some_children l.invariant.peeled (omega (arith, c.if-turn-len.false, c.len.ensures, l.invariant.listed)) c.requires.within in
     omega (arith, is, some)
 
@@ -22,11 +22,11 @@ loop-turn-preserved g c =
     let order = l.order.items in
     let h = l.invariant.peeled in
     let low : l.turn < length order = omega (arith, c.if-turn-len.false, c.len.ensures, l.invariant.listed) in
-    let place = c.number_at.ensures ∙ ap (λ ns. number_at ns l.turn) c.deref.ensures.value in
+    let place = rw c.deref.ensures.value at c.number_at.ensures in
     let parent = c.parent_of-parent.ensures ∙ ap (parent_of c.args.parents.now) place in
     let fewer = c.number_at-fewer.result - 1 in
     let some = some_children h low c.requires.within in
-    let is = c.number_at-fewer.ensures ∙ ap (λ ns. number_at ns c.parent_of-parent.result) c.deref-in-loop-turn.ensures.value ∙ ap (number_at l.left.items) parent in
+    let is = rw (c.deref-in-loop-turn.ensures.value, parent) at c.number_at-fewer.ensures in
     let fewer_is : fewer + 1 ≡ number_at l.left.items (parent_of c.args.parents.now (number_at order l.turn)) = omega (arith, is, some) in
     elim c.if-fewer-eq0.branch [
       | then-fewer-eq0+in_ok-push w ↦
