@@ -1,4 +1,3 @@
-pub mod ActionFaults
 pub mod DeclaredSlots
 pub mod FittingTables
 pub mod FoundParts

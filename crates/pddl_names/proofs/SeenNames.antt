@@ -1,62 +1,48 @@
--- Names that are seen one after another.
-use Rattle.std.proofs.Common.{◌≡◌, ℕ, ◌+◌, ◌<◌, Bool, true, false, ◌||◌, not, cond, List, [], ◌∷◌, ◌++◌, length, get_or, drop, map, refl, ap, sym, ◌∙◌, subst, arith, bytes_eq}
-use Rattle.std.specs.Prelude.{Contains, Option, Some, None, MatchOption}
+-- Names that are seen one after another, and a set of them.
+use Rattle.std.proofs.Common.{◌≡◌, ℕ, Bool, true, false, ◌||◌, not, cond, List, [], ◌∷◌, ◌++◌, map, drop, Result, refl, ap, sym, ◌∙◌, bytes_eq, arith}
 use Rattle.std.specs.Borrow.{Bor}
 use Rattle.std.specs.List.{list_any}
-use Rattle.pddl_task.specs.Names.{Name, is_in, word_if, repeated}
-use Rattle.pddl_faults.proofs.ListPasses.{views_drop}
+use Rattle.std.proofs.Math.Bool.{or-false}
+use Rattle.pddl_domain.specs.declared.domain.Action.{Action}
+use Rattle.pddl_domain.specs.Declarations.{TypeValue}
+use Rattle.pddl_domain.specs.Actions.{action_view}
+use Rattle.pddl_task.specs.Names.{Name, is_in}
+use Rattle.pddl_task.proofs.Lists.{or_right, bytes_same}
+use Rattle.pddl_faults.specs.declared.fault.LinkFault.{LinkFault}
+use Rattle.pddl_faults.proofs.FoundFaults.{IsFoundUpTo}
+use Rattle.pddl_search.proofs.Claims.{any_more}
+use Rattle.pddl_names.specs.FaultParts.{action_faults}
 
--- the texts that references lend
-abbrev pub texts : List (Bor (List ℕ)) → List (List ℕ)
-texts = map (λ b. b.now)
+abbrev pub has : List (Bor (List ℕ)) → Name → Bool
+has keys n = list_any (λ k. bytes_eq n k.now) keys
 
-again : (seen rest whole : List Name) (n : Name) → repeated seen (n ∷ rest) ≡ whole → is_in seen n ≡ true → Contains whole n
-again seen rest whole n is here =
-    let front : n ∷ repeated (seen ++ n ∷ []) rest ≡ whole = ap (λ b. word_if b n ++ repeated (seen ++ n ∷ []) rest) (sym here) ∙ is in
-    subst (λ ws. Contains ws n) front (0, omega arith, refl)
+-- a set has the names that were seen
+abbrev pub HasNames : List (Bor (List ℕ)) → List Name → Type 0
+HasNames keys seen = (n : Name) → has keys n ≡ is_in seen n
 
-fresh : (seen rest whole : List Name) (n : Name) → repeated seen (n ∷ rest) ≡ whole → is_in seen n ≡ false → repeated (seen ++ n ∷ []) rest ≡ whole
-fresh seen rest whole n is here = ap (λ b. word_if b n ++ repeated (seen ++ n ∷ []) rest) (sym here) ∙ is
+has_more : (keys : List (Bor (List ℕ))) (key : Bor (List ℕ)) (there : Bool) (n : Name) → has keys key.now ≡ there → has (cond there keys (keys ++ key ∷ [])) n ≡ (has keys n || bytes_eq n key.now)
+has_more keys key false n off = any_more (λ k. bytes_eq n k.now) keys key
+has_more keys key true n on =
+    elim (bytes_eq n key.now) as (λ b. bytes_eq n key.now ≡ b → has keys n ≡ (has keys n || b)) [
+      | true ↦ λ is. ap (has keys) (bytes_same n key.now is) ∙ on ∙ sym (or_right (has keys n) true refl)
+      | false ↦ λ _. sym (or-false (has keys n))
+    ] refl
 
-pub is_in-texts : (keys : List (Bor (List ℕ))) (n : Name) → is_in (texts keys) n ≡ list_any (λ k. bytes_eq n k.now) keys
-is_in-texts [] n = refl
-is_in-texts (k ∷ ks) n = ap (λ b. bytes_eq n k.now || b) (is_in-texts ks n)
+module _ (keys : List (Bor (List ℕ))) (key : Bor (List ℕ)) (seen : List Name) (name : Name) (named : key.now ≡ name) (same : HasNames keys seen) where
+  -- with one more
+  pub names_more : (next : List (Bor (List ℕ))) → next ≡ cond (has keys key.now) keys (keys ++ key ∷ []) → HasNames next (seen ++ name ∷ [])
+  names_more next is n =
+      ap (λ ks. has ks n) is ∙ has_more keys key (has keys key.now) n refl ∙ ap (λ b. b || bytes_eq n key.now) (same n) ∙ ap (λ m. is_in seen n || bytes_eq n m) named ∙ sym (any_more (bytes_eq n) seen name)
 
-pub texts-push : (keys : List (Bor (List ℕ))) (k : Bor (List ℕ)) → texts (keys ++ k ∷ []) ≡ texts keys ++ k.now ∷ []
-texts-push [] k = refl
-texts-push (x ∷ xs) k = ap (λ ns. x.now ∷ ns) (texts-push xs k)
+  -- whether it was seen
+  pub was_seen : (is_new : Bool) → is_new ≡ not (has keys key.now) → not is_new ≡ is_in seen name
+  was_seen is_new told = other is_new (has keys key.now) told ∙ same key.now ∙ ap (is_in seen) named
+    where
+      other : (a b : Bool) → a ≡ not b → not a ≡ b
+      other a b h = grind arith
 
-pub not_off : (a b : Bool) → a ≡ not b → a ≡ false → b ≡ true
-not_off a b h k = grind arith
-
-pub not_on : (a b : Bool) → a ≡ not b → a ≡ true → b ≡ false
-not_on a b h k = grind arith
-
--- a name that was in a set of the names so far is a repetition
-pub seen_again : {X : Type 0} (name : X → Name) (xs : List X) (i : ℕ) (x : X) (keys : List (Bor (List ℕ))) (key : Bor (List ℕ)) (whole : List Name) (is_new : Bool)
-    → i < length xs → x ≡ get_or xs i x → key.now ≡ name x → repeated (texts keys) (map name (drop i xs)) ≡ whole
-    → is_new ≡ not (list_any (λ k. bytes_eq key.now k.now) keys) → is_new ≡ false → Contains whole key.now
-seen_again name xs i x keys key whole is_new h at same inv told off =
-    subst (λ n. Contains whole n) (sym same)
-    (again (texts keys) (map name (drop (i + 1) xs)) whole (name x) (sym (ap (repeated (texts keys)) (views_drop name xs i x h at)) ∙ inv)
-    (is_in-texts keys (name x) ∙ ap (λ n. list_any (λ k. bytes_eq n k.now) keys) (sym same) ∙ not_off is_new (list_any (λ k. bytes_eq key.now k.now) keys) told off))
-
--- another one is added to them
-pub seen_fresh : {X : Type 0} (name : X → Name) (xs : List X) (i : ℕ) (x : X) (keys next : List (Bor (List ℕ))) (key : Bor (List ℕ)) (whole : List Name) (is_new : Bool)
-    → i < length xs → x ≡ get_or xs i x → key.now ≡ name x → repeated (texts keys) (map name (drop i xs)) ≡ whole
-    → is_new ≡ not (list_any (λ k. bytes_eq key.now k.now) keys) → is_new ≡ true → next ≡ cond (list_any (λ k. bytes_eq key.now k.now) keys) keys (keys ++ key ∷ [])
-    → repeated (texts next) (map name (drop (i + 1) xs)) ≡ whole
-seen_fresh name xs i x keys next key whole is_new h at same inv told on is =
-    let none : list_any (λ k. bytes_eq key.now k.now) keys ≡ false = not_on is_new (list_any (λ k. bytes_eq key.now k.now) keys) told on in
-    let now : texts next ≡ texts keys ++ name x ∷ [] =
-    ap texts (is ∙ ap (λ b. cond b keys (keys ++ key ∷ [])) none) ∙ texts-push keys key ∙ ap (λ n. texts keys ++ n ∷ []) same in
-    ap (λ ks. repeated ks (map name (drop (i + 1) xs))) now
-    ∙ fresh (texts keys) (map name (drop (i + 1) xs)) whole (name x) (sym (ap (repeated (texts keys)) (views_drop name xs i x h at)) ∙ inv)
-    (is_in-texts keys (name x) ∙ ap (λ n. list_any (λ k. bytes_eq n k.now) keys) (sym same) ∙ none)
-
--- what a search for one answers
-pub some_repeat : (o : Option (Bor (List ℕ))) (w : Bor (List ℕ)) (words : List Name) → o ≡ Some w → MatchOption o (words ≡ []) (λ v. Contains words v.now) → Contains words w.now
-some_repeat o w words is found = subst (λ p. MatchOption p (words ≡ []) (λ v. Contains words v.now)) is found
-
-pub no_repeat : (o : Option (Bor (List ℕ))) (words : List Name) → o ≡ None → MatchOption o (words ≡ []) (λ v. Contains words v.now) → words ≡ []
-no_repeat o words is found = subst (λ p. MatchOption p (words ≡ []) (λ v. Contains words v.now)) is found
+-- what was found in the actions up to one, and the names that a set has from them
+pub record ActionsUpTo {A : Type 0} (types : List TypeValue) (all : List (Action A)) (i : ℕ) (keys : List (Bor (List ℕ))) (found : Result (Unit {0}) LinkFault) : Type 0 where
+  pub seen : List Name
+  pub same : HasNames keys seen
+  pub so_far : IsFoundUpTo (action_faults types seen (map action_view (drop i all))) (action_faults types [] (map action_view all)) found

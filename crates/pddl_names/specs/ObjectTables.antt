@@ -1,18 +1,28 @@
 -- Objects by name, as they are put into a table one after another. Own.
-use Rattle.std.specs.Prelude.{Bool, List, [], ◌∷◌, not, cond, bytes_eq, unwrap_or, Option, Some, None}
+use Rattle.std.specs.Prelude.{◌≡◌, List, [], ◌∷◌, ◌++◌, cond, find, map, Some, Contains}
 use Rattle.pddl_formula.specs.TypedLists.{TypedValue}
-use Rattle.pddl_task.specs.Names.{Name, same_names}
+use Rattle.pddl_task.specs.Names.{is_in, item_of, is_named, firsts}
+use Rattle.pddl_types.specs.KnownNames.{object_in}
+use Rattle.pddl_types.specs.TypeSpans.{TypesValue, AreListed}
+use Rattle.pddl_types.specs.declared.listed.Listed.{Listed}
+use Rattle.pddl_names.specs.MetTypes.{AreMet}
+use Rattle.pddl_names.specs.declared.met_types.MetTypes.{MetTypes}
 
--- the type of the first of a name
-abbrev pub type_in : List TypedValue → Name → Option (List Name)
-type_in [] n = None
-type_in (x ∷ xs) n = cond (bytes_eq n x.item) (Some x.of) (type_in xs n)
-
--- the name of an object has another type
-abbrev pub is_at_odds : List TypedValue → TypedValue → Bool
-is_at_odds es x = not (same_names (unwrap_or (type_in es x.item) x.of) x.of)
-
--- the table with one more: one that is there keeps its place, and has the new type
+-- the table with one more, which is left out where its name is there
 abbrev pub put : TypedValue → List TypedValue → List TypedValue
-put x [] = x ∷ []
-put x (y ∷ ys) = cond (bytes_eq x.item y.item) (record { item = y.item; of = x.of } ∷ ys) (y ∷ put x ys)
+put x es = es ++ cond (is_in (map item_of es) x.item) [] (x ∷ [])
+
+-- a table after one more, whose name has its type there
+pub record IsPut (x : TypedValue) (before after : List TypedValue) : Type 0 where
+  pub put_is : after ≡ put x before
+  pub found : find (is_named x.item) after ≡ Some x
+
+-- a table of what is typed has each name at its first place, and each of these has the type that its name has there
+pub record AreFirsts (seen es : List TypedValue) : Type 0 where
+  pub firsts_are : es ≡ firsts seen
+  pub found : (y : TypedValue) → Contains seen y → find (is_named y.item) es ≡ Some y
+
+-- objects that are listed have each the span and the number of its type
+pub record AreTyped {A B : Type 0} (t : TypesValue) (listed : Listed A B) (met : MetTypes A B) : Type 0 where
+  pub spans : AreListed t listed
+  pub numbers : AreMet (map object_in listed.objects.entries) met

@@ -1,16 +1,16 @@
 //! Constants and objects with their types, each at its first place.
 
-ghost use Rattle.std.specs.Prelude.{◌≡◌, [], ◌++◌, List, IsTrue, not, map, take, IfOk, OnOk};
+ghost use Rattle.std.specs.Prelude.{◌≡◌, [], ◌++◌, List, IsTrue, false, true, map, take, IfOk, OnOk};
 ghost use Rattle.pddl_formula.specs.TypedLists.{TypedValue, typed_view};
 ghost use Rattle.pddl_domain.specs.Domains.{domain_view};
 ghost use Rattle.pddl_problem.specs.Problems.{problem_view};
 ghost use Rattle.pddl_task.specs.Names.{firsts};
 ghost use Rattle.pddl_task.specs.Settings.{objects_of};
-ghost use Rattle.pddl_task.specs.Faults.{retyped};
+ghost use Rattle.pddl_task.specs.Faults.{has_other_type, retyped};
 ghost use Rattle.pddl_types.specs.KnownNames.{object_in};
 ghost use Rattle.pddl_types.specs.TypeSpans.{TypesValue, IsOnlySpan, IsEmpty, AreListed};
 ghost use Rattle.pddl_names.specs.MetTypes.{IsMetAt, AreMet};
-ghost use Rattle.pddl_names.specs.ObjectTables.{put, is_at_odds};
+ghost use Rattle.pddl_names.specs.ObjectTables.{IsPut, AreFirsts, AreTyped};
 ghost use Rattle.pddl_faults.specs.Passes.{Passes};
 
 use crate::met_types::{Group, MetTypes, let_go};
@@ -34,10 +34,9 @@ fn list_object<'m, 'a, A: Allocator, B: Allocator>(
 ) -> Result<bool, AllocError>
     requires met { AreMet (map object_in listed.old.objects.entries) met.old }
     requires group { IsMetAt met.old object.now.types group.number }
-    ensures objects { OnOk result (map object_in listed.new.objects.entries ≡ put (typed_view object.now) (map object_in listed.old.objects.entries)) }
-    ensures right { IfOk result (λ right. is_at_odds (map object_in listed.old.objects.entries) (typed_view object.now) ≡ not right) }
-    ensures spans { (t : TypesValue) → AreListed t listed.old → IsOnlySpan t object.now.types group.span → IfOk result (λ right. IsTrue right → AreListed t listed.new) }
-    ensures met { IfOk result (λ right. IsTrue right → AreMet (map object_in listed.new.objects.entries) met.new) }
+    ensures wrong { IfOk result (λ right. right ≡ false → has_other_type (map object_in listed.old.objects.entries) (typed_view object.now) ≡ true) }
+    ensures right { IfOk result (λ right. IsTrue right → IsPut (typed_view object.now) (map object_in listed.old.objects.entries) (map object_in listed.new.objects.entries)) }
+    ensures typed { (t : TypesValue) → AreTyped t listed.old met.old → IsOnlySpan t object.now.types group.span → IfOk result (λ right. IsTrue right → AreTyped t listed.new met.new) }
     ensures kept { OnOk result (met.new.types ≡ met.old.types) }
     ensures constants { listed.new.constants ≡ listed.old.constants }
 {
@@ -59,12 +58,10 @@ fn add_objects<'m, 'a, A: Allocator, B: Allocator>(
     met: &mut MetTypes<'m, 'a, A, B>,
     objects: &'m TypedList<A>,
 ) -> Result<(), LinkFault<'m>>
-    requires listed { AreListed types.now listed.old }
-    requires met { AreMet (map object_in listed.old.objects.entries) met.old }
-    ensures passes { (before : List TypedValue) → retyped [] before ≡ [] → map object_in listed.old.objects.entries ≡ firsts before → Passes 24 (retyped before (map typed_view objects.now.items)) result }
-    ensures lists { OnOk result ((before : List TypedValue) → retyped [] before ≡ [] → map object_in listed.old.objects.entries ≡ firsts before → map object_in listed.new.objects.entries ≡ firsts (before ++ map typed_view objects.now.items)) }
-    ensures spans { OnOk result (AreListed types.now listed.new) }
-    ensures met { OnOk result (AreMet (map object_in listed.new.objects.entries) met.new) }
+    requires typed { AreTyped types.now listed.old met.old }
+    ensures passes { (before : List TypedValue) → AreFirsts before (map object_in listed.old.objects.entries) → Passes 24 (retyped before (map typed_view objects.now.items)) result }
+    ensures lists { OnOk result ((before : List TypedValue) → AreFirsts before (map object_in listed.old.objects.entries) → AreFirsts (before ++ map typed_view objects.now.items) (map object_in listed.new.objects.entries)) }
+    ensures typed { OnOk result (AreTyped types.now listed.new met.new) }
     ensures constants { listed.new.constants ≡ listed.old.constants }
 {
     let mut group = Group {

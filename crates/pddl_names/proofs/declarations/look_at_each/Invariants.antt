@@ -1,4 +1,4 @@
-use Rattle.pddl_names.proofs.ActionFaults.{ActionsUpTo}
+use Rattle.pddl_names.proofs.SeenNames.{ActionsUpTo}
 use Rattle.pddl_names.proofs.declarations.look_at_each.Given as goal
 
 abbrev pub invariant-loop-action : goal.invariant-loop-action

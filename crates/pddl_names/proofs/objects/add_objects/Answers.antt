@@ -1,20 +1,19 @@
-use Rattle.std.proofs.Common.{◌<◌, ◌≤◌, ◌≡◌, Some, length, get_or, slice_get, map, not, refl, sym, ap, ◌∙◌, subst, arith}
+use Rattle.std.proofs.Common.{◌<◌, ◌≤◌, ◌≡◌, Some, length, get_or, slice_get, map, refl, sym, ap, ◌∙◌, subst, arith}
 use Rattle.std.specs.Prelude.{Contains}
+use Rattle.std.specs.HashSet.{HashSet}
 use Rattle.std.proofs.lemmas.Option.{slice_get_read}
 use Rattle.pddl_formula.specs.TypedLists.{typed_view}
 use Rattle.pddl_task.specs.Faults.{retyped}
 use Rattle.pddl_types.specs.KnownNames.{object_in}
 use Rattle.pddl_types.proofs.Views.{seen_entry}
-use Rattle.std.specs.HashSet.{HashSet}
 use Rattle.pddl_names.proofs.MetTypes.{type_of_number}
 use Rattle.pddl_names.proofs.ObjectTables.{listed_start, listed_twice, listed_more, listed_all}
 use Rattle.pddl_names.proofs.objects.add_objects.Goals as goal
 
 pub loop-number-init : goal.loop-number-init
 loop-number-init g c = record {
-  lists = λ before none is. listed_start before c.args.objects.now.items (map object_in c.args.listed.now.objects.entries) none is;
-  spans = c.requires.listed;
-  met = c.requires.met;
+  lists = λ before are. listed_start before c.args.objects.now.items (map object_in c.args.listed.now.objects.entries) are;
+  typed = c.requires.typed;
   constants = refl;
   last = λ j x next. absurd (omega (arith, next));
 }
@@ -24,16 +23,14 @@ loop-number-preserved g c =
     let l = c.loop-number in
     let xs = c.args.objects.now.items in
     let x = c.index-deref-number.result in
-    let es = map object_in l.listed.objects.entries in
     let low : l.number < length xs = omega (arith, c.loop-number-test.true, c.len-number-end.ensures) in
     let at : x ≡ get_or xs l.number x = c.index-deref-number.is ∙ ap (λ ys. get_or ys l.number x) c.deref.ensures.value in
     let here = c.in_ok-group.ensures.group (typed_view x) (seen_entry typed_view xs l.number x (slice_get_read xs (length xs) l.number x refl low at)) in
     record {
-      lists = λ before none is.
-          listed_more before xs l.number x es low at (l.invariant.lists before none is) (map object_in c.list_object.new.listed.objects.entries) c.in_ok-list_object.ensures.objects
-          (c.in_ok-list_object.ensures.right ∙ ap not c.if-not-branch.false);
-      spans = c.in_ok-list_object.ensures.spans c.args.types.now l.invariant.spans here.0 c.if-not-branch.false;
-      met = c.in_ok-list_object.ensures.met c.if-not-branch.false;
+      lists = λ before are.
+          listed_more before xs l.number x (map object_in l.listed.objects.entries) low at (l.invariant.lists before are) (map object_in c.list_object.new.listed.objects.entries)
+          (c.in_ok-list_object.ensures.right c.if-not-branch.false);
+      typed = c.in_ok-list_object.ensures.typed c.args.types.now (record { spans = l.invariant.typed.spans; numbers = c.in_ok-group.ensures.met (map object_in l.listed.objects.entries) l.invariant.typed.numbers }) here.0 c.if-not-branch.false;
       constants = c.list_object.ensures.constants ∙ l.invariant.constants;
       last = λ j y next there.
           let group = c.in_ok-group.ensures.group y (ap (slice_get (map typed_view xs)) (omega (arith, next)) ∙ there) in
@@ -49,7 +46,7 @@ list_object-requires-clause-group g c =
     (c.in_ok-group.ensures.group (typed_view x) (seen_entry typed_view xs c.loop-number.number x (slice_get_read xs (length xs) c.loop-number.number x refl low at))).1
 
 pub returns-then-not-branch-clause-passes : goal.returns-then-not-branch-clause-passes
-returns-then-not-branch-clause-passes g c = λ before none is.
+returns-then-not-branch-clause-passes g c = λ before are.
     let l = c.loop-number in
     let xs = c.args.objects.now.items in
     let x = c.index-deref-number.result in
@@ -57,19 +54,17 @@ returns-then-not-branch-clause-passes g c = λ before none is.
     let at : x ≡ get_or xs l.number x = c.index-deref-number.is ∙ ap (λ ys. get_or ys l.number x) c.deref.ensures.value in (
       refl,
       subst (λ n. Contains (retyped before (map typed_view xs)) n) (sym c.as_bytes.ensures.value)
-          (listed_twice before xs l.number x (map object_in l.listed.objects.entries) low at (l.invariant.lists before none is) (c.in_ok-list_object.ensures.right ∙ ap not c.if-not-branch.true)),
+          (listed_twice before xs l.number x (map object_in l.listed.objects.entries) low at (l.invariant.lists before are) (c.in_ok-list_object.ensures.wrong c.if-not-branch.true)),
     )
 
 pub returns-clause-passes : goal.returns-clause-passes
-returns-clause-passes g c = λ before none is.
+returns-clause-passes g c = λ before are.
     let l = c.loop-number in
-    let xs = c.args.objects.now.items in
-    let past : length xs ≤ l.number = omega (arith, c.loop-number-test.false, c.len-number-end.ensures) in
-    (listed_all before xs l.number (map object_in l.listed.objects.entries) past (l.invariant.lists before none is)).0
+    let past : length c.args.objects.now.items ≤ l.number = omega (arith, c.loop-number-test.false, c.len-number-end.ensures) in
+    (listed_all before c.args.objects.now.items l.number (map object_in l.listed.objects.entries) past (l.invariant.lists before are)).0
 
 pub returns-clause-lists : goal.returns-clause-lists
-returns-clause-lists g c = λ before none is.
+returns-clause-lists g c = λ before are.
     let l = c.loop-number in
-    let xs = c.args.objects.now.items in
-    let past : length xs ≤ l.number = omega (arith, c.loop-number-test.false, c.len-number-end.ensures) in
-    (listed_all before xs l.number (map object_in l.listed.objects.entries) past (l.invariant.lists before none is)).1
+    let past : length c.args.objects.now.items ≤ l.number = omega (arith, c.loop-number-test.false, c.len-number-end.ensures) in
+    (listed_all before c.args.objects.now.items l.number (map object_in l.listed.objects.entries) past (l.invariant.lists before are)).1

@@ -1,8 +1,12 @@
-use Rattle.std.proofs.Common.{◌≡◌, [], drop, map}
-use Rattle.pddl_task.specs.Names.{repeated}
-use Rattle.pddl_names.proofs.SeenNames.{texts}
+use Rattle.std.proofs.Common.{[]}
+use Rattle.pddl_task.specs.Names.{is_in}
+use Rattle.pddl_search.proofs.SeenItems.{seen_at, AreLeft}
+use Rattle.pddl_names.proofs.SeenNames.{HasNames}
 use Rattle.pddl_names.proofs.repeats.repeat_among.Given as goal
 
--- the names that stand twice are those of what is left
+-- the set has the names so far, and the names that stand twice are those of what is left
 abbrev pub invariant-loop-item : goal.invariant-loop-item
-invariant-loop-item g l = repeated (texts l.seen.keys) (map g.N.Named.name (drop l.item-index l.items)) ≡ repeated [] (map g.N.Named.name l.items)
+invariant-loop-item g l = record {
+  same : HasNames l.seen.keys (seen_at g.N.Named.name [] l.items l.item-index);
+  rest : AreLeft g.N.Named.name (λ n. n) is_in [] l.items l.item-index;
+}
