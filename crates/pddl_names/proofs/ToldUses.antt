@@ -1,6 +1,6 @@
 -- What is told of the types of terms and of slots.
 use Rattle.std.proofs.Common.{◌≡◌, ◌<◌, ◌⊎◌, ℕ, Bool, true, false, true≢false, List, [], length, refl, ap, sym, ◌∙◌, subst, arith, inl, inr}
-use Rattle.std.specs.Prelude.{IsTrue, Option, Some, None, IfSome, MatchOption, Contains, is_some, slice_get}
+use Rattle.std.specs.Prelude.{IsTrue, Option, Some, None, IfSome, MatchOption, is_some, slice_get}
 use Rattle.std.specs.Borrow.{Bor}
 use Rattle.std.specs.Coded.{le_prop}
 use Rattle.std.specs.List.{slice_index_or}
@@ -21,7 +21,7 @@ use Rattle.pddl_search.specs.Scopes.{AllNumbered, IsInScope}
 use Rattle.pddl_search.proofs.BoundTypes.{IsNumberedIn, numbered_in_scope}
 use Rattle.pddl_types.specs.TypeSpans.{TypesValue, IsTold, IsToldOf, are_types}
 use Rattle.pddl_types.specs.ToldTops.{IsToldAt, AreToldAt}
-use Rattle.pddl_names.specs.Uses.{IsSlotAt, TellsFit, fit_of}
+use Rattle.pddl_names.specs.Uses.{UsesValue, AreSlots, IsSlotAt, TellsFit, fit_of}
 
 -- ---- a variable
 
@@ -59,15 +59,15 @@ number_read numbers i None item = slice_get_past numbers i item.3
 number_read numbers i (Some n) item = slice_get_read numbers (length numbers) i n.now refl item.3.0 item.1
 
 -- where there is one, its type is told at the number that is read for it
-pub slot_read : (t : TypesValue) (told : List (List Span)) (slots : List TypedValue) (numbers : List ℕ) (i : ℕ) (read : Option (Bor ℕ)) (slot : Option ℕ) → AreToldAt t told slots numbers
-    → ((x : TypedValue) → Contains slots x → IsTrue (are_types t.declared x.of)) → IsItemAt numbers i read → slot ≡ option_copied read → IsSlotAt t told (slice_get slots i) slot
-slot_read t told slots numbers i read slot are types item copied = here (slice_get slots i) slot refl (number_read numbers i read item ∙ sym copied)
+pub slot_read : (u : UsesValue) (slots : List TypedValue) (numbers : List ℕ) (i : ℕ) (read : Option (Bor ℕ)) (slot : Option ℕ) → AreSlots u slots numbers → IsItemAt numbers i read → slot ≡ option_copied read
+    → IsSlotAt u.types u.slots.told (slice_get slots i) slot
+slot_read u slots numbers i read slot are item copied = here (slice_get slots i) slot refl (number_read numbers i read item ∙ sym copied)
   where
-    here : (x : Option TypedValue) (n : Option ℕ) → slice_get slots i ≡ x → slice_get numbers i ≡ n → IsSlotAt t told x n
+    here : (x : Option TypedValue) (n : Option ℕ) → slice_get slots i ≡ x → slice_get numbers i ≡ n → IsSlotAt u.types u.slots.told x n
     here None None at is = tt
-    here (Some x) (Some n) at is = (are.each i n x at is, types x (at_place slots i x at))
-    here (Some x) None at is = cc (is, (some_at numbers i (omega (arith, slice_get_within slots i x at, are.many))).1)
-    here None (Some n) at is = cc (at, (some_at slots i (omega (arith, slice_get_within numbers i n is, are.many))).1)
+    here (Some x) (Some n) at is = (are.told.each i n x at is, are.types x (at_place slots i x at))
+    here (Some x) None at is = cc (is, (some_at numbers i (omega (arith, slice_get_within slots i x at, are.told.many))).1)
+    here None (Some n) at is = cc (at, (some_at slots i (omega (arith, slice_get_within numbers i n is, are.told.many))).1)
 
 -- and apart
 pub slot_apart : (t : TypesValue) (told : List (List Span)) (x : Option TypedValue) (slot : Option ℕ) → IsSlotAt t told x slot → IfSome slot (λ number. AreApart (slice_index_or told number []))

@@ -1,9 +1,10 @@
 -- The faults of a predicate or a function with its terms.
-use Rattle.std.proofs.Common.{◌≡◌, ◌≤◌, ℕ, Bool, true, false, not, List, [], ◌++◌, map, length, ◌==◌, Option, Some, None, Result, Err, refl, ap, sym, ◌∙◌, subst, bytes_eq, arith, inl, inr}
+use Rattle.std.proofs.Common.{◌≡◌, ◌≤◌, ℕ, Bool, true, not, List, [], ◌++◌, map, length, ◌==◌, Option, Some, None, Result, Err, ap, sym, ◌∙◌, subst, bytes_eq, arith, inl, inr}
 use Rattle.std.specs.Prelude.{Contains, is_some, option_map}
 use Rattle.std.specs.Borrow.{Bor}
 use Rattle.std.specs.List.{flat_map}
 use Rattle.std.specs.Map.{lookup}
+use Rattle.std.proofs.lemmas.Option.{same_Some}
 use Rattle.std.proofs.lemmas.List.{map-append}
 use Rattle.std.proofs.lemmas.List.Elements.{Contains-append_cases, Contains-append_left}
 use Rattle.pddl_formula.specs.Terms.{TermValue}
@@ -28,19 +29,15 @@ use Rattle.pddl_names.specs.Uses.{faults_of_use, faults_of_terms}
 abbrev in_turn : List Name → List Name → List Name → List (ℕ × Name)
 in_turn xs ys zs = numbered 26 xs ++ (numbered 27 ys ++ numbered 28 zs)
 
-at_number : (n : ℕ) (words : List Name) (f : ℕ × Name) → Contains (numbered n words) f → f.0 ≡ n
-at_number n words f c = sym (ap (λ (p : ℕ × Name). p.0) (mapped_is (λ w. (n, w)) words f c).2)
+below : (m n : ℕ) (xs ys : List Name) → m ≤ n → AreBelow (numbered m xs) (numbered n ys)
+below m n xs ys le f g c d =
+    let first = mapped_is (λ w. (m, w)) xs f c in
+    let second = mapped_is (λ w. (n, w)) ys g d in
+    subst (λ (p : ℕ × Name). p.0 ≤ g.0) first.2 (subst (λ (p : ℕ × Name). m ≤ p.0) second.2 le)
 
 first_below : (xs ys zs : List Name) → AreBelow (numbered 26 xs) (numbered 27 ys ++ numbered 28 zs)
 first_below xs ys zs f g c d =
-    let m = at_number 26 xs f c in
-    elim (Contains-append_cases (numbered 27 ys) (numbered 28 zs) g d) as (λ _. f.0 ≤ g.0) [
-      | inl h ↦ let k = at_number 27 ys g h in omega (arith, m, k)
-      | inr h ↦ let k = at_number 28 zs g h in omega (arith, m, k)
-    ]
-
-second_below : (ys zs : List Name) → AreBelow (numbered 27 ys) (numbered 28 zs)
-second_below ys zs f g c d = let m = at_number 27 ys f c in let k = at_number 28 zs g d in omega (arith, m, k)
+    elim (Contains-append_cases (numbered 27 ys) (numbered 28 zs) g d) as (λ _. f.0 ≤ g.0) [ inl h ↦ below 26 27 xs ys (omega arith) f g c h | inr h ↦ below 26 28 xs zs (omega arith) f g c h ]
 
 -- a name is not known
 pub first_found : (xs ys zs : List Name) (e : LinkFault) → Passes {T = Unit {0}} 26 xs (Err e) → IsFound {T = Unit {0}} (in_turn xs ys zs) (Err e)
@@ -50,7 +47,7 @@ first_found xs ys zs e h = found_first (numbered 26 xs) (numbered 27 ys ++ numbe
 pub second_found : (xs ys zs : List Name) (e : LinkFault) → xs ≡ [] → Passes {T = Unit {0}} 27 ys (Err e) → IsFound {T = Unit {0}} (in_turn xs ys zs) (Err e)
 second_found xs ys zs e none h =
     found_rest {T = Unit {0}} (numbered 26 xs) (numbered 27 ys ++ numbered 28 zs) (Err e) (ap (numbered 26) none)
-    (found_first (numbered 27 ys) (numbered 28 zs) e (second_below ys zs) (passed_found {T = Unit {0}} 27 ys (Err e) h))
+    (found_first (numbered 27 ys) (numbered 28 zs) e (below 27 28 ys zs (omega arith)) (passed_found {T = Unit {0}} 27 ys (Err e) h))
 
 -- each name is known, there are as many terms as slots, and one does not fit
 pub third_found : (xs ys zs : List Name) (r : Result (Unit {0}) LinkFault) → xs ≡ [] → ys ≡ [] → Passes 28 zs r → IsFound (in_turn xs ys zs) r
@@ -60,33 +57,17 @@ third_found xs ys zs r none more h =
 
 -- ---- words
 
--- the word, where what the fault is the opposite of does not hold
-pub has_word : (b holds : Bool) (w : Name) → b ≡ not holds → holds ≡ false → Contains (word_if b w) w
-has_word b holds w is off = subst (λ c. Contains (word_if c w) w) (sym (is ∙ ap not off)) (has_first w [])
-
--- no word, where it holds
-pub has_no_word : (holds : Bool) (w : Name) → holds ≡ true → word_if (not holds) w ≡ []
-has_no_word holds w on = ap (λ c. word_if (not c) w) on
+-- the word, where its test holds
+pub has_word : (b : Bool) (w : Name) → b ≡ true → Contains (word_if b w) w
+has_word b w on = subst (λ c. Contains (word_if c w) w) (sym on) (has_first w [])
 
 -- ---- what is declared
 
--- another number of terms than slots, where there are slots
-abbrev slots_differ : Option (List TypedValue) → List TermValue → Bool
-slots_differ None ts = false
-slots_differ (Some xs) ts = not (length ts == length xs)
-
-takes_is : (g : Option Signature) (ts : List TermValue) → takes_others g ts ≡ slots_differ (option_map (λ (h : Signature). h.parameters) g) ts
-takes_is None ts = refl
-takes_is (Some g) ts = refl
-
--- some of these terms does not fit, where there are slots
-abbrev slots_misfit : Setting → List TypedValue → List TermValue → Option (List TypedValue) → Bool
-slots_misfit s b ts None = false
-slots_misfit s b ts (Some xs) = some_misfit s b ts xs
-
-misfit_is : (s : Setting) (b : List TypedValue) (ts : List TermValue) (g : Option Signature) → has_misfit s b ts g ≡ slots_misfit s b ts (option_map (λ (h : Signature). h.parameters) g)
-misfit_is s b ts None = refl
-misfit_is s b ts (Some g) = refl
+-- with slots, these decide whether there is another number of terms, and whether some does not fit
+shape_is : (s : Setting) (b : List TypedValue) (ts : List TermValue) (g : Option Signature) (xs : List TypedValue) → option_map (λ (h : Signature). h.parameters) g ≡ Some xs
+    → (takes_others g ts ≡ not (length ts == length xs)) × (has_misfit s b ts g ≡ some_misfit s b ts xs)
+shape_is s b ts None xs none = absurd (cc)
+shape_is s b ts (Some g) xs same = let is = same_Some g.parameters xs same in (ap (λ ys. not (length ts == length ys)) is, ap (some_misfit s b ts) is)
 
 module _ {A : Type 0} (s : Setting) (b : List TypedValue) (ts : List TermValue) (es : List (Bor (List ℕ) × Bor (List (Typed A)))) (n : Name) where
   abbrev used : Use
@@ -96,10 +77,10 @@ module _ {A : Type 0} (s : Setting) (b : List TypedValue) (ts : List TermValue) 
   pub undeclared_found : (e : LinkFault) → None ≡ lookup (λ k. bytes_eq n k.now) es → ((words : List Name) → Contains words n → Passes {T = Unit {0}} 26 words (Err e))
       → IsFound {T = Unit {0}} (faults_of_use s b used) (Err e)
   undeclared_found e at told =
-      let off : is_declared used ≡ false = sym (is_symbol es n) ∙ ap is_some (sym at) in
-      first_found (word_if (not (is_declared used)) n ++ flat_map (unknown_term s b) ts) (word_if (takes_others (signature_of used) ts) n) (word_if (has_misfit s b ts (signature_of used)) n) e
-      (told (word_if (not (is_declared used)) n ++ flat_map (unknown_term s b) ts)
-      (Contains-append_left (word_if (not (is_declared used)) n) (flat_map (unknown_term s b) ts) n (has_word (not (is_declared used)) (is_declared used) n refl off)))
+      let first = word_if (not (is_declared used)) n in
+      let rest = flat_map (unknown_term s b) ts in
+      first_found (first ++ rest) (word_if (takes_others (signature_of used) ts) n) (word_if (has_misfit s b ts (signature_of used)) n) e
+      (told (first ++ rest) (Contains-append_left first rest n (has_word (not (is_declared used)) n (ap not (sym (is_symbol es n) ∙ ap is_some (sym at))))))
 
   -- the faults of a name that is found are those of its terms
   pub declared_is : (slots : Bor (List (Typed A))) → Some slots ≡ lookup (λ k. bytes_eq n k.now) es → faults_of_use s b used ≡ faults_of_terms s b n ts (map typed_view slots.now)
@@ -107,13 +88,10 @@ module _ {A : Type 0} (s : Setting) (b : List TypedValue) (ts : List TermValue) 
       let xs = map typed_view slots.now in
       let words = flat_map (unknown_term s b) ts in
       let on : is_declared used ≡ true = sym (is_symbol es n) ∙ ap is_some (sym at) in
-      let same : option_map (λ (h : Signature). h.parameters) (signature_of used) ≡ Some xs =
-      signature_found es n ∙ ap (option_map (λ (ys : Bor (List (Typed A))). map typed_view ys.now)) (sym at) in
-      let takes : takes_others (signature_of used) ts ≡ not (length ts == length xs) = takes_is (signature_of used) ts ∙ ap (λ o. slots_differ o ts) same in
-      let misfit : has_misfit s b ts (signature_of used) ≡ some_misfit s b ts xs = misfit_is s b ts (signature_of used) ∙ ap (slots_misfit s b ts) same in
+      let shape = shape_is s b ts (signature_of used) xs (signature_found es n ∙ ap (option_map (λ (ys : Bor (List (Typed A))). map typed_view ys.now)) (sym at)) in
       ap (λ c. in_turn (word_if (not c) n ++ words) (word_if (takes_others (signature_of used) ts) n) (word_if (has_misfit s b ts (signature_of used)) n)) on
-      ∙ ap (λ c. in_turn words (word_if c n) (word_if (has_misfit s b ts (signature_of used)) n)) takes
-      ∙ ap (λ c. in_turn words (word_if (not (length ts == length xs)) n) (word_if c n)) misfit
+      ∙ ap (λ c. in_turn words (word_if c n) (word_if (has_misfit s b ts (signature_of used)) n)) shape.0
+      ∙ ap (λ c. in_turn words (word_if (not (length ts == length xs)) n) (word_if c n)) shape.1
 
 -- ---- at a place
 

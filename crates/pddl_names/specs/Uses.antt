@@ -1,5 +1,5 @@
 -- The faults that are looked for together at each place, each told by its number and its word.
-use Rattle.std.specs.Prelude.{◌≡◌, ◌<◌, ◌⊎◌, ⊤, Bool, true, IsTrue, not, ◌==◌, ◌&&◌, ℕ, List, ◌++◌, filter, length, Option, Some, None}
+use Rattle.std.specs.Prelude.{◌≡◌, ◌<◌, ◌⊎◌, ⊤, Bool, true, IsTrue, not, ◌==◌, ◌&&◌, ℕ, List, ◌++◌, filter, length, Option, Some, None, Contains}
 use Rattle.std.specs.List.{flat_map}
 use Rattle.std.specs.Map.{lookup}
 use Rattle.pddl_formula.specs.Terms.{TermValue}
@@ -13,7 +13,7 @@ use Rattle.pddl_task.specs.Settings.{Setting}
 use Rattle.pddl_task.specs.Faults.{Use, primitives_of, variables_at, repeated_at, is_declared, signature_of, unknown_term, takes_others, some_misfit, has_misfit, unknown_at, arity_at, misfit_at, fraction_at}
 use Rattle.pddl_faults.specs.Found.{numbered}
 use Rattle.pddl_types.specs.TypeSpans.{TypesValue, are_types}
-use Rattle.pddl_types.specs.ToldTops.{SlotsValue, IsToldAt}
+use Rattle.pddl_types.specs.ToldTops.{SlotsValue, IsToldAt, AreToldAt}
 
 -- ---- what is bound
 
@@ -63,6 +63,11 @@ pub record UsesValue : Type 0 where
 -- without the tops
 abbrev pub setting_in : UsesValue → Setting
 setting_in u = record { pairs = pairs u.types.declared; predicates = u.predicates; functions = u.functions; objects = u.objects }
+
+-- the tops of these slots are told at these numbers, and their types are known
+pub record AreSlots (u : UsesValue) (slots : List TypedValue) (numbers : List ℕ) : Type 0 where
+  pub told : AreToldAt u.types u.slots.told slots numbers
+  pub types : (x : TypedValue) → Contains slots x → IsTrue (are_types u.types.declared x.of)
 
 -- a slot, where there is one, has known types, whose tops are told at this number
 abbrev pub IsSlotAt : TypesValue → List (List Span) → Option TypedValue → Option ℕ → Type 0

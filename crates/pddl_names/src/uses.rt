@@ -1,7 +1,7 @@
 //! The search for names that are not known, other numbers of terms than declared, terms that do not fit their slots, and numbers that are not
 //! whole, with one look-up of each name.
 
-ghost use Rattle.std.specs.Prelude.{◌≡◌, ◌<◌, ◌≤◌, ◌+◌, ◌-◌, ℕ, [], not, map, take, length, slice_get, find, Contains, IsTrue, Option, Some, IfOk, IfSome};
+ghost use Rattle.std.specs.Prelude.{◌≡◌, ◌<◌, ◌≤◌, ◌+◌, ◌-◌, ℕ, [], not, map, take, length, slice_get, find, Option, Some, IfOk, IfSome};
 ghost use Rattle.std.specs.List.{flat_map, slice_index_or};
 ghost use Rattle.pddl_formula.specs.Terms.{term_view};
 ghost use Rattle.pddl_formula.specs.TypedLists.{TypedValue, typed_view};
@@ -17,9 +17,8 @@ ghost use Rattle.pddl_search.specs.Parts.{term_in, term_name, terms_in};
 ghost use Rattle.pddl_search.specs.Scopes.{bound_of, AllNumbered};
 ghost use Rattle.pddl_types.specs.KnownNames.{signature_in, object_in};
 ghost use Rattle.pddl_types.specs.Settings.{setting_of};
-ghost use Rattle.pddl_types.specs.TypeSpans.{are_types, HaveTypes};
 ghost use Rattle.pddl_types.specs.ToldTops.{AreToldAt};
-ghost use Rattle.pddl_names.specs.Uses.{setting_in, IsSlotAt, TellsFit, fit_of, faults_of_use, faults_of_terms};
+ghost use Rattle.pddl_names.specs.Uses.{setting_in, AreSlots, IsSlotAt, TellsFit, fit_of, faults_of_use, faults_of_terms};
 
 use indexmap::IndexMap;
 use pddl_faults::{Hashed, LinkFault, lower};
@@ -152,8 +151,7 @@ fn terms_fit<'k, 't, 'm, 'a, 'd, A: Allocator, B: Allocator>(
     scope: &Scope<A, B>,
 ) -> Result<bool, LinkFault<'d>>
     requires told { ∥ AllNumbered (AreToldAt uses.old.types uses.old.told) scope.now ∥₁ }
-    requires slots { AreToldAt uses.old.types uses.old.slots.told (map typed_view slots.now) numbers.now }
-    requires types { (x : TypedValue) → Contains (map typed_view slots.now) x → IsTrue (are_types uses.old.types.declared x.of) }
+    requires slots { AreSlots uses.old (map typed_view slots.now) numbers.now }
     ensures kept { uses.new ≡ uses.old }
     ensures passes { Passes 26 (flat_map (unknown_term (setting_in uses.old) (bound_of scope.now)) (terms_in terms.now)) result }
     ensures fits { IfOk result (λ fits. some_misfit (setting_in uses.old) (bound_of scope.now) (terms_in terms.now) (map typed_view slots.now) ≡ not fits) }
@@ -179,8 +177,7 @@ fn look_at_terms<'k, 't, 'm, 'a, 'd, A: Allocator, B: Allocator>(
     scope: &Scope<A, B>,
 ) -> Result<(), LinkFault<'d>>
     requires told { ∥ AllNumbered (AreToldAt uses.old.types uses.old.told) scope.now ∥₁ }
-    requires slots { AreToldAt uses.old.types uses.old.slots.told (map typed_view slots.now) numbers.now }
-    requires types { (x : TypedValue) → Contains (map typed_view slots.now) x → IsTrue (are_types uses.old.types.declared x.of) }
+    requires slots { AreSlots uses.old (map typed_view slots.now) numbers.now }
     ensures kept { uses.new ≡ uses.old }
     ensures found { IsFound (faults_of_terms (setting_in uses.old) (bound_of scope.now) symbol.now (terms_in terms.now) (map typed_view slots.now)) result }
 {
@@ -207,8 +204,7 @@ fn look_at_use<'k, 't, 'm, 'a, 'd, A: Allocator, B: Allocator>(
     requires told { ∥ AllNumbered (AreToldAt uses.old.types uses.old.told) scope.now ∥₁ }
     requires room { length declared.now.entries ≤ end }
     requires slots { (k : ℕ) (f : Signature) → slice_get (map signature_in declared.now.entries) k ≡ Some f
-        → AreToldAt uses.old.types uses.old.slots.told f.parameters (slice_index_or uses.old.slots.numbers (end - length declared.now.entries + k) []) }
-    requires types { HaveTypes uses.old.types.declared (map signature_in declared.now.entries) }
+        → AreSlots uses.old f.parameters (slice_index_or uses.old.slots.numbers (end - length declared.now.entries + k) []) }
     ensures kept { uses.new ≡ uses.old }
     ensures found { IsFound (faults_of_use (setting_in uses.old) (bound_of scope.now) (record { name = symbol.now; terms = terms_in terms.now; declared = map signature_in declared.now.entries })) result }
 {

@@ -1,7 +1,7 @@
 use Rattle.std.proofs.Common.{◌≡◌, ◌-◌, map, length, arith}
 use Rattle.std.proofs.lemmas.List.{length-append, length-map}
 use Rattle.pddl_types.specs.KnownNames.{signature_in}
-use Rattle.pddl_names.proofs.DeclaredSlots.{last_slots, last_types}
+use Rattle.pddl_names.proofs.DeclaredSlots.{last_slots}
 use Rattle.pddl_names.proofs.uses.look_at_function.Goals as goal
 
 pub look_at_use-requires-clause-slots : goal.look_at_use-requires-clause-slots
@@ -11,9 +11,4 @@ look_at_use-requires-clause-slots g c =
     let functions = map signature_in k.functions.now.entries in
     let start = c.len.result - length k.functions.now.entries in
     let last : start ≡ length predicates = omega (arith, c.len.ensures, k.slot_tops.many, length-append predicates functions, length-map k.functions.now.entries signature_in) in
-    rw (← c.uses.view_is) (λ i f. last_slots k.types.now predicates functions k.slots.now k.slot_tops start i f last)
-
-pub look_at_use-requires-clause-types : goal.look_at_use-requires-clause-types
-look_at_use-requires-clause-types g c =
-    let k = c.uses.inside.known.now in
-    rw (← c.uses.view_is) (last_types k.types.now.declared (map signature_in k.predicates.now.entries) (map signature_in k.functions.now.entries) k.slot_types)
+    rw (← c.uses.view_is) (λ i f. last_slots _ predicates functions k.slot_tops k.slot_types start i f last)

@@ -10,7 +10,7 @@ use Rattle.pddl_faults.specs.declared.fault.LinkFault.TheVariants as link
 use Rattle.pddl_search.specs.Parts.{terms_in}
 use Rattle.pddl_search.specs.Scopes.{bound_of}
 use Rattle.pddl_names.specs.Uses.{setting_in}
-use Rattle.pddl_names.proofs.UseFaults.{first_found, second_found, third_found, has_word, has_no_word}
+use Rattle.pddl_names.proofs.UseFaults.{first_found, second_found, third_found, has_word}
 use Rattle.pddl_names.proofs.uses.look_at_terms.Goals as goal
 
 pub returns-in_err-all_fit-clause-found : goal.returns-in_err-all_fit-clause-found
@@ -32,7 +32,7 @@ returns-then-len-slots-clause-found g c =
     let slots = map typed_view c.args.slots.now in
     let other : (length ts == length slots) ≡ false = grind (arith, common_steps, c.len.ensures, length-map c.args.slots.now typed_view, c.if-len-slots.true) in
     second_found (flat_map (unknown_term s b) ts) (word_if (not (length ts == length slots)) n) (word_if (some_misfit s b ts slots) n) (link.Arity c.args.symbol)
-    c.in_ok-all_fit.ensures.passes (refl, has_word (not (length ts == length slots)) (length ts == length slots) n refl other)
+    c.in_ok-all_fit.ensures.passes (refl, has_word (not (length ts == length slots)) n (ap not other))
 
 pub returns-else-all_fit-clause-found : goal.returns-else-all_fit-clause-found
 returns-else-all_fit-clause-found g c =
@@ -43,8 +43,8 @@ returns-else-all_fit-clause-found g c =
     let slots = map typed_view c.args.slots.now in
     let same : (length ts == length slots) ≡ true = grind (arith, common_steps, c.len.ensures, length-map c.args.slots.now typed_view, c.if-len-slots.false) in
     third_found (flat_map (unknown_term s b) ts) (word_if (not (length ts == length slots)) n) (word_if (some_misfit s b ts slots) n) (Err (link.ArgumentType c.args.symbol))
-    c.in_ok-all_fit.ensures.passes (has_no_word (length ts == length slots) n same)
-    (refl, has_word (some_misfit s b ts slots) c.in_ok-all_fit.all_fit n c.in_ok-all_fit.ensures.fits c.if-all_fit.false)
+    c.in_ok-all_fit.ensures.passes (ap (λ b. word_if (not b) n) same)
+    (refl, has_word (some_misfit s b ts slots) n (c.in_ok-all_fit.ensures.fits ∙ ap not c.if-all_fit.false))
 
 pub returns-then-all_fit-clause-found : goal.returns-then-all_fit-clause-found
 returns-then-all_fit-clause-found g c =
@@ -55,4 +55,4 @@ returns-then-all_fit-clause-found g c =
     let slots = map typed_view c.args.slots.now in
     let same : (length ts == length slots) ≡ true = grind (arith, common_steps, c.len.ensures, length-map c.args.slots.now typed_view, c.if-len-slots.false) in
     third_found (flat_map (unknown_term s b) ts) (word_if (not (length ts == length slots)) n) (word_if (some_misfit s b ts slots) n) (Ok tt)
-    c.in_ok-all_fit.ensures.passes (has_no_word (length ts == length slots) n same) (ap (λ misfit. word_if misfit n) (c.in_ok-all_fit.ensures.fits ∙ ap not c.if-all_fit.true))
+    c.in_ok-all_fit.ensures.passes (ap (λ b. word_if (not b) n) same) (ap (λ misfit. word_if misfit n) (c.in_ok-all_fit.ensures.fits ∙ ap not c.if-all_fit.true))

@@ -4,7 +4,6 @@ use Rattle.std.specs.Borrow.{Bor}
 use Rattle.std.specs.List.{slice_index_or}
 use Rattle.pddl_formula.specs.TypedLists.{typed_view}
 use Rattle.pddl_formula.specs.declared.type_names.Typed.{Typed}
-use Rattle.pddl_task.proofs.Lists.{at_place}
 use Rattle.pddl_faults.specs.declared.fault.LinkFault.TheVariants as link
 use Rattle.pddl_search.specs.Parts.{terms_in}
 use Rattle.pddl_search.specs.Scopes.{bound_of}
@@ -38,10 +37,3 @@ look_at_terms-requires-clause-slots g c =
     let numbers = λ (u : UsesValue). slice_index_or u.slots.numbers (c.args.end - c.len.result + c.in-Some.name) [] in
     rw (c.numbers-numbers.ensures, ap numbers c.uses.view_is, c.len.ensures.len)
     (c.requires.slots c.in-Some.name (signature_in entry) (seen_entry signature_in c.args.declared.now.entries c.in-Some.name entry c.in-Some.ensures.entry))
-
-pub look_at_terms-requires-clause-types : goal.look_at_terms-requires-clause-types
-look_at_terms-requires-clause-types g c = λ x.
-    let entries = c.args.declared.now.entries in
-    let entry : Bor (List ℕ) × Bor (List (Typed g.row.A.Denot)) = (c.in-Some.field-0-1.now, c.in-Some.slots.now) in
-    let at = seen_entry signature_in entries c.in-Some.name entry c.in-Some.ensures.entry in
-    c.requires.types (signature_in entry) x (at_place (map signature_in entries) c.in-Some.name (signature_in entry) at)

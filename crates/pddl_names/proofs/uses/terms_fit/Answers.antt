@@ -21,7 +21,7 @@ term_fits-requires-clause-apart g c =
     let slots = map typed_view c.args.slots.now in
     rw c.loop-i.invariant.kept
     (slot_apart u.types u.slots.told (slice_get slots c.loop-i.i) c.copied.result
-    (slot_read u.types u.slots.told slots c.args.numbers.now c.loop-i.i c.get.result c.copied.result c.requires.slots c.requires.types c.get.ensures.lookup c.copied.ensures))
+    (slot_read u slots c.args.numbers.now c.loop-i.i c.get.result c.copied.result c.requires.slots c.get.ensures.lookup c.copied.ensures))
 
 pub returns-in-None-clause-passes : goal.returns-in-None-clause-passes
 returns-in-None-clause-passes g c =
@@ -30,13 +30,12 @@ returns-in-None-clause-passes g c =
     let b = bound_of c.args.scope.now in
     let all = terms_in c.args.terms.now in
     let slots = map typed_view c.args.slots.now in
-    let slot = slice_get slots c.loop-i.i in
-    let is_slot = slot_read u.types u.slots.told slots c.args.numbers.now c.loop-i.i c.get.result c.copied.result c.requires.slots c.requires.types c.get.ensures.lookup c.copied.ensures in
-    let fit : c.in_ok-term_fits.field-0 ≡ fit_of s.pairs (typed_term s b (term_in c.at-term.result)) slot = rw (← c.loop-i.invariant.kept) (c.in_ok-term_fits.ensures.fits slot (rw c.loop-i.invariant.kept is_slot)) in
+    let is_slot = slot_read u slots c.args.numbers.now c.loop-i.i c.get.result c.copied.result c.requires.slots c.get.ensures.lookup c.copied.ensures in
+    let fit : c.in_ok-term_fits.field-0 ≡ fit_of s.pairs (typed_term s b (term_in c.at-term.result)) (slice_get slots c.loop-i.i) = rw (← c.loop-i.invariant.kept) (c.in_ok-term_fits.ensures.fits (slice_get slots c.loop-i.i) (rw c.loop-i.invariant.kept is_slot)) in
     let low : c.loop-i.i < length all = omega (arith, c.len-i-end.ensures) in (
       refl,
-      unknown_here s b all c.loop-i.i (term_in c.at-term.result) slot c.in_ok-term_fits.field-0 (flat_map (unknown_term s b) all) c.name.result.now low c.at-term.ensures c.loop-i.invariant.unknown
-          fit c.in-None.is c.name.ensures,
+      unknown_here s b all slots c.loop-i.i (term_in c.at-term.result) low c.at-term.ensures c.in_ok-term_fits.field-0 fit (flat_map (unknown_term s b) all) c.name.result.now
+          c.loop-i.invariant.unknown c.in-None.is c.name.ensures,
     )
 
 pub loop-i-preserved : goal.loop-i-preserved
@@ -46,9 +45,8 @@ loop-i-preserved g c =
     let b = bound_of c.args.scope.now in
     let all = terms_in c.args.terms.now in
     let slots = map typed_view c.args.slots.now in
-    let slot = slice_get slots c.loop-i.i in
-    let is_slot = slot_read u.types u.slots.told slots c.args.numbers.now c.loop-i.i c.get.result c.copied.result c.requires.slots c.requires.types c.get.ensures.lookup c.copied.ensures in
-    let fit : c.in_ok-term_fits.field-0 ≡ fit_of s.pairs (typed_term s b (term_in c.at-term.result)) slot = rw (← c.loop-i.invariant.kept) (c.in_ok-term_fits.ensures.fits slot (rw c.loop-i.invariant.kept is_slot)) in
+    let is_slot = slot_read u slots c.args.numbers.now c.loop-i.i c.get.result c.copied.result c.requires.slots c.get.ensures.lookup c.copied.ensures in
+    let fit : c.in_ok-term_fits.field-0 ≡ fit_of s.pairs (typed_term s b (term_in c.at-term.result)) (slice_get slots c.loop-i.i) = rw (← c.loop-i.invariant.kept) (c.in_ok-term_fits.ensures.fits (slice_get slots c.loop-i.i) (rw c.loop-i.invariant.kept is_slot)) in
     let low : c.loop-i.i < length all = omega (arith, c.len-i-end.ensures) in
     let next : c.if-all_fit.all_fit ≡ (c.loop-i.all_fit && c.in-Some.fits) = elim c.if-all_fit.branch as (λ _. c.if-all_fit.all_fit ≡ (c.loop-i.all_fit && c.in-Some.fits)) [
       | then-all_fit w ↦ w.all_fit-is ∙ ap (λ a. a && c.in-Some.fits) (sym w.if-all_fit.true)
@@ -56,12 +54,10 @@ loop-i-preserved g c =
     ] in
     record {
       kept = c.in_ok-term_fits.ensures.kept ∙ c.loop-i.invariant.kept;
-      unknown =
-          known_here s b all c.loop-i.i (term_in c.at-term.result) slot c.in_ok-term_fits.field-0 (flat_map (unknown_term s b) all) c.in-Some.fits low c.at-term.ensures c.loop-i.invariant.unknown
-          fit c.in-Some.is;
+      unknown = known_here s b all slots c.loop-i.i (term_in c.at-term.result) low c.at-term.ensures c.in_ok-term_fits.field-0 fit (flat_map (unknown_term s b) all) c.in-Some.fits c.loop-i.invariant.unknown c.in-Some.is;
       misfit =
-          fits_here s b all slots c.loop-i.i (term_in c.at-term.result) c.in_ok-term_fits.field-0 c.in-Some.fits c.loop-i.all_fit c.if-all_fit.all_fit (some_misfit s b all slots)
-          low c.at-term.ensures c.loop-i.invariant.misfit fit c.in-Some.is next;
+          fits_here s b all slots c.loop-i.i (term_in c.at-term.result) low c.at-term.ensures c.in_ok-term_fits.field-0 fit c.in-Some.fits c.loop-i.all_fit c.if-all_fit.all_fit (some_misfit s b all slots)
+          c.loop-i.invariant.misfit c.in-Some.is next;
     }
 
 pub returns-clause-passes : goal.returns-clause-passes

@@ -1,18 +1,15 @@
-use Rattle.std.proofs.Common.{ℕ, ◌<◌, length, sym, subst}
-use Rattle.pddl_names.specs.Uses.{UsesValue, TellsFit}
+use Rattle.std.proofs.Common.{ℕ, sym}
 use Rattle.pddl_names.proofs.FittingTables.{fit_told, fitting_more}
 use Rattle.pddl_names.proofs.uses.Uses.variable_fits.Goals as goal
 
 pub returns-then-told-lt8-clause-fits : goal.returns-then-told-lt8-clause-fits
 returns-then-told-lt8-clause-fits g c =
     let u = c.self.inside in
-    subst (λ (v : UsesValue). TellsFit v.types v.told v.slots.told (c.args.variable, c.args.slot) c.fits.result) c.self.view_is
+    rw (← c.self.view_is)
     (fit_told u.known.now.types.now u.told u.known.now.slots.now.told (c.args.variable, c.args.slot) c.at-told.result.now c.tops-tops.result.now c.fits.result c.at-told.ensures c.tops-tops.ensures c.fits.ensures)
 
 pub returns-in-Some-clause-fits : goal.returns-in-Some-clause-fits
-returns-in-Some-clause-fits g c =
-    subst (λ (v : UsesValue). TellsFit v.types v.told v.slots.told (c.args.variable, c.args.slot) c.in-Some.fit.now) c.self.view_is
-    (c.self.invariant (c.args.variable, c.args.slot) c.in-Some.fit.now (sym c.in-Some.ensures.value)).1
+returns-in-Some-clause-fits g c = rw (← c.self.view_is) (c.self.invariant (c.args.variable, c.args.slot) c.in-Some.fit.now (sym c.in-Some.ensures.value)).1
 
 pub invariant_of-self : goal.invariant_of-self
 invariant_of-self g c = rw c.in_err-insert.ensures.err c.self.invariant
@@ -22,11 +19,11 @@ invariant_of-self-2 g c =
     let u = c.self.inside in
     let p : ℕ × ℕ = (c.args.variable, c.args.slot) in
     fitting_more u.known.now.types.now u.told u.known.now.slots.now.told u.fitting.entries c.insert.new.self.entries p c.fits-fit.result c.self.invariant c.in_ok-insert.ensures.updates.0
-    (subst (λ (v : UsesValue). c.args.variable < length v.told) (sym c.self.view_is) c.requires.variable)
+    (rw (← c.self.view_is) at c.requires.variable)
     (fit_told u.known.now.types.now u.told u.known.now.slots.now.told p c.at-told.result.now c.tops-tops.result.now c.fits-fit.result c.at-told.ensures c.tops-tops.ensures c.fits-fit.ensures)
 
 pub returns-clause-fits : goal.returns-clause-fits
 returns-clause-fits g c =
     let u = c.self.inside in
-    subst (λ (v : UsesValue). TellsFit v.types v.told v.slots.told (c.args.variable, c.args.slot) c.fits-fit.result) c.self.view_is
+    rw (← c.self.view_is)
     (fit_told u.known.now.types.now u.told u.known.now.slots.now.told (c.args.variable, c.args.slot) c.at-told.result.now c.tops-tops.result.now c.fits-fit.result c.at-told.ensures c.tops-tops.ensures c.fits-fit.ensures)
