@@ -60,55 +60,37 @@ same_behind (p ∷ ps) h = same_both (same_self p) (same_behind ps h)
 
 infixr 40 ◌⊕◌
 -- what is joined, and how
-data Tree (A : Type 0) : Type 0 where
-  none : Tree A
-  the : A → Tree A
-  ◌⊕◌ : Tree A → Tree A → Tree A
+data Joint : Type 0 where
+  none : Joint
+  the : Name → Joint
+  ◌⊕◌ : Joint → Joint → Joint
 
 -- the list, where each piece is one
-abbrev value : {A B : Type 0} → (A → List B) → Tree A → List B
+abbrev value : {B : Type 0} → (Name → List B) → Joint → List B
 value g none = []
 value g (the a) = g a
 value g (s ⊕ t) = value g s ++ value g t
 
--- words that are joined of lists, each told by its place among these
-abbrev words : List (List Name) → Tree ℕ → List Name
-words ws t = value (λ i. get_or ws i []) t
-
--- numbers of faults, each with its words
-abbrev Joint : Type 0
-Joint = Tree (ℕ × Tree ℕ)
-
--- words of one list, with this number
+-- words of one list, told by its place among lists, with this number
 abbrev alone : ℕ → ℕ → Joint
-alone n i = the (n, the i)
-
--- faults that are joined so
-abbrev found : List (List Name) → Joint → List (ℕ × Name)
-found ws s = value (λ q. numbered q.0 (words ws q.1)) s
-
--- its pieces, each told by the number of the fault and the place of the list
-abbrev pieces_of : ℕ → Tree ℕ → List Name
-pieces_of n t = value (λ i. (n ∷ i ∷ []) ∷ []) t
-
-abbrev pieces : Joint → List Name
-pieces s = value (λ q. pieces_of q.0 q.1) s
+alone n i = the (n ∷ i ∷ [])
 
 -- such a piece
 abbrev piece : List (List Name) → Name → List (ℕ × Name)
 piece ws c = numbered (get_or c 0 0) (get_or ws (get_or c 1 0) [])
 
--- words with a number are those of their pieces
-words_are : (ws : List (List Name)) (n : ℕ) (t : Tree ℕ) → numbered n (words ws t) ≡ flat_map (piece ws) (pieces_of n t)
-words_are ws n none = refl
-words_are ws n (the i) = sym (append-nil (numbered n (get_or ws i [])))
-words_are ws n (s ⊕ t) =
-    map-append (λ w. (n, w)) (words ws s) (words ws t) ∙ ap₂ ◌++◌ (words_are ws n s) (words_are ws n t) ∙ sym (flat_map-append (piece ws) (pieces_of n s) (pieces_of n t))
+-- faults that are joined so
+abbrev found : List (List Name) → Joint → List (ℕ × Name)
+found ws s = value (piece ws) s
 
--- and so are faults
+-- its pieces
+abbrev pieces : Joint → List Name
+pieces s = value (λ c. c ∷ []) s
+
+-- they are those of their pieces
 found_are : (ws : List (List Name)) (s : Joint) → found ws s ≡ flat_map (piece ws) (pieces s)
 found_are ws none = refl
-found_are ws (the q) = words_are ws q.0 q.1
+found_are ws (the c) = sym (append-nil (piece ws c))
 found_are ws (s ⊕ t) = ap₂ ◌++◌ (found_are ws s) (found_are ws t) ∙ sym (flat_map-append (piece ws) (pieces s) (pieces t))
 
 -- what is in one of some pieces is in all of them
@@ -145,8 +127,12 @@ binding_same : (ts : List TypeValue) (pls : List Place) → Same (flat_map (bind
 binding_same ts [] = same_self []
 binding_same ts (pl ∷ pls) =
     same_then (same_both (same_self (binding_faults ts pl)) (binding_same ts pls))
-    (same_found (unknown_among ts (variables_at pl) ∷ repeated_at pl ∷ unknown_in ts pls ∷ flat_map repeated_at pls ∷ [])
-    ((alone 23 0 ⊕ alone 24 1) ⊕ (alone 23 2 ⊕ alone 24 3)) (the (23, the 0 ⊕ the 2) ⊕ the (24, the 1 ⊕ the 3)) refl refl)
+    (simp map-append (same_found (unknown_among ts (variables_at pl) ∷ repeated_at pl ∷ unknown_in ts pls ∷ flat_map repeated_at pls ∷ [])
+    ((alone 23 0 ⊕ alone 24 1) ⊕ (alone 23 2 ⊕ alone 24 3)) ((alone 23 0 ⊕ alone 23 2) ⊕ (alone 24 1 ⊕ alone 24 3)) refl refl))
+
+action_words : (a b c e g : List Name) → Same ((numbered 24 a ++ (numbered 23 b ++ numbered 24 c)) ++ (numbered 23 e ++ numbered 24 g)) (numbered 23 (b ++ e) ++ numbered 24 ((a ++ c) ++ g))
+action_words a b c e g =
+    simp map-append (same_found (a ∷ b ∷ c ∷ e ∷ g ∷ []) ((alone 24 0 ⊕ (alone 23 1 ⊕ alone 24 2)) ⊕ (alone 23 3 ⊕ alone 24 4)) ((alone 23 1 ⊕ alone 23 3) ⊕ ((alone 24 0 ⊕ alone 24 2) ⊕ alone 24 4)) refl refl)
 
 -- what is bound in actions, and their names
 action_same : (ts : List TypeValue) (seen : List Name) (acts : List ActionValue) → Same (action_faults ts seen acts) (numbered 23 (unknown_in ts (flat_map action_places acts)) ++ numbered 24 (repeated_in_actions seen acts))
@@ -155,8 +141,7 @@ action_same ts seen (a ∷ rest) =
     let here = word_if (is_in seen a.name) a.name in
     rw (flat_map-append (λ pl. unknown_among ts (variables_at pl)) (action_places a) (flat_map action_places rest))
     (same_then (same_both (same_both (same_self (numbered 24 here)) (binding_same ts (action_places a))) (action_same ts (seen ++ a.name ∷ []) rest))
-    (same_found (here ∷ unknown_in ts (action_places a) ∷ flat_map repeated_at (action_places a) ∷ unknown_in ts (flat_map action_places rest) ∷ repeated_in_actions (seen ++ a.name ∷ []) rest ∷ [])
-    ((alone 24 0 ⊕ (alone 23 1 ⊕ alone 24 2)) ⊕ (alone 23 3 ⊕ alone 24 4)) (the (23, the 1 ⊕ the 3) ⊕ the (24, (the 0 ⊕ the 2) ⊕ the 4)) refl refl))
+    (action_words here (unknown_in ts (action_places a)) (flat_map repeated_at (action_places a)) (unknown_in ts (flat_map action_places rest)) (repeated_in_actions (seen ++ a.name ∷ []) rest)))
 
 -- words of what is used at places, by the four faults that are looked for
 abbrev uses_at : Setting → List Place → List (List Name)
@@ -166,23 +151,27 @@ uses_at s pls = flat_map fraction_at pls ∷ flat_map (unknown_at s) pls ∷ fla
 abbrev uses_from : ℕ → Joint
 uses_from i = alone 30 i ⊕ alone 26 (i + 1) ⊕ alone 27 (i + 2) ⊕ alone 28 (i + 3)
 
+use_words : (a b c e v w x y : List Name) → Same (found (a ∷ b ∷ c ∷ e ∷ v ∷ w ∷ x ∷ y ∷ []) (uses_from 0 ⊕ uses_from 4)) (found ((a ++ v) ∷ (b ++ w) ∷ (c ++ x) ∷ (e ++ y) ∷ []) (uses_from 0))
+use_words a b c e v w x y =
+    simp map-append (same_found (a ∷ b ∷ c ∷ e ∷ v ∷ w ∷ x ∷ y ∷ []) (uses_from 0 ⊕ uses_from 4)
+    ((alone 30 0 ⊕ alone 30 4) ⊕ (alone 26 1 ⊕ alone 26 5) ⊕ (alone 27 2 ⊕ alone 27 6) ⊕ (alone 28 3 ⊕ alone 28 7)) refl refl)
+
 -- what is used at places
 use_same : (s : Setting) (pls : List Place) → Same (flat_map (use_faults s) pls) (found (uses_at s pls) (uses_from 0))
 use_same s [] = same_self []
 use_same s (pl ∷ pls) =
     same_then (same_both (same_self (use_faults s pl)) (use_same s pls))
-    (same_found (fraction_at pl ∷ unknown_at s pl ∷ arity_at s pl ∷ misfit_at s pl ∷ uses_at s pls) (uses_from 0 ⊕ uses_from 4)
-    (the (30, the 0 ⊕ the 4) ⊕ the (26, the 1 ⊕ the 5) ⊕ the (27, the 2 ⊕ the 6) ⊕ the (28, the 3 ⊕ the 7)) refl refl)
+    (use_words (fraction_at pl) (unknown_at s pl) (arity_at s pl) (misfit_at s pl) (flat_map fraction_at pls) (flat_map (unknown_at s) pls) (flat_map (arity_at s) pls) (flat_map (misfit_at s) pls))
 
 -- ---- the rules, in the parts of a domain and a problem
 
 -- those that are looked at first
 pub first_stand : (d : DomainValue) (p : ProblemValue) → Same (numbered 20 (domain_names d p) ++ numbered 21 (types_twice d)) (standing (map (fault_in d p) (take 2 first_rules)))
-first_stand d p = same_found (domain_names d p ∷ types_twice d ∷ []) (alone 20 0 ⊕ alone 21 1) (the (20, none ⊕ the 0) ⊕ the (21, the 1 ⊕ none) ⊕ none) refl refl
+first_stand d p = simp map-append (same_found (domain_names d p ∷ types_twice d ∷ []) (alone 20 0 ⊕ alone 21 1) (alone 20 0 ⊕ (alone 21 1 ⊕ none) ⊕ none) refl refl)
 
 -- that which is found when types are made
 pub cycle_stands : (d : DomainValue) (p : ProblemValue) → Same (numbered 22 (type_cycles d)) (standing (map (fault_in d p) (drop 2 first_rules)))
-cycle_stands d p = same_found (type_cycles d ∷ []) (alone 22 0) (the (22, the 0 ⊕ none) ⊕ none) refl refl
+cycle_stands d p = simp map-append (same_found (type_cycles d ∷ []) (alone 22 0) ((alone 22 0 ⊕ none) ⊕ none) refl refl)
 
 -- words of names of a domain
 abbrev names_of : DomainValue → List (List Name)
@@ -200,8 +189,8 @@ domain_names_stand d =
     let parts = numbered 24 (retyped [] d.constants) ∷ domain_parts d.types d in
     rw (unknown-domain d.types d)
     (same_then (same_behind (take 6 parts) (same_both (action_same d.types [] d.actions) (same_self (joined (drop 7 parts)))))
-    (same_found (names_of d) (alone 24 0 ⊕ names_before none)
-    (the (23, the 1 ⊕ the 2 ⊕ the 3 ⊕ the 4) ⊕ the (24, ((the 0 ⊕ the 5) ⊕ the 6) ⊕ the 7) ⊕ alone 25 8 ⊕ none) refl refl))
+    (simp map-append (same_found (names_of d) (alone 24 0 ⊕ names_before none)
+    ((alone 23 1 ⊕ alone 23 2 ⊕ alone 23 3 ⊕ alone 23 4) ⊕ (((alone 24 0 ⊕ alone 24 5) ⊕ alone 24 6) ⊕ alone 24 7) ⊕ alone 25 8 ⊕ none) refl refl)))
 
 -- names of a domain and a problem
 pub names_stand : (d : DomainValue) (p : ProblemValue) → Same (joined (domain_parts d.types d ++ (numbered 24 (retyped [] d.constants ++ retyped d.constants p.objects) ∷ problem_parts d.types p))) (standing (map (fault_in d p) name_rules))
@@ -209,23 +198,23 @@ names_stand d p =
     let parts = domain_parts d.types d ++ (numbered 24 (retyped [] d.constants ++ retyped d.constants p.objects) ∷ problem_parts d.types p) in
     rw (unknown-domain d.types d, unknown-problem d.types p)
     (same_then (same_behind (take 5 parts) (same_both (action_same d.types [] d.actions) (same_behind (take 3 (drop 6 parts)) (same_both (binding_same d.types (problem_places p)) (same_self (joined (drop 10 parts)))))))
-    (same_found (names_of d ++ (retyped d.constants p.objects ∷ unknown_among d.types p.objects ∷ unknown_in d.types (problem_places p) ∷ flat_map repeated_at (problem_places p) ∷ object_types p.objects ∷ []))
-    (names_before (the (24, the 0 ⊕ the 9) ⊕ alone 23 10 ⊕ (alone 23 11 ⊕ alone 24 12) ⊕ alone 25 13 ⊕ none))
-    (the (23, (the 1 ⊕ the 2 ⊕ the 3 ⊕ the 4) ⊕ (the 10 ⊕ the 11)) ⊕ the (24, (((the 0 ⊕ the 5) ⊕ the 6) ⊕ the 7) ⊕ (the 9 ⊕ the 12)) ⊕ the (25, the 8 ⊕ the 13) ⊕ none) refl refl))
+    (simp map-append (same_found (names_of d ++ (retyped d.constants p.objects ∷ unknown_among d.types p.objects ∷ unknown_in d.types (problem_places p) ∷ flat_map repeated_at (problem_places p) ∷ object_types p.objects ∷ []))
+    (names_before ((alone 24 0 ⊕ alone 24 9) ⊕ alone 23 10 ⊕ (alone 23 11 ⊕ alone 24 12) ⊕ alone 25 13 ⊕ none))
+    (((alone 23 1 ⊕ alone 23 2 ⊕ alone 23 3 ⊕ alone 23 4) ⊕ (alone 23 10 ⊕ alone 23 11)) ⊕ ((((alone 24 0 ⊕ alone 24 5) ⊕ alone 24 6) ⊕ alone 24 7) ⊕ (alone 24 9 ⊕ alone 24 12)) ⊕ (alone 25 8 ⊕ alone 25 13) ⊕ none) refl refl)))
 
 -- what a domain uses
 pub domain_uses_stand : (d : DomainValue) → Same (joined (domain_uses d)) (standing (map (domain_fault d) use_rules))
 domain_uses_stand d =
     same_then (same_both (use_same (in_domain d) (domain_places d)) (same_self (joined (drop 1 (domain_uses d)))))
     (same_found (uses_at (in_domain d) (domain_places d) ++ (object_fluents d ∷ [])) (uses_from 0 ⊕ alone 32 4 ⊕ none)
-    (alone 26 1 ⊕ alone 27 2 ⊕ alone 28 3 ⊕ the (29, none) ⊕ alone 30 0 ⊕ the (31, none) ⊕ alone 32 4 ⊕ the (33, none) ⊕ the (35, none) ⊕ none) refl refl)
+    (alone 26 1 ⊕ alone 27 2 ⊕ alone 28 3 ⊕ none ⊕ alone 30 0 ⊕ none ⊕ alone 32 4 ⊕ none ⊕ none ⊕ none) refl refl)
 
 -- what a domain and a problem use
 pub uses_stand : (d : DomainValue) (p : ProblemValue) → Same (joined (domain_uses d ++ problem_uses d p)) (standing (map (fault_in d p) use_rules))
 uses_stand d p =
     let parts = domain_uses d ++ problem_uses d p in
     same_then (same_both (use_same (in_domain d) (domain_places d)) (same_behind (take 1 (drop 1 parts)) (same_both (use_same (in_problem d p) (problem_places p)) (same_self (joined (drop 3 parts))))))
-    (same_found (uses_at (in_domain d) (domain_places d) ++ (object_fluents d ∷ (uses_at (in_problem d p) (problem_places p) ++ (contradictions p ∷ other_metrics p.metric ∷ large_goals d p ∷ cost_values p ∷ []))))
+    (simp map-append (same_found (uses_at (in_domain d) (domain_places d) ++ (object_fluents d ∷ (uses_at (in_problem d p) (problem_places p) ++ (contradictions p ∷ other_metrics p.metric ∷ large_goals d p ∷ cost_values p ∷ []))))
     (uses_from 0 ⊕ alone 32 4 ⊕ uses_from 5 ⊕ alone 29 9 ⊕ alone 33 10 ⊕ alone 35 11 ⊕ alone 31 12 ⊕ none)
-    (the (26, the 1 ⊕ the 6) ⊕ the (27, the 2 ⊕ the 7) ⊕ the (28, the 3 ⊕ the 8) ⊕ the (29, none ⊕ the 9) ⊕ the (30, the 0 ⊕ the 5) ⊕ the (31, none ⊕ the 12) ⊕ the (32, the 4 ⊕ none)
-    ⊕ the (33, none ⊕ the 10) ⊕ the (35, none ⊕ the 11) ⊕ none) refl refl)
+    ((alone 26 1 ⊕ alone 26 6) ⊕ (alone 27 2 ⊕ alone 27 7) ⊕ (alone 28 3 ⊕ alone 28 8) ⊕ alone 29 9 ⊕ (alone 30 0 ⊕ alone 30 5) ⊕ alone 31 12 ⊕ (alone 32 4 ⊕ none)
+    ⊕ alone 33 10 ⊕ alone 35 11 ⊕ none) refl refl))
