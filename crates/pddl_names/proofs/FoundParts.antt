@@ -15,8 +15,11 @@ pub one_part : {T : Type 0} (xs : List (ℕ × Name)) (r : Result T LinkFault) �
 one_part xs r h = found_same xs (xs ++ []) r (append-none xs) h
 
 -- a pass for one fault, whose words may be told otherwise
+pub passed_as : {T : Type 0} (n : ℕ) {words told : List Name} (r : Result T LinkFault) → words ≡ told → Passes n words r → IsFound (numbered n told) r
+passed_as n {words} {told} r same h = passed_found n told r (subst (λ ws. Passes n ws r) same h)
+
 pub passed_part : {T : Type 0} (n : ℕ) {words told : List Name} (r : Result T LinkFault) → words ≡ told → Passes n words r → IsFound (joined (numbered n told ∷ [])) r
-passed_part n {words} {told} r same h = one_part (numbered n told) r (passed_found n told r (subst (λ ws. Passes n ws r) same h))
+passed_part n {words} {told} r same h = one_part (numbered n told) r (passed_as n r same h)
 
 -- some parts, and then others
 pub found_parts : {T : Type 0} (us vs : FaultParts) (first : Result (Unit {0}) LinkFault) (second both : Result T LinkFault)
