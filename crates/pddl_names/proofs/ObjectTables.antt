@@ -144,21 +144,19 @@ module _ {A : Type 0} (k : Bor (List ℕ)) (v : Bor (Typed A)) where
       }
 
       -- a new name goes last
-      pub last_is : lookup (λ j. bytes_eq k.now j.now) es ≡ None → map object_in next ≡ map object_in es ++ object ∷ []
-      last_is none =
+      pub put_last : lookup (λ j. bytes_eq k.now j.now) es ≡ None → (map object_in next ≡ map object_in es ++ object ∷ []) × IsPut object (map object_in es) (map object_in next)
+      put_last none =
+          let last : map object_in next ≡ map object_in es ++ object ∷ [] =
           ap (map object_in) (next_is ∙ insert_entry-absent (λ j l. bytes_eq j.now l.now) k v es (absent_from_lookup (λ j. bytes_eq k.now j.now) es none))
-          ∙ map-append object_in es ((k, v) ∷ []) ∙ ap (λ n. map object_in es ++ record { item = n; of = v.now.types } ∷ []) own
-
-      pub put_last : lookup (λ j. bytes_eq k.now j.now) es ≡ None → IsPut object (map object_in es) (map object_in next)
-      put_last none = put_known false (ap is_some none) (last_is none)
+          ∙ map-append object_in es ((k, v) ∷ []) ∙ ap (λ n. map object_in es ++ record { item = n; of = v.now.types } ∷ []) own in
+          (last, put_known false (ap is_some none) last)
 
       module _ (f : Bor (Typed A)) (there : lookup (λ j. bytes_eq k.now j.now) es ≡ Some f) (same : Bool) (same_is : same ≡ same_names f.now.types v.now.types) where
         -- where the name has this type, nothing changes
-        pub kept_is : same ≡ true → map object_in next ≡ map object_in es
-        kept_is right = ap (map object_in) next_is ∙ same_inserted f ((pointwise_decides bytes_decides f.now.types v.now.types).0 (sym same_is ∙ right)) es there
-
-        pub put_there : same ≡ true → IsPut object (map object_in es) (map object_in next)
-        put_there right = put_known true (ap is_some there) (kept_is right ∙ sym (append-none (map object_in es)))
+        pub put_there : same ≡ true → (map object_in next ≡ map object_in es) × IsPut object (map object_in es) (map object_in next)
+        put_there right =
+            let kept : map object_in next ≡ map object_in es = ap (map object_in) next_is ∙ same_inserted f ((pointwise_decides bytes_decides f.now.types v.now.types).0 (sym same_is ∙ right)) es there in
+            (kept, put_known true (ap is_some there) (kept ∙ sym (append-none (map object_in es))))
 
         -- and where it has another, it is at odds
         pub odds_there : same ≡ false → has_other_type (map object_in es) object ≡ true

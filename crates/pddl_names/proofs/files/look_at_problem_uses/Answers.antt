@@ -24,10 +24,6 @@ returns-clause-found g c =
 
 pub returns-clause-values : goal.returns-clause-values
 returns-clause-values g c =
-    let init = map init_view c.args.problem.now.init.items in
-    let held = HoldsValues init c.cost_values-told.new.values.entries in
-    second_kept c.search_problem-used.result c.lower-3.result c.lower-4.result held c.lower-4.ensures.both
-    (second_kept c.contradictions-claimed.result c.lower-2.result c.lower-3.result held c.lower-3.ensures.both
-    (second_kept c.metric-metric.result c.lower.result c.lower-2.result held c.lower-2.ensures.both
-    (second_kept c.args.size c.cost_values-told.result c.lower.result held c.lower.ensures.both
+    let held = HoldsValues (map init_view c.args.problem.now.init.items) c.cost_values-told.new.values.entries in
+    second_kept _ _ _ held c.lower-4.ensures.both (second_kept _ _ _ held c.lower-3.ensures.both (second_kept _ _ _ held c.lower-2.ensures.both (second_kept _ _ _ held c.lower.ensures.both
     (subst (λ is. OnOk c.cost_values-told.result (HoldsValues (map init_view is) c.cost_values-told.new.values.entries)) c.deref-2.ensures.value c.cost_values-told.ensures.values))))

@@ -1,11 +1,10 @@
 use Rattle.std.proofs.Common.{◌<◌, ◌≤◌, ◌≡◌, Some, length, get_or, slice_get, map, refl, sym, ap, ◌∙◌, subst, arith}
 use Rattle.std.specs.Prelude.{Contains}
 use Rattle.std.specs.HashSet.{HashSet}
-use Rattle.std.proofs.lemmas.Option.{slice_get_read}
 use Rattle.pddl_formula.specs.TypedLists.{typed_view}
 use Rattle.pddl_task.specs.Faults.{retyped}
 use Rattle.pddl_types.specs.KnownNames.{object_in}
-use Rattle.pddl_types.proofs.Views.{seen_entry}
+use Rattle.pddl_search.proofs.BoundTypes.{viewed_at}
 use Rattle.pddl_names.proofs.MetTypes.{type_of_number}
 use Rattle.pddl_names.proofs.ObjectTables.{listed_start, listed_twice, listed_more, listed_all}
 use Rattle.pddl_names.proofs.objects.add_objects.Goals as goal
@@ -25,7 +24,7 @@ loop-number-preserved g c =
     let x = c.index-deref-number.result in
     let low : l.number < length xs = omega (arith, c.loop-number-test.true, c.len-number-end.ensures) in
     let at : x ≡ get_or xs l.number x = c.index-deref-number.is ∙ ap (λ ys. get_or ys l.number x) c.deref.ensures.value in
-    let here = c.in_ok-group.ensures.group (typed_view x) (seen_entry typed_view xs l.number x (slice_get_read xs (length xs) l.number x refl low at)) in
+    let here = c.in_ok-group.ensures.group (typed_view x) (viewed_at typed_view xs l.number x low at) in
     record {
       lists = λ before are.
           listed_more before xs l.number x (map object_in l.listed.objects.entries) low at (l.invariant.lists before are) (map object_in c.list_object.new.listed.objects.entries)
@@ -43,7 +42,7 @@ list_object-requires-clause-group g c =
     let x = c.index-deref-number.result in
     let low : c.loop-number.number < length xs = omega (arith, c.loop-number-test.true, c.len-number-end.ensures) in
     let at : x ≡ get_or xs c.loop-number.number x = c.index-deref-number.is ∙ ap (λ ys. get_or ys c.loop-number.number x) c.deref.ensures.value in
-    (c.in_ok-group.ensures.group (typed_view x) (seen_entry typed_view xs c.loop-number.number x (slice_get_read xs (length xs) c.loop-number.number x refl low at))).1
+    (c.in_ok-group.ensures.group (typed_view x) (viewed_at typed_view xs c.loop-number.number x low at)).1
 
 pub returns-then-not-branch-clause-passes : goal.returns-then-not-branch-clause-passes
 returns-then-not-branch-clause-passes g c = λ before are.

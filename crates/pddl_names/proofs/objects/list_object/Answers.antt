@@ -6,7 +6,7 @@ use Rattle.pddl_types.specs.TypeSpans.{HaveEach, IsOnlySpan}
 use Rattle.pddl_types.proofs.HeldEach.{each_more}
 use Rattle.pddl_names.specs.MetTypes.{IsMetAt, AreMet}
 use Rattle.pddl_names.proofs.MetTypes.{known_number}
-use Rattle.pddl_names.proofs.ObjectTables.{named_inserted, last_is, put_last, kept_is, put_there, odds_there}
+use Rattle.pddl_names.proofs.ObjectTables.{named_inserted, put_last, put_there, odds_there}
 use Rattle.pddl_names.proofs.objects.list_object.Goals as goal
 
 both : {T : Type 0} (Holds : List Name → T → Type 0) {os objects : List TypedValue} {vs values : List T} → os ≡ objects → vs ≡ values → HaveEach Holds objects values → HaveEach Holds os vs
@@ -27,20 +27,20 @@ returns-in-Some-clause-wrong g c =
     (c.index.result.now == c.args.group.number) (known.1 c.index.result.now c.args.group.number c.args.object.now.types c.index.ensures c.requires.group)
 
 pub returns-in-Some-clause-right : goal.returns-in-Some-clause-right
-returns-in-Some-clause-right g c =
+returns-in-Some-clause-right g c = λ right.
     let es = c.args.listed.now.objects.entries in
     let there = sym c.in_ok-number.ensures.old ∙ c.in-Some.is in
     let known = known_number es c.args.met.now c.as_bytes.result.now c.in-Some._before c.in_ok-number.number c.requires.met there c.in_ok-number.ensures.index in
-    put_there c.as_bytes.result c.args.object c.as_bytes.ensures.value es c.insert_full.new.self.entries c.in_ok-number.ensures.entries c.in-Some._before there
-    (c.index.result.now == c.args.group.number) (known.1 c.index.result.now c.args.group.number c.args.object.now.types c.index.ensures c.requires.group)
+    (put_there c.as_bytes.result c.args.object c.as_bytes.ensures.value es c.insert_full.new.self.entries c.in_ok-number.ensures.entries c.in-Some._before there
+    (c.index.result.now == c.args.group.number) (known.1 c.index.result.now c.args.group.number c.args.object.now.types c.index.ensures c.requires.group) right).1
 
 pub returns-in-Some-clause-typed : goal.returns-in-Some-clause-typed
 returns-in-Some-clause-typed g c = λ t typed only right.
     let es = c.args.listed.now.objects.entries in
     let there = sym c.in_ok-number.ensures.old ∙ c.in-Some.is in
     let known = known_number es c.args.met.now c.as_bytes.result.now c.in-Some._before c.in_ok-number.number c.requires.met there c.in_ok-number.ensures.index in
-    let kept = kept_is c.as_bytes.result c.args.object c.as_bytes.ensures.value es c.insert_full.new.self.entries c.in_ok-number.ensures.entries c.in-Some._before there
-    (c.index.result.now == c.args.group.number) (known.1 c.index.result.now c.args.group.number c.args.object.now.types c.index.ensures c.requires.group) right in
+    let kept = (put_there c.as_bytes.result c.args.object c.as_bytes.ensures.value es c.insert_full.new.self.entries c.in_ok-number.ensures.entries c.in-Some._before there
+    (c.index.result.now == c.args.group.number) (known.1 c.index.result.now c.args.group.number c.args.object.now.types c.index.ensures c.requires.group) right).0 in
     record {
       spans = record {
         named = subst AreNamed (sym c.in_ok-number.ensures.entries) (named_inserted c.as_bytes.result c.args.object c.as_bytes.ensures.value es typed.spans.named);
@@ -51,14 +51,14 @@ returns-in-Some-clause-typed g c = λ t typed only right.
 
 pub returns-in_ok-push-in-None-2-clause-right : goal.returns-in_ok-push-in-None-2-clause-right
 returns-in_ok-push-in-None-2-clause-right g c = λ right.
-    put_last c.as_bytes.result c.args.object c.as_bytes.ensures.value c.args.listed.now.objects.entries c.insert_full.new.self.entries c.in_ok-number.ensures.entries (sym c.in_ok-number.ensures.old ∙ c.in-None.is)
+    (put_last c.as_bytes.result c.args.object c.as_bytes.ensures.value c.args.listed.now.objects.entries c.insert_full.new.self.entries c.in_ok-number.ensures.entries (sym c.in_ok-number.ensures.old ∙ c.in-None.is)).1
 
 pub returns-in_ok-push-in-None-2-clause-typed : goal.returns-in_ok-push-in-None-2-clause-typed
 returns-in_ok-push-in-None-2-clause-typed g c = λ t typed only right.
     let es = c.args.listed.now.objects.entries in
     let met = c.args.met.now in
     let x = typed_view c.args.object.now in
-    let last = last_is c.as_bytes.result c.args.object c.as_bytes.ensures.value es c.insert_full.new.self.entries c.in_ok-number.ensures.entries (sym c.in_ok-number.ensures.old ∙ c.in-None.is) in
+    let last = (put_last c.as_bytes.result c.args.object c.as_bytes.ensures.value es c.insert_full.new.self.entries c.in_ok-number.ensures.entries (sym c.in_ok-number.ensures.old ∙ c.in-None.is)).0 in
     record {
       spans = record {
         named = subst AreNamed (sym c.in_ok-number.ensures.entries) (named_inserted c.as_bytes.result c.args.object c.as_bytes.ensures.value es typed.spans.named);

@@ -18,10 +18,9 @@ term_fits-requires-clause-told g c = rw c.loop-i.invariant.kept c.requires.told
 pub term_fits-requires-clause-apart : goal.term_fits-requires-clause-apart
 term_fits-requires-clause-apart g c =
     let u = c.args.uses.now in
-    let slots = map typed_view c.args.slots.now in
     rw c.loop-i.invariant.kept
-    (slot_apart u.types u.slots.told (slice_get slots c.loop-i.i) c.copied.result
-    (slot_read u slots c.args.numbers.now c.loop-i.i c.get.result c.copied.result c.requires.slots c.get.ensures.lookup c.copied.ensures))
+    (slot_apart u.types u.slots.told _ c.copied.result
+    (slot_read u (map typed_view c.args.slots.now) c.args.numbers.now c.loop-i.i c.get.result c.copied.result c.requires.slots c.get.ensures.lookup c.copied.ensures))
 
 pub returns-in-None-clause-passes : goal.returns-in-None-clause-passes
 returns-in-None-clause-passes g c =
