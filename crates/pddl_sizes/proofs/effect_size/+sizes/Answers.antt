@@ -3,6 +3,7 @@ use Rattle.std.proofs.lemmas.List.{drop_all}
 use Rattle.pddl_sizes.proofs.Capped.{quantified}
 use denote.Param.Weighed.{most}
 use Rattle.pddl_effect.proofs.effect.Effect.TheLaws.{the_size}
+use Rattle.pddl_formula.proofs.Depths.{among}
 use Rattle.pddl_effect.proofs.Depths.{under_all}
 use Rattle.pddl_faults.proofs.ViewTurns.{effects-drop}
 use Rattle.pddl_effect.proofs.Views.{view_and, view_forall, view_when, view_add, view_del, view_increase}
@@ -40,3 +41,7 @@ effect_ground_sizes-returns g t c =
 pub effect_ground_size-effect_ground_sizes-requires : goal.effect_ground_size-effect_ground_sizes-requires
 effect_ground_size-effect_ground_sizes-requires g t c κs within =
     (omega (arith, under_all g.row.A g.A.Allocator g.A.laws c.args.effect.now c.in-And.parts c.in-And.is, ap (most (the_size g.row.A g.A.Allocator g.A.laws)) c.deref.ensures.value, c.decreases), within)
+
+pub effect_ground_sizes-effect_ground_size-requires : goal.effect_ground_sizes-effect_ground_size-requires
+effect_ground_sizes-effect_ground_size-requires g t c κs within =
+    (omega (arith, among (the_size g.row.A g.A.Allocator g.A.laws) c.args.effects.now c.loop-effect.effect-index c.effect-item.result c.loop-effect-test.true c.effect-item.is, c.decreases), within)
