@@ -1,12 +1,9 @@
-use Rattle.std.proofs.Common.{[], not, map, ap, sym, ◌∙◌, subst, refl}
+use Rattle.std.proofs.Common.{[], not, map, ap, sym, ◌∙◌, subst}
 use Rattle.std.specs.Prelude.{Contains}
 use Rattle.pddl_task.specs.Names.{is_in, repeated}
 use Rattle.pddl_search.proofs.SeenItems.{seen_at, seen_more, seen_bad, seen_good}
-use Rattle.pddl_names.proofs.SeenNames.{HasNames, has, names_more, was_seen}
+use Rattle.pddl_names.proofs.SeenNames.{HasNames, names_more, was_seen}
 use Rattle.pddl_names.proofs.repeats.repeat_among.Goals as goal
-
-pub loop-item-init : goal.loop-item-init
-loop-item-init g c = record { same = λ n. ap (λ ks. has ks n) c.requires; rest = refl }
 
 pub returns-then-not-is_new : goal.returns-then-not-is_new
 returns-then-not-is_new g c =

@@ -1,7 +1,6 @@
-use Rattle.std.proofs.Common.{◌≡◌, ◌<◌, ◌≤◌, ◌&&◌, length, map, refl, ap, sym, ◌∙◌, arith}
+use Rattle.std.proofs.Common.{◌≡◌, ◌<◌, ◌&&◌, length, map, refl, ap, sym, ◌∙◌, arith}
 use Rattle.std.specs.Prelude.{slice_get}
 use Rattle.std.specs.List.{flat_map}
-use Rattle.std.proofs.lemmas.List.{drop_all}
 use Rattle.pddl_formula.specs.TypedLists.{typed_view}
 use Rattle.pddl_task.specs.Faults.{typed_term, unknown_term, some_misfit}
 use Rattle.pddl_search.specs.Parts.{term_in, terms_in}
@@ -11,9 +10,6 @@ use Rattle.pddl_names.proofs.Slots.{unknown_here, known_here, fits_here}
 use Rattle.pddl_names.proofs.ToldUses.{slot_read, slot_apart}
 use Rattle.pddl_names.proofs.uses.terms_fit.Goals.{then-all_fit, else-all_fit}
 use Rattle.pddl_names.proofs.uses.terms_fit.Goals as goal
-
-pub term_fits-requires-clause-told : goal.term_fits-requires-clause-told
-term_fits-requires-clause-told g c = rw c.loop-i.invariant.kept c.requires.told
 
 pub term_fits-requires-clause-apart : goal.term_fits-requires-clause-apart
 term_fits-requires-clause-apart g c =
@@ -58,10 +54,3 @@ loop-i-preserved g c =
           fits_here s b all slots c.loop-i.i (term_in c.at-term.result) low c.at-term.ensures c.in_ok-term_fits.field-0 fit c.in-Some.fits c.loop-i.all_fit c.if-all_fit.all_fit (some_misfit s b all slots)
           c.loop-i.invariant.misfit c.in-Some.is next;
     }
-
-pub returns-clause-passes : goal.returns-clause-passes
-returns-clause-passes g c =
-    let u = c.args.uses.now in
-    let all = terms_in c.args.terms.now in
-    let past : length all ≤ c.loop-i.i = omega (arith, c.loop-i-test.false, c.len-i-end.ensures) in
-    sym c.loop-i.invariant.unknown ∙ ap (flat_map (unknown_term (setting_in u) (bound_of c.args.scope.now))) (drop_all c.loop-i.i all past)

@@ -1,4 +1,3 @@
-use Rattle.std.proofs.Common.{refl}
 use Rattle.pddl_formula.specs.Terms.{term_view}
 use Rattle.pddl_task.specs.Faults.{unknown_term}
 use Rattle.pddl_task.proofs.Lists.{append-none}
@@ -17,18 +16,6 @@ returns-in-Equates-clause-found g c =
     rw (c.in-Equates.is, ← c.self.view_is)
     (both_found xs ys c.lower.result
     (c.lower.ensures.found (numbered 26 xs) (numbered 26 ys) (passed_found 26 xs c.look_at_term-first.result c.look_at_term-first.ensures) (passed_found 26 ys c.look_at_term.result c.look_at_term.ensures)))
-
-pub returns-in-Says-clause-kept : goal.returns-in-Says-clause-kept
-returns-in-Says-clause-kept g c = rw c.look_at_predicate.ensures.kept (λ xs numbers are. are, refl)
-
-pub returns-in-Says-clause-found : goal.returns-in-Says-clause-found
-returns-in-Says-clause-found g c = rw c.in-Says.is c.look_at_predicate.ensures.found
-
-pub returns-in-Calls-clause-kept : goal.returns-in-Calls-clause-kept
-returns-in-Calls-clause-kept g c = rw c.look_at_function.ensures.kept (λ xs numbers are. are, refl)
-
-pub returns-in-Calls-clause-found : goal.returns-in-Calls-clause-found
-returns-in-Calls-clause-found g c = rw c.in-Calls.is c.look_at_function.ensures.found
 
 pub returns-in-Counts-clause-found : goal.returns-in-Counts-clause-found
 returns-in-Counts-clause-found g c = rw (c.in-Counts.is, append-none) (passed_found 30 _ c.look_at_amount.result c.look_at_amount.ensures)
