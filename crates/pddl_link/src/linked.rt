@@ -1,15 +1,13 @@
 //! Links a domain and a problem.
 
-ghost use Rattle.std.specs.Prelude.{◌≡◌, [], map, take, drop, IfOk, OnOk};
+ghost use Rattle.std.specs.Prelude.{◌≡◌, [], map, drop, IfOk, OnOk};
 ghost use Rattle.pddl_domain.specs.Domains.{domain_view};
 ghost use Rattle.pddl_problem.specs.Problems.{problem_view};
-ghost use Rattle.pddl_task.specs.Names.{firsts};
-ghost use Rattle.pddl_task.specs.Settings.{objects_of};
 ghost use Rattle.pddl_task.specs.Linked.{domain_fault, fault_in, faults, rules, NoneStands};
 ghost use Rattle.pddl_faults.specs.Passes.{Verdict};
 ghost use Rattle.pddl_search.specs.Claims.{HoldsValues};
-ghost use Rattle.pddl_types.specs.KnownNames.{object_in};
-ghost use Rattle.pddl_types.specs.TypeSpans.{IsEmpty, AreListed};
+ghost use Rattle.pddl_types.specs.TypeSpans.{IsEmpty};
+ghost use Rattle.pddl_names.specs.ObjectTables.{AreAllListed};
 ghost use Rattle.pddl_names.specs.FaultParts.{first_rules, name_rules, use_rules};
 ghost use Rattle.pddl_linked_task.specs.TaskTables.{HoldDeclared, HoldBehindTypes};
 ghost use Rattle.pddl_linked_task.specs.LinkedTasks.{files};
@@ -38,9 +36,7 @@ fn look_at_both<'m, 'a, A: Allocator, B: Allocator>(
 ) -> Result<(), LinkFault<'m>>
     requires types { types.now.declared ≡ (domain_view domain.now).types }
     requires no_objects { IsEmpty listed.old }
-    ensures objects { OnOk result (map object_in listed.new.objects.entries ≡ objects_of (domain_view domain.now) (problem_view problem.now)) }
-    ensures constants { OnOk result (take listed.new.constants (map object_in listed.new.objects.entries) ≡ firsts (domain_view domain.now).constants) }
-    ensures listed { OnOk result (AreListed types.now listed.new) }
+    ensures listed { OnOk result (AreAllListed (domain_view domain.now) (problem_view problem.now) types.now listed.new) }
     ensures verdict { Verdict (map (fault_in (domain_view domain.now) (problem_view problem.now)) name_rules) result }
 {
     let declared = look_at_domain(alloc, types, domain);
@@ -61,9 +57,7 @@ fn look_at_uses<'t, 'm, 'a, A: Allocator, B: Allocator>(
 ) -> Result<(), LinkFault<'m>>
     requires types { types.now.declared ≡ (domain_view domain.now).types }
     requires named { NoneStands (map (fault_in (domain_view domain.now) (problem_view problem.now)) name_rules) }
-    requires objects { map object_in listed.now.objects.entries ≡ objects_of (domain_view domain.now) (problem_view problem.now) }
-    requires constants { take listed.now.constants (map object_in listed.now.objects.entries) ≡ firsts (domain_view domain.now).constants }
-    requires listed { AreListed types.now listed.now }
+    requires listed { AreAllListed (domain_view domain.now) (problem_view problem.now) types.now listed.now }
     requires tables { HoldDeclared (domain_view domain.now) types.now listed.now tables.now }
     requires none { values.old.entries ≡ [] }
     ensures values { OnOk result (HoldsValues (problem_view problem.now).init values.new.entries) }
@@ -120,9 +114,7 @@ fn tables_behind<'m, 'a, A: Allocator, B: Allocator>(
 ) -> Result<Tables<'m, 'a, A, B>, LinkFault<'m>>
     requires types { types.now.declared ≡ (domain_view domain.now).types }
     requires named { NoneStands (map (fault_in (domain_view domain.now) (problem_view problem.now)) name_rules) }
-    requires objects { map object_in listed.now.objects.entries ≡ objects_of (domain_view domain.now) (problem_view problem.now) }
-    requires constants { take listed.now.constants (map object_in listed.now.objects.entries) ≡ firsts (domain_view domain.now).constants }
-    requires listed { AreListed types.now listed.now }
+    requires listed { AreAllListed (domain_view domain.now) (problem_view problem.now) types.now listed.now }
     requires none { values.old.entries ≡ [] }
     ensures tables { IfOk result (λ tables. HoldBehindTypes (domain_view domain.now) (problem_view problem.now) types.now listed.now tables values.new.entries) }
     ensures verdict { Verdict (map (fault_in (domain_view domain.now) (problem_view problem.now)) use_rules) result }

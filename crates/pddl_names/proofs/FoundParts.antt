@@ -40,3 +40,8 @@ pub first_kept : {U E : Type 0} (first second r : Result U E) (P : Type 0) → O
 first_kept first second (Err e) P h k = tt
 first_kept (Ok u) second (Ok v) P h k = k
 first_kept (Err d) second (Ok v) P h k = absurd (cc (h.0))
+
+-- what follows from two things that hold where nothing was found
+pub both_kept : {U E : Type 0} (r : Result U E) (P Q S : Type 0) → (P → Q → S) → OnOk r P → OnOk r Q → OnOk r S
+both_kept (Ok u) P Q S follows h k = follows h k
+both_kept (Err e) P Q S follows h k = tt

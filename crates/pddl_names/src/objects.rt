@@ -1,16 +1,15 @@
 //! Constants and objects with their types, each at its first place.
 
-ghost use Rattle.std.specs.Prelude.{◌≡◌, [], ◌++◌, List, IsTrue, false, true, map, take, IfOk, OnOk};
+ghost use Rattle.std.specs.Prelude.{◌≡◌, [], ◌++◌, List, IsTrue, false, true, map, IfOk, OnOk};
 ghost use Rattle.pddl_formula.specs.TypedLists.{TypedValue, typed_view};
 ghost use Rattle.pddl_domain.specs.Domains.{domain_view};
 ghost use Rattle.pddl_problem.specs.Problems.{problem_view};
 ghost use Rattle.pddl_task.specs.Names.{firsts};
-ghost use Rattle.pddl_task.specs.Settings.{objects_of};
 ghost use Rattle.pddl_task.specs.Faults.{has_other_type, retyped};
 ghost use Rattle.pddl_types.specs.KnownNames.{object_in};
 ghost use Rattle.pddl_types.specs.TypeSpans.{TypesValue, IsOnlySpan, IsEmpty, AreListed};
 ghost use Rattle.pddl_names.specs.MetTypes.{IsMetAt, AreMet};
-ghost use Rattle.pddl_names.specs.ObjectTables.{IsPut, AreFirsts, AreTyped};
+ghost use Rattle.pddl_names.specs.ObjectTables.{IsPut, AreFirsts, AreTyped, AreAllListed};
 ghost use Rattle.pddl_faults.specs.Passes.{Passes};
 
 use crate::met_types::{Group, MetTypes, let_go};
@@ -106,9 +105,7 @@ pub fn list_all<'m, 'a, A: Allocator, B: Allocator>(
 ) -> Result<(), LinkFault<'m>>
     requires { IsEmpty listed.old }
     ensures passes { Passes 24 (retyped [] (domain_view domain.now).constants ++ retyped (domain_view domain.now).constants (problem_view problem.now).objects) result }
-    ensures objects { OnOk result (map object_in listed.new.objects.entries ≡ objects_of (domain_view domain.now) (problem_view problem.now)) }
-    ensures constants { OnOk result (take listed.new.constants (map object_in listed.new.objects.entries) ≡ firsts (domain_view domain.now).constants) }
-    ensures spans { OnOk result (AreListed types.now listed.new) }
+    ensures listed { OnOk result (AreAllListed (domain_view domain.now) (problem_view problem.now) types.now listed.new) }
 {
     let mut met = MetTypes::new(alloc);
     let added = match add_objects(types, listed, &mut met, &domain.constants) {

@@ -20,7 +20,7 @@ look_at_domain_uses-used-requires g c =
     let d = domain_view c.args.domain.now in
     let listed = c.args.listed.now in
     c.known-inner.ensures
-    ∙ setting_by_tables d c.args.types.now c.args.tables.now.declared (take listed.constants (map object_in listed.objects.entries)) (firsts d.constants) c.requires.types c.requires.tables.declared c.requires.constants
+    ∙ setting_by_tables d c.args.types.now c.args.tables.now.declared (take listed.constants (map object_in listed.objects.entries)) (firsts d.constants) c.requires.types c.requires.tables.declared c.requires.listed.constants
 
 pub look_at_problem_uses-requires-clause-known : goal.look_at_problem_uses-requires-clause-known
 look_at_problem_uses-requires-clause-known g c =
@@ -28,7 +28,7 @@ look_at_problem_uses-requires-clause-known g c =
     let entries = c.args.listed.now.objects.entries in
     c.known-outer.ensures
     ∙ setting_by_tables d c.args.types.now c.args.tables.now.declared (take c.len.result (map object_in entries)) (objects_of d (problem_view c.args.problem.now)) c.requires.types c.requires.tables.declared
-    (take_all c.len.result (map object_in entries) (omega (arith, length-map entries object_in, c.len.ensures)) ∙ c.requires.objects)
+    (take_all c.len.result (map object_in entries) (omega (arith, length-map entries object_in, c.len.ensures)) ∙ c.requires.listed.objects)
 
 pub look_at_problem_uses-requires-clause-size : goal.look_at_problem_uses-requires-clause-size
 look_at_problem_uses-requires-clause-size g c = c.goal_size-size.ensures
@@ -63,18 +63,18 @@ known-outer-requires-clause-types g c =
 pub known-inner-requires-clause-single : goal.known-inner-requires-clause-single
 known-inner-requires-clause-single g c =
     let listed = c.args.listed.now in
-    single_objects (domain_view c.args.domain.now) (problem_view c.args.problem.now) c.args.types.now (map object_in listed.objects.entries) listed.spans.items c.requires.named c.requires.types c.requires.objects c.requires.listed.spans
+    single_objects (domain_view c.args.domain.now) (problem_view c.args.problem.now) c.args.types.now (map object_in listed.objects.entries) listed.spans.items c.requires.named c.requires.types c.requires.listed.objects c.requires.listed.spans.spans
 
 pub known-outer-requires-clause-single : goal.known-outer-requires-clause-single
 known-outer-requires-clause-single g c =
     let listed = c.args.listed.now in
-    single_objects (domain_view c.args.domain.now) (problem_view c.args.problem.now) c.args.types.now (map object_in listed.objects.entries) listed.spans.items c.requires.named c.requires.types c.requires.objects c.requires.listed.spans
+    single_objects (domain_view c.args.domain.now) (problem_view c.args.problem.now) c.args.types.now (map object_in listed.objects.entries) listed.spans.items c.requires.named c.requires.types c.requires.listed.objects c.requires.listed.spans.spans
 
 pub invariant_of-fitting : goal.invariant_of-fitting
 invariant_of-fitting g c =
     let listed = c.args.listed.now in
     record {
-      objects = c.requires.listed;
-      single = single_objects (domain_view c.args.domain.now) (problem_view c.args.problem.now) c.args.types.now (map object_in listed.objects.entries) listed.spans.items c.requires.named c.requires.types c.requires.objects c.requires.listed.spans;
+      objects = c.requires.listed.spans;
+      single = single_objects (domain_view c.args.domain.now) (problem_view c.args.problem.now) c.args.types.now (map object_in listed.objects.entries) listed.spans.items c.requires.named c.requires.types c.requires.listed.objects c.requires.listed.spans.spans;
       ordered = c.requires.tables.ordered;
     }

@@ -1,13 +1,15 @@
-use Rattle.std.proofs.Common.{◌≡◌, [], ◌++◌, map, take, length, refl, ap, sym, ◌∙◌}
+use Rattle.std.proofs.Common.{◌≡◌, [], ◌++◌, map, length, refl, ap, sym, ◌∙◌}
 use Rattle.std.specs.Prelude.{OnOk}
 use Rattle.std.proofs.lemmas.List.{length-map}
-use Rattle.std.proofs.lemmas.Result.{on_ok_weaker}
 use Rattle.pddl_formula.specs.TypedLists.{typed_view}
-use Rattle.pddl_task.specs.Names.{firsts}
+use Rattle.pddl_domain.specs.Domains.{domain_view}
+use Rattle.pddl_problem.specs.Problems.{problem_view}
 use Rattle.pddl_task.specs.Faults.{retyped}
 use Rattle.pddl_types.specs.KnownNames.{object_in}
 use Rattle.pddl_faults.specs.Passes.{Passes}
 use Rattle.pddl_faults.proofs.PassedParts.{pass_front, pass_back}
+use Rattle.pddl_names.specs.ObjectTables.{AreAllListed}
+use Rattle.pddl_names.proofs.FoundParts.{both_kept}
 use Rattle.pddl_names.proofs.ObjectTables.{none_listed, firsts_begin}
 use Rattle.pddl_names.proofs.objects.list_all.Goals.{in-Ok, in-Err}
 use Rattle.pddl_names.proofs.objects.list_all.Goals as goal
@@ -24,29 +26,24 @@ returns-clause-passes g c =
       | in-Err w ↦ rw w.added-is (pass_front 24 (retyped [] constants) (retyped constants objects) both w.in-Err.fault refl (w.in-Err.ensures.passes [] none))
     ]
 
-pub returns-clause-objects : goal.returns-clause-objects
-returns-clause-objects g c =
-    let constants = map typed_view c.args.domain.now.constants.items in
-    let objects = map typed_view c.args.problem.now.objects.items in
+pub returns-clause-listed : goal.returns-clause-listed
+returns-clause-listed g c =
+    let d = domain_view c.args.domain.now in
+    let p = problem_view c.args.problem.now in
+    let t = c.args.types.now in
     let none = none_listed (map object_in c.args.listed.now.objects.entries) (ap (map object_in) c.requires.0) in
-    elim c.match-add_objects.branch as (λ _. OnOk c.match-add_objects.added (map object_in c.match-add_objects.listed.objects.entries ≡ firsts (constants ++ objects))) [
-      | in-Ok w ↦ rw (w.added-is, w.listed-is) (on_ok_weaker w.add_objects-added.result (λ lists. (lists constants (w.in-Ok.ensures.lists [] none)).firsts_are) w.add_objects-added.ensures.lists)
-      | in-Err w ↦ rw w.added-is tt
-    ]
-
-pub returns-clause-constants : goal.returns-clause-constants
-returns-clause-constants g c =
-    let constants = map typed_view c.args.domain.now.constants.items in
-    let objects = map typed_view c.args.problem.now.objects.items in
-    let none = none_listed (map object_in c.args.listed.now.objects.entries) (ap (map object_in) c.requires.0) in
-    elim c.match-add_objects.branch as (λ _. OnOk c.match-add_objects.added (take c.match-add_objects.listed.constants (map object_in c.match-add_objects.listed.objects.entries) ≡ firsts constants)) [
+    elim c.match-add_objects.branch as (λ _. OnOk c.match-add_objects.added (AreAllListed d p t c.match-add_objects.listed)) [
       | in-Ok w ↦
           let entries = c.add_objects.new.listed.objects.entries in
-          let many : w.add_objects-added.new.listed.constants ≡ length (map object_in entries) = w.add_objects-added.ensures.constants ∙ w.len-listed.ensures.len ∙ sym (length-map entries object_in) in
+          let all = w.add_objects-added.new.listed in
+          let many : all.constants ≡ length (map object_in entries) = w.add_objects-added.ensures.constants ∙ w.len-listed.ensures.len ∙ sym (length-map entries object_in) in
           let listed = w.in-Ok.ensures.lists [] none in
           rw (w.added-is, w.listed-is)
-          (on_ok_weaker w.add_objects-added.result
-          (λ lists. firsts_begin constants objects (map object_in entries) (map object_in w.add_objects-added.new.listed.objects.entries) w.add_objects-added.new.listed.constants
-          listed.firsts_are many (lists constants listed).firsts_are) w.add_objects-added.ensures.lists)
+          (both_kept w.add_objects-added.result _ _ (AreAllListed d p t all)
+          (λ lists typed. record {
+            objects = (lists d.constants listed).firsts_are;
+            constants = firsts_begin d.constants p.objects (map object_in entries) (map object_in all.objects.entries) all.constants listed.firsts_are many (lists d.constants listed).firsts_are;
+            spans = typed.spans;
+          }) w.add_objects-added.ensures.lists w.add_objects-added.ensures.typed)
       | in-Err w ↦ rw w.added-is tt
     ]
