@@ -441,6 +441,15 @@ file
 | link: fault 31 CostValue total-cost
 refused problem
 
+row values 11
+copy lamps
+file
+copy two
+change (= (price b) 4) => (= (price a) 5) (= (total-cost) 2)
+file
+| link: fault 31 CostValue price
+refused problem
+
 row metrics 1
 copy lamps
 file
