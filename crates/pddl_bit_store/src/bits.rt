@@ -7,14 +7,12 @@ ghost use Rattle.pddl_mixed_rows.specs.MixedRows.{is_set, IsOrderly};
 ghost use Rattle.pddl_bit_store.specs.Numbering.{number_of, IsWithin, numbered_content, IsLeastCommon};
 
 use indexmap::IndexSet;
+use pddl_hash::Hashed;
 use pddl_mixed_rows::{
     Row, clear_places, copied, has_place, next_shared_place, put_place, put_places, share_no_place,
 };
 use pddl_state::{Atom, AtomStore};
 use std::alloc::{AllocError, Allocator};
-use std::hash::{BuildHasherDefault, FoldHasher};
-
-type Fixed = BuildHasherDefault<FoldHasher>;
 
 /// A store of rows of bits. A table numbers each atom when it is first inserted into some set, and a set is a row of bits
 /// by these numbers: a rising list of them, or all words of the row where these are no longer.
@@ -24,7 +22,7 @@ type Fixed = BuildHasherDefault<FoldHasher>;
 /// of few atoms costs nothing of a large table.
 #[derive(Drop)]
 pub struct BitStore<A: Allocator> {
-    atoms: IndexSet<Atom<A>, Fixed, A>,
+    atoms: IndexSet<Atom<A>, Hashed, A>,
     alloc: A,
     ghost distinct: { IsDistinct atom_eq atoms.keys } by { Prim.hlevel props },
 }
@@ -56,8 +54,13 @@ fn lesser<A: Allocator>(table: &[Atom<A>], best: Option<usize>, place: usize) ->
 impl<A: Allocator + Copy> BitStore<A> {
     /// A store without atoms, which grows by `alloc`. Takes no memory.
     pub fn new(alloc: A) -> BitStore<A> {
+        BitStore::hashing(alloc, Hashed::of(b""))
+    }
+
+    /// Such a store, whose table of atoms hashes so.
+    pub fn hashing(alloc: A, hashed: Hashed) -> BitStore<A> {
         BitStore {
-            atoms: IndexSet::new(alloc),
+            atoms: IndexSet::with_hasher(alloc, hashed),
             alloc,
         }
     }

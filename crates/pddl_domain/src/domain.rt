@@ -3,6 +3,7 @@
 use crate::declared_types::DeclaredTypes;
 use pddl_effect::Effect;
 use pddl_formula::{Formula, Predicate, TypeNames, TypedList};
+use pddl_hash::Hashed;
 use pddl_token::Name;
 use std::alloc::Allocator;
 
@@ -41,6 +42,8 @@ pub struct Domain<A: Allocator> {
     pub predicates: Vec<DeclaredPredicate<A>, A>,
     pub functions: Vec<DeclaredFunction<A>, A>,
     pub actions: Vec<Action<A>, A>,
+    /// How tables of its names hash: by a digest of the text that it was read from. It is no part of what the domain says.
+    pub hashed: Hashed,
 }
 
 /// Lets a domain go. A crate in which one ends proves how it is taken apart, with each type in it; crates that call this do not.

@@ -16,6 +16,7 @@ use crate::section_reader::add_sections;
 use pddl_domain::{DeclaredTypes, Domain};
 use pddl_file::FileFault;
 use pddl_formula::TypedList;
+use pddl_hash::Hashed;
 use pddl_items::Item;
 use pddl_scan::LONGEST;
 use pddl_sections::open_file;
@@ -24,7 +25,7 @@ use pddl_token::Name;
 use std::alloc::Allocator;
 
 /// The domain of this name that has nothing.
-fn empty_domain<'a, B: Allocator>(alloc: &'a B, name: Name<&'a B>) -> Domain<&'a B>
+fn empty_domain<'a, B: Allocator>(alloc: &'a B, hashed: Hashed, name: Name<&'a B>) -> Domain<&'a B>
     ensures { domain_view result ≡ domain_of name.entry [] }
 {
     Domain {
@@ -35,19 +36,21 @@ fn empty_domain<'a, B: Allocator>(alloc: &'a B, name: Name<&'a B>) -> Domain<&'a
         predicates: Vec::new(alloc),
         functions: Vec::new(alloc),
         actions: Vec::new(alloc),
+        hashed,
     }
 }
 
 /// The domain of this name whose sections some items are.
 fn domain_of<'a, B: Allocator>(
     alloc: &'a B,
+    hashed: Hashed,
     name: Name<&'a B>,
     sections: &[Item<'_, &'a B>],
 ) -> Result<Domain<&'a B>, FileFault>
     ensures domain { IfOk result (λ domain. AddsParts (items_view sections.now) (domain_of name.entry []) (domain_view domain)) }
     ensures refused { IfErr result (λ fault. RefusesSections fault (domain_verdict (items_view sections.now))) }
 {
-    let mut domain = empty_domain(alloc, name);
+    let mut domain = empty_domain(alloc, hashed, name);
     let added = add_sections(alloc, &mut domain, sections);
     added.and(Ok(domain))
 }
@@ -55,6 +58,7 @@ fn domain_of<'a, B: Allocator>(
 /// The domain that some items are.
 fn domain_at<'a, B: Allocator>(
     alloc: &'a B,
+    hashed: Hashed,
     items: &[Item<'_, &'a B>],
 ) -> Result<Domain<&'a B>, FileFault>
     ensures domain { IfOk result (λ domain. AnswersDomain (domain_view domain) (items_view items.now)) }
@@ -64,7 +68,7 @@ fn domain_at<'a, B: Allocator>(
         Ok(opening) => opening,
         Err(span) => return Err(FileFault::Head { span }),
     };
-    domain_of(alloc, opening.name, opening.sections)
+    domain_of(alloc, hashed, opening.name, opening.sections)
 }
 
 /// The domain that a text spells: `(define (domain NAME) section*)`, with sections of requirements, types, constants,
@@ -89,7 +93,7 @@ pub fn read_domain<'a, B: Allocator>(alloc: &'a B, text: &[u8]) -> Result<Domain
     ensures fault { IfErr result (λ fault. DomainStands fault text.now) }
 {
     let items = items_of(alloc, text)?;
-    domain_at(alloc, &items)
+    domain_at(alloc, Hashed::of(text), &items)
 }
 
 /// At most one domain spells a text.

@@ -5,9 +5,7 @@
 #![tactic(auto)]
 
 mod fault;
-mod hashed;
 mod lowest;
 
 pub use fault::LinkFault;
-pub use hashed::Hashed;
 pub use lowest::lower;

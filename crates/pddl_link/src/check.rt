@@ -61,7 +61,7 @@ fn check_by_types<'m, 'a, A: Allocator, B: Allocator>(
     requires { types.now.declared ≡ (domain_view domain.now).types }
     ensures { Verdict (map (domain_fault (domain_view domain.now)) (drop 3 rules)) result }
 {
-    let mut constants = Listed::new(alloc);
+    let mut constants = Listed::new(alloc, types.hashed());
     let checked = match look_at_names(alloc, types, &mut constants, domain) {
         Ok(()) => look_at_uses(alloc, types, &constants, domain),
         Err(fault) => Err(fault),
@@ -84,7 +84,7 @@ pub fn check_domain<'d, 'a, A: Allocator, B: Allocator>(
     ensures { Verdict (domain_faults (domain_view domain.now)) result }
 {
     type_twice(alloc, domain)?;
-    let types = Types::of(alloc, &domain.types)?;
+    let types = Types::of(alloc, domain.hashed, &domain.types)?;
     let checked = check_by_types(alloc, &types, domain);
     drop(types);
     checked

@@ -163,7 +163,8 @@ fn types_of<'m, 'a, A: Allocator, B: Allocator>(
     ensures verdict { Verdict (map (fault_in (domain_view domain.now) (problem_view problem.now)) first_rules) result }
 {
     lower(domain_name(domain, problem), type_twice(alloc, domain))?;
-    Types::of(alloc, &domain.types)
+    let hashed = domain.hashed.with(problem.hashed);
+    Types::of(alloc, hashed, &domain.types)
 }
 
 /// Links a domain and a problem: the task that they make.
@@ -182,8 +183,8 @@ pub fn link<'m, 'a, A: Allocator, B: Allocator>(
     ensures verdict { Verdict (faults (domain_view domain.now) (problem_view problem.now)) result }
 {
     let types = types_of(alloc, domain, problem)?;
-    let mut listed = Listed::new(alloc);
-    let mut values: Values<'m, 'a, A, B> = IndexMap::new(alloc);
+    let mut listed = Listed::new(alloc, types.hashed());
+    let mut values: Values<'m, 'a, A, B> = IndexMap::with_hasher(alloc, types.hashed());
     match tables_behind_types(alloc, &types, &mut listed, &mut values, domain, problem) {
         Ok(tables) => Ok(Task::of(domain, problem, types, listed, tables, values)),
         Err(fault) => {

@@ -1,11 +1,9 @@
 -- Predicates and functions have each a name of their own, where nothing is declared twice.
 use Rattle.std.proofs.Common.{◌≡◌, [], ◌++◌, map}
 use Rattle.pddl_domain.specs.Domains.{DomainValue}
-use Rattle.pddl_problem.specs.Problems.{ProblemValue}
 use Rattle.pddl_task.specs.Names.{repeated}
 use Rattle.pddl_task.specs.Settings.{symbol_of, function_signatures}
-use Rattle.pddl_task.specs.Faults.{retyped, repeated_in_actions, domain_repeats, problem_repeats}
-use Rattle.pddl_task.specs.Linked.{IsLinked}
+use Rattle.pddl_task.specs.Faults.{retyped, repeated_in_actions, domain_repeats}
 use Rattle.pddl_task.proofs.Lists.{nil_parts}
 
 -- where nothing stands twice in a domain, no predicate and no function does
@@ -17,7 +15,3 @@ no_repeats d none =
     let all = nil_parts (constants ++ predicates ++ functions) (repeated_in_actions [] d.actions) none in
     let named = nil_parts (constants ++ predicates) functions all.0 in
     ((nil_parts constants predicates named.0).1, named.1)
-
--- so in linked files
-pub functions_once : (d : DomainValue) (p : ProblemValue) → IsLinked d p → repeated [] (map symbol_of (function_signatures d)) ≡ []
-functions_once d p linked = (no_repeats d (nil_parts (domain_repeats d) (problem_repeats d p) linked.1.1.1.1.0).0).1

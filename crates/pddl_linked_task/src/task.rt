@@ -10,18 +10,19 @@ ghost use Rattle.pddl_problem.specs.Problems.{problem_view};
 ghost use Rattle.pddl_task.specs.Types.{pairs, fits, is_subtype};
 ghost use Rattle.pddl_task.specs.GroundSize.{capped, formula_size, action_size};
 ghost use Rattle.pddl_task.specs.Linked.{IsLinked};
-ghost use Rattle.pddl_task.specs.Tasks.{task_count, predicate_names, object_names, fitting_numbers, cost_of};
+ghost use Rattle.pddl_task.specs.Tasks.{task_count, predicate_names, function_names, object_names, fitting_numbers, cost_of};
 ghost use Rattle.pddl_types.specs.KnownNames.{object_in};
 ghost use Rattle.pddl_linked_task.specs.LinkedTasks.{files, task_of_files};
 ghost use Rattle.pddl_linked_task.specs.TaskTables.{AreTablesOf};
 
 use pddl_domain::{Action, Domain};
 use pddl_formula::{Formula, TypeNames};
+use pddl_hash::Hashed;
 use pddl_problem::Problem;
 use pddl_search::{Ground, Values};
 use pddl_sizes::{ObjectOrder, action_ground_size, ground_size};
 use pddl_token::Name;
-use pddl_types::{Declared, Fitting, FunctionNumbers, Listed, SlotTops, Types};
+use pddl_types::{Declared, Fitting, Listed, SlotTops, Types};
 use std::alloc::{AllocError, Allocator};
 use std::marker::Model;
 
@@ -35,7 +36,7 @@ pub struct Tables<'m, 'a, A: Allocator, B: Allocator> {
 
 /// What a domain and a problem that link say together.
 ///
-/// Its objects, constants first, and its predicates, as declared, are numbered from 0. It refers to the two files, and copies
+/// Its objects, constants first, and its predicates and functions, as declared, are numbered from 0. It refers to the two files, and copies
 /// nothing of them.
 #[derive(Drop)]
 pub struct Task<'m, 'a, A: Allocator, B: Allocator> {
@@ -111,6 +112,11 @@ impl<'m, 'a, A: Allocator, B: Allocator> Task<'m, 'a, A, B> {
         let _ = &self.domain;
     }
 
+    /// How tables of what the task says hash.
+    pub fn hashed(&self) -> Hashed {
+        self.types.hashed()
+    }
+
     /// The action of a number, in the domain's order.
     pub fn action(&self, number: usize) -> &'m Action<A>
         requires { number < length (task_of_files self.now).actions }
@@ -142,17 +148,11 @@ impl<'m, 'a, A: Allocator, B: Allocator> Task<'m, 'a, A, B> {
         self.tables.declared.predicates.len()
     }
 
-    /// Its functions by name, in a table that is made anew.
-    ///
-    /// Fails where memory for the table is refused.
-    pub fn functions<'c, C: Allocator>(
-        &self,
-        alloc: &'c C,
-    ) -> Result<FunctionNumbers<'m, 'c, A, C>, AllocError>
-        ensures { IfOk result (λ functions. functions ≡ (task_of_files self.now).functions) }
+    /// How many functions there are.
+    pub fn function_count(&self) -> usize
+        ensures { result ≡ length (task_of_files self.now).functions }
     {
-        let domain = self.domain;
-        FunctionNumbers::of(alloc, &domain.functions)
+        self.tables.declared.functions.len()
     }
 
     /// Whether a type is a subtype of another, or that type itself; a name that is no type of the task is neither.
@@ -263,6 +263,13 @@ impl<'m, 'a, A: Allocator, B: Allocator> Task<'m, 'a, A, B> {
         ensures { result ≡ position (bytes_eq name.now) (predicate_names (task_of_files self.now)) }
     {
         self.tables.declared.predicates.get_index_of(name)
+    }
+
+    /// The number of the function of a name, or `None` where there is none.
+    pub fn function_number(&self, name: &[u8]) -> Option<usize>
+        ensures { result ≡ position (bytes_eq name.now) (function_names (task_of_files self.now)) }
+    {
+        self.tables.declared.functions.get_index_of(name)
     }
 }
 

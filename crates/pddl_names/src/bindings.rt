@@ -3,6 +3,7 @@
 use crate::repeats::name_twice;
 use pddl_faults::{LinkFault, lower};
 use pddl_formula::TypedList;
+use pddl_hash::Hashed;
 use pddl_search::{Part, Scope, Search};
 use pddl_types::Types;
 use std::alloc::{AllocError, Allocator};
@@ -21,6 +22,10 @@ impl<'t, 'm, 'a, A: Allocator, B: Allocator> Search<A, B> for Bindings<'t, 'm, '
 
     ghost found = { λ search place. binding_faults search.types.now.declared place };
 
+    fn hashed(&self) -> Hashed {
+        self.types.hashed()
+    }
+
     /// Types have no numbers here, since none is asked for.
     fn numbers<'c>(
         &mut self,
@@ -34,7 +39,10 @@ impl<'t, 'm, 'a, A: Allocator, B: Allocator> Search<A, B> for Bindings<'t, 'm, '
         match part {
             Part::Binds(variables) => {
                 let types = self.types.known(*variables);
-                lower(types, name_twice(self.alloc, *variables))
+                lower(
+                    types,
+                    name_twice(self.alloc, self.types.hashed(), *variables),
+                )
             }
             Part::Says(_, _) => Ok(()),
             Part::Calls(_, _) => Ok(()),

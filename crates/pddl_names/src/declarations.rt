@@ -15,7 +15,8 @@ use crate::bindings::Bindings;
 use crate::repeats::{name_twice, once};
 use indexmap::IndexSet;
 use pddl_domain::{Action, Domain};
-use pddl_faults::{Hashed, LinkFault, lower};
+use pddl_faults::{LinkFault, lower};
+use pddl_hash::Hashed;
 use pddl_problem::Problem;
 use pddl_search::{object_types, search_action, search_problem};
 use pddl_types::{Declares, Types};
@@ -75,7 +76,7 @@ fn look_at_actions<'m, 'a, A: Allocator, B: Allocator>(
 ) -> Result<(), LinkFault<'m>>
     ensures { IsFound (action_faults types.now.declared [] (map action_view actions.now)) result }
 {
-    let mut seen = IndexSet::new(alloc);
+    let mut seen = IndexSet::with_hasher(alloc, types.hashed());
     look_at_each(alloc, types, &mut seen, actions)
 }
 
@@ -88,8 +89,8 @@ pub fn look_at_domain<'m, 'a, A: Allocator, B: Allocator>(
     ensures { IsFound (joined (domain_parts types.now.declared (domain_view domain.now))) result }
 {
     let used = look_at_types(types, domain);
-    let predicates = name_twice(alloc, &domain.predicates);
-    let functions = name_twice(alloc, &domain.functions);
+    let predicates = name_twice(alloc, types.hashed(), &domain.predicates);
+    let functions = name_twice(alloc, types.hashed(), &domain.functions);
     let actions = look_at_actions(alloc, types, &domain.actions);
     let single = object_types(&domain.constants);
     lower(

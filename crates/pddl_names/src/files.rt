@@ -53,7 +53,7 @@ pub fn look_at_problem_uses<'k, 'm, 'a, A: Allocator, B: Allocator>(
 {
     let mut uses = Uses::of(alloc, known);
     let used = search_problem(alloc, &mut uses, problem);
-    let claimed = contradictions(alloc, &problem.init);
+    let claimed = contradictions(alloc, known.types.hashed(), &problem.init);
     let metric = metric(&problem.metric);
     let told = cost_values(values, &problem.init);
     lower(used, lower(claimed, lower(metric, lower(size, told))))

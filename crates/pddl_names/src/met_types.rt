@@ -5,9 +5,9 @@ ghost use Rattle.pddl_formula.specs.TypedLists.{TypedValue, typed_view};
 ghost use Rattle.pddl_names.specs.MetTypes.{IsMetAt, AreMet, IsGroupOf};
 
 use indexmap::IndexSet;
-use pddl_faults::Hashed;
 use pddl_forest::Span;
 use pddl_formula::{TypeNames, TypedList};
+use pddl_hash::Hashed;
 use pddl_types::Types;
 use std::alloc::{AllocError, Allocator};
 
@@ -28,11 +28,11 @@ pub(crate) struct Group {
 
 impl<'m, 'a, A: Allocator, B: Allocator> MetTypes<'m, 'a, A, B> {
     /// No types, and no objects.
-    pub(crate) fn new(alloc: &'a B) -> MetTypes<'m, 'a, A, B>
+    pub(crate) fn new(alloc: &'a B, hashed: Hashed) -> MetTypes<'m, 'a, A, B>
         ensures { AreMet [] result }
     {
         MetTypes {
-            types: IndexSet::new(alloc),
+            types: IndexSet::with_hasher(alloc, hashed),
             of_objects: Vec::new(alloc),
         }
     }

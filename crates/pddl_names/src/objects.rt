@@ -89,7 +89,7 @@ pub fn list_constants<'m, 'a, A: Allocator, B: Allocator>(
     ensures constants { OnOk result (map object_in listed.new.objects.entries ≡ firsts (domain_view domain.now).constants) }
     ensures spans { OnOk result (AreListed types.now listed.new) }
 {
-    let mut met = MetTypes::new(alloc);
+    let mut met = MetTypes::new(alloc, types.hashed());
     let added = add_objects(types, listed, &mut met, &domain.constants);
     let_go(met);
     added
@@ -107,7 +107,7 @@ pub fn list_all<'m, 'a, A: Allocator, B: Allocator>(
     ensures passes { Passes 24 (retyped [] (domain_view domain.now).constants ++ retyped (domain_view domain.now).constants (problem_view problem.now).objects) result }
     ensures listed { OnOk result (AreAllListed (domain_view domain.now) (problem_view problem.now) types.now listed.new) }
 {
-    let mut met = MetTypes::new(alloc);
+    let mut met = MetTypes::new(alloc, types.hashed());
     let added = match add_objects(types, listed, &mut met, &domain.constants) {
         Ok(()) => {
             listed.constants = listed.objects.len();

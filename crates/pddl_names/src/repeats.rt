@@ -8,8 +8,9 @@ ghost use Rattle.pddl_faults.specs.Passes.{Passes};
 
 use indexmap::IndexSet;
 use pddl_domain::{DeclaredFunction, DeclaredPredicate, DeclaredType, Domain};
-use pddl_faults::{Hashed, LinkFault};
+use pddl_faults::LinkFault;
 use pddl_formula::Typed;
+use pddl_hash::Hashed;
 use std::alloc::{AllocError, Allocator};
 
 /// What has a name.
@@ -76,11 +77,12 @@ fn repeat_among<'d, 'a, N: Named, B: Allocator>(
 /// The first of these names that stands before it too.
 fn first_repeat<'d, 'a, N: Named, B: Allocator>(
     alloc: &'a B,
+    hashed: Hashed,
     items: &'d [N],
 ) -> Result<Option<&'d [u8]>, AllocError>
     ensures { IfOk result (λ found. MatchOption found (repeated [] (map N.name items.now) ≡ []) (λ word. Contains (repeated [] (map N.name items.now)) word.now)) }
 {
-    let mut seen = IndexSet::new(alloc);
+    let mut seen = IndexSet::with_hasher(alloc, hashed);
     repeat_among(&mut seen, items)
 }
 
@@ -91,7 +93,7 @@ pub fn type_twice<'d, 'a, A: Allocator, B: Allocator>(
 ) -> Result<(), LinkFault<'d>>
     ensures { Passes 21 (types_twice (domain_view domain.now)) result }
 {
-    match first_repeat(alloc, &domain.types)? {
+    match first_repeat(alloc, domain.hashed, &domain.types)? {
         Some(name) => Err(LinkFault::TypeTwice(name)),
         None => Ok(()),
     }
@@ -100,11 +102,12 @@ pub fn type_twice<'d, 'a, A: Allocator, B: Allocator>(
 /// No name of these stands twice.
 pub fn name_twice<'d, 'a, N: Named, B: Allocator>(
     alloc: &'a B,
+    hashed: Hashed,
     items: &'d [N],
 ) -> Result<(), LinkFault<'d>>
     ensures { Passes 24 (repeated [] (map N.name items.now)) result }
 {
-    match first_repeat(alloc, items)? {
+    match first_repeat(alloc, hashed, items)? {
         Some(name) => Err(LinkFault::NameTwice(name)),
         None => Ok(()),
     }

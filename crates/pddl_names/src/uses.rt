@@ -21,8 +21,9 @@ ghost use Rattle.pddl_types.specs.ToldTops.{AreToldAt};
 ghost use Rattle.pddl_names.specs.Uses.{setting_in, AreSlots, IsSlotAt, TellsFit, fit_of, faults_of_use, faults_of_terms};
 
 use indexmap::IndexMap;
-use pddl_faults::{Hashed, LinkFault, lower};
+use pddl_faults::{LinkFault, lower};
 use pddl_formula::{Term, Typed, TypedList};
+use pddl_hash::Hashed;
 use pddl_search::{LentTerm, Part, Scope, Search, Terms, bound_number};
 use pddl_token::Fixed;
 use pddl_types::{Known, Signatures, ToldTops};
@@ -68,7 +69,7 @@ impl<'k, 't, 'm, 'a, A: Allocator, B: Allocator> Uses<'k, 't, 'm, 'a, A, B> {
         Uses {
             known,
             told: ToldTops::new(alloc),
-            fitting: IndexMap::new(alloc),
+            fitting: IndexMap::with_hasher(alloc, known.types.hashed()),
         }
     }
 
@@ -304,6 +305,10 @@ impl<'k, 't, 'm, 'a, A: Allocator, B: Allocator> Search<A, B> for Uses<'k, 't, '
     ghost are_numbers = { λ uses items numbers. AreToldAt uses.types uses.told items numbers };
 
     ghost found = { λ uses place. use_faults (setting_in uses) place };
+
+    fn hashed(&self) -> Hashed {
+        self.known.types.hashed()
+    }
 
     fn numbers<'c>(
         &mut self,

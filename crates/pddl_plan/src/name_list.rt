@@ -6,6 +6,7 @@ ghost use Rattle.pddl_token.specs.Names.{folded, name_of, is_name};
 ghost use Rattle.pddl_plan.specs.Cuts.{last_end, Rises, start_of};
 ghost use Rattle.pddl_plan.specs.NameLists.{AddsName};
 
+use pddl_hash::Hashed;
 use pddl_token::is_name;
 use std::alloc::{AllocError, Allocator};
 use std::marker::Model;
@@ -84,6 +85,11 @@ impl<'a, B: Allocator> NameList<&'a B> {
 }
 
 impl<A: Allocator> NameList<A> {
+    /// How tables of what the names stand for hash: by a digest of their bytes.
+    pub(crate) fn hashed(&self) -> Hashed {
+        Hashed::of(&self.text)
+    }
+
     /// How many names there are.
     pub fn len(&self) -> usize
         ensures value { result ≡ length self.now }

@@ -5,6 +5,7 @@ ghost use Rattle.pddl_plan.specs.Plans.{is_plan, plan_view, steps_of, moment_at}
 
 use crate::plan_builder::PlanBuilder;
 use crate::step::Step;
+use pddl_hash::Hashed;
 use pddl_token::Fixed;
 use std::alloc::Allocator;
 
@@ -41,5 +42,10 @@ impl<A: Allocator> Plan<A> {
     {
         let _built = self.parts.len();
         self.parts.moment(number)
+    }
+
+    /// How tables of what its steps speak of hash: by a digest of their names.
+    pub fn hashed(&self) -> Hashed {
+        self.parts.hashed()
     }
 }

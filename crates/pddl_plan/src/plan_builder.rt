@@ -9,6 +9,7 @@ ghost use Rattle.pddl_plan.specs.Plans.{step_of_names, built_plan, plan_view};
 use crate::name_list::{NameList, part_of, start_of};
 use crate::plan::Plan;
 use crate::step::Step;
+use pddl_hash::Hashed;
 use pddl_token::{Fixed, Name};
 use std::alloc::{AllocError, Allocator};
 use std::marker::Model;
@@ -73,6 +74,11 @@ impl<A: Allocator> PlanBuilder<A> {
         ensures { result ≡ slice_get self.now.moments number }
     {
         self.moments.get(number).copied()
+    }
+
+    /// How tables of what its steps speak of hash.
+    pub(crate) fn hashed(&self) -> Hashed {
+        self.names.hashed()
     }
 
     /// Adds the name that a word spells, in any case of its letters, to the step that is not ended, and answers whether it

@@ -125,7 +125,8 @@ fn judged_in<'r, 'm, 'a, A: Allocator, B: Allocator, C: Allocator, D: Allocator>
 {
     match link_plan(alloc, task, plan) {
         Ok(steps) => {
-            let answer = judged_steps(alloc, task, &steps, BitStore::new(alloc), wanted);
+            let store = BitStore::hashing(alloc, task.hashed().with(plan.hashed()));
+            let answer = judged_steps(alloc, task, &steps, store, wanted);
             drop(steps);
             answer
         }

@@ -118,11 +118,11 @@ module _ {A : Type 0} (task : TaskValue) (es : List (Entry A)) (s : StepValue) (
                 step_is_large more = size_first task s a named arity known (sym misfit ∙ fit) (found_large held.size _ found.size_is more)
 
                 -- some increase has no cost, or all have one
-                module _ (less : held.size ≤ 1000000) (d : DomainValue) (p : ProblemValue) (linked : IsLinked d p) (files : task_of d p ≡ task) (seen : TaskValue) (price : AtomValue → Option ℕ)
-                    (same_task : seen ≡ task) (priced : (g : AtomValue) → price g ≡ price_at task g) (handed : List ℕ) (costless : Bool) (all_handed : handed ≡ numbers)
-                    (asked : costless ≡ some_cost (effect_of seen a) (is_unpriced price) (reverse handed)) where
+                module _ (less : held.size ≤ 1000000) (d : DomainValue) (p : ProblemValue) (linked : IsLinked d p) (files : task_of d p ≡ task) (price : AtomValue → Option ℕ)
+                    (priced : (g : AtomValue) → price g ≡ price_at task g) (handed : List ℕ) (costless : Bool) (all_handed : handed ≡ numbers)
+                    (asked : costless ≡ some_cost (effect_of task a) (is_unpriced price) (reverse handed)) where
                   of_step : costless ≡ some_costless task s a
-                  of_step = costless_found d p task linked files seen price same_task priced a s handed costless (sym first ∙ same ∙ sym parameters_are) (no_other (object_names task) s.objects known)
+                  of_step = costless_found d p task linked files price priced a s handed costless (sym first ∙ same ∙ sym parameters_are) (no_other (object_names task) s.objects known)
                       (all_handed ∙ numbers_are) asked
 
                   pub cost_is_undefined : costless ≡ true → IsFirst (step_faults task s) 44

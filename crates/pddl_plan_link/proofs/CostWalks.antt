@@ -66,12 +66,11 @@ costless_right d p linked a s as_many known =
     ∙ ap (λ q. some_increase (fitting_names task) a.effect q (giving a.parameters s.objects [])) (λ i g. not (is_some (price_is_cost d p linked g i)))
 
 -- a step has one where this was found of a change of its action, in the numbers of its objects
-pub costless_found : (d : DomainValue) (p : ProblemValue) (task : TaskValue) → IsLinked d p → task_of d p ≡ task → (told : TaskValue) (price : AtomValue → Option ℕ) → told ≡ task → ((g : AtomValue) → price g ≡ price_at task g)
+pub costless_found : (d : DomainValue) (p : ProblemValue) (task : TaskValue) → IsLinked d p → task_of d p ≡ task → (price : AtomValue → Option ℕ) → ((g : AtomValue) → price g ≡ price_at task g)
     → (a : ActionValue) (s : StepValue) (numbers : List ℕ) (costless : Bool) → length s.objects ≡ length a.parameters → list_all (is_in (object_names task)) s.objects ≡ true
-    → numbers ≡ map (number_in (object_names task)) s.objects → costless ≡ some_cost (effect_of told a) (is_unpriced price) (reverse numbers) → costless ≡ some_costless task s a
-costless_found d p task linked files told price same priced a s numbers costless as_many known own found =
-    found ∙ ap (λ t. some_cost (effect_of t a) (is_unpriced price) (reverse numbers)) same
-    ∙ ap (λ q. some_cost (effect_of task a) (is_unpriced q) (reverse numbers)) (λ i g. priced g i)
+    → numbers ≡ map (number_in (object_names task)) s.objects → costless ≡ some_cost (effect_of task a) (is_unpriced price) (reverse numbers) → costless ≡ some_costless task s a
+costless_found d p task linked files price priced a s numbers costless as_many known own found =
+    found ∙ ap (λ q. some_cost (effect_of task a) (is_unpriced q) (reverse numbers)) (λ i g. priced g i)
     ∙ ap (λ ns. some_cost (effect_of task a) (is_unpriced (price_at task)) (reverse ns)) own ∙ by_name known
   where
     by_name : list_all (is_in (object_names task)) s.objects ≡ true

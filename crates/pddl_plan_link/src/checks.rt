@@ -74,12 +74,12 @@ fn lacks_cost<'t, 'm, 'a, 'c, A: Allocator, B: Allocator, C: Allocator>(
     changes: &mut Changes<'c, C>,
     call: &mut Atom<&'c C>,
 ) -> Result<bool, AllocError>
-    requires action { slice_get (task_of_files tables.now.lookups).actions number ≡ Some (action_view action.now) }
-    requires changes { AreChangesOf (task_of_files tables.now.lookups) changes.old.items }
-    ensures answer { IfOk result (λ yes. yes ≡ some_cost (effect_of (task_of_files tables.now.lookups) (action_view action.now)) (is_unpriced (price_in tables.now.prices)) (reverse numbers.now)) }
-    ensures changes { OnOk result (AreChangesOf (task_of_files tables.now.lookups) changes.new.items) }
+    requires action { slice_get (task_of_files tables.now.task.now).actions number ≡ Some (action_view action.now) }
+    requires changes { AreChangesOf (task_of_files tables.now.task.now) changes.old.items }
+    ensures answer { IfOk result (λ yes. yes ≡ some_cost (effect_of (task_of_files tables.now.task.now) (action_view action.now)) (is_unpriced (price_in tables.now.prices)) (reverse numbers.now)) }
+    ensures changes { OnOk result (AreChangesOf (task_of_files tables.now.task.now) changes.new.items) }
 {
-    make_change(tables.alloc, &tables.lookups, number, action, changes)?;
+    make_change(tables.alloc, tables.task, number, action, changes)?;
     match &changes[number] {
         Some(change) => some_costless(&tables.prices, change, &Frame::Step(numbers), call),
         None => Ok(false),

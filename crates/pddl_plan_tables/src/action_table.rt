@@ -11,7 +11,7 @@ ghost use Rattle.pddl_plan_tables.specs.StepTables.{named_action, named_in};
 
 use indexmap::IndexMap;
 use pddl_domain::Action;
-use pddl_faults::Hashed;
+use pddl_hash::Hashed;
 use pddl_linked_task::Task;
 use std::alloc::{AllocError, Allocator};
 
@@ -50,7 +50,7 @@ pub fn actions_by_name<'m, 'a, 'c, A: Allocator, B: Allocator, C: Allocator>(
     requires { repeated [] (map action_name (map action_view actions.now)) ≡ [] }
     ensures { IfOk result (λ table. map named_in table.entries ≡ map (named_action (task_count (task_of_files task.now))) (map action_view actions.now)) }
 {
-    let mut table = IndexMap::with_capacity(alloc, actions.len())?;
+    let mut table = IndexMap::with_capacity_and_hasher(alloc, actions.len(), task.hashed())?;
     for action in actions {
         table.insert(action.name.as_bytes(), sized_action(task, action))?;
     }

@@ -11,6 +11,7 @@ ghost use Rattle.pddl_plan_tables.specs.ActionChanges.{effect_of, AreChangesOf, 
 use pddl_compiled::{Change, Scope, compile_change, parameter_slots};
 use pddl_domain::Action;
 use pddl_effect::{Amount, Effect};
+use pddl_linked_task::Task;
 use pddl_tables::TaskLookups;
 use std::alloc::{AllocError, Allocator};
 
@@ -56,30 +57,30 @@ fn some_has_function<A: Allocator>(effects: &Vec<Effect<A>, A>) -> bool
 /// The change of an action's effect.
 ///
 /// Fails where memory for it is refused.
-fn effect_of<'t, 'm, 'a, 'c, A: Allocator, B: Allocator, C: Allocator>(
+fn effect_of<'m, 'a, 'c, A: Allocator, B: Allocator, C: Allocator>(
     alloc: &'c C,
-    lookups: &TaskLookups<'t, 'm, 'a, 'c, A, B, C>,
+    task: &Task<'m, 'a, A, B>,
     action: &Action<A>,
 ) -> Result<Change<&'c C>, AllocError>
-    ensures { IfOk result (λ change. change_view change ≡ effect_of (task_of_files lookups.now) (action_view action.now)) }
+    ensures { IfOk result (λ change. change_view change ≡ effect_of (task_of_files task.now) (action_view action.now)) }
 {
     let slots = parameter_slots(alloc, &action.parameters)?;
     let scope = Scope::Inside(&slots, &Scope::Empty);
-    compile_change(alloc, lookups, &action.effect, &scope)
+    compile_change(alloc, &TaskLookups::of(task), &action.effect, &scope)
 }
 
 /// A change with the costs of an action's effect. An effect without a function term in an increase has none, and is not compiled.
 ///
 /// Fails where memory for it is refused.
-fn costs_of<'t, 'm, 'a, 'c, A: Allocator, B: Allocator, C: Allocator>(
+fn costs_of<'m, 'a, 'c, A: Allocator, B: Allocator, C: Allocator>(
     alloc: &'c C,
-    lookups: &TaskLookups<'t, 'm, 'a, 'c, A, B, C>,
+    task: &Task<'m, 'a, A, B>,
     action: &Action<A>,
 ) -> Result<Change<&'c C>, AllocError>
-    ensures { IfOk result (λ change. HasSameCosts (change_view change) (effect_of (task_of_files lookups.now) (action_view action.now))) }
+    ensures { IfOk result (λ change. HasSameCosts (change_view change) (effect_of (task_of_files task.now) (action_view action.now))) }
 {
     if has_function(&action.effect) {
-        effect_of(alloc, lookups, action)
+        effect_of(alloc, task, action)
     } else {
         Ok(Change::And(Vec::new(alloc)))
     }
@@ -104,20 +105,20 @@ pub fn no_changes<'c, C: Allocator>(
 /// Makes the change with the costs of the action of a number, where it was not made.
 ///
 /// Fails where memory for it is refused.
-pub fn make_change<'t, 'm, 'a, 'c, A: Allocator, B: Allocator, C: Allocator>(
+pub fn make_change<'m, 'a, 'c, A: Allocator, B: Allocator, C: Allocator>(
     alloc: &'c C,
-    lookups: &TaskLookups<'t, 'm, 'a, 'c, A, B, C>,
+    task: &Task<'m, 'a, A, B>,
     number: usize,
     action: &Action<A>,
     changes: &mut Changes<'c, C>,
 ) -> Result<(), AllocError>
-    requires action { slice_get (task_of_files lookups.now).actions number ≡ Some (action_view action.now) }
-    requires changes { AreChangesOf (task_of_files lookups.now) changes.old.items }
-    ensures changes { OnOk result (AreChangesOf (task_of_files lookups.now) changes.new.items) }
+    requires action { slice_get (task_of_files task.now).actions number ≡ Some (action_view action.now) }
+    requires changes { AreChangesOf (task_of_files task.now) changes.old.items }
+    ensures changes { OnOk result (AreChangesOf (task_of_files task.now) changes.new.items) }
     ensures made { OnOk result (HasChange changes.new.items number) }
 {
     if changes[number].is_none() {
-        changes[number] = Some(costs_of(alloc, lookups, action)?);
+        changes[number] = Some(costs_of(alloc, task, action)?);
     }
     Ok(())
 }

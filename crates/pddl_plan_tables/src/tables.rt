@@ -1,37 +1,21 @@
 //! What a plan's steps are looked up in.
 
 ghost use Rattle.std.specs.Prelude.{◌≡◌, IfOk};
-ghost use Rattle.pddl_linked_task.specs.LinkedTasks.{task_of_files};
-ghost use Rattle.pddl_plan_tables.specs.PlanTables.{AreCostTables, ArePlanTables};
+ghost use Rattle.pddl_plan_tables.specs.PlanTables.{ArePlanTables};
 
 use crate::action_table::{Actions, actions_by_name};
 use pddl_build::both_made;
 use pddl_linked_task::Task;
-use pddl_tables::{TaskLookups, TaskPrices, task_lookups, task_prices};
+use pddl_tables::{TaskPrices, task_prices};
 use std::alloc::{AllocError, Allocator};
 
-/// A task with its actions by name, its functions by name, and its costs by numbers.
+/// A task with its actions by name, and its costs by numbers.
 #[derive(Drop)]
 pub struct PlanTables<'t, 'm, 'a, 'c, A: Allocator, B: Allocator, C: Allocator> {
     pub alloc: &'c C,
     pub task: &'t Task<'m, 'a, A, B>,
     pub actions: Actions<'m, 'c, A, C>,
-    pub lookups: TaskLookups<'t, 'm, 'a, 'c, A, B, C>,
     pub prices: TaskPrices<'c, C>,
-}
-
-/// What costs are looked up in.
-///
-/// Fails where memory for it is refused.
-fn cost_tables<'t, 'm, 'a, 'c, A: Allocator, B: Allocator, C: Allocator>(
-    alloc: &'c C,
-    task: &'t Task<'m, 'a, A, B>,
-) -> Result<(TaskLookups<'t, 'm, 'a, 'c, A, B, C>, TaskPrices<'c, C>), AllocError>
-    ensures { IfOk result (λ tables. AreCostTables (task_of_files task.now) tables.0 tables.1) }
-{
-    let lookups = task_lookups(alloc, task)?;
-    let prices = task_prices(alloc, &lookups);
-    both_made(Ok(lookups), prices)
 }
 
 /// A task with its tables.
@@ -46,13 +30,12 @@ pub fn plan_tables<'t, 'm, 'a, 'c, A: Allocator, B: Allocator, C: Allocator>(
 {
     let domain = task.domain();
     let actions = actions_by_name(alloc, task, &domain.actions);
-    let costs = cost_tables(alloc, task);
-    let (actions, (lookups, prices)) = both_made(actions, costs)?;
+    let prices = task_prices(alloc, task);
+    let (actions, prices) = both_made(actions, prices)?;
     Ok(PlanTables {
         alloc,
         task,
         actions,
-        lookups,
         prices,
     })
 }

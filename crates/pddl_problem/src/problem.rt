@@ -1,6 +1,7 @@
 //! Problems and what they say.
 
 use pddl_formula::{Formula, Predicate, TypedList};
+use pddl_hash::Hashed;
 use pddl_token::{Fixed, Name};
 use std::alloc::Allocator;
 
@@ -52,6 +53,8 @@ pub struct Problem<A: Allocator> {
     pub init: Vec<InitItem<A>, A>,
     pub goal: Formula<A>,
     pub metric: Option<Metric<A>>,
+    /// How tables of its names hash: by a digest of the text that it was read from. It is no part of what the problem says.
+    pub hashed: Hashed,
 }
 
 /// Lets a problem go. A crate in which one ends proves how it is taken apart, with each type in it; crates that call this do not.

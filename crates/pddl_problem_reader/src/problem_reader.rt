@@ -17,6 +17,7 @@ use crate::section::Slots;
 use crate::section_reader::sections_of;
 use pddl_file::FileFault;
 use pddl_formula::TypedList;
+use pddl_hash::Hashed;
 use pddl_items::Item;
 use pddl_problem::Problem;
 use pddl_scan::LONGEST;
@@ -51,6 +52,7 @@ fn objects_or_none<'a, B: Allocator>(
 /// The problem of this name that the sections make up, none of which is missing.
 fn problem_by<'a, B: Allocator>(
     alloc: &'a B,
+    hashed: Hashed,
     name: Name<&'a B>,
     slots: Slots<&'a B>,
 ) -> Problem<&'a B>
@@ -65,12 +67,14 @@ fn problem_by<'a, B: Allocator>(
         init: slots.init.unwrap(),
         goal: slots.goal.unwrap(),
         metric: slots.metric,
+        hashed,
     }
 }
 
 /// The problem that some items are.
 fn problem_of<'a, B: Allocator>(
     alloc: &'a B,
+    hashed: Hashed,
     items: &[Item<'_, &'a B>],
 ) -> Result<Problem<&'a B>, FileFault>
     ensures problem { IfOk result (λ problem. AreProblem (problem_view problem) (items_view items.now)) }
@@ -81,7 +85,7 @@ fn problem_of<'a, B: Allocator>(
         Err(span) => return Err(FileFault::Head { span }),
     };
     let slots = sections_of(alloc, opening.sections)?;
-    Ok(problem_by(alloc, opening.name, slots))
+    Ok(problem_by(alloc, hashed, opening.name, slots))
 }
 
 /// The problem that a text spells: one list `(define (problem NAME) section*)`, letter case aside (Kovacs, BNF definition of
@@ -110,7 +114,7 @@ pub fn read_problem<'a, B: Allocator>(
     ensures fault { IfErr result (λ fault. ProblemStands fault text.now) }
 {
     let items = items_of(alloc, text)?;
-    problem_of(alloc, &items)
+    problem_of(alloc, Hashed::of(text), &items)
 }
 
 /// At most one problem spells a text.

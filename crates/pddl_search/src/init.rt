@@ -10,7 +10,8 @@ ghost use Rattle.pddl_search.specs.Claims.{claim_in, wrong_in, fault_number, is_
 
 use crate::ground::Ground;
 use indexmap::IndexMap;
-use pddl_faults::{Hashed, LinkFault};
+use pddl_faults::LinkFault;
+use pddl_hash::Hashed;
 use pddl_problem::InitItem;
 use std::alloc::Allocator;
 
@@ -92,6 +93,7 @@ fn is_failure<A: Allocator>(item: &InitItem<A>) -> bool
 /// No atom holds and fails. Where no atom fails, nothing is looked up.
 pub fn contradictions<'d, 'a, A: Allocator, B: Allocator>(
     alloc: &'a B,
+    hashed: Hashed,
     init: &'d [InitItem<A>],
 ) -> Result<(), LinkFault<'d>>
     ensures { Passes 29 (clashing contradicts [] (map init_view init.now)) result }
@@ -99,7 +101,7 @@ pub fn contradictions<'d, 'a, A: Allocator, B: Allocator>(
     if !init.iter().any(is_failure) {
         return Ok(());
     }
-    let mut said = IndexMap::new(alloc);
+    let mut said = IndexMap::with_hasher(alloc, hashed);
     claims_agree(&mut said, init, Claimed::Literals)
 }
 

@@ -12,6 +12,7 @@ use crate::part::Part;
 use crate::variables::Variables;
 use pddl_faults::LinkFault;
 use pddl_formula::TypedList;
+use pddl_hash::Hashed;
 use std::alloc::{AllocError, Allocator};
 
 /// The variables in scope, a list for each quantifier, the innermost first.
@@ -46,6 +47,9 @@ pub trait Search<A: Allocator, B: Allocator> {
     ghost are_numbers: { Self → List TypedValue → List ℕ → Type 0 };
 
     ghost found: { Self → Place → List (ℕ × List ℕ) };
+
+    /// How tables of variables hash.
+    fn hashed(&self) -> Hashed;
 
     /// Numbers of the types of a list's items. Those that were given before stay.
     ///

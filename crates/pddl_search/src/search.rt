@@ -64,7 +64,7 @@ fn bound_by<'d, 'a, A: Allocator, B: Allocator, S: Search<A, B>>(
     ensures bound { IfOk result (λ bound. (bound.list ≡ map typed_view list.now.items) × S.are_numbers search.new bound.list bound.numbers) }
 {
     let numbers = search.numbers(alloc, list)?;
-    Variables::of(alloc, list, numbers)
+    Variables::of(alloc, search.hashed(), list, numbers)
 }
 
 /// Searches a formula.

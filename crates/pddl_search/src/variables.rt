@@ -8,8 +8,8 @@ ghost use Rattle.pddl_task.specs.Places.{binding};
 ghost use Rattle.pddl_search.specs.Bound.{IsBound, AreLastPlaces};
 
 use indexmap::IndexMap;
-use pddl_faults::Hashed;
 use pddl_formula::{Typed, TypedList};
+use pddl_hash::Hashed;
 use std::alloc::{AllocError, Allocator};
 use std::marker::Model;
 
@@ -43,11 +43,12 @@ impl<'d, 'a, A: Allocator, B: Allocator> Model for Variables<'d, 'a, A, B> {
 /// Fails where memory for it is refused.
 fn last_places<'d, 'a, A: Allocator, B: Allocator>(
     alloc: &'a B,
+    hashed: Hashed,
     list: &'d [Typed<A>],
 ) -> Result<LastPlaces<'d, 'a, B>, AllocError>
     ensures { IfOk result (λ table. AreLastPlaces (map typed_view list.now) (map typed_view list.now) table.entries) }
 {
-    let mut table = IndexMap::with_capacity(alloc, list.len())?;
+    let mut table = IndexMap::with_capacity_and_hasher(alloc, list.len(), hashed)?;
     for place in 0..list.len() {
         let variable = &list[place];
         table.insert(variable.name.as_bytes(), place)?;
@@ -60,6 +61,7 @@ fn last_places<'d, 'a, A: Allocator, B: Allocator>(
 /// Fails where memory for it is refused.
 fn table_of<'d, 'a, A: Allocator, B: Allocator>(
     alloc: &'a B,
+    hashed: Hashed,
     list: &'d [Typed<A>],
 ) -> Result<Option<LastPlaces<'d, 'a, B>>, AllocError>
     ensures { IfOk result (λ found. IfSome found (λ table. AreLastPlaces (map typed_view list.now) (map typed_view list.now) table.entries)) }
@@ -67,7 +69,7 @@ fn table_of<'d, 'a, A: Allocator, B: Allocator>(
     if list.len() < 16 {
         return Ok(None);
     }
-    match last_places(alloc, list) {
+    match last_places(alloc, hashed, list) {
         Ok(table) => Ok(Some(table)),
         Err(error) => Err(error),
     }
@@ -92,13 +94,14 @@ impl<'d, 'a, A: Allocator, B: Allocator> Variables<'d, 'a, A, B> {
     /// Fails where memory for a table is refused.
     pub fn of(
         alloc: &'a B,
+        hashed: Hashed,
         list: &'d TypedList<A>,
         numbers: Vec<usize, &'a B>,
     ) -> Result<Variables<'d, 'a, A, B>, AllocError>
         ensures { IfOk result (λ variables. variables ≡ record { list = map typed_view list.now.items; numbers = numbers.entry.items }) }
     {
         let list = list.as_slice();
-        match table_of(alloc, list) {
+        match table_of(alloc, hashed, list) {
             Ok(table) => Ok(Variables {
                 list,
                 numbers,

@@ -19,7 +19,7 @@ use pddl_compiled_plan::{CompiledPlan, UsedActions};
 use pddl_formula::Formula;
 use pddl_linked_plan::Steps;
 use pddl_linked_task::Task;
-use pddl_tables::{TaskLookups, task_lookups, task_prices};
+use pddl_tables::{TaskLookups, task_prices};
 use std::alloc::{AllocError, Allocator};
 
 /// A formula without variables in scope, by numbers.
@@ -65,32 +65,6 @@ where
     all_made(actions, goal, prices)
 }
 
-/// The plan of steps that are linked to a task, by what is looked up in the task.
-///
-/// Fails where memory for its parts is refused.
-fn compile_by<'t, 'm, 'a, 's, 'b, 'c, A, B, C, D>(
-    alloc: &'c D,
-    lookups: &TaskLookups<'t, 'm, 'a, 'c, A, B, D>,
-    task: &Task<'m, 'a, A, B>,
-    steps: &'s Steps<'b, C>,
-) -> Result<CompiledPlan<'s, 'b, 'c, C, D>, AllocError>
-where
-    A: Allocator,
-    B: Allocator,
-    C: Allocator,
-    D: Allocator,
-    requires lookups { task_of_files lookups.now ≡ task_of_files task.now }
-    requires files { IsLinked task.now.domain task.now.problem }
-    requires linked { AreLinkedSteps (task_of_files task.now) steps.now }
-    ensures steps { IfOk result (λ plan. plan_steps plan ≡ steps.now) }
-    ensures course { IfOk result (λ plan. plan_course plan ≡ numbered_steps (task_of_files task.now) steps.now) }
-    ensures goal { IfOk result (λ plan. plan_goal plan ≡ numbered_goal (task_of_files task.now)) }
-{
-    let prices = task_prices(alloc, lookups);
-    let (actions, goal, prices) = compile_parts(alloc, lookups, task, steps, prices)?;
-    Ok(CompiledPlan::of(alloc, steps, actions, goal, prices))
-}
-
 /// The plan of steps that are linked to a task, ready to be executed. It keeps nothing of the task.
 ///
 /// An action is compiled once, however many steps use it, and one that no step uses is left out. Fails only where memory for the
@@ -112,10 +86,10 @@ where
     ensures goal { IfOk result (λ plan. plan_goal plan ≡ numbered_goal (task_of_files task.now)) }
 {
     task.files_are_linked();
-    let lookups = task_lookups(alloc, task)?;
-    let compiled = compile_by(alloc, &lookups, task, steps);
-    drop(lookups);
-    compiled
+    let lookups = TaskLookups::of(task);
+    let prices = task_prices(alloc, task);
+    let (actions, goal, prices) = compile_parts(alloc, &lookups, task, steps, prices)?;
+    Ok(CompiledPlan::of(alloc, steps, actions, goal, prices))
 }
 
 /// Lets a plan go. A crate in which one ends proves how it is taken apart, with each type in it; crates that call this do not.

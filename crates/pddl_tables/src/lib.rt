@@ -1,6 +1,6 @@
 //! A linked task's names, ranges and prices by numbers.
 //!
-//! `task_lookups` answers what formulas and effects of a task are compiled by, and `task_prices` what functions of objects cost. In
+//! `TaskLookups` are what formulas and effects of a task are compiled by, and `task_prices` answers what functions of objects cost. In
 //! linked files both speak of what formulas and effects mean by names. Predicates and functions are numbered in the domain's order,
 //! objects in the task's, constants first.
 #![tactic(auto)]
@@ -8,9 +8,7 @@
 mod lookups;
 mod price_laws;
 mod prices;
-mod task;
 
 pub use lookups::TaskLookups;
 pub use price_laws::{prices_are_costs, tables_are_over};
 pub use prices::{TaskPrices, task_prices};
-pub use task::task_lookups;

@@ -1,61 +1,42 @@
 //! A task as formulas and effects are compiled by.
 
-ghost use Rattle.std.specs.Prelude.{◌≡◌, map};
-ghost use Rattle.std.specs.List.{filter_map};
-ghost use Rattle.pddl_problem.specs.Inits.{init_view};
-ghost use Rattle.pddl_task.specs.Tasks.{cost_in};
-ghost use Rattle.pddl_linked_task.specs.LinkedTasks.{task_of_files};
+ghost use Rattle.std.specs.Prelude.{◌≡◌};
 
 use pddl_compiled::Lookups;
 use pddl_formula::TypeNames;
 use pddl_linked_task::Task;
-use pddl_problem::Problem;
-use pddl_types::FunctionNumbers;
 use std::alloc::{AllocError, Allocator};
 use std::marker::Model;
 
-/// A task with its functions by name: what formulas and effects are compiled by.
+/// A task as what formulas and effects are compiled by.
 #[derive(Drop)]
-pub struct TaskLookups<'t, 'm, 'a, 'c, A: Allocator, B: Allocator, C: Allocator> {
-    pub(crate) task: &'t Task<'m, 'a, A, B>,
-    pub(crate) functions: FunctionNumbers<'m, 'c, A, C>,
+pub struct TaskLookups<'t, 'm, 'a, A: Allocator, B: Allocator> {
+    task: &'t Task<'m, 'a, A, B>,
 }
 
-impl<'t, 'm, 'a, 'c, A: Allocator, B: Allocator, C: Allocator> Model
-    for TaskLookups<'t, 'm, 'a, 'c, A, B, C> {
-    ghost use Rattle.std.specs.Prelude.{◌≡◌};
+impl<'t, 'm, 'a, A: Allocator, B: Allocator> Model for TaskLookups<'t, 'm, 'a, A, B> {
     ghost use Rattle.std.specs.Coded.{codes};
     ghost use Rattle.pddl_linked_task.specs.Codes.{formula_code, effect_code};
-    ghost use Rattle.pddl_linked_task.specs.LinkedTasks.{Files, task_of_files};
+    ghost use Rattle.pddl_linked_task.specs.LinkedTasks.{Files};
 
     ghost Value = { Files };
 
     ghost coded = { Prim.hlevel (codes, formula_code, effect_code) };
 
     ghost view = { λ l. l.task.now };
-
-    ghost invariant = { λ l. l.functions ≡ (task_of_files l.task.now).functions };
 }
 
-impl<'t, 'm, 'a, 'c, A: Allocator, B: Allocator, C: Allocator> TaskLookups<
-    't,
-    'm,
-    'a,
-    'c,
-    A,
-    B,
-    C,
-> {
-    /// The problem that it is of.
-    pub(crate) fn problem(&self) -> &'m Problem<A>
-        ensures { filter_map cost_in (map init_view result.now.init.items) ≡ (task_of_files self.now).costs }
+impl<'t, 'm, 'a, A: Allocator, B: Allocator> TaskLookups<'t, 'm, 'a, A, B> {
+    /// What formulas and effects of a task are compiled by.
+    pub fn of(task: &'t Task<'m, 'a, A, B>) -> TaskLookups<'t, 'm, 'a, A, B>
+        ensures { result ≡ task.now }
     {
-        self.task.problem()
+        TaskLookups { task }
     }
 }
 
-impl<'t, 'm, 'a, 'c, A: Allocator, B: Allocator, C: Allocator, D: Allocator> Lookups<A, D>
-    for TaskLookups<'t, 'm, 'a, 'c, A, B, C> {
+impl<'t, 'm, 'a, A: Allocator, B: Allocator, D: Allocator> Lookups<A, D>
+    for TaskLookups<'t, 'm, 'a, A, B> {
     ghost use Rattle.pddl_compiled.specs.TaskTables.{tables_of};
     ghost use Rattle.pddl_linked_task.specs.LinkedTasks.{task_of_files};
 
@@ -67,8 +48,8 @@ impl<'t, 'm, 'a, 'c, A: Allocator, B: Allocator, C: Allocator, D: Allocator> Loo
     }
 
     fn function_number(&self, name: &[u8]) -> usize {
-        let found = self.functions.number(name);
-        found.unwrap_or(self.functions.len())
+        let found = self.task.function_number(name);
+        found.unwrap_or(self.task.function_count())
     }
 
     fn object_number(&self, name: &[u8]) -> usize {

@@ -16,7 +16,8 @@ use crate::lookups::TaskLookups;
 use indexmap::IndexMap;
 use pddl_compiled::Lookups;
 use pddl_evaluation::Prices;
-use pddl_faults::Hashed;
+use pddl_hash::Hashed;
+use pddl_linked_task::Task;
 use pddl_problem::{GroundFunction, InitItem};
 use pddl_state::Atom;
 use pddl_token::Name;
@@ -98,7 +99,7 @@ fn numbered<'c, A: Allocator, C: Allocator, L: Lookups<A, C>>(
 /// Fails where memory for it is refused.
 fn add_price<'t, 'm, 'a, 'c, A: Allocator, B: Allocator, C: Allocator>(
     alloc: &'c C,
-    lookups: &TaskLookups<'t, 'm, 'a, 'c, A, B, C>,
+    lookups: &TaskLookups<'t, 'm, 'a, A, B>,
     item: &InitItem<A>,
     prices: &mut Costs<'c, C>,
 ) -> Result<(), AllocError>
@@ -120,7 +121,7 @@ fn add_price<'t, 'm, 'a, 'c, A: Allocator, B: Allocator, C: Allocator>(
 /// Fails where memory for them is refused.
 fn add_prices<'t, 'm, 'a, 'c, A: Allocator, B: Allocator, C: Allocator>(
     alloc: &'c C,
-    lookups: &TaskLookups<'t, 'm, 'a, 'c, A, B, C>,
+    lookups: &TaskLookups<'t, 'm, 'a, A, B>,
     init: &[InitItem<A>],
     prices: &mut Costs<'c, C>,
 ) -> Result<(), AllocError>
@@ -139,14 +140,14 @@ fn add_prices<'t, 'm, 'a, 'c, A: Allocator, B: Allocator, C: Allocator>(
 /// The costs of functions of objects by numbers.
 ///
 /// Fails where memory for the table is refused.
-pub fn task_prices<'t, 'm, 'a, 'c, A: Allocator, B: Allocator, C: Allocator>(
+pub fn task_prices<'m, 'a, 'c, A: Allocator, B: Allocator, C: Allocator>(
     alloc: &'c C,
-    lookups: &TaskLookups<'t, 'm, 'a, 'c, A, B, C>,
+    task: &Task<'m, 'a, A, B>,
 ) -> Result<TaskPrices<'c, C>, AllocError>
-    ensures { IfOk result (λ prices. (call : AtomValue) → price_in prices call ≡ price_at (task_of_files lookups.now) call) }
+    ensures { IfOk result (λ prices. (call : AtomValue) → price_in prices call ≡ price_at (task_of_files task.now) call) }
 {
-    let problem = lookups.problem();
-    let mut prices = IndexMap::new(alloc);
-    let made = add_prices(alloc, lookups, &problem.init, &mut prices);
+    let problem = task.problem();
+    let mut prices = IndexMap::with_hasher(alloc, task.hashed());
+    let made = add_prices(alloc, &TaskLookups::of(task), &problem.init, &mut prices);
     made.and(Ok(TaskPrices { prices }))
 }

@@ -7,8 +7,8 @@ ghost use Rattle.pddl_types.specs.TypeTables.{parents_in, IsTypeTable, cycle_in}
 
 use indexmap::IndexMap;
 use pddl_domain::DeclaredType;
-use pddl_faults::Hashed;
 use pddl_forest::{is_on_round, round_numbers};
+use pddl_hash::Hashed;
 use std::alloc::{AllocError, Allocator};
 
 /// The first declared type through whose place a way goes round, where one goes round.

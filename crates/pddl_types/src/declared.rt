@@ -56,8 +56,8 @@ impl<'m, 'a, A: Allocator, B: Allocator> Declared<'m, 'a, A, B> {
         ensures { IfOk result (AreDeclared types.now (domain_view domain.now)) }
     {
         let slots = slots_of(alloc, types, domain);
-        let predicates = signatures(alloc, &domain.predicates);
-        let functions = signatures(alloc, &domain.functions);
+        let predicates = signatures(alloc, types.hashed(), &domain.predicates);
+        let functions = signatures(alloc, types.hashed(), &domain.functions);
         let (slots, (predicates, functions)) = both_made(slots, both_made(predicates, functions))?;
         Ok(Declared {
             predicates,

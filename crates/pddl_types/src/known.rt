@@ -12,8 +12,8 @@ use crate::listed::Listed;
 use crate::slot_tops::SlotTops;
 use crate::types::Types;
 use indexmap::IndexMap;
-use pddl_faults::Hashed;
 use pddl_formula::Typed;
+use pddl_hash::Hashed;
 use std::alloc::{AllocError, Allocator};
 
 /// Predicates or functions by name, each with its parameters.
@@ -38,14 +38,15 @@ pub struct Known<'t, 'm, 'a, A: Allocator, B: Allocator> {
 /// What is declared by its name, each name once.
 ///
 /// Fails where memory for the table is refused.
-pub fn signatures<'m, 'a, A: Allocator, B: Allocator, D: Declares<A>>(
+pub(crate) fn signatures<'m, 'a, A: Allocator, B: Allocator, D: Declares<A>>(
     alloc: &'a B,
+    hashed: Hashed,
     declared: &'m [D],
 ) -> Result<Signatures<'m, 'a, A, B>, AllocError>
     requires { repeated [] (map symbol_of (map D.signature declared.now)) ≡ [] }
     ensures { IfOk result (λ table. map signature_in table.entries ≡ map D.signature declared.now) }
 {
-    let mut table = IndexMap::with_capacity(alloc, declared.len())?;
+    let mut table = IndexMap::with_capacity_and_hasher(alloc, declared.len(), hashed)?;
     for each in declared {
         table.insert(each.name(), each.parameters().as_slice())?;
     }

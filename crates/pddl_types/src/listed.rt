@@ -10,9 +10,9 @@ ghost use Rattle.pddl_types.specs.TypeSpans.{TypesValue, IsTold, IsToldOf, AreSi
 
 use crate::types::Types;
 use indexmap::IndexMap;
-use pddl_faults::Hashed;
 use pddl_forest::Span;
 use pddl_formula::{TypeNames, Typed};
+use pddl_hash::Hashed;
 use std::alloc::Allocator;
 use std::slice::from_ref;
 
@@ -29,11 +29,11 @@ pub struct Listed<'m, 'a, A: Allocator, B: Allocator> {
 
 impl<'m, 'a, A: Allocator, B: Allocator> Listed<'m, 'a, A, B> {
     /// No objects.
-    pub fn new(alloc: &'a B) -> Listed<'m, 'a, A, B>
+    pub fn new(alloc: &'a B, hashed: Hashed) -> Listed<'m, 'a, A, B>
         ensures { IsEmpty result }
     {
         Listed {
-            objects: IndexMap::new(alloc),
+            objects: IndexMap::with_hasher(alloc, hashed),
             spans: Vec::new(alloc),
             constants: 0,
         }

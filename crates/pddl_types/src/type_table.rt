@@ -11,8 +11,9 @@ ghost use Rattle.pddl_types.specs.TypeTables.{parents_in, StandsAt, IsTableOf, I
 use crate::cycles::first_cycle;
 use indexmap::IndexMap;
 use pddl_domain::{DeclaredType, DeclaredTypes};
-use pddl_faults::{Hashed, LinkFault};
+use pddl_faults::LinkFault;
 use pddl_forest::{Span, forest_spans};
+use pddl_hash::Hashed;
 use std::alloc::{AllocError, Allocator};
 
 /// The place of a type in the table; it is put there under `object` where it does not stand yet.
@@ -59,12 +60,13 @@ fn put_types<'m, 'a, A: Allocator, B: Allocator>(
 /// Fails where memory for it is refused.
 pub(crate) fn parent_table<'m, 'a, A: Allocator, B: Allocator>(
     alloc: &'a B,
+    hashed: Hashed,
     declared: &'m DeclaredTypes<A>,
 ) -> Result<IndexMap<&'m [u8], usize, Hashed, &'a B>, AllocError>
     requires { repeated [] (map item_of (map type_view declared.now.items)) ≡ [] }
     ensures { IfOk result (λ parents. IsTypeTable (map type_view declared.now.items) parents.entries) }
 {
-    let mut parents = IndexMap::new(alloc);
+    let mut parents = IndexMap::with_hasher(alloc, hashed);
     put_types(&mut parents, declared).and(Ok(parents))
 }
 

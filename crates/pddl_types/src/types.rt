@@ -15,9 +15,10 @@ ghost use Rattle.pddl_types.specs.TypeSpans.{span_of, IsTold, DoTell, are_types,
 use crate::type_table::{parent_table, spans_of};
 use indexmap::IndexMap;
 use pddl_domain::{DeclaredType, DeclaredTypes};
-use pddl_faults::{Hashed, LinkFault};
+use pddl_faults::LinkFault;
 use pddl_forest::{Span, hold_all, keep_tops};
 use pddl_formula::{TypeNames, TypedList};
+use pddl_hash::Hashed;
 use std::alloc::{AllocError, Allocator};
 use std::marker::Model;
 
@@ -47,26 +48,32 @@ impl<'m, 'a, A: Allocator, B: Allocator> Model for Types<'m, 'a, A, B> {
 }
 
 impl<'m, 'a, A: Allocator, B: Allocator> Types<'m, 'a, A, B> {
-    /// The types that are declared, each once, or a fault where one is above itself: the first in their order that is.
+    /// The types that are declared, each once, or a fault where one is above itself: the first in their order that is. Tables of what files say of them hash so.
     ///
     /// # Errors
     ///
     /// `LinkFault::TypeCycle`; `Memory` where memory for the table is refused.
     pub fn of(
         alloc: &'a B,
+        hashed: Hashed,
         declared: &'m DeclaredTypes<A>,
     ) -> Result<Types<'m, 'a, A, B>, LinkFault<'m>>
         requires { repeated [] (map item_of (map type_view declared.now.items)) ≡ [] }
         ensures types { IfOk result (λ types. types.declared ≡ map type_view declared.now.items) }
         ensures cycle { Passes 22 (cycle_in (map type_view declared.now.items)) result }
     {
-        let parents = parent_table(alloc, declared)?;
+        let parents = parent_table(alloc, hashed, declared)?;
         let spans = spans_of(alloc, &parents, declared)?;
         Ok(Types {
             declared: declared.as_slice(),
             parents,
             spans,
         })
+    }
+
+    /// How tables of what the files say hash.
+    pub fn hashed(&self) -> Hashed {
+        *self.parents.hasher()
     }
 
     /// Whether a name is a type: `object`, a declared type, or one that stands as a parent.

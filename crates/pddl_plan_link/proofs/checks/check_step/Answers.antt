@@ -1,9 +1,6 @@
-use Rattle.std.proofs.Common.{refl, sym, ap, ◌∙◌, subst}
-use Rattle.std.specs.List.{slice_get}
-use Rattle.pddl_task.specs.Tasks.{TaskValue}
+use Rattle.std.proofs.Common.{refl}
 use Rattle.pddl_linked_task.specs.LinkedTasks.{task_of_files}
 use Rattle.pddl_tables.specs.Lookups.{price_in}
-use Rattle.pddl_plan_tables.specs.ActionChanges.{AreChangesOf}
 use Rattle.pddl_plan_link.proofs.CheckedSteps.{action_unknown, number_is, found_there, number_low, slots_are, arity_differs, object_unknown, numbers_are, type_differs, step_is_large, cost_is_undefined, step_is_good}
 use Rattle.pddl_plan_link.proofs.checks.check_step.Goals as goal
 
@@ -47,10 +44,9 @@ returns-then-found-gt1000000-clause-verdict g c = (
 pub lacks_cost-requires : goal.lacks_cost-requires
 lacks_cost-requires g c =
     record {
-      action = ap (λ (t : TaskValue). slice_get t.actions c.in-Some.number) c.requires.tables.lookups
-          ∙ found_there (task_of_files c.args.tables.now.task.now) c.args.tables.now.actions.entries c.args.step.now c.action.result.now c.requires.tables.actions c.action.ensures
+      action = found_there (task_of_files c.args.tables.now.task.now) c.args.tables.now.actions.entries c.args.step.now c.action.result.now c.requires.tables.actions c.action.ensures
           c.in-Some.number c.in-Some.field-0-1.now c.in-Some.found.now c.in-Some.ensures.index c.in-Some.ensures.entry;
-      changes = subst (λ t. AreChangesOf t c.args.changes.now.items) (sym c.requires.tables.lookups) c.requires.changes;
+      changes = c.requires.changes;
     }
 
 pub returns-then-branch-clause-verdict : goal.returns-then-branch-clause-verdict
@@ -61,8 +57,8 @@ returns-then-branch-clause-verdict g c =
           c.in-Some.number c.in-Some.field-0-1.now c.in-Some.found.now c.in-Some.ensures.index c.in-Some.ensures.entry c.arity.result c.len.result c.arity.ensures c.len.ensures c.if-arity-len.false
           c.args.step.now.objects c.in_ok-number_objects.field-0 refl c.in_ok-number_objects.ensures.known c.number_objects.new.numbers.items c.in_ok-number_objects.ensures.numbers c.if-not-branch.false
           c.deref.result.now c.some_unfit.result c.deref.ensures.value c.some_unfit.ensures
-          c.if-some_unfit.false c.if-found-gt1000000.false files.domain files.problem c.requires.tables.linked refl (task_of_files c.args.tables.now.lookups) (price_in c.args.tables.now.prices)
-          c.requires.tables.lookups c.requires.tables.prices c.deref-2.result.now c.in_ok-lacks_cost.field-0 c.deref-2.ensures.value c.in_ok-lacks_cost.ensures.answer c.if-branch.true,
+          c.if-some_unfit.false c.if-found-gt1000000.false files.domain files.problem c.requires.tables.linked refl (price_in c.args.tables.now.prices)
+          c.requires.tables.prices c.deref-2.result.now c.in_ok-lacks_cost.field-0 c.deref-2.ensures.value c.in_ok-lacks_cost.ensures.answer c.if-branch.true,
     )
 
 pub returns-clause-verdict : goal.returns-clause-verdict
@@ -72,8 +68,8 @@ returns-clause-verdict g c =
     c.in-Some.number c.in-Some.field-0-1.now c.in-Some.found.now c.in-Some.ensures.index c.in-Some.ensures.entry c.arity.result c.len.result c.arity.ensures c.len.ensures c.if-arity-len.false
     c.args.step.now.objects c.in_ok-number_objects.field-0 refl c.in_ok-number_objects.ensures.known c.number_objects.new.numbers.items c.in_ok-number_objects.ensures.numbers c.if-not-branch.false
     c.deref.result.now c.some_unfit.result c.deref.ensures.value c.some_unfit.ensures
-    c.if-some_unfit.false c.if-found-gt1000000.false files.domain files.problem c.requires.tables.linked refl (task_of_files c.args.tables.now.lookups) (price_in c.args.tables.now.prices)
-    c.requires.tables.lookups c.requires.tables.prices c.deref-2.result.now c.in_ok-lacks_cost.field-0 c.deref-2.ensures.value c.in_ok-lacks_cost.ensures.answer c.if-branch.false
+    c.if-some_unfit.false c.if-found-gt1000000.false files.domain files.problem c.requires.tables.linked refl (price_in c.args.tables.now.prices)
+    c.requires.tables.prices c.deref-2.result.now c.in_ok-lacks_cost.field-0 c.deref-2.ensures.value c.in_ok-lacks_cost.ensures.answer c.if-branch.false
 
 pub returns-clause-action : goal.returns-clause-action
 returns-clause-action g c =
@@ -85,9 +81,6 @@ returns-clause-objects g c =
     numbers_are (task_of_files c.args.tables.now.task.now) c.args.tables.now.actions.entries c.args.step.now c.action.result.now c.requires.tables.actions c.action.ensures
     c.in-Some.number c.in-Some.field-0-1.now c.in-Some.found.now c.in-Some.ensures.index c.in-Some.ensures.entry c.arity.result c.len.result c.arity.ensures c.len.ensures c.if-arity-len.false
     c.args.step.now.objects c.in_ok-number_objects.field-0 refl c.in_ok-number_objects.ensures.known c.number_objects.new.numbers.items c.in_ok-number_objects.ensures.numbers c.if-not-branch.false
-
-pub returns-clause-changes : goal.returns-clause-changes
-returns-clause-changes g c = subst (λ t. AreChangesOf t c.lacks_cost.new.changes.items) c.requires.tables.lookups c.in_ok-lacks_cost.ensures.changes
 
 pub some_unfit-requires : goal.some_unfit-requires
 some_unfit-requires g c =

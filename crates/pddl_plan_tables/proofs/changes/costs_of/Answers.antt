@@ -14,4 +14,4 @@ pub returns-else-has_function : goal.returns-else-has_function
 returns-else-has_function g c = λ test env.
     let a = action_view c.args.action.now in
     ap (λ v. some_cost v test env) (view_both c.new.result ∙ ap (λ xs. both (changes_view xs)) c.new.ensures.items)
-    ∙ none_to_find (tables_of (task_of_files c.args.lookups.now)) a.effect (scope_of a) (sym c.has_function.ensures ∙ c.if-has_function.false) test env
+    ∙ none_to_find (tables_of (task_of_files c.args.task.now)) a.effect (scope_of a) (sym c.has_function.ensures ∙ c.if-has_function.false) test env

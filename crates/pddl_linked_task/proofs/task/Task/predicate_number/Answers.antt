@@ -1,8 +1,8 @@
 use Rattle.pddl_domain.specs.Domains.{domain_view}
-use Rattle.pddl_types.proofs.TaskNames.{predicate_number}
+use Rattle.pddl_types.proofs.TaskNames.{signature_number}
 use Rattle.pddl_linked_task.proofs.task.Task.predicate_number.Goals as goal
 
 pub returns : goal.returns
 returns g c =
     let t = c.self.inside in
-    rw (← c.self.view_is) (predicate_number t.tables.declared.predicates.entries (domain_view t.domain.now).predicates c.args.name.now c.get_index_of.result c.self.invariant.behind.tables_are.declared.predicates c.get_index_of.ensures.index)
+    rw (← c.self.view_is) (signature_number t.tables.declared.predicates.entries (domain_view t.domain.now).predicates c.args.name.now c.get_index_of.result c.self.invariant.behind.tables_are.declared.predicates c.get_index_of.ensures.index)
