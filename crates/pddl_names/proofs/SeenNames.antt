@@ -10,7 +10,7 @@ use Rattle.pddl_task.specs.Names.{Name, is_in}
 use Rattle.pddl_task.proofs.Lists.{or_right, bytes_same}
 use Rattle.pddl_faults.specs.declared.fault.LinkFault.{LinkFault}
 use Rattle.pddl_faults.proofs.FoundFaults.{IsFoundUpTo}
-use Rattle.pddl_search.proofs.Claims.{any_more}
+use Rattle.pddl_search.proofs.SeenItems.{any_more}
 use Rattle.pddl_names.specs.FaultParts.{action_faults}
 
 abbrev pub has : List (Bor (List ℕ)) → Name → Bool

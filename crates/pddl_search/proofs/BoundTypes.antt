@@ -1,34 +1,35 @@
 -- Variables that are bound, the innermost first, their places by name, and the numbers of their types.
-use Rattle.std.proofs.Common.{◌≡◌, ℕ, ◌+◌, ◌-◌, ◌<◌, ◌≤◌, Bool, true, false, ◌||◌, cond, List, [], ◌∷◌, ◌++◌, map, length, get_or, take, Option, Some, None, refl, ap, sym, ◌∙◌, bytes_eq, arith, subst, inl, inr}
+use Rattle.std.proofs.Common.{◌≡◌, ℕ, ◌+◌, ◌<◌, Bool, true, false, ◌||◌, cond, List, [], ◌∷◌, ◌++◌, map, length, get_or, take, Option, Some, None, refl, ap, sym, ◌∙◌, bytes_eq, ◌⊎◌, inl, inr}
 use Rattle.std.specs.Prelude.{is_some, find, option_map, slice_get, MatchOption}
 use Rattle.std.specs.Borrow.{Bor}
 use Rattle.std.specs.List.{slice_index_or}
 use Rattle.std.specs.Map.{lookup}
 use Rattle.std.specs.Option.{option_or, option_and_then}
-use Rattle.std.proofs.lemmas.List.{take_more, map-append}
+use Rattle.std.proofs.lemmas.List.{take_more}
+use Rattle.std.proofs.lemmas.List.Folds.{find-append}
 use Rattle.std.proofs.Math.Logic.{∥∥₁_map}
-use Rattle.std.proofs.lemmas.Option.{slice_get-map, slice_get_read}
+use Rattle.std.proofs.lemmas.Option.{slice_get-map, slice_get_read, slice_get_within, get_or_from_slice_get}
 use Rattle.pddl_formula.specs.TypedLists.{TypedValue}
 use Rattle.pddl_task.specs.Names.{Name, is_in, is_named, item_of}
 use Rattle.pddl_task.specs.Places.{Place, binding}
-use Rattle.pddl_search.specs.Scopes.{bound_of, AllNumbered, IsInScope, IsKept}
+use Rattle.pddl_search.specs.Scopes.{AllNumbered, IsInScope, IsKept}
 use Rattle.pddl_search.specs.Bound.{BoundValue, IsBound, AreLastPlaces}
 use Rattle.pddl_search.specs.declared.scope.Scope.{Scope, Empty, Inside'}
 use Rattle.indexmap.specs.IndexMap.{insert_entry}
-use Rattle.pddl_faults.proofs.PutValues.{lookup_put}
+use Rattle.pddl_faults.proofs.PutValues.{found_or, lookup_put}
 
-either : (b : Bool) (x : TypedValue) (o p : Option TypedValue) → option_or o (cond b (Some x) p) ≡ option_or (option_or o (cond b (Some x) None)) p
-either true x None p = refl
-either true x (Some y) p = refl
-either false x None p = refl
-either false x (Some y) p = refl
+-- what is bound already stays behind
+bound_behind : (xs ys zs : List TypedValue) → binding xs (ys ++ zs) ≡ binding xs ys ++ zs
+bound_behind [] ys zs = refl
+bound_behind (x ∷ xs) ys zs = bound_behind xs (x ∷ ys) zs
 
 -- a variable of a list, or else one that was bound before
-find_bound : (xs bound : List TypedValue) (n : Name) → find (is_named n) (binding xs bound) ≡ option_or (find (is_named n) (binding xs [])) (find (is_named n) bound)
-find_bound [] bound n = refl
-find_bound (x ∷ xs) bound n =
-    find_bound xs (x ∷ bound) n ∙ either (is_named n x) x (find (is_named n) (binding xs [])) (find (is_named n) bound)
-    ∙ ap (λ o. option_or o (find (is_named n) bound)) (sym (find_bound xs (x ∷ []) n))
+pub find_bound : (xs bound : List TypedValue) (n : Name) → find (is_named n) (binding xs bound) ≡ option_or (find (is_named n) (binding xs [])) (find (is_named n) bound)
+find_bound xs bound n = ap (find (is_named n)) (bound_behind xs [] bound) ∙ find-append (is_named n) (binding xs []) bound
+
+-- what is seen of an item that is read
+pub viewed_at : {X Y : Type 0} (view : X → Y) (xs : List X) (i : ℕ) (x : X) → i < length xs → x ≡ get_or xs i x → slice_get (map view xs) i ≡ Some (view x)
+viewed_at view xs i x low is = slice_get-map view xs i ∙ ap (option_map view) (slice_get_read xs (length xs) i x refl low is)
 
 -- ---- a walk over a list from its end
 
@@ -36,82 +37,36 @@ binding-push : (xs : List TypedValue) (x : TypedValue) (bound : List TypedValue)
 binding-push [] x bound = refl
 binding-push (y ∷ xs) x bound = binding-push xs x (y ∷ bound)
 
-module _ {X : Type 0} (view : X → TypedValue) (n : Name) where
-  -- the last variable of the name
-  abbrev pub last_bound : List X → Option TypedValue
-  last_bound xs = find (is_named n) (binding (map view xs) [])
+-- the last variable of the name
+abbrev pub last_bound : Name → List TypedValue → Option TypedValue
+last_bound n xs = find (is_named n) (binding xs [])
 
-last_more : {X : Type 0} (view : X → TypedValue) (n : Name) (xs : List X) (i : ℕ) (d : X) → i < length xs
-    → last_bound view n (take (i + 1) xs) ≡ cond (bytes_eq n (view (get_or xs i d)).item) (Some (view (get_or xs i d))) (last_bound view n (take i xs))
-last_more view n xs i d h =
-    ap (last_bound view n) (take_more xs i d h)
-    ∙ ap (λ ys. find (is_named n) (binding ys [])) (map-append view (take i xs) (get_or xs i d ∷ []))
-    ∙ ap (find (is_named n)) (binding-push (map view (take i xs)) (view (get_or xs i d)) [])
+last_more : (n : Name) (xs : List TypedValue) (i j : ℕ) (x : TypedValue) → i ≡ j + 1 → slice_get xs j ≡ Some x → last_bound n (take i xs) ≡ cond (is_named n x) (Some x) (last_bound n (take j xs))
+last_more n xs i j x next at =
+    ap (λ k. last_bound n (take k xs)) next
+    ∙ ap (last_bound n) (take_more xs j x (slice_get_within xs j x at) ∙ ap (λ y. take j xs ++ y ∷ []) (get_or_from_slice_get xs j x x at))
+    ∙ ap (find (is_named n)) (binding-push (take j xs) x [])
 
-last_at : {X : Type 0} (view : X → TypedValue) (n : Name) (xs : List X) (i : ℕ) (x : X) (b : Bool) → 0 < i → i ≤ length xs → x ≡ get_or xs (i - 1) x → bytes_eq n (view x).item ≡ b
-    → last_bound view n (take i xs) ≡ cond b (Some (view x)) (last_bound view n (take (i - 1) xs))
-last_at view n xs i x b some h is told =
-    let back : i - 1 + 1 ≡ i = omega (arith, some) in
-    ap (λ j. last_bound view n (take j xs)) (sym back) ∙ last_more view n xs (i - 1) x (omega (arith, some, h))
-    ∙ ap (λ y. cond (bytes_eq n (view y).item) (Some (view y)) (last_bound view n (take (i - 1) xs))) (sym is)
-    ∙ ap (λ c. cond c (Some (view x)) (last_bound view n (take (i - 1) xs))) told
-
--- what is seen of an item that is read
-pub viewed_at : {X Y : Type 0} (view : X → Y) (xs : List X) (i : ℕ) (x : X) → i < length xs → x ≡ get_or xs i x → slice_get (map view xs) i ≡ Some (view x)
-viewed_at view xs i x low is = slice_get-map view xs i ∙ ap (option_map view) (slice_get_read xs (length xs) i x refl low is)
+-- it is the one where the walk has come to, or it is before it
+pub last_left : (n : Name) (xs : List TypedValue) (i j : ℕ) (x : TypedValue) (b : Bool) → i ≡ j + 1 → slice_get xs j ≡ Some x → bytes_eq n x.item ≡ b → last_bound n (take i xs) ≡ last_bound n xs
+    → cond b (Some x) (last_bound n (take j xs)) ≡ last_bound n xs
+last_left n xs i j x b next at told left = ap (λ c. cond c (Some x) (last_bound n (take j xs))) (sym told) ∙ sym (last_more n xs i j x next at) ∙ left
 
 -- ---- a table of places
 
-placed_cond : {X : Type 0} (f : ℕ → Option X) (b : Bool) (i : ℕ) (o : Option ℕ) → option_and_then f (cond b (Some i) o) ≡ cond b (f i) (option_and_then f o)
-placed_cond f true i o = refl
-placed_cond f false i o = refl
-
-pub places_none : {X : Type 0} (view : X → TypedValue) (xs : List X) → AreLastPlaces (map view xs) (map view (take 0 xs)) []
-places_none view [] n = refl
-places_none view (x ∷ xs) n = refl
-
-pub places_more : {X : Type 0} (view : X → TypedValue) (xs : List X) (i : ℕ) (x : X) (k : Bor Name) (table : List (Bor Name × ℕ)) → i < length xs → x ≡ get_or xs i x
-    → k.now ≡ (view x).item → AreLastPlaces (map view xs) (map view (take i xs)) table → AreLastPlaces (map view xs) (map view (take (i + 1) xs)) (insert_entry (λ a b. bytes_eq a.now b.now) table k i)
-places_more view xs i x k table low is named so_far n =
-    let of = slice_get (map view xs) in
-    let before = last_bound view n (take i xs) in
-    ap (option_and_then of) (lookup_put table k i n) ∙ placed_cond of (bytes_eq n k.now) i (lookup (λ j. bytes_eq n j.now) table)
-    ∙ ap (λ o. cond (bytes_eq n k.now) (of i) o) (so_far n) ∙ ap (λ m. cond (bytes_eq n m) (of i) before) named
-    ∙ ap (λ o. cond (bytes_eq n (view x).item) o before) (viewed_at view xs i x low is)
-    ∙ ap (λ y. cond (bytes_eq n (view y).item) (Some (view y)) before) is ∙ sym (last_more view n xs i x low)
-
--- it is the one where the walk has come to
-pub last_here : {X : Type 0} (view : X → TypedValue) (n : Name) (xs : List X) (i : ℕ) (x : X) → 0 < i → i ≤ length xs → x ≡ get_or xs (i - 1) x
-    → bytes_eq n (view x).item ≡ true → last_bound view n (take i xs) ≡ last_bound view n xs → slice_get (map view xs) (i - 1) ≡ last_bound view n xs
-last_here view n xs i x some h is same inv = viewed_at view xs (i - 1) x (omega (arith, some, h)) is ∙ sym (last_at view n xs i x true some h is same) ∙ inv
-
--- or it is before it
-pub last_before : {X : Type 0} (view : X → TypedValue) (n : Name) (xs : List X) (i : ℕ) (x : X) → 0 < i → i ≤ length xs → x ≡ get_or xs (i - 1) x
-    → bytes_eq n (view x).item ≡ false → last_bound view n (take i xs) ≡ last_bound view n xs → last_bound view n (take (i - 1) xs) ≡ last_bound view n xs
-last_before view n xs i x some h is other inv = sym (last_at view n xs i x false some h is other) ∙ inv
+-- with the place of one more
+pub places_more : (xs : List TypedValue) (i : ℕ) (x : TypedValue) (k : Bor Name) (table : List (Bor Name × ℕ)) → slice_get xs i ≡ Some x → k.now ≡ x.item → AreLastPlaces xs (take i xs) table
+    → AreLastPlaces xs (take (i + 1) xs) (insert_entry (λ a b. bytes_eq a.now b.now) table k i)
+places_more xs i x k table at named so_far n =
+    rw (lookup_put table k i n, last_more n xs (i + 1) i x refl at, named)
+    (elim (bytes_eq n x.item) as (λ b. option_and_then (slice_get xs) (cond b (Some i) (lookup (λ j. bytes_eq n j.now) table)) ≡ cond b (Some x) (last_bound n (take i xs))) [ true ↦ at | false ↦ so_far n ])
 
 -- ---- a scope
 
-module _ {A B : Type 0} (scope : Scope A B) (xs : Bor BoundValue) (p : _) (outer : Scope A B) (n : Name) where
-  -- its own list has a variable of the name
-  pub found_inside : (number : ℕ) → scope ≡ Inside' xs p outer → IsBound xs.now (find (is_named n) (binding xs.now.list [])) number → IsInScope scope (find (is_named n) (bound_of scope)) number
-  found_inside number is found =
-      subst (λ s. IsInScope s (find (is_named n) (bound_of s)) number) (sym is)
-      (inl (found.0, found.1, found.2, find_bound xs.now.list (bound_of outer) n ∙ ap (λ o. option_or o (find (is_named n) (bound_of outer))) found.3, found.4))
-
-  -- or it is looked for further out
-  pub found_outside : (r : Option ℕ) → scope ≡ Inside' xs p outer → find (is_named n) (binding xs.now.list []) ≡ None
-      → MatchOption r (find (is_named n) (bound_of outer) ≡ None) (IsInScope outer (find (is_named n) (bound_of outer)))
-      → MatchOption r (find (is_named n) (bound_of scope) ≡ None) (IsInScope scope (find (is_named n) (bound_of scope)))
-  found_outside r is none further = subst (λ s. MatchOption r (find (is_named n) (bound_of s) ≡ None) (IsInScope s (find (is_named n) (bound_of s)))) (sym is) (by_result r further)
-    where
-      same : find (is_named n) (binding xs.now.list (bound_of outer)) ≡ find (is_named n) (bound_of outer)
-      same = find_bound xs.now.list (bound_of outer) n ∙ ap (λ o. option_or o (find (is_named n) (bound_of outer))) none
-
-      by_result : (r : Option ℕ) → MatchOption r (find (is_named n) (bound_of outer) ≡ None) (IsInScope outer (find (is_named n) (bound_of outer)))
-          → MatchOption r (find (is_named n) (binding xs.now.list (bound_of outer)) ≡ None) (IsInScope (Inside' xs p outer) (find (is_named n) (binding xs.now.list (bound_of outer))))
-      by_result None h = same ∙ h
-      by_result (Some number) h = inr (subst (λ o. IsInScope outer o number) (sym same) h)
+-- a variable that is looked for further out
+pub further_out : {A B : Type 0} (outer : Scope A B) (xs : BoundValue) (o : Option TypedValue) (r : Option ℕ) → MatchOption r (o ≡ None) (IsInScope outer o) → MatchOption r (o ≡ None) (λ number. IsBound xs o number ⊎ IsInScope outer o number)
+further_out outer xs o None h = h
+further_out outer xs o (Some number) h = inr h
 
 -- numbers of types in a scope stay where those of each list do
 pub numbered_still : {A B : Type 0} (before after : List TypedValue → List ℕ → Type 0) (scope : Scope A B) → ((xs : List TypedValue) (numbers : List ℕ) → before xs numbers → after xs numbers)
@@ -151,10 +106,6 @@ numbered_in_scope are_numbers (Inside' xs p outer) found x number all (inr furth
 
 -- ---- whether a variable is bound
 
-found_or : (b c : Bool) (x : TypedValue) (o : Option TypedValue) → is_some o ≡ c → is_some (cond b (Some x) o) ≡ b || c
-found_or true c x o h = refl
-found_or false c x o h = h
-
 pub is_bound : (xs : List TypedValue) (n : Name) → is_some (find (is_named n) xs) ≡ is_in (map item_of xs) n
 is_bound [] n = refl
-is_bound (x ∷ xs) n = found_or (is_named n x) (is_in (map item_of xs) n) x (find (is_named n) xs) (is_bound xs n)
+is_bound (x ∷ xs) n = found_or (is_named n x) x (find (is_named n) xs) ∙ ap (λ b. is_named n x || b) (is_bound xs n)

@@ -3,7 +3,8 @@ use Rattle.std.proofs.Common.{◌≡◌, ℕ, suc, ◌+◌, ◌<◌, ◌≤◌, 
 use Rattle.std.specs.Prelude.{Contains, unwrap_or}
 use Rattle.std.specs.List.{list_any, filter_map, cons_option}
 use Rattle.std.specs.Map.{lookup}
-use Rattle.std.proofs.Math.Bool.{and-true, and-false, or-false, or_comm}
+use Rattle.std.proofs.Math.Bool.{and-true, and-false, or-false, or_comm, or_self}
+use Rattle.std.proofs.Math.Path.{fun_ext}
 use Rattle.std.proofs.lemmas.List.{take_all}
 use Rattle.std.proofs.lemmas.Bool.Decides.{nat_tests}
 use Rattle.pddl_problem.specs.Inits.{GroundValue, InitValue, holds, fails, value}
@@ -14,8 +15,7 @@ use Rattle.pddl_search.specs.declared.init.Claimed.{Claimed}
 use Rattle.pddl_search.specs.declared.init.Claimed.TheVariants.{Literals, Values}
 use Rattle.pddl_search.specs.Claims.{claim_in, wrong_in, is_failure, HoldsClaims}
 use Rattle.pddl_search.specs.Grounds.{ground_equiv, ground_is}
-use Rattle.pddl_search.proofs.Claims.{any_more, disagree, at_odds, Tells, tells_none, tells_more, clash_told}
-use Rattle.pddl_search.proofs.SeenItems.{seen_at, seen_more, AreLeft, seen_bad, seen_good}
+use Rattle.pddl_search.proofs.SeenItems.{any_more, seen_at, seen_more, AreLeft, seen_bad, seen_good}
 
 -- ---- which claims clash
 
@@ -35,12 +35,18 @@ unequal_yes m n h = grind (arith, nat_tests, h)
 pub unequal_no : (m n : ℕ) → m ≡ n → unequal m n ≡ false
 unequal_no m n h = ap (unequal m) (sym h) ∙ unequal_own m
 
+-- two claims give one key two numbers
+abbrev disagree : Option (GroundValue × ℕ) → Option (GroundValue × ℕ) → Bool
+disagree None d = false
+disagree (Some c) None = false
+disagree (Some c) (Some d) = same_ground c.0 d.0 && unequal c.1 d.1
+
 -- which items clash
 abbrev clash_in : Claimed → InitValue → InitValue → Bool
 clash_in Literals = contradicts
 clash_in Values = revalues
 
-clash_is : (kind : Claimed) (i j : InitValue) → clash_in kind i j ≡ disagree same_ground unequal (claim_in kind i) (claim_in kind j)
+clash_is : (kind : Claimed) (i j : InitValue) → clash_in kind i j ≡ disagree (claim_in kind i) (claim_in kind j)
 clash_is Literals (holds f) (holds g) = sym (and-false (same_ground f g))
 clash_is Literals (holds f) (fails g) = sym (and-true (same_ground f g))
 clash_is Literals (holds f) (value g n) = refl
@@ -78,28 +84,48 @@ told_by es k = lookup (same_ground k) es
 pub told_before : (es : List (GroundValue × ℕ)) (k : GroundValue) (v before : ℕ) (old : Option ℕ) → before ≡ unwrap_or old v → old ≡ told_by es k → before ≡ unwrap_or (told_by es k) v
 told_before es k v before old before_is old_is = before_is ∙ ap (λ o. unwrap_or o v) old_is
 
+-- the number differs from what is found, if any
+abbrev at_odds : Option ℕ → ℕ → Bool
+at_odds found v = unequal v (unwrap_or found v)
+
+-- the table tells of each claim whether it disagrees with one of those seen
 abbrev TellsClaims : Claimed → List (GroundValue × ℕ) → List InitValue → Type 0
-TellsClaims kind es seen = Tells same_ground unequal (claim_in kind) (told_by es) seen
+TellsClaims kind es seen = (k : GroundValue) (v : ℕ) → list_any (λ j. disagree (Some (k, v)) (claim_in kind j)) seen ≡ at_odds (told_by es k) v
+
+-- a number that agrees with what is found disagrees with another one where that does
+agreed : (found : Option ℕ) (v w : ℕ) → at_odds found v ≡ false → at_odds found w || unequal w v ≡ unequal w v
+agreed None v w h = ap (λ b. b || unequal w v) (unequal_own w)
+agreed (Some u) v w h = ap (λ z. unequal w z || unequal w v) (sym (unequal_is v u h)) ∙ or_self (unequal w v)
+
+-- a claim that agrees with all before is put into the table
+told_more : (es next : List (GroundValue × ℕ)) (k q : GroundValue) (v w : ℕ) → at_odds (told_by es k) v ≡ false → told_by next q ≡ cond (same_ground k q) (Some v) (told_by es q)
+    → at_odds (told_by es q) w || (same_ground q k && unequal w v) ≡ at_odds (told_by next q) w
+told_more es next k q v w agrees grows =
+    rw (grows, ground_equiv.symm q k)
+    (elim (same_ground k q) as (λ b. same_ground k q ≡ b → at_odds (told_by es q) w || (b && unequal w v) ≡ at_odds (cond b (Some v) (told_by es q)) w) [
+      | true ↦ λ same. agreed (told_by es q) v w (subst (λ j. at_odds (told_by es j) v ≡ false) (ground_is k q same) agrees)
+      | false ↦ λ _. or-false (at_odds (told_by es q) w)
+    ] refl)
 
 -- what it says of a key is what is claimed first of it
 told_first : (kind : Claimed) (q : GroundValue) (o : Option ℕ) (seen : List InitValue)
-    → ((v : ℕ) → list_any (λ j. disagree same_ground unequal (Some (q, v)) (claim_in kind j)) seen ≡ at_odds unequal o v) → o ≡ lookup (same_ground q) (filter_map (claim_in kind) seen)
+    → ((v : ℕ) → list_any (λ j. disagree (Some (q, v)) (claim_in kind j)) seen ≡ at_odds o v) → o ≡ lookup (same_ground q) (filter_map (claim_in kind) seen)
 told_first kind q None [] told = refl
 told_first kind q (Some u) [] told = absurd (true≢false (sym (unequal_yes (suc u) u (λ e. omega (arith, e))) ∙ sym (told (suc u))))
 told_first kind q o (x ∷ seen) told =
-    claimed (claim_in kind x) (λ v. list_any (λ j. disagree same_ground unequal (Some (q, v)) (claim_in kind j)) seen) (filter_map (claim_in kind) seen) (told_first kind q o seen) told
+    claimed (claim_in kind x) (λ v. list_any (λ j. disagree (Some (q, v)) (claim_in kind j)) seen) (filter_map (claim_in kind) seen) (told_first kind q o seen) told
   where
-    agreed : (p : Option ℕ) (n : ℕ) (later : ℕ → Bool) → ((v : ℕ) → unequal v n || later v ≡ at_odds unequal p v) → p ≡ Some n
+    agreed : (p : Option ℕ) (n : ℕ) (later : ℕ → Bool) → ((v : ℕ) → unequal v n || later v ≡ at_odds p v) → p ≡ Some n
     agreed None n later k = absurd (true≢false (sym (or_left (unequal (suc n) n) (later (suc n)) (unequal_yes (suc n) n (λ e. omega (arith, e)))) ∙ k (suc n) ∙ unequal_own (suc n)))
     agreed (Some u) n later k = ap Some (unequal_is u n (none_left (unequal u n) (later u) (k u ∙ unequal_own u)))
 
-    joined : (b : Bool) (n : ℕ) (later : ℕ → Bool) (found : Option ℕ) → (((v : ℕ) → later v ≡ at_odds unequal o v) → o ≡ found)
-        → ((v : ℕ) → (b && unequal v n) || later v ≡ at_odds unequal o v) → o ≡ cond b (Some n) found
+    joined : (b : Bool) (n : ℕ) (later : ℕ → Bool) (found : Option ℕ) → (((v : ℕ) → later v ≡ at_odds o v) → o ≡ found)
+        → ((v : ℕ) → (b && unequal v n) || later v ≡ at_odds o v) → o ≡ cond b (Some n) found
     joined true n later found rest k = agreed o n later k
     joined false n later found rest k = rest k
 
-    claimed : (c : Option (GroundValue × ℕ)) (later : ℕ → Bool) (cs : List (GroundValue × ℕ)) → (((v : ℕ) → later v ≡ at_odds unequal o v) → o ≡ lookup (same_ground q) cs)
-        → ((v : ℕ) → disagree same_ground unequal (Some (q, v)) c || later v ≡ at_odds unequal o v) → o ≡ lookup (same_ground q) (cons_option c cs)
+    claimed : (c : Option (GroundValue × ℕ)) (later : ℕ → Bool) (cs : List (GroundValue × ℕ)) → (((v : ℕ) → later v ≡ at_odds o v) → o ≡ lookup (same_ground q) cs)
+        → ((v : ℕ) → disagree (Some (q, v)) c || later v ≡ at_odds o v) → o ≡ lookup (same_ground q) (cons_option c cs)
     claimed None later cs rest k = rest k
     claimed (Some d) later cs rest k = joined (same_ground q d.0) d.1 later (lookup (same_ground q) cs) rest k
 
@@ -110,7 +136,7 @@ pub record Checked {X : Type 0} (view : X → InitValue) (kind : Claimed) (xs : 
 
 module _ {X : Type 0} (view : X → InitValue) (kind : Claimed) (xs : List X) where
   pub checked_start : (es : List (GroundValue × ℕ)) → es ≡ [] → Checked view kind xs 0 es
-  checked_start es empty = record { told = λ k v. sym (ap (λ ds. at_odds unequal (told_by ds k) v) empty ∙ unequal_own v); rest = refl }
+  checked_start es empty = record { told = λ k v. sym (ap (λ ds. at_odds (told_by ds k) v) empty ∙ unequal_own v); rest = refl }
 
   module _ (i : ℕ) (x : X) (es : List (GroundValue × ℕ)) (h : i < length xs) (at : x ≡ get_or xs i x) (l : Checked view kind xs i es) where
     abbrev so_far : List InitValue
@@ -123,8 +149,8 @@ module _ {X : Type 0} (view : X → InitValue) (kind : Claimed) (xs : List X) wh
     -- an item that claims nothing
     pub checked_none : claim_in kind (view x) ≡ None → Checked view kind xs (i + 1) es
     checked_none none =
-        pass es (tells_none same_ground unequal (claim_in kind) (told_by es) so_far (view x) none l.told)
-        (wrong_none kind so_far (view x) none ∙ none_of (clash_in kind (view x)) so_far (λ j c. clash_is kind (view x) j ∙ ap (λ d. disagree same_ground unequal d (claim_in kind j)) none))
+        pass es (λ k v. rw (any_more, none, or-false) (l.told k v))
+        (wrong_none kind so_far (view x) none ∙ none_of (clash_in kind (view x)) so_far (λ j c. clash_is kind (view x) j ∙ ap (λ d. disagree d (claim_in kind j)) none))
 
     -- one that claims a number of a key, where the table says the same or another one
     module _ (k : GroundValue) (v before : ℕ) (claims : claim_in kind (view x) ≡ Some (k, v)) (before_is : before ≡ unwrap_or (told_by es k) v) where
@@ -132,8 +158,7 @@ module _ {X : Type 0} (view : X → InitValue) (kind : Claimed) (xs : List X) wh
       wrong_here =
           wrong_is kind so_far (view x) (k, v) claims
           ∙ ap (λ b. b || starts_above_zero (view x))
-          (clash_told same_ground ground_equiv ground_is unequal unequal_own unequal_is (claim_in kind) (clash_in kind) (clash_is kind) (told_by es) so_far (view x) k v claims l.told
-          ∙ ap (unequal v) (sym before_is))
+          (ap (λ f. list_any f so_far) (fun_ext (λ j. clash_is kind (view x) j ∙ ap (λ c. disagree c (claim_in kind j)) claims)) ∙ l.told k v ∙ ap (unequal v) (sym before_is))
 
       pub checked_wrong : unequal v before || starts_above_zero (view x) ≡ true → Contains (wrong_words (wrong_in kind) init_name [] (map view xs)) (init_name (view x))
       checked_wrong is = seen_bad view init_name (wrong_in kind) [] xs i x h at l.rest (wrong_here ∙ is)
@@ -141,8 +166,7 @@ module _ {X : Type 0} (view : X → InitValue) (kind : Claimed) (xs : List X) wh
       pub checked_more : (next : List (GroundValue × ℕ)) → unequal v before || starts_above_zero (view x) ≡ false → ((q : GroundValue) → told_by next q ≡ cond (same_ground k q) (Some v) (told_by es q)) → Checked view kind xs (i + 1) next
       checked_more next fine grows =
           pass next
-          (tells_more same_ground ground_equiv ground_is unequal unequal_own unequal_is (claim_in kind) (told_by es) (told_by next) so_far (view x) k v claims l.told
-          (ap (unequal v) (sym before_is) ∙ none_left (unequal v before) (starts_above_zero (view x)) fine) grows)
+          (λ q w. rw (any_more, claims, l.told q w) (told_more es next k q v w (ap (unequal v) (sym before_is) ∙ none_left (unequal v before) (starts_above_zero (view x)) fine) (grows q)))
           (wrong_here ∙ fine)
 
   -- all have been looked at

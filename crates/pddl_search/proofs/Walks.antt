@@ -1,44 +1,50 @@
--- The faults of the places of formulas, effects and actions, part by part.
-use Rattle.std.proofs.Common.{◌≡◌, ℕ, ◌+◌, ◌<◌, List, ◌++◌, length, get_or, drop, map, Box, ap, sym, ◌∙◌, subst}
+-- A walk over a list, part by part: what is kept on the way, and what is found at the places so far.
+use Rattle.std.proofs.Common.{◌≡◌, ℕ, ◌+◌, ◌<◌, ◌≤◌, List, [], ◌∷◌, ◌++◌, length, get_or, drop, Result, Ok, refl, ap, ◌∙◌, subst}
+use Rattle.std.specs.List.{flat_map}
+use Rattle.std.proofs.lemmas.List.{drop_all}
 use Rattle.std.proofs.lemmas.List.Concat.{flat_map-append}
 use Rattle.pddl_formula.specs.TypedLists.{TypedValue}
-use Rattle.pddl_formula.specs.Formulas.{formula_view, formulas_of}
-use Rattle.pddl_formula.specs.declared.formula.Formula.{Formula}
-use Rattle.pddl_formula.specs.declared.formula.Formula.TheVariants.{Imply}
-use Rattle.pddl_formula.proofs.Views.{view_imply}
-use Rattle.pddl_effect.specs.Effects.{effect_view, effects_of}
-use Rattle.pddl_effect.specs.declared.effect.Effect.{Effect}
-use Rattle.pddl_effect.specs.declared.effect.Effect.TheVariants as effects
-use Rattle.pddl_effect.proofs.Views as views
-use Rattle.pddl_task.specs.Places.{Place, places_in, places_in_all, effect_places, effects_places}
-use Rattle.pddl_search.specs.Walks.{faults_in, faults_in_all, effect_faults, effects_faults}
-use Rattle.pddl_faults.proofs.ViewTurns.{formulas-drop, effects-drop}
+use Rattle.pddl_task.specs.Names.{Name}
+use Rattle.pddl_task.specs.Places.{Place}
+use Rattle.pddl_faults.specs.declared.fault.LinkFault.{LinkFault}
+use Rattle.pddl_faults.specs.Found.{IsFound}
+use Rattle.pddl_faults.proofs.FoundFaults.{IsFoundUpTo, up_to_none, up_to_more, up_to_all}
+use Rattle.pddl_faults.proofs.ListTurns.{rest_is}
+use Rattle.pddl_search.specs.Scopes.{IsKept}
+use Rattle.pddl_search.proofs.BoundTypes.{kept_then}
 
--- ---- formulas
+module _ {S : Type 0} (are_numbers : S → List TypedValue → List ℕ → Type 0) (found : S → Place → List (ℕ × Name)) where
+  -- from one search to another, numbers of types stay, and so do the faults that are looked for
+  abbrev pub IsKeptFrom : S → S → Type 0
+  IsKeptFrom before after = IsKept (are_numbers before) (are_numbers after) (found before) (found after)
 
-module _ {A F : Type 0} (w : Place → List F) (b : List TypedValue) where
-  pub faults_imply : (x y : Box (Formula A) A) → faults_in w (formula_view (Imply x y)) b ≡ faults_in w (formula_view x.value) b ++ faults_in w (formula_view y.value) b
-  faults_imply x y = ap (λ k. faults_in w k b) (view_imply x y) ∙ flat_map-append w (places_in (formula_view x.value) b) (places_in (formula_view y.value) b)
+-- a search that began so has come to an item of a list, of which these are the places
+pub record HasComeTo {S X : Type 0} (are_numbers : S → List TypedValue → List ℕ → Type 0) (found : S → Place → List (ℕ × Name)) (places : List X → List Place) (start now : S) (xs : List X) (i : ℕ)
+    (r : Result (Unit {0}) LinkFault) : Type 0 where
+  pub kept : IsKeptFrom are_numbers found start now
+  pub so_far : IsFoundUpTo (flat_map (found start) (places (drop i xs))) (flat_map (found start) (places xs)) r
 
-  -- what is left of a vector's items: its first formula, and the rest
-  pub faults_left : (all xs : List (Formula A)) (i : ℕ) (d : Formula A) → xs ≡ all → i < length xs → d ≡ get_or xs i d
-      → faults_in_all w (formulas_of (map formula_view (drop i all))) b ≡ faults_in w (formula_view d) b ++ faults_in_all w (formulas_of (map formula_view (drop (i + 1) all))) b
-  faults_left all xs i d same h is =
-      subst (λ ys. faults_in_all w (formulas_of (map formula_view (drop i ys))) b ≡ faults_in w (formula_view d) b ++ faults_in_all w (formulas_of (map formula_view (drop (i + 1) ys))) b) same
-      (ap (λ fs. faults_in_all w fs b) (formulas-drop xs i d h)
-      ∙ flat_map-append w (places_in (formula_view (get_or xs i d)) b) (places_in_all (formulas_of (map formula_view (drop (i + 1) xs))) b)
-      ∙ ap (λ k. faults_in w (formula_view k) b ++ faults_in_all w (formulas_of (map formula_view (drop (i + 1) xs))) b) (sym is))
+module _ {S X : Type 0} {are_numbers : S → List TypedValue → List ℕ → Type 0} {found : S → Place → List (ℕ × Name)} {places : List X → List Place} {start : S} {xs : List X} where
+  pub at_start : HasComeTo are_numbers found places start start xs 0 (Ok tt)
+  at_start = record { kept = (λ ys numbers are. are, refl); so_far = up_to_none }
 
-  -- ---- effects
+  -- the next item
+  pub one_more : {now next : S} {i : ℕ} {r both : Result (Unit {0}) LinkFault} (own : List Place) (items : List X) (x : X) (one : Result (Unit {0}) LinkFault) → items ≡ xs → i < length items → x ≡ get_or items i x
+      → ((rest : List X) → places (x ∷ rest) ≡ own ++ places rest) → HasComeTo are_numbers found places start now xs i r → IsKeptFrom are_numbers found now next
+      → IsFound (flat_map (found now) own) one → ((vs ws : List (ℕ × Name)) → IsFound vs r → IsFound ws one → IsFound (vs ++ ws) both) → HasComeTo are_numbers found places start next xs (i + 1) both
+  one_more {i = i} own items x one same low is front l kept here lower =
+      let w = found start in
+      let rest = drop (i + 1) xs in
+      let inside : i < length xs = subst (λ (ys : List X). i < length ys) same low in
+      let at : x ≡ get_or xs i x = is ∙ ap (λ (ys : List X). get_or ys i x) same in
+      record {
+        kept = kept_then l.kept kept;
+        so_far = up_to_more (flat_map w own) one (ap (λ ys. flat_map w (places ys)) (rest_is xs i x inside at) ∙ ap (flat_map w) (front rest) ∙ flat_map-append w own (places rest)) lower
+            (subst (λ v. IsFound (flat_map v own) one) l.kept.1 here) l.so_far;
+      }
 
-  pub faults_when : (f : Formula A) (x : Box (Effect A) A) → effect_faults w (effect_view (effects.When f x)) b ≡ faults_in w (formula_view f) b ++ effect_faults w (effect_view x.value) b
-  faults_when f x = ap (λ k. effect_faults w k b) (views.view_when f x) ∙ flat_map-append w (places_in (formula_view f) b) (effect_places (effect_view x.value) b)
-
-  -- what is left of a vector's items: its first effect, and the rest
-  pub effects_left : (all xs : List (Effect A)) (i : ℕ) (d : Effect A) → xs ≡ all → i < length xs → d ≡ get_or xs i d
-      → effects_faults w (effects_of (map effect_view (drop i all))) b ≡ effect_faults w (effect_view d) b ++ effects_faults w (effects_of (map effect_view (drop (i + 1) all))) b
-  effects_left all xs i d same h is =
-      subst (λ ys. effects_faults w (effects_of (map effect_view (drop i ys))) b ≡ effect_faults w (effect_view d) b ++ effects_faults w (effects_of (map effect_view (drop (i + 1) ys))) b) same
-      (ap (λ es. effects_faults w es b) (effects-drop xs i d h)
-      ∙ flat_map-append w (effect_places (effect_view (get_or xs i d)) b) (effects_places (effects_of (map effect_view (drop (i + 1) xs))) b)
-      ∙ ap (λ k. effect_faults w (effect_view k) b ++ effects_faults w (effects_of (map effect_view (drop (i + 1) xs))) b) (sym is))
+  -- no item is left
+  pub at_end : {now : S} {i : ℕ} {r : Result (Unit {0}) LinkFault} (items : List X) → items ≡ xs → length items ≤ i → places [] ≡ [] → HasComeTo are_numbers found places start now xs i r
+      → IsFound (flat_map (found start) (places xs)) r
+  at_end {i = i} items same past none l =
+      up_to_all (ap (λ ys. flat_map (found start) (places ys)) (drop_all i xs (subst (λ (ys : List X). length ys ≤ i) same past)) ∙ ap (flat_map (found start)) none) l.so_far

@@ -1,5 +1,5 @@
-use Rattle.std.proofs.Common.{◌≡◌, ◌+◌, ◌<◌, false, not, cond, List, ◌∷◌, map, filter, length, get_or, drop, refl, ap, sym, ◌∙◌}
-use Rattle.pddl_domain.specs.Declarations.{FunctionValue, function_view, number}
+use Rattle.std.proofs.Common.{◌≡◌, ◌<◌, false, not, length, get_or, refl, ap, sym, ◌∙◌}
+use Rattle.pddl_domain.specs.Declarations.{function_view, number}
 use Rattle.pddl_task.specs.Names.{same_names}
 use Rattle.pddl_faults.proofs.ListPasses.{views_drop, found_at, none_left, not_of}
 use Rattle.pddl_search.proofs.passes.object_fluents.Goals as goal
@@ -22,10 +22,7 @@ loop-function-preserved g c =
     let fs = c.args.domain.now.functions.items in
     let i = c.loop-function.function-index in
     let f = c.function-item.result in
-    let rest = map function_view (drop (i + 1) fs) in
-    let other = λ (v : FunctionValue). not (same_names v.of number) in
-    let words = λ (vs : List FunctionValue). map (λ v. v.item.name) vs in
     let low : i < length fs = rw c.deref-function-items.ensures.value at c.loop-function-test.true in
     let at : f ≡ get_or fs i f = c.function-item.is ∙ ap (λ xs. get_or xs i f) c.deref-function-items.ensures.value in
-    let own : other (function_view f) ≡ false = ap not (sym c.is_number.ensures ∙ c.if-not-is_number.false) in
-    sym (ap (λ vs. words (filter other vs)) (views_drop function_view fs i f low at) ∙ ap (λ b. words (cond b (function_view f ∷ filter other rest) (filter other rest))) own) ∙ c.loop-function.invariant
+    let own : not (same_names (function_view f).of number) ≡ false = ap not (sym c.is_number.ensures ∙ c.if-not-is_number.false) in
+    rw (views_drop function_view fs i f low at, own) at c.loop-function.invariant

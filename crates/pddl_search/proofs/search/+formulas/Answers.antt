@@ -1,16 +1,14 @@
-use Rattle.std.proofs.Common.{rules, arith, List, map, refl, ap}
+use Rattle.std.proofs.Common.{rules, arith, refl}
 use Rattle.std.proofs.lemmas.Grind.{common_steps}
-use Rattle.std.proofs.lemmas.List.{drop_all}
-use Rattle.pddl_formula.specs.Formulas.{formula_view, formulas_of}
-use Rattle.pddl_formula.specs.declared.formula.Formula.{Formula}
+use Rattle.std.proofs.lemmas.List.Concat.{flat_map-append}
+use Rattle.pddl_formula.specs.Formulas.{formula_view}
 use Rattle.pddl_formula.specs.declared.formula.Formula.TheFolds as formula_folds
-use Rattle.pddl_formula.proofs.Views.{view_atom, view_equal, view_not, view_and, view_or, view_exists, view_forall}
+use Rattle.pddl_formula.proofs.Views.{view_atom, view_equal, view_not, view_imply, view_and, view_or, view_exists, view_forall}
 use Rattle.pddl_task.proofs.Lists.{append-none}
+use Rattle.pddl_task.specs.Places.{places_in}
 use Rattle.pddl_search.specs.Scopes.{bound_of}
 use Rattle.pddl_search.proofs.BoundTypes.{kept_then, kept_in_scope, kept_inside}
-use Rattle.pddl_faults.proofs.FoundFaults.{up_to_none, up_to_more, up_to_all}
-use Rattle.pddl_search.specs.Walks.{faults_in_all}
-use Rattle.pddl_search.proofs.Walks.{faults_imply, faults_left}
+use Rattle.pddl_search.proofs.Walks.{at_start, one_more, at_end}
 use Rattle.pddl_search.proofs.search.+formulas.Goals as goal
 
 pub search_formula-search_formula-requires-in-Imply : goal.search_formula-search_formula-requires-in-Imply
@@ -18,28 +16,22 @@ search_formula-search_formula-requires-in-Imply g t c = search (rules, formula_f
 
 pub search_formula-returns-in-Imply-clause-found : goal.search_formula-returns-in-Imply-clause-found
 search_formula-returns-in-Imply-clause-found g t c =
-    rw (c.in-Imply.is, faults_imply (g.S.Search.found c.args.search.now) (bound_of c.args.scope.now) c.in-Imply.first c.in-Imply.second)
+    rw (c.in-Imply.is, view_imply c.in-Imply.first c.in-Imply.second, flat_map-append)
     (c.lower.ensures.found _ _ (rw c.deref-in-Imply.ensures at c.search_formula-first.ensures.found) (rw (c.search_formula-first.ensures.kept.1, c.deref-in-Imply-2.ensures) at c.search_formula-in-Imply.ensures.found))
 
 pub search_formulas-loop-formula-init : goal.search_formulas-loop-formula-init
-search_formulas-loop-formula-init g t c = record { kept = (λ xs numbers are. are, refl); found = up_to_none }
+search_formulas-loop-formula-init g t c = at_start
 
 pub search_formulas-search_formula-requires : goal.search_formulas-search_formula-requires
 search_formulas-search_formula-requires g t c = grind (arith, common_steps, formula_folds.the_lemmas, kept_in_scope c.args.scope.now c.loop-formula.invariant.kept c.requires)
 
 pub search_formulas-loop-formula-preserved : goal.search_formulas-loop-formula-preserved
-search_formulas-loop-formula-preserved g t c = record {
-  kept = kept_then c.loop-formula.invariant.kept c.search_formula.ensures.kept;
-  found =
-      up_to_more _ _
-      (faults_left (g.S.Search.found c.args.search.now) (bound_of c.args.scope.now) c.args.formulas.now.items c.deref-formula-items.result.now c.loop-formula.formula-index c.formula-item.result c.deref-formula-items.ensures.value c.loop-formula-test.true c.formula-item.is)
-      c.lower-found.ensures.found (rw c.loop-formula.invariant.kept.1 at c.search_formula.ensures.found) c.loop-formula.invariant.found;
-}
+search_formulas-loop-formula-preserved g t c =
+    one_more (places_in (formula_view c.formula-item.result) (bound_of c.args.scope.now)) c.deref-formula-items.result.now c.formula-item.result c.search_formula.result c.deref-formula-items.ensures.value c.loop-formula-test.true c.formula-item.is
+    (λ _. refl) c.loop-formula.invariant c.search_formula.ensures.kept c.search_formula.ensures.found c.lower-found.ensures.found
 
 pub search_formulas-returns-clause-found : goal.search_formulas-returns-clause-found
-search_formulas-returns-clause-found g t c =
-    up_to_all (ap (λ (xs : List (Formula _)). faults_in_all (g.S.Search.found c.args.search.now) (formulas_of (map formula_view xs)) (bound_of c.args.scope.now))
-    (drop_all c.loop-formula.formula-index c.args.formulas.now.items (rw c.deref-formula-items.ensures.value at c.loop-formula-test.false))) c.loop-formula.invariant.found
+search_formulas-returns-clause-found g t c = at_end c.deref-formula-items.result.now c.deref-formula-items.ensures.value c.loop-formula-test.false refl c.loop-formula.invariant
 
 pub search_quantified-search_formula-requires : goal.search_quantified-search_formula-requires
 search_quantified-search_formula-requires g t c =

@@ -1,9 +1,5 @@
-use Rattle.std.proofs.Common.{[], map}
+use Rattle.std.proofs.lemmas.List.{append_assoc}
 use Rattle.std.proofs.lemmas.List.Concat.{flat_map-append}
-use Rattle.pddl_formula.specs.TypedLists.{typed_view}
-use Rattle.pddl_formula.specs.Formulas.{formula_view}
-use Rattle.pddl_effect.specs.Effects.{effect_view}
-use Rattle.pddl_task.specs.Places.{binding, places_in, effect_places}
 use Rattle.pddl_search.specs.declared.scope.Scope.{Empty}
 use Rattle.pddl_search.proofs.BoundTypes.{kept_then, kept_inside}
 use Rattle.pddl_search.proofs.search.search_action.Goals as goal
@@ -17,10 +13,7 @@ returns-clause-kept g c = kept_then c.look-own.ensures.kept (kept_then c.bound_b
 
 pub returns-clause-found : goal.returns-clause-found
 returns-clause-found g c =
-    let w = g.S.Search.found c.args.search.now in
-    let a = c.args.action.now in
-    let b = binding (map typed_view a.parameters.items) [] in
-    rw (flat_map-append w (places_in (formula_view a.precondition) b) (effect_places (effect_view a.effect) b))
+    rw (flat_map-append, append_assoc)
     (c.lower-2.ensures.found _ _ c.look-own.ensures.found (c.lower.ensures.found _ _
     (rw (c.bound_by.ensures.kept.1, c.look-own.ensures.kept.1, c.in_ok-parameters.ensures.bound.0) at c.search_formula-precondition.ensures.found)
     (rw (c.search_formula-precondition.ensures.kept.1, c.bound_by.ensures.kept.1, c.look-own.ensures.kept.1, c.in_ok-parameters.ensures.bound.0) at c.search_effect-effect.ensures.found)))

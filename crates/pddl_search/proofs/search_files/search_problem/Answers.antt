@@ -1,11 +1,11 @@
-use Rattle.pddl_problem.specs.Problems.{problem_view}
-use Rattle.pddl_search.proofs.FileWalks.{faults_problem}
+use Rattle.std.proofs.lemmas.List.{append_assoc}
+use Rattle.std.proofs.lemmas.List.Concat.{flat_map-append}
 use Rattle.pddl_search.proofs.BoundTypes.{kept_then}
 use Rattle.pddl_search.proofs.search_files.search_problem.Goals as goal
 
 pub returns-clause-found : goal.returns-clause-found
 returns-clause-found g c =
-    rw (faults_problem (g.S.Search.found c.args.search.now) (problem_view c.args.problem.now))
+    simp (flat_map-append, append_assoc)
     (c.lower-2.ensures.found _ _ (rw c.deref.ensures.value at c.search_init-init.ensures.found) (c.lower.ensures.found _ _
     (rw c.search_init-init.ensures.kept.1 at c.search_formula-goal.ensures.found)
     (rw (c.search_formula-goal.ensures.kept.1, c.search_init-init.ensures.kept.1) at c.search_metric-metric.ensures.found)))

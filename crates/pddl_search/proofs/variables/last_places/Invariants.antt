@@ -5,4 +5,4 @@ use Rattle.pddl_search.proofs.variables.last_places.Given as goal
 
 -- the table is that of the variables so far
 abbrev pub invariant-loop-place : goal.invariant-loop-place
-invariant-loop-place g l = AreLastPlaces (map typed_view l.list) (map typed_view (take l.place l.list)) l.table.entries
+invariant-loop-place g l = AreLastPlaces (map typed_view l.list) (take l.place (map typed_view l.list)) l.table.entries
