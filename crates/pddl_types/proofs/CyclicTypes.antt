@@ -17,8 +17,8 @@ use Rattle.pddl_task.specs.Types.{root, types_of, says_nothing, under_root, only
 use Rattle.pddl_task.specs.Faults.{first_alone}
 use Rattle.pddl_task.proofs.Lists.{and_left, and_right, and_both, bytes_same, same_bytes, has_none, is_kept, mapped_is, is_mapped, at_place, some_at}
 use Rattle.pddl_task.proofs.Subtypes.{is_cyclic_decides}
+use Rattle.pddl_faults.proofs.ListTurns.{rest_is}
 use Rattle.pddl_types.specs.TypeTables.{Row, names_in, parents_in, StandsAt, IsTypeTable, cycle_in}
-use Rattle.pddl_types.proofs.ListTests.{kept_front, first_dropped}
 use Rattle.pddl_types.proofs.TypeParents.{in_has, type_declared, parent_declared, parent_undeclared, once_declared, pair_is}
 use Rattle.pddl_types.proofs.TypePlaces.{below, one_name, found_place, no_place}
 use Rattle.pddl_types.proofs.TypeForests.{place_in, same_place, parent_at, pair_at, come_to, goes_to}
@@ -131,7 +131,7 @@ module _ (declared : List TypeValue) (rows : List Row) (h : IsTypeTable declared
 
 -- ---- declared types one by one
 
-module _ {X : Type 0} (view : X → TypeValue) (xs : List X) (rows : List Row) (h : IsTypeTable (map view xs) rows) (i : ℕ) (x : X) (low : i < length xs) (is : x ≡ get_or xs i x) (q : Bor (List ℕ)) (named : q.now ≡ (view x).item) where
+module _ {X : Type 0} (view : X → TypeValue) (xs : List X) {rows : List Row} (h : IsTypeTable (map view xs) rows) {i : ℕ} {x : X} (low : i < length xs) (is : x ≡ get_or xs i x) (q : Bor (List ℕ)) (named : q.now ≡ (view x).item) where
   abbrev names : List Name
   names = map item_of (map view xs)
 
@@ -152,12 +152,12 @@ module _ {X : Type 0} (view : X → TypeValue) (xs : List X) (rows : List Row) (
       cc
 
   -- and is above itself where its place lies on a way round: it is the first of those that are left, or these are left behind it
-  pub told_at : (qs : List ℕ) (place : ℕ) (told : Bool) → qs ≡ parents_in rows → Some place ≡ position (λ k. bytes_eq q.now k.now) (keys_of rows) → IsTrue told ↔ IsOnRound qs place
+  pub told_at : {qs : List ℕ} {place : ℕ} {told : Bool} → qs ≡ parents_in rows → Some place ≡ position (λ k. bytes_eq q.now k.now) (keys_of rows) → IsTrue told ↔ IsOnRound qs place
       → filter cyclic (drop i names) ≡ filter cyclic names → (told ≡ true → Contains (cycle_in (map view xs)) q.now) × (told ≡ false → filter cyclic (drop (i + 1) names) ≡ filter cyclic names)
-  told_at qs place told same at tells left =
+  told_at {qs} {place} {told} same at tells left =
       let tested : cyclic q.now ≡ told = ap cyclic named ∙ told_cyclic (map view xs) rows h (view x) place told declares (subst (StandsAt rows place) named (found_place rows q.now place (sym at))) (subst (λ rs. IsTrue told ↔ IsOnRound rs place) same tells) in
       let within = slice_get_within names i q.now listed in
       let here = sym (get_or_from_slice_get names i q.now q.now listed) in (
-        λ on. subst (λ ns. Contains (first_alone ns) q.now) (sym (kept_front cyclic names i q.now true within here (tested ∙ on)) ∙ left) (0, omega arith, refl),
-        λ off. first_dropped cyclic names i q.now (filter cyclic names) within here (tested ∙ off) left,
+        λ on. subst (λ ns. Contains (first_alone ns) q.now) (rw (rest_is names i q.now within here, tested ∙ on) at left) (0, omega arith, refl),
+        λ off. rw (rest_is names i q.now within here, tested ∙ off) at left,
       )

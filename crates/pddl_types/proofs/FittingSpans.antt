@@ -5,7 +5,7 @@ use Rattle.std.specs.List.{list_any}
 use Rattle.std.specs.Option.{option_map_or}
 use Rattle.std.proofs.Math.Bool.{and-true}
 use Rattle.std.proofs.lemmas.List.Filters.{length-filter_more}
-use Rattle.std.proofs.lemmas.Option.{slice_get-get_or, slice_get_within, get_or_from_slice_get}
+use Rattle.std.proofs.lemmas.Option.{slice_get_within, get_or_from_slice_get}
 use Rattle.pddl_forest.specs.Spans.{some_holds}
 use Rattle.pddl_forest.specs.declared.spans.Span.{Span}
 use Rattle.pddl_formula.specs.TypedLists.{TypedValue}
@@ -13,6 +13,7 @@ use Rattle.pddl_task.specs.Names.{Name}
 use Rattle.pddl_task.specs.Tasks.{places_from}
 use Rattle.pddl_task.specs.Types.{pairs, is_under, fits}
 use Rattle.pddl_task.specs.GroundSize.{fitting_count}
+use Rattle.pddl_task.proofs.Lists.{some_at}
 use Rattle.pddl_types.specs.TypeSpans.{TypesValue, IsTold, DoTell, is_single, AreSingle, HaveEach, IsOnlySpan}
 use Rattle.pddl_sizes.proofs.ListSums.{places_many}
 
@@ -32,7 +33,7 @@ one_fits t (n ∷ []) slot s tops tell single only told =
     ap (λ (u : Span). some_holds tops u.first) (only.only n refl) ∙ tell n slot tops told (inl single) ∙ sym (and-true (list_any (is_under (pairs t.declared) n) slot))
 one_fits t (n ∷ m ∷ ns) slot s tops tell single only told = cc
 
-module _ (t : TypesValue) (objects : List TypedValue) (spans read : List Span) (slot : List Name) (tops : List Span) (tell : DoTell t) (single : AreSingle t.declared objects) (are : HaveEach (IsOnlySpan t) objects spans)
+module _ {t : TypesValue} {objects : List TypedValue} {spans read : List Span} (slot : List Name) {tops : List Span} (tell : DoTell t) (single : AreSingle t.declared objects) (are : HaveEach (IsOnlySpan t) objects spans)
     (same : read ≡ spans) (told : IsTold t slot tops) where
   abbrev held : Span → Bool
   held s = some_holds tops s.first
@@ -51,7 +52,6 @@ module _ (t : TypesValue) (objects : List TypedValue) (spans read : List Span) (
 -- one object more is looked at
 pub next_fits : {X : Type 0} (test : X → Bool) (xs : List X) (i : ℕ) (fit : Bool) → i < length xs → fit ≡ option_map_or test (slice_get xs i) false
     → length (filter test (take (i + 1) xs)) ≡ length (filter test (take i xs)) + cond fit 1 0
-next_fits test [] i fit low is = absurd (omega (arith, low))
-next_fits test (x ∷ xs) i fit low is =
-    length-filter_more test (x ∷ xs) i x low
-    ∙ ap (λ b. length (filter test (take i (x ∷ xs))) + cond b 1 0) (sym (is ∙ ap (λ o. option_map_or test o false) (slice_get-get_or (x ∷ xs) i x low)))
+next_fits test xs i fit low is =
+    let (x, at) = some_at xs i low in
+    length-filter_more test xs i x low ∙ ap (λ b. length (filter test (take i xs)) + cond b 1 0) (ap test (get_or_from_slice_get xs i x x at) ∙ sym (is ∙ ap (λ o. option_map_or test o false) at))

@@ -1,4 +1,3 @@
-mod ListTests
 pub mod CyclicTypes
 pub mod SharedTypes
 pub mod Lookups

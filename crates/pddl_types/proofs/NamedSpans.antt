@@ -1,18 +1,19 @@
 -- Types by their spans: what is under a type is what has its first number in the type's span.
-use Rattle.std.proofs.Common.{◌≡◌, ℕ, zero, suc, ◌<◌, ◌≤◌, Bool, true, false, ◌&&◌, eqb, leb, List, [], ◌∷◌, map, length, refl, sym, ap, ◌∙◌, subst, arith, inl, inr, ◌⊎◌, eqb-true, eq-eqb, leb-true, true≢false}
-use Rattle.std.specs.Prelude.{IsTrue, Contains}
+use Rattle.std.proofs.Common.{◌≡◌, ℕ, ◌<◌, ◌≤◌, Bool, true, false, ◌&&◌, eqb, leb, List, [], ◌∷◌, map, length, refl, sym, ap, ◌∙◌, subst, arith, inl, inr, ◌⊎◌, eqb-true, leb-true}
+use Rattle.std.specs.Prelude.{◌↔◌, IsTrue, Contains}
 use Rattle.std.specs.Cmp.{both_ways}
-use Rattle.std.specs.List.{list_any}
+use Rattle.std.specs.List.{list_any, slice_index_or}
 use Rattle.std.proofs.lemmas.List.{length-map, get_or_past}
-use Rattle.pddl_forest.specs.Spans.{holds, some_holds, hold_all, span_at, AreSpans}
+use Rattle.std.proofs.lemmas.List.Sorted.{IsPermutation-refl}
+use Rattle.pddl_forest.specs.Spans.{holds, some_holds, hold_all, AreTops, AreSpans}
 use Rattle.pddl_forest.specs.declared.spans.Span.{Span}
-use Rattle.pddl_forest.proofs.ApartSpans.{held}
+use Rattle.pddl_forest.proofs.ApartSpans.{are_tops}
 use Rattle.pddl_domain.specs.Declarations.{TypeValue}
 use Rattle.pddl_task.specs.Names.{Name, is_in, number_in}
 use Rattle.pddl_task.specs.Types.{types_of, pairs, is_under, is_subtype, fits}
 use Rattle.pddl_types.specs.TypeTables.{Row, names_in, parents_in, StandsAt, IsTypeTable}
 use Rattle.pddl_types.specs.TypeSpans.{TypesValue, span_of, IsTold, DoTell, are_types}
-use Rattle.pddl_task.proofs.Lists.{and_left, and_right, and_both, any_found, found_any, all_found, found_all, has_first, has_cases, has_none, mapped_is, is_mapped}
+use Rattle.pddl_task.proofs.Lists.{and_left, and_right, any_found, found_any, all_found, found_all, has_cases, has_none, mapped_is, is_mapped}
 use Rattle.pddl_task.proofs.Subtypes.{is_under_decides, under_found, under_through}
 use Rattle.pddl_types.proofs.TypeParents.{same_types}
 use Rattle.pddl_types.proofs.TypePlaces.{below, number_past}
@@ -85,30 +86,30 @@ module _ (t : TypesValue) (h : AreInTable t) where
   abbrev IsKnown : Name → Name → Type 0
   IsKnown n m = IsTrue (is_type n) ⊎ IsTrue (is_type m)
 
+  -- what begins among the numbers is a type
+  type_if : (n : Name) → (span_of t n).first < length t.spans → is_type n ≡ true
+  type_if n low = elim (is_type n) as (λ b. is_type n ≡ b → b ≡ true) [ true ↦ λ _. refl | false ↦ λ off. let b = behind n off in absurd (omega (arith, low, b.0)) ] refl
+
+  both_test : (n m : Name) → is_type n ≡ true → is_type m ≡ true → IsTrue (test n m) ↔ IsTrue (under n m)
+  both_test n m one other =
+      let at = stands n one in
+      let there = stands m other in
+      let spans = h.3.under (number n) (number m) (below h.0 (number n) n at) (below h.0 (number m) m there) in
+      let places = under_numbered t.declared h.0 h.2 (number n) (number m) n m at there in
+      (λ yes. places.1 (spans.0 yes), λ yes. spans.1 (places.0 yes))
+
   is_test : (n m : Name) → IsKnown n m → test n m ≡ under n m
   is_test n m known =
-      elim (is_type n) as (λ b. is_type n ≡ b → test n m ≡ under n m) [
-        | true ↦ λ one. elim (is_type m) as (λ b. is_type m ≡ b → test n m ≡ under n m) [
-          | true ↦ both one
-          | false ↦ λ off. both_ways (test n m) (under n m)
-              (λ yes. let in_span = is_held (span_of t m) (span_of t n).first yes in absurd (omega (arith, in_span.0, (behind m off).0, (within n one).0, (within n one).1)))
-              (λ yes. absurd (true≢false (sym one ∙ same_types t.declared n m h.2.0 yes ∙ off)))
-        ] refl
-        | false ↦ λ off. both_ways (test n m) (under n m)
-            (λ yes. let in_span = is_held (span_of t m) (span_of t n).first yes in absurd (omega (arith, in_span.1, (behind n off).0, (within m (other off)).1)))
-            (λ yes. absurd (true≢false (sym (other off) ∙ sym (same_types t.declared n m h.2.0 yes) ∙ off)))
-      ] refl
-    where
-      other : is_type n ≡ false → is_type m ≡ true
-      other off = elim known as (λ _. is_type m ≡ true) [ inl is ↦ absurd (true≢false (sym is ∙ off)) | inr is ↦ is ]
-
-      both : is_type n ≡ true → is_type m ≡ true → test n m ≡ under n m
-      both one other =
-          let at = stands n one in
-          let there = stands m other in
-          let spans = h.3.under (number n) (number m) (below h.0 (number n) n at) (below h.0 (number m) m there) in
-          let places = under_numbered t.declared h.0 h.2 (number n) (number m) n m at there in
-          both_ways (test n m) (under n m) (λ yes. places.1 (spans.0 yes)) (λ yes. spans.1 (places.0 yes))
+      both_ways (test n m) (under n m)
+      (λ yes.
+      let (from, to) = is_held (span_of t m) (span_of t n).first yes in
+      elim known as (λ _. IsTrue (under n m)) [
+        | inl one ↦ let w = within n one in (both_test n m one (type_if m (omega (arith, from, w)))).0 yes
+        | inr other ↦ let w = within m other in (both_test n m (type_if n (omega (arith, to, w))) other).0 yes
+      ])
+      (λ yes.
+      let same = same_types t.declared n m h.2.0 yes in
+      elim known as (λ _. IsTrue (test n m)) [ inl one ↦ (both_test n m one (sym same ∙ one)).1 yes | inr other ↦ (both_test n m (same ∙ other) other).1 yes ])
 
   pub test_told : (n m : Name) (low over : Span) → IsKnown n m → low ≡ span_of t n → over ≡ span_of t m → holds over low.first ≡ under n m
   test_told n m low over known is also = ap (λ s. holds s low.first) also ∙ ap (λ (s : Span). holds (span_of t m) s.first) is ∙ is_test n m known
@@ -177,20 +178,7 @@ subtype_is declared sub over told one other is = rw (one, other) is
 
 -- the span of a name alone
 pub told_alone : (t : TypesValue) (n : Name) (s : Span) → s.first ≤ s.last → s ≡ span_of t n → IsTold t (n ∷ []) (s ∷ [])
-told_alone t n s low is = record {
-  each = λ u there. found_any (is_same u) (span_of t n ∷ []) (span_of t n) (has_first (span_of t n) []) (same u (only s u there ∙ is));
-  all = λ u there. found_any (λ v. holds v u.first) (s ∷ []) s (has_first s []) (ap (λ (v : Span). holds s v.first) (only (span_of t n) u there ∙ sym is) ∙ held s s.first (omega arith) low);
-  apart = record { own = own; behind = λ i j less inside. absurd (omega (arith, less, inside)) };
-}
-  where
-    only : (v u : Span) → Contains (v ∷ []) u → u ≡ v
-    only v u there = elim (has_cases v [] u there) as (λ _. u ≡ v) [ inl one ↦ sym one | inr none ↦ absurd (has_none u none) ]
-
-    same : (u : Span) → u ≡ span_of t n → is_same u (span_of t n) ≡ true
-    same u one =
-        let v = span_of t n in
-        and_both (eqb u.first v.first) (eqb u.last v.last) (eq-eqb u.first v.first (ap (λ (w : Span). w.first) one)) (eq-eqb u.last v.last (ap (λ (w : Span). w.last) one))
-
-    own : (i : ℕ) → i < 1 → (span_at (s ∷ []) i).first ≤ (span_at (s ∷ []) i).last
-    own zero inside = low
-    own (suc i) inside = absurd (omega (arith, inside))
+told_alone t n s low is =
+    subst (λ u. AreTops (u ∷ []) (s ∷ [])) is
+    (are_tops (s ∷ []) (s ∷ []) (IsPermutation-refl (s ∷ [])) (λ i j d le inside. let first : i ≡ j = omega (arith, le, inside) in omega (arith, ap (λ k. (slice_index_or (s ∷ []) k d).first) first))
+    (λ u there. elim (has_cases s [] u there) as (λ _. u.first ≤ u.last) [ inl one ↦ subst (λ (v : Span). v.first ≤ v.last) one low | inr none ↦ absurd (has_none u none) ]))

@@ -49,26 +49,26 @@ pub record AreToldUpTo (t : TypesValue) (told : List (List Span)) (list : List T
   pub each : AreToldAt t told (take count list) numbers
   pub last : (x : TypedValue) → 0 < count → slice_get list (count - 1) ≡ Some x → IsToldAt t told x.of number
 
-module _ (t : TypesValue) (told : List (List Span)) (list : List TypedValue) where
-  pub told_none : (number : ℕ) → AreToldUpTo t told list 0 [] number
-  told_none number = record { each = each_none (IsToldAt t told); last = λ x some at. absurd (omega (arith, some)) }
+module _ {t : TypesValue} {told : List (List Span)} {list : List TypedValue} where
+  pub told_none : {number : ℕ} → AreToldUpTo t told list 0 [] number
+  told_none = record { each = each_none (IsToldAt t told); last = λ x some at. absurd (omega (arith, some)) }
 
   -- the type of the next one is told at the number of the one before, where it is the same
-  pub told_shared : (count : ℕ) (numbers : List ℕ) (number : ℕ) → AreToldUpTo t told list count numbers number → 0 < count → HaveOneType list (count - 1) count
+  pub told_shared : {count : ℕ} {numbers : List ℕ} {number : ℕ} → AreToldUpTo t told list count numbers number → 0 < count → HaveOneType list (count - 1) count
       → (x : TypedValue) → slice_get list count ≡ Some x → IsToldAt t told x.of number
-  told_shared count numbers number so_far some one = of_next (λ names. IsToldAt t told names number) list (count - 1) count one (λ x. so_far.last x some)
+  told_shared {count} {numbers} {number} so_far some one = of_next (λ names. IsToldAt t told names number) list (count - 1) count one (λ x. so_far.last x some)
 
   -- with the next one
-  pub told_next : (new : List (List Span)) (count : ℕ) (numbers pushed : List ℕ) (number next : ℕ) → AreToldUpTo t told list count numbers number → AreKept told new → count < length list
+  pub told_next : {new : List (List Span)} {count : ℕ} {numbers pushed : List ℕ} {number next : ℕ} → AreToldUpTo t told list count numbers number → AreKept told new → count < length list
       → ((x : TypedValue) → slice_get list count ≡ Some x → IsToldAt t new x.of next) → pushed ≡ numbers ++ next ∷ [] → AreToldUpTo t new list (count + 1) pushed next
-  told_next new count numbers pushed number next so_far kept low is pushed_is = record {
+  told_next {new} {count} {numbers} {pushed} {number} {next} so_far kept low is pushed_is = record {
     each = subst (AreToldAt t new (take (count + 1) list)) (sym pushed_is)
         (each_next (IsToldAt t new) list numbers count next low is (kept_all t told new (take count list) numbers kept so_far.each));
     last = λ x some at. is x (ap (slice_get list) (omega arith) ∙ at);
   }
 
-  pub told_all : (count : ℕ) (numbers : List ℕ) (number : ℕ) → length list ≤ count → AreToldUpTo t told list count numbers number → AreToldAt t told list numbers
-  told_all count numbers number past so_far = subst (λ items. AreToldAt t told items numbers) (take_all count list past) so_far.each
+  pub told_all : {count : ℕ} {numbers : List ℕ} {number : ℕ} → length list ≤ count → AreToldUpTo t told list count numbers number → AreToldAt t told list numbers
+  told_all {count} {numbers} past so_far = subst (λ items. AreToldAt t told items numbers) (take_all count list past) so_far.each
 
 -- ---- slots
 

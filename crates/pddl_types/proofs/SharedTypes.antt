@@ -1,5 +1,5 @@
 -- Types of items of a list, and of neighbours that share one.
-use Rattle.std.proofs.Common.{◌≡◌, ◌+◌, ◌<◌, ℕ, Bool, List, [], ◌++◌, map, length, filter, get_or, drop, slice_get, option_map, Some, refl, sym, ap, ◌∙◌, subst}
+use Rattle.std.proofs.Common.{◌≡◌, ◌+◌, ◌<◌, ℕ, Bool, List, ◌++◌, map, length, filter, get_or, drop, slice_get, option_map, Some, refl, sym, ap, ◌∙◌, subst}
 use Rattle.std.specs.List.{flat_map}
 use Rattle.std.proofs.lemmas.List.Elements.{filter-append}
 use Rattle.std.proofs.lemmas.Option.{slice_get-map, slice_get_read, slice_get_within, get_or_from_slice_get}
@@ -16,10 +16,6 @@ pub of_next : {X T : Type 0} (P : T → Type 0) (xs : List (WithType X T)) (i j 
 of_next {X} {T} P xs i j one known y at =
     let same : one.1 ≡ y = cc in
     subst P (one.4 ∙ ap (λ (z : WithType X T). z.of) same) (known one.0 one.2)
-
--- the item at a place of a list that has one there
-abbrev pub item_at : List TypedValue → ℕ → TypedValue
-item_at xs i = get_or xs i (record { item = []; of = [] })
 
 -- the types of an item that pass a test, and those of the items behind it
 pub left_behind : (q : Name → Bool) (xs : List TypedValue) (i : ℕ) (x : TypedValue) → slice_get xs i ≡ Some x

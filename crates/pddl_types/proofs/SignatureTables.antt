@@ -1,5 +1,5 @@
 -- Tables of what is declared, each name once.
-use Rattle.std.proofs.Common.{◌≡◌, ℕ, Bool, true, false, List, [], ◌∷◌, ◌++◌, map, length, Option, Some, None, refl, ap, sym, ◌∙◌, subst, bytes_eq, arith, true≢false}
+use Rattle.std.proofs.Common.{◌≡◌, ℕ, Bool, true, false, List, [], ◌∷◌, ◌++◌, map, Option, Some, None, refl, ap, sym, ◌∙◌, subst, bytes_eq}
 use Rattle.std.specs.Prelude.{is_some}
 use Rattle.std.specs.Borrow.{Bor}
 use Rattle.std.specs.Map.{lookup}
@@ -12,16 +12,13 @@ use Rattle.pddl_domain.specs.Declarations.{Signature}
 use Rattle.pddl_task.specs.Names.{Name, is_in, word_if, repeated}
 use Rattle.pddl_types.specs.KnownNames.{signature_in}
 
-nil_cons : {X : Type 0} (x : X) (xs : List X) → x ∷ xs ≡ [] → ⊥
-nil_cons x xs h = omega (arith, ap length h)
-
 by_first : (b : Bool) (n : Name) (rest : List Name) → word_if b n ++ rest ≡ [] → (b ≡ false) × (rest ≡ [])
-by_first true n rest h = absurd (nil_cons n rest h)
+by_first true n rest h = cc
 by_first false n rest h = (refl, h)
 
 pub none_found : {X : Type 0} (o : Option X) → is_some o ≡ false → o ≡ None
 none_found None h = refl
-none_found (Some x) h = absurd (true≢false h)
+none_found (Some x) h = cc
 
 -- a table's entries are seen as ys, each with its name
 module _ {E Y : Type 0} (seen : E → Y) (symbol : Y → Name) where

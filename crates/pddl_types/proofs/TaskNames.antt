@@ -6,6 +6,7 @@ use Rattle.std.specs.List.{slice_get}
 use Rattle.std.specs.Map.{keys_of}
 use Rattle.std.proofs.lemmas.List.{length-map}
 use Rattle.std.proofs.lemmas.Option.{slice_get-map}
+use Rattle.std.proofs.lemmas.Simd.{map-map}
 use Rattle.pddl_formula.specs.declared.type_names.Typed.{Typed}
 use Rattle.pddl_formula.specs.TypedLists.{TypedValue}
 use Rattle.pddl_domain.specs.declared.domain.DeclaredPredicate.{DeclaredPredicate}
@@ -14,7 +15,6 @@ use Rattle.pddl_task.specs.Names.{Name, item_of}
 use Rattle.pddl_task.specs.Settings.{symbol_of}
 use Rattle.pddl_types.specs.KnownNames.{AreNamed, signature_in, object_in}
 use Rattle.pddl_types.proofs.Lookups.{number_lent}
-use Rattle.pddl_types.proofs.Views.{map-map}
 
 -- the name of a predicate
 pub symbol_at : {A : Type 0} (xs : List (DeclaredPredicate A)) (signatures : List Signature) (i : ℕ)

@@ -1,12 +1,9 @@
 -- Views of a list's views.
-use Rattle.std.proofs.Common.{◌≡◌, ℕ, ◌+◌, ◌<◌, List, [], ◌∷◌, ◌++◌, map, length, get_or, take, refl, ap, sym, ◌∙◌, append_assoc}
+use Rattle.std.proofs.Common.{◌≡◌, ℕ, ◌+◌, ◌<◌, List, [], ◌∷◌, ◌++◌, map, length, get_or, take, ap, sym, ◌∙◌, append_assoc}
 use Rattle.std.specs.Prelude.{Some, slice_get, option_map}
 use Rattle.std.proofs.lemmas.List.{map_more}
 use Rattle.std.proofs.lemmas.Option.{slice_get-map}
-
-pub map-map : {X Y Z : Type 0} (see : Y → Z) (view : X → Y) (xs : List X) → map see (map view xs) ≡ map (λ x. see (view x)) xs
-map-map see view [] = refl
-map-map see view (x ∷ xs) = ap (λ zs. see (view x) ∷ zs) (map-map see view xs)
+use Rattle.std.proofs.lemmas.Simd.{map-map}
 
 -- what is seen in each is seen in the views of the same list
 pub seen_of : {X Y Z : Type 0} (see : Y → Z) (view : X → Y) {xs ys : List X} → xs ≡ ys → map (λ x. see (view x)) xs ≡ map see (map view ys)

@@ -8,29 +8,24 @@ use Rattle.pddl_types.proofs.TypePlaces.{below}
 use Rattle.pddl_types.proofs.TypeForests.{WithinParents, parents_within}
 use Rattle.pddl_types.proofs.type_table.spans_of.Goals as goal
 
-pub forest_spans-requires-clause-within : goal.forest_spans-requires-clause-within
-forest_spans-requires-clause-within g c =
-    subst WithinParents (sym (c.deref.ensures.value ∙ c.in_ok-parents.ensures)) (parents_within (map type_view c.args.declared.now) c.args.table.now.entries c.requires)
+pub forest_spans-requires : goal.forest_spans-requires
+forest_spans-requires g c =
+    let same = c.deref.ensures.value ∙ c.in_ok-parents.ensures in
+    record {
+      within = subst WithinParents (sym same) (parents_within (map type_view c.args.declared.now) c.args.table.now.entries c.requires);
+      some = omega (arith, ap length same, below c.args.table.now.entries 0 root c.requires.1.first);
+    }
 
-pub returns-in-Some-clause-cycle : goal.returns-in-Some-clause-cycle
-returns-in-Some-clause-cycle g c =
+pub returns-in-Some : goal.returns-in-Some
+returns-in-Some g c =
+    let same = c.deref.ensures.value ∙ c.in_ok-parents.ensures in
     let none = rw c.in-Some.is at c.in_ok-spans.ensures.none in
-    no_cycle (map type_view c.args.declared.now) c.args.table.now.entries c.requires (subst (λ ps. HasRound ps → ⊥) (c.deref.ensures.value ∙ c.in_ok-parents.ensures) none)
-
-pub forest_spans-requires-clause-some : goal.forest_spans-requires-clause-some
-forest_spans-requires-clause-some g c =
-    omega (arith, ap length (c.deref.ensures.value ∙ c.in_ok-parents.ensures), below c.args.table.now.entries 0 root c.requires.1.first)
-
-pub returns-in-Some-clause-spans : goal.returns-in-Some-clause-spans
-returns-in-Some-clause-spans g c =
     let spans = rw c.in-Some.is at c.in_ok-spans.ensures.spans in
-    subst (λ ps. AreSpans ps c.in-Some.spans.items) (c.deref.ensures.value ∙ c.in_ok-parents.ensures) spans
+    record {
+      spans = subst (λ ps. AreSpans ps c.in-Some.spans.items) same spans;
+      cycle = no_cycle (map type_view c.args.declared.now) c.args.table.now.entries c.requires (subst (λ ps. HasRound ps → ⊥) same none);
+    }
 
-pub first_cycle-requires-clause-table : goal.first_cycle-requires-clause-table
-first_cycle-requires-clause-table g c = c.requires
-
-pub first_cycle-requires-clause-parents : goal.first_cycle-requires-clause-parents
-first_cycle-requires-clause-parents g c = c.deref-in-None.ensures.value ∙ c.in_ok-parents.ensures
-
-pub first_cycle-requires-clause-round : goal.first_cycle-requires-clause-round
-first_cycle-requires-clause-round g c = subst HasRound (c.deref.ensures.value ∙ sym c.deref-in-None.ensures.value) (c.in_ok-spans.ensures.round c.in-None.is)
+pub first_cycle-requires : goal.first_cycle-requires
+first_cycle-requires g c =
+    record { table = c.requires; parents = c.deref-in-None.ensures.value ∙ c.in_ok-parents.ensures; round = subst HasRound (c.deref.ensures.value ∙ sym c.deref-in-None.ensures.value) (c.in_ok-spans.ensures.round c.in-None.is) }
