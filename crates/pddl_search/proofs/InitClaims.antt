@@ -113,32 +113,27 @@ told_first : (kind : Claimed) (q : GroundValue) (o : Option ℕ) (seen : List In
 told_first kind q None [] told = refl
 told_first kind q (Some u) [] told = absurd (true≢false (sym (unequal_yes (suc u) u (λ e. omega (arith, e))) ∙ sym (told (suc u))))
 told_first kind q o (x ∷ seen) told =
-    claimed (claim_in kind x) (λ v. list_any (λ j. disagree (Some (q, v)) (claim_in kind j)) seen) (filter_map (claim_in kind) seen) (told_first kind q o seen) told
+    let later = λ (v : ℕ). list_any (λ j. disagree (Some (q, v)) (claim_in kind j)) seen in
+    let found = lookup (same_ground q) (filter_map (claim_in kind) seen) in
+    elim (claim_in kind x) as (λ c. ((v : ℕ) → disagree (Some (q, v)) c || later v ≡ at_odds o v) → o ≡ lookup (same_ground q) (cons_option c (filter_map (claim_in kind) seen))) [
+      | None ↦ told_first kind q o seen
+      | Some d ↦ elim (same_ground q d.0) as (λ b. ((v : ℕ) → (b && unequal v d.1) || later v ≡ at_odds o v) → o ≡ cond b (Some d.1) found) [ true ↦ first_told o d.1 later | false ↦ told_first kind q o seen ]
+    ] told
   where
-    agreed : (p : Option ℕ) (n : ℕ) (later : ℕ → Bool) → ((v : ℕ) → unequal v n || later v ≡ at_odds p v) → p ≡ Some n
-    agreed None n later k = absurd (true≢false (sym (or_left (unequal (suc n) n) (later (suc n)) (unequal_yes (suc n) n (λ e. omega (arith, e)))) ∙ k (suc n) ∙ unequal_own (suc n)))
-    agreed (Some u) n later k = ap Some (unequal_is u n (none_left (unequal u n) (later u) (k u ∙ unequal_own u)))
-
-    joined : (b : Bool) (n : ℕ) (later : ℕ → Bool) (found : Option ℕ) → (((v : ℕ) → later v ≡ at_odds o v) → o ≡ found)
-        → ((v : ℕ) → (b && unequal v n) || later v ≡ at_odds o v) → o ≡ cond b (Some n) found
-    joined true n later found rest k = agreed o n later k
-    joined false n later found rest k = rest k
-
-    claimed : (c : Option (GroundValue × ℕ)) (later : ℕ → Bool) (cs : List (GroundValue × ℕ)) → (((v : ℕ) → later v ≡ at_odds o v) → o ≡ lookup (same_ground q) cs)
-        → ((v : ℕ) → disagree (Some (q, v)) c || later v ≡ at_odds o v) → o ≡ lookup (same_ground q) (cons_option c cs)
-    claimed None later cs rest k = rest k
-    claimed (Some d) later cs rest k = joined (same_ground q d.0) d.1 later (lookup (same_ground q) cs) rest k
+    first_told : (p : Option ℕ) (n : ℕ) (more : ℕ → Bool) → ((v : ℕ) → unequal v n || more v ≡ at_odds p v) → p ≡ Some n
+    first_told None n more k = absurd (true≢false (sym (or_left (unequal (suc n) n) (more (suc n)) (unequal_yes (suc n) n (λ e. omega (arith, e)))) ∙ k (suc n) ∙ unequal_own (suc n)))
+    first_told (Some u) n more k = ap Some (unequal_is u n (none_left (unequal u n) (more u) (k u ∙ unequal_own u)))
 
 -- In front of item i, a table tells what was claimed so far, and the words of the whole are those of what is left.
 pub record Checked {X : Type 0} (view : X → InitValue) (kind : Claimed) (xs : List X) (i : ℕ) (es : List (GroundValue × ℕ)) : Type 0 where
   pub told : TellsClaims kind es (seen_at view [] xs i)
   pub rest : AreLeft view init_name (wrong_in kind) [] xs i
 
-module _ {X : Type 0} (view : X → InitValue) (kind : Claimed) (xs : List X) where
+module _ {X : Type 0} {view : X → InitValue} {kind : Claimed} {xs : List X} where
   pub checked_start : (es : List (GroundValue × ℕ)) → es ≡ [] → Checked view kind xs 0 es
   checked_start es empty = record { told = λ k v. sym (ap (λ ds. at_odds (told_by ds k) v) empty ∙ unequal_own v); rest = refl }
 
-  module _ (i : ℕ) (x : X) (es : List (GroundValue × ℕ)) (h : i < length xs) (at : x ≡ get_or xs i x) (l : Checked view kind xs i es) where
+  module _ {i : ℕ} {x : X} {es : List (GroundValue × ℕ)} (h : i < length xs) (at : x ≡ get_or xs i x) (l : Checked view kind xs i es) where
     abbrev so_far : List InitValue
     so_far = seen_at view [] xs i
 
@@ -153,7 +148,7 @@ module _ {X : Type 0} (view : X → InitValue) (kind : Claimed) (xs : List X) wh
         (wrong_none kind so_far (view x) none ∙ none_of (clash_in kind (view x)) so_far (λ j c. clash_is kind (view x) j ∙ ap (λ d. disagree d (claim_in kind j)) none))
 
     -- one that claims a number of a key, where the table says the same or another one
-    module _ (k : GroundValue) (v before : ℕ) (claims : claim_in kind (view x) ≡ Some (k, v)) (before_is : before ≡ unwrap_or (told_by es k) v) where
+    module _ {k : GroundValue} {v before : ℕ} (claims : claim_in kind (view x) ≡ Some (k, v)) (before_is : before ≡ unwrap_or (told_by es k) v) where
       wrong_here : wrong_in kind so_far (view x) ≡ unequal v before || starts_above_zero (view x)
       wrong_here =
           wrong_is kind so_far (view x) (k, v) claims
@@ -170,8 +165,8 @@ module _ {X : Type 0} (view : X → InitValue) (kind : Claimed) (xs : List X) wh
           (wrong_here ∙ fine)
 
   -- all have been looked at
-  pub all_checked : (i : ℕ) (es : List (GroundValue × ℕ)) → length xs ≤ i → Checked view kind xs i es → HoldsClaims kind (map view xs) es
-  all_checked i es past l = λ q. told_first kind q (told_by es q) (map view xs) (λ v. subst (λ ys. TellsClaims kind es (map view ys)) (take_all i xs past) l.told q v)
+  pub all_checked : {i : ℕ} {es : List (GroundValue × ℕ)} → length xs ≤ i → Checked view kind xs i es → HoldsClaims kind (map view xs) es
+  all_checked {i = i} {es = es} past l = λ q. told_first kind q (told_by es q) (map view xs) (λ v. subst (λ ys. TellsClaims kind es (map view ys)) (take_all i xs past) l.told q v)
 
 -- ---- where no atom fails, none holds and fails
 
