@@ -178,8 +178,7 @@ listed_start before xs es are =
     let nothing : seen_at typed_view before xs 0 ≡ before = append-none before in
     record { listed = subst (λ seen. AreFirsts seen es) (sym nothing) are; rest = ap (λ seen. retyped seen (map typed_view xs)) nothing }
 
-module _ {A : Type 0} (before : List TypedValue) (xs : List (Typed A)) (i : ℕ) (x : Typed A) (es : List TypedValue)
-    (h : i < length xs) (at : x ≡ get_or xs i x) (l : ListedUpTo before xs i es) where
+module _ {A : Type 0} {before : List TypedValue} {xs : List (Typed A)} {i : ℕ} {x : Typed A} {es : List TypedValue} (h : i < length xs) (at : x ≡ get_or xs i x) (l : ListedUpTo before xs i es) where
   -- one of another type
   pub listed_twice : has_other_type es (typed_view x) ≡ true → Contains (retyped before (map typed_view xs)) x.name
   listed_twice odds = seen_bad typed_view item_of has_other_type before xs i x h at l.rest (odds_seen (seen_at typed_view before xs i) es (typed_view x) l.listed odds)
@@ -194,9 +193,8 @@ module _ {A : Type 0} (before : List TypedValue) (xs : List (Typed A)) (i : ℕ)
       }
 
 -- all of them
-pub listed_all : {A : Type 0} (before : List TypedValue) (xs : List (Typed A)) (i : ℕ) (es : List TypedValue) → length xs ≤ i → ListedUpTo before xs i es
-    → (retyped before (map typed_view xs) ≡ []) × AreFirsts (before ++ map typed_view xs) es
-listed_all before xs i es past l = (
+pub listed_all : {A : Type 0} {before : List TypedValue} {xs : List (Typed A)} {i : ℕ} {es : List TypedValue} → length xs ≤ i → ListedUpTo before xs i es → (retyped before (map typed_view xs) ≡ []) × AreFirsts (before ++ map typed_view xs) es
+listed_all {before = before} {xs} {i} {es} past l = (
   sym l.rest ∙ ap (λ ys. retyped (seen_at typed_view before xs i) (map typed_view ys)) (drop_all i xs past),
   subst (λ ys. AreFirsts (before ++ map typed_view ys) es) (take_all i xs past) l.listed,
 )

@@ -1,5 +1,5 @@
 -- The faults that are looked for in parts are those that the rules of linking name.
-use Rattle.std.proofs.Common.{◌≡◌, ℕ, ◌+◌, true, List, [], ◌∷◌, ◌++◌, map, take, drop, get_or, refl, sym, ap₂, ◌∙◌, subst, append-nil, inl, inr, bytes_eq}
+use Rattle.std.proofs.Common.{◌≡◌, ℕ, ◌+◌, true, List, [], ◌∷◌, ◌++◌, map, take, drop, get_or, refl, sym, ap₂, ◌∙◌, append-nil, inl, inr}
 use Rattle.std.specs.Prelude.{Contains}
 use Rattle.std.specs.List.{list_all, flat_map}
 use Rattle.std.proofs.lemmas.List.{map-append}
@@ -14,7 +14,9 @@ use Rattle.pddl_task.specs.Places.{Place, action_places, domain_places, problem_
 use Rattle.pddl_task.specs.Settings.{symbol_of, parameters_of, function_signatures, Setting, in_domain, in_problem}
 use Rattle.pddl_task.specs.Faults.{domain_names, types_twice, retyped, variables_at, repeated_at, repeated_in_actions, type_cycles, object_types, unknown_at, arity_at, misfit_at, fraction_at, contradictions, cost_values, object_fluents, other_metrics, large_goals}
 use Rattle.pddl_task.specs.Linked.{domain_fault, fault_in}
-use Rattle.pddl_task.proofs.Lists.{has_none, or_cases, and_left, and_right, bytes_same}
+use Rattle.pddl_task.proofs.Lists.{has_none, and_left, and_right}
+use Rattle.pddl_task.proofs.LinkedTasks.{in_flat}
+use Rattle.pddl_types.proofs.TypeParents.{in_has}
 use Rattle.pddl_faults.specs.Found.{numbered}
 use Rattle.pddl_faults.proofs.FoundFaults.{standing}
 use Rattle.pddl_names.specs.FaultParts.{joined, action_faults, domain_parts, problem_parts, domain_uses, problem_uses, first_rules, name_rules, use_rules}
@@ -93,21 +95,12 @@ found_are ws none = refl
 found_are ws (the c) = sym (append-nil (piece ws c))
 found_are ws (s ⊕ t) = ap₂ ◌++◌ (found_are ws s) (found_are ws t) ∙ sym (flat_map-append (piece ws) (pieces s) (pieces t))
 
--- what is in one of some pieces is in all of them
-in_pieces : (ws : List (List Name)) (ks : List Name) (k : Name) (f : ℕ × Name) → is_in ks k ≡ true → Contains (piece ws k) f → Contains (flat_map (piece ws) ks) f
-in_pieces ws [] k f h c = cc
-in_pieces ws (j ∷ ks) k f h c =
-    elim (or_cases (bytes_eq k j) (is_in ks k) h) as (λ _. Contains (flat_map (piece ws) (j ∷ ks)) f) [
-      | inl here ↦ Contains-append_left (piece ws j) (flat_map (piece ws) ks) f (subst (λ m. Contains (piece ws m) f) (bytes_same k j here) c)
-      | inr there ↦ Contains-append_right (piece ws j) (flat_map (piece ws) ks) f (in_pieces ws ks k f there c)
-    ]
-
 -- what is in some pieces is in others that these are among
 within : (ws : List (List Name)) (js ks : List Name) → list_all (is_in ks) js ≡ true → (f : ℕ × Name) → Contains (flat_map (piece ws) js) f → Contains (flat_map (piece ws) ks) f
 within ws [] ks h f c = absurd (has_none f c)
 within ws (j ∷ js) ks h f c =
     elim (Contains-append_cases (piece ws j) (flat_map (piece ws) js) f c) as (λ _. Contains (flat_map (piece ws) ks) f) [
-      | inl here ↦ in_pieces ws ks j f (and_left (is_in ks j) (list_all (is_in ks) js) h) here
+      | inl here ↦ in_flat (piece ws) ks j f (in_has ks j (and_left (is_in ks j) (list_all (is_in ks) js) h)) here
       | inr there ↦ within ws js ks (and_right (is_in ks j) (list_all (is_in ks) js) h) f there
     ]
 

@@ -18,7 +18,7 @@ use Rattle.pddl_task.specs.Types.{pairs, fits}
 use Rattle.pddl_task.proofs.Lists.{at_place, some_at}
 use Rattle.pddl_search.specs.declared.scope.Scope.{Scope, Empty, Inside'}
 use Rattle.pddl_search.specs.Scopes.{AllNumbered, IsInScope}
-use Rattle.pddl_search.proofs.BoundTypes.{IsNumberedIn, numbered_in_scope}
+use Rattle.pddl_search.proofs.BoundTypes.{numbered_in_scope}
 use Rattle.pddl_types.specs.TypeSpans.{TypesValue, IsTold, IsToldOf, are_types}
 use Rattle.pddl_types.specs.ToldTops.{IsToldAt, AreToldAt}
 use Rattle.pddl_names.specs.Uses.{UsesValue, AreSlots, IsSlotAt, TellsFit, fit_of}
@@ -38,15 +38,13 @@ bound_some scope None (Some n) in_it = absurd (none_in_scope scope n in_it)
 bound_some scope (Some x) (Some n) in_it = refl
 
 module _ (t : TypesValue) (told : List (List Span)) where
-  told_there : (x : TypedValue) (number : ℕ) → IsNumberedIn (AreToldAt t told) x number → IsToldAt t told x.of number
-  told_there x number is =
-      let low : is.place < length is.numbers = omega (arith, slice_get_within is.list is.place x is.stands, is.are.many) in
-      subst (IsToldAt t told x.of) is.here (is.are.each is.place (slice_index_or is.numbers is.place 0) x is.stands (slice_get-get_or is.numbers is.place 0 low))
+  told_there : (list : List TypedValue) (numbers : List ℕ) (i : ℕ) (x : TypedValue) → AreToldAt t told list numbers → slice_get list i ≡ Some x → IsToldAt t told x.of (slice_index_or numbers i 0)
+  told_there list numbers i x are at = are.each i (slice_index_or numbers i 0) x at (slice_get-get_or numbers i 0 (omega (arith, slice_get_within list i x at, are.many)))
 
   module _ {A B : Type 0} (scope : Scope A B) (number : ℕ) (all : ∥ AllNumbered (AreToldAt t told) scope ∥₁) where
     -- its type is told at its number
     pub variable_told : (x : TypedValue) → IsInScope scope (Some x) number → IsToldAt t told x.of number
-    variable_told x in_it = ∥∥₁_elim all (hlevel (Bool-set, le_prop)) (λ each. told_there x number (numbered_in_scope (AreToldAt t told) scope (Some x) x number each in_it refl))
+    variable_told x in_it = ∥∥₁_elim all (hlevel (Bool-set, le_prop)) (λ each. numbered_in_scope (AreToldAt t told) (λ y. IsToldAt t told y.of) told_there scope x number each in_it)
 
     pub variable_low : (found : Option TypedValue) → IsInScope scope found number → number < length told
     variable_low None in_it = absurd (none_in_scope scope number in_it)

@@ -20,9 +20,6 @@ unknown-append ts xs ys =
     ap (filter (λ t. not (is_in (types_of ts) t))) (flat_map-append primitives_of xs ys)
     ∙ filter-append (λ t. not (is_in (types_of ts) t)) (flat_map primitives_of xs) (flat_map primitives_of ys)
 
-regroup : (a b c e : List TypedValue) → a ++ b ++ c ++ e ≡ a ++ (b ++ (c ++ e))
-regroup a b c e = append_assoc (a ++ b) c e ∙ append_assoc a b (c ++ e)
-
 -- the types of the variables of places
 pub unknown-places : (ts : List TypeValue) (pls : List Place) → unknown_among ts (flat_map variables_at pls) ≡ flat_map (λ pl. unknown_among ts (variables_at pl)) pls
 unknown-places ts [] = refl
@@ -32,14 +29,7 @@ unknown-places ts (pl ∷ pls) = unknown-append ts (variables_at pl) (flat_map v
 pub unknown-domain : (ts : List TypeValue) (d : DomainValue)
     → unknown_among ts (domain_typed d) ≡ unknown_among ts d.constants ++ (unknown_among ts (flat_map parameters_of d.predicates)
     ++ (unknown_among ts (flat_map parameters_of (function_signatures d)) ++ flat_map (λ pl. unknown_among ts (variables_at pl)) (domain_places d)))
-unknown-domain ts d =
-    let a = d.constants in
-    let b = flat_map parameters_of d.predicates in
-    let c = flat_map parameters_of (function_signatures d) in
-    let e = flat_map variables_at (domain_places d) in
-    ap (unknown_among ts) (regroup a b c e)
-    ∙ unknown-append ts a (b ++ (c ++ e)) ∙ ap (λ ws. unknown_among ts a ++ ws) (unknown-append ts b (c ++ e)
-    ∙ ap (λ ws. unknown_among ts b ++ ws) (unknown-append ts c e ∙ ap (λ ws. unknown_among ts c ++ ws) (unknown-places ts (domain_places d))))
+unknown-domain ts d = simp (append_assoc, flat_map-append, filter-append, unknown-places ts)
 
 -- a problem's parts
 pub unknown-problem : (ts : List TypeValue) (p : ProblemValue)

@@ -1,5 +1,5 @@
 -- Variables that are bound, the innermost first, their places by name, and the numbers of their types.
-use Rattle.std.proofs.Common.{◌≡◌, ℕ, ◌+◌, ◌<◌, Bool, true, false, ◌||◌, cond, List, [], ◌∷◌, ◌++◌, map, length, get_or, take, Option, Some, None, refl, ap, sym, ◌∙◌, bytes_eq, ◌⊎◌, inl, inr}
+use Rattle.std.proofs.Common.{◌≡◌, ℕ, ◌+◌, ◌<◌, Bool, true, false, ◌||◌, cond, List, [], ◌∷◌, ◌++◌, map, length, get_or, take, Option, Some, None, refl, ap, sym, ◌∙◌, subst, bytes_eq, ◌⊎◌, inl, inr}
 use Rattle.std.specs.Prelude.{is_some, find, option_map, slice_get, MatchOption}
 use Rattle.std.specs.Borrow.{Bor}
 use Rattle.std.specs.List.{slice_index_or}
@@ -88,21 +88,13 @@ module _ {before after : List TypedValue → List ℕ → Type 0} {found now : P
       → ∥ after bound.list bound.numbers × AllNumbered after scope ∥₁
   kept_inside scope bound kept are all = ∥∥₁_map all (λ outer. (are, numbered_still before after scope kept.0 outer))
 
--- a variable in scope is one of a list whose types have these numbers
-pub record IsNumberedIn (are_numbers : List TypedValue → List ℕ → Type 0) (x : TypedValue) (number : ℕ) : Type 0 where
-  pub list : List TypedValue
-  pub numbers : List ℕ
-  pub place : ℕ
-  pub are : are_numbers list numbers
-  pub stands : slice_get list place ≡ Some x
-  pub here : slice_index_or numbers place 0 ≡ number
-
-pub numbered_in_scope : {A B : Type 0} (are_numbers : List TypedValue → List ℕ → Type 0) (scope : Scope A B) (found : Option TypedValue) (x : TypedValue) (number : ℕ)
-    → AllNumbered are_numbers scope → IsInScope scope found number → found ≡ Some x → IsNumberedIn are_numbers x number
-numbered_in_scope are_numbers Empty found x number all in_it is = absurd in_it
-numbered_in_scope are_numbers (Inside' xs p outer) found x number all (inl one) is =
-    record { list = xs.now.list; numbers = xs.now.numbers; place = one.0; are = all.0; stands = one.2 ∙ sym one.3 ∙ is; here = one.4 }
-numbered_in_scope are_numbers (Inside' xs p outer) found x number all (inr further) is = numbered_in_scope are_numbers outer found x number all.1 further is
+-- what holds of each variable of a list and the number of its type holds of one in scope
+pub numbered_in_scope : {A B : Type 0} (are_numbers : List TypedValue → List ℕ → Type 0) (Holds : TypedValue → ℕ → Type 0)
+    → ((list : List TypedValue) (numbers : List ℕ) (i : ℕ) (x : TypedValue) → are_numbers list numbers → slice_get list i ≡ Some x → Holds x (slice_index_or numbers i 0))
+    → (scope : Scope A B) (x : TypedValue) (number : ℕ) → AllNumbered are_numbers scope → IsInScope scope (Some x) number → Holds x number
+numbered_in_scope are_numbers Holds each Empty x number all in_it = absurd in_it
+numbered_in_scope are_numbers Holds each (Inside' xs p outer) x number all (inl one) = subst (Holds x) one.4 (each xs.now.list xs.now.numbers one.0 x all.0 (one.2 ∙ sym one.3))
+numbered_in_scope are_numbers Holds each (Inside' xs p outer) x number all (inr further) = numbered_in_scope are_numbers Holds each outer x number all.1 further
 
 -- ---- whether a variable is bound
 

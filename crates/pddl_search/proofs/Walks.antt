@@ -13,15 +13,10 @@ use Rattle.pddl_faults.proofs.ListTurns.{rest_is}
 use Rattle.pddl_search.specs.Scopes.{IsKept}
 use Rattle.pddl_search.proofs.BoundTypes.{kept_then}
 
-module _ {S : Type 0} (are_numbers : S → List TypedValue → List ℕ → Type 0) (found : S → Place → List (ℕ × Name)) where
-  -- from one search to another, numbers of types stay, and so do the faults that are looked for
-  abbrev pub IsKeptFrom : S → S → Type 0
-  IsKeptFrom before after = IsKept (are_numbers before) (are_numbers after) (found before) (found after)
-
 -- a search that began so has come to an item of a list, of which these are the places
 pub record HasComeTo {S X : Type 0} (are_numbers : S → List TypedValue → List ℕ → Type 0) (found : S → Place → List (ℕ × Name)) (places : List X → List Place) (start now : S) (xs : List X) (i : ℕ)
     (r : Result (Unit {0}) LinkFault) : Type 0 where
-  pub kept : IsKeptFrom are_numbers found start now
+  pub kept : IsKept (are_numbers start) (are_numbers now) (found start) (found now)
   pub so_far : IsFoundUpTo (flat_map (found start) (places (drop i xs))) (flat_map (found start) (places xs)) r
 
 module _ {S X : Type 0} {are_numbers : S → List TypedValue → List ℕ → Type 0} {found : S → Place → List (ℕ × Name)} {places : List X → List Place} {start : S} {xs : List X} where
@@ -30,7 +25,7 @@ module _ {S X : Type 0} {are_numbers : S → List TypedValue → List ℕ → Ty
 
   -- the next item
   pub one_more : {now next : S} {i : ℕ} {r both : Result (Unit {0}) LinkFault} (own : List Place) (items : List X) (x : X) (one : Result (Unit {0}) LinkFault) → items ≡ xs → i < length items → x ≡ get_or items i x
-      → ((rest : List X) → places (x ∷ rest) ≡ own ++ places rest) → HasComeTo are_numbers found places start now xs i r → IsKeptFrom are_numbers found now next
+      → ((rest : List X) → places (x ∷ rest) ≡ own ++ places rest) → HasComeTo are_numbers found places start now xs i r → IsKept (are_numbers now) (are_numbers next) (found now) (found next)
       → IsFound (flat_map (found now) own) one → ((vs ws : List (ℕ × Name)) → IsFound vs r → IsFound ws one → IsFound (vs ++ ws) both) → HasComeTo are_numbers found places start next xs (i + 1) both
   one_more {i = i} own items x one same low is front l kept here lower =
       let w = found start in

@@ -1,8 +1,6 @@
-use Rattle.std.proofs.Common.{◌<◌, ◌≤◌, ◌≡◌, Some, length, get_or, slice_get, map, refl, sym, ap, ◌∙◌, subst, arith}
-use Rattle.std.specs.Prelude.{Contains}
+use Rattle.std.proofs.Common.{◌<◌, ◌≡◌, Some, length, get_or, slice_get, map, refl, sym, ap, ◌∙◌, subst, arith}
 use Rattle.std.specs.HashSet.{HashSet}
 use Rattle.pddl_formula.specs.TypedLists.{typed_view}
-use Rattle.pddl_task.specs.Faults.{retyped}
 use Rattle.pddl_types.specs.KnownNames.{object_in}
 use Rattle.pddl_search.proofs.BoundTypes.{viewed_at}
 use Rattle.pddl_names.proofs.MetTypes.{type_of_number}
@@ -26,9 +24,7 @@ loop-number-preserved g c =
     let at : x ≡ get_or xs l.number x = c.index-deref-number.is ∙ ap (λ ys. get_or ys l.number x) c.deref.ensures.value in
     let here = c.in_ok-group.ensures.group (typed_view x) (viewed_at typed_view xs l.number x low at) in
     record {
-      lists = λ before are.
-          listed_more before xs l.number x (map object_in l.listed.objects.entries) low at (l.invariant.lists before are) (map object_in c.list_object.new.listed.objects.entries)
-          (c.in_ok-list_object.ensures.right c.if-not-branch.false);
+      lists = λ before are. listed_more low at (l.invariant.lists before are) (map object_in c.list_object.new.listed.objects.entries) (c.in_ok-list_object.ensures.right c.if-not-branch.false);
       typed = c.in_ok-list_object.ensures.typed c.args.types.now (record { spans = l.invariant.typed.spans; numbers = c.in_ok-group.ensures.met (map object_in l.listed.objects.entries) l.invariant.typed.numbers }) here.0 c.if-not-branch.false;
       constants = c.list_object.ensures.constants ∙ l.invariant.constants;
       last = λ j y next there.
@@ -50,20 +46,11 @@ returns-then-not-branch-clause-passes g c = λ before are.
     let xs = c.args.objects.now.items in
     let x = c.index-deref-number.result in
     let low : l.number < length xs = omega (arith, c.loop-number-test.true, c.len-number-end.ensures) in
-    let at : x ≡ get_or xs l.number x = c.index-deref-number.is ∙ ap (λ ys. get_or ys l.number x) c.deref.ensures.value in (
-      refl,
-      subst (λ n. Contains (retyped before (map typed_view xs)) n) (sym c.as_bytes.ensures.value)
-          (listed_twice before xs l.number x (map object_in l.listed.objects.entries) low at (l.invariant.lists before are) (c.in_ok-list_object.ensures.wrong c.if-not-branch.true)),
-    )
+    let at : x ≡ get_or xs l.number x = c.index-deref-number.is ∙ ap (λ ys. get_or ys l.number x) c.deref.ensures.value in
+    (refl, rw c.as_bytes.ensures.value (listed_twice low at (l.invariant.lists before are) (c.in_ok-list_object.ensures.wrong c.if-not-branch.true)))
 
 pub returns-clause-passes : goal.returns-clause-passes
-returns-clause-passes g c = λ before are.
-    let l = c.loop-number in
-    let past : length c.args.objects.now.items ≤ l.number = omega (arith, c.loop-number-test.false, c.len-number-end.ensures) in
-    (listed_all before c.args.objects.now.items l.number (map object_in l.listed.objects.entries) past (l.invariant.lists before are)).0
+returns-clause-passes g c = λ before are. (listed_all (omega (arith, c.loop-number-test.false, c.len-number-end.ensures)) (c.loop-number.invariant.lists before are)).0
 
 pub returns-clause-lists : goal.returns-clause-lists
-returns-clause-lists g c = λ before are.
-    let l = c.loop-number in
-    let past : length c.args.objects.now.items ≤ l.number = omega (arith, c.loop-number-test.false, c.len-number-end.ensures) in
-    (listed_all before c.args.objects.now.items l.number (map object_in l.listed.objects.entries) past (l.invariant.lists before are)).1
+returns-clause-lists g c = λ before are. (listed_all (omega (arith, c.loop-number-test.false, c.len-number-end.ensures)) (c.loop-number.invariant.lists before are)).1

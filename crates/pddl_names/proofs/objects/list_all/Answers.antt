@@ -1,12 +1,8 @@
-use Rattle.std.proofs.Common.{◌≡◌, [], ◌++◌, map, length, refl, ap, sym, ◌∙◌}
-use Rattle.std.specs.Prelude.{OnOk}
+use Rattle.std.proofs.Common.{◌≡◌, [], map, length, refl, ap, sym, ◌∙◌}
 use Rattle.std.proofs.lemmas.List.{length-map}
-use Rattle.pddl_formula.specs.TypedLists.{typed_view}
 use Rattle.pddl_domain.specs.Domains.{domain_view}
 use Rattle.pddl_problem.specs.Problems.{problem_view}
-use Rattle.pddl_task.specs.Faults.{retyped}
 use Rattle.pddl_types.specs.KnownNames.{object_in}
-use Rattle.pddl_faults.specs.Passes.{Passes}
 use Rattle.pddl_faults.proofs.PassedParts.{pass_front, pass_back}
 use Rattle.pddl_names.specs.ObjectTables.{AreAllListed}
 use Rattle.pddl_names.proofs.FoundParts.{both_kept}
@@ -16,14 +12,10 @@ use Rattle.pddl_names.proofs.objects.list_all.Goals as goal
 
 pub returns-clause-passes : goal.returns-clause-passes
 returns-clause-passes g c =
-    let constants = map typed_view c.args.domain.now.constants.items in
-    let objects = map typed_view c.args.problem.now.objects.items in
-    let both = retyped [] constants ++ retyped constants objects in
     let none = none_listed (map object_in c.args.listed.now.objects.entries) (ap (map object_in) c.requires.0) in
-    elim c.match-add_objects.branch as (λ _. Passes 24 both c.match-add_objects.added) [
-      | in-Ok w ↦ rw w.added-is
-          (pass_back 24 (retyped [] constants) (retyped constants objects) both w.add_objects-added.result refl (w.in-Ok.ensures.passes [] none) (w.add_objects-added.ensures.passes constants (w.in-Ok.ensures.lists [] none)))
-      | in-Err w ↦ rw w.added-is (pass_front 24 (retyped [] constants) (retyped constants objects) both w.in-Err.fault refl (w.in-Err.ensures.passes [] none))
+    elim c.match-add_objects.branch [
+      | in-Ok w ↦ rw w.added-is (pass_back 24 _ _ _ w.add_objects-added.result refl (w.in-Ok.ensures.passes [] none) (w.add_objects-added.ensures.passes _ (w.in-Ok.ensures.lists [] none)))
+      | in-Err w ↦ rw w.added-is (pass_front 24 _ _ _ w.in-Err.fault refl (w.in-Err.ensures.passes [] none))
     ]
 
 pub returns-clause-listed : goal.returns-clause-listed
@@ -32,7 +24,7 @@ returns-clause-listed g c =
     let p = problem_view c.args.problem.now in
     let t = c.args.types.now in
     let none = none_listed (map object_in c.args.listed.now.objects.entries) (ap (map object_in) c.requires.0) in
-    elim c.match-add_objects.branch as (λ _. OnOk c.match-add_objects.added (AreAllListed d p t c.match-add_objects.listed)) [
+    elim c.match-add_objects.branch [
       | in-Ok w ↦
           let entries = c.add_objects.new.listed.objects.entries in
           let all = w.add_objects-added.new.listed in

@@ -1,4 +1,4 @@
-use Rattle.std.proofs.Common.{◌≡◌, ◌==◌, List, map, sym, ◌∙◌, subst, arith}
+use Rattle.std.proofs.Common.{◌≡◌, ◌==◌, List, map, sym, ◌∙◌, subst, arith, rules}
 use Rattle.pddl_formula.specs.TypedLists.{TypedValue, typed_view}
 use Rattle.pddl_task.specs.Names.{Name}
 use Rattle.pddl_types.specs.KnownNames.{AreNamed, object_in}
@@ -18,35 +18,25 @@ index-requires g c =
     (sym c.in_ok-number.ensures.old ∙ c.in-Some.is) c.in_ok-number.ensures.index in
     omega (arith, known.0, c.args.met.now.of_objects.ok.0)
 
-pub returns-in-Some-clause-wrong : goal.returns-in-Some-clause-wrong
-returns-in-Some-clause-wrong g c =
+pub returns-in-Some : goal.returns-in-Some
+returns-in-Some g c =
     let es = c.args.listed.now.objects.entries in
     let there = sym c.in_ok-number.ensures.old ∙ c.in-Some.is in
     let known = known_number es c.args.met.now c.as_bytes.result.now c.in-Some._before c.in_ok-number.number c.requires.met there c.in_ok-number.ensures.index in
-    odds_there c.as_bytes.result c.args.object c.as_bytes.ensures.value es c.insert_full.new.self.entries c.in_ok-number.ensures.entries c.in-Some._before there
-    (c.index.result.now == c.args.group.number) (known.1 c.index.result.now c.args.group.number c.args.object.now.types c.index.ensures c.requires.group)
-
-pub returns-in-Some-clause-right : goal.returns-in-Some-clause-right
-returns-in-Some-clause-right g c = λ right.
-    let es = c.args.listed.now.objects.entries in
-    let there = sym c.in_ok-number.ensures.old ∙ c.in-Some.is in
-    let known = known_number es c.args.met.now c.as_bytes.result.now c.in-Some._before c.in_ok-number.number c.requires.met there c.in_ok-number.ensures.index in
-    (put_there c.as_bytes.result c.args.object c.as_bytes.ensures.value es c.insert_full.new.self.entries c.in_ok-number.ensures.entries c.in-Some._before there
-    (c.index.result.now == c.args.group.number) (known.1 c.index.result.now c.args.group.number c.args.object.now.types c.index.ensures c.requires.group) right).1
-
-pub returns-in-Some-clause-typed : goal.returns-in-Some-clause-typed
-returns-in-Some-clause-typed g c = λ t typed only right.
-    let es = c.args.listed.now.objects.entries in
-    let there = sym c.in_ok-number.ensures.old ∙ c.in-Some.is in
-    let known = known_number es c.args.met.now c.as_bytes.result.now c.in-Some._before c.in_ok-number.number c.requires.met there c.in_ok-number.ensures.index in
-    let kept = (put_there c.as_bytes.result c.args.object c.as_bytes.ensures.value es c.insert_full.new.self.entries c.in_ok-number.ensures.entries c.in-Some._before there
-    (c.index.result.now == c.args.group.number) (known.1 c.index.result.now c.args.group.number c.args.object.now.types c.index.ensures c.requires.group) right).0 in
+    let same = known.1 c.index.result.now c.args.group.number c.args.object.now.types c.index.ensures c.requires.group in
+    let put = put_there c.as_bytes.result c.args.object c.as_bytes.ensures.value es c.insert_full.new.self.entries c.in_ok-number.ensures.entries c.in-Some._before there (c.index.result.now == c.args.group.number) same in
     record {
-      spans = record {
-        named = subst AreNamed (sym c.in_ok-number.ensures.entries) (named_inserted c.as_bytes.result c.args.object c.as_bytes.ensures.value es typed.spans.named);
-        spans = subst (λ os. HaveEach (IsOnlySpan t) os c.args.listed.now.spans.items) (sym kept) typed.spans.spans;
+      wrong = odds_there c.as_bytes.result c.args.object c.as_bytes.ensures.value es c.insert_full.new.self.entries c.in_ok-number.ensures.entries c.in-Some._before there (c.index.result.now == c.args.group.number) same;
+      right = λ right. (put right).1;
+      typed = λ t typed only right. record {
+        spans = record {
+          named = subst AreNamed (sym c.in_ok-number.ensures.entries) (named_inserted c.as_bytes.result c.args.object c.as_bytes.ensures.value es typed.spans.named);
+          spans = subst (λ os. HaveEach (IsOnlySpan t) os c.args.listed.now.spans.items) (sym (put right).0) typed.spans.spans;
+        };
+        numbers = subst (λ os. AreMet os c.args.met.now) (sym (put right).0) typed.numbers;
       };
-      numbers = subst (λ os. AreMet os c.args.met.now) (sym kept) typed.numbers;
+      kept = search rules;
+      constants = search rules;
     }
 
 pub returns-in_ok-push-in-None-2-clause-right : goal.returns-in_ok-push-in-None-2-clause-right

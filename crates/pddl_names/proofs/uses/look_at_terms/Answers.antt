@@ -1,58 +1,30 @@
 use Rattle.std.proofs.Common.{◌≡◌, false, true, not, ◌==◌, length, map, Ok, Err, refl, ap, ◌∙◌, arith}
-use Rattle.std.specs.List.{flat_map}
 use Rattle.std.proofs.lemmas.Grind.{common_steps}
 use Rattle.std.proofs.lemmas.List.{length-map}
 use Rattle.std.proofs.lemmas.Result.{err_from_is_err_and}
 use Rattle.pddl_formula.specs.TypedLists.{typed_view}
 use Rattle.pddl_task.specs.Names.{word_if}
-use Rattle.pddl_task.specs.Faults.{unknown_term, some_misfit}
 use Rattle.pddl_faults.specs.declared.fault.LinkFault.TheVariants as link
 use Rattle.pddl_search.specs.Parts.{terms_in}
-use Rattle.pddl_search.specs.Scopes.{bound_of}
-use Rattle.pddl_names.specs.Uses.{setting_in}
 use Rattle.pddl_names.proofs.UseFaults.{first_found, second_found, third_found, has_word}
 use Rattle.pddl_names.proofs.uses.look_at_terms.Goals as goal
 
 pub returns-in_err-all_fit-clause-found : goal.returns-in_err-all_fit-clause-found
 returns-in_err-all_fit-clause-found g c =
-    let s = setting_in c.args.uses.now in
-    let b = bound_of c.args.scope.now in
-    let n = c.args.symbol.now in
-    let ts = terms_in c.args.terms.now in
-    let slots = map typed_view c.args.slots.now in
     let p = err_from_is_err_and c.from_residual.result c.from_residual.ensures.1 in
-    rw (p.1, p.2) (first_found (flat_map (unknown_term s b) ts) (word_if (not (length ts == length slots)) n) (word_if (some_misfit s b ts slots) n) c.in_err-all_fit.field-0.0 c.in_err-all_fit.ensures.passes)
+    rw (p.1, p.2) (first_found _ _ _ c.in_err-all_fit.field-0.0 c.in_err-all_fit.ensures.passes)
 
 pub returns-then-len-slots-clause-found : goal.returns-then-len-slots-clause-found
 returns-then-len-slots-clause-found g c =
-    let s = setting_in c.args.uses.now in
-    let b = bound_of c.args.scope.now in
-    let n = c.args.symbol.now in
-    let ts = terms_in c.args.terms.now in
-    let slots = map typed_view c.args.slots.now in
-    let other : (length ts == length slots) ≡ false = grind (arith, common_steps, c.len.ensures, length-map c.args.slots.now typed_view, c.if-len-slots.true) in
-    second_found (flat_map (unknown_term s b) ts) (word_if (not (length ts == length slots)) n) (word_if (some_misfit s b ts slots) n) (link.Arity c.args.symbol)
-    c.in_ok-all_fit.ensures.passes (refl, has_word (not (length ts == length slots)) n (ap not other))
+    let other : (length (terms_in c.args.terms.now) == length (map typed_view c.args.slots.now)) ≡ false = grind (arith, common_steps, c.len.ensures, length-map c.args.slots.now typed_view, c.if-len-slots.true) in
+    second_found _ _ _ (link.Arity c.args.symbol) c.in_ok-all_fit.ensures.passes (refl, has_word _ c.args.symbol.now (ap not other))
 
 pub returns-else-all_fit-clause-found : goal.returns-else-all_fit-clause-found
 returns-else-all_fit-clause-found g c =
-    let s = setting_in c.args.uses.now in
-    let b = bound_of c.args.scope.now in
-    let n = c.args.symbol.now in
-    let ts = terms_in c.args.terms.now in
-    let slots = map typed_view c.args.slots.now in
-    let same : (length ts == length slots) ≡ true = grind (arith, common_steps, c.len.ensures, length-map c.args.slots.now typed_view, c.if-len-slots.false) in
-    third_found (flat_map (unknown_term s b) ts) (word_if (not (length ts == length slots)) n) (word_if (some_misfit s b ts slots) n) (Err (link.ArgumentType c.args.symbol))
-    c.in_ok-all_fit.ensures.passes (ap (λ b. word_if (not b) n) same)
-    (refl, has_word (some_misfit s b ts slots) n (c.in_ok-all_fit.ensures.fits ∙ ap not c.if-all_fit.false))
+    let same : (length (terms_in c.args.terms.now) == length (map typed_view c.args.slots.now)) ≡ true = grind (arith, common_steps, c.len.ensures, length-map c.args.slots.now typed_view, c.if-len-slots.false) in
+    third_found _ _ _ (Err (link.ArgumentType c.args.symbol)) c.in_ok-all_fit.ensures.passes (ap (λ b. word_if (not b) c.args.symbol.now) same) (refl, has_word _ c.args.symbol.now (c.in_ok-all_fit.ensures.fits ∙ ap not c.if-all_fit.false))
 
 pub returns-then-all_fit-clause-found : goal.returns-then-all_fit-clause-found
 returns-then-all_fit-clause-found g c =
-    let s = setting_in c.args.uses.now in
-    let b = bound_of c.args.scope.now in
-    let n = c.args.symbol.now in
-    let ts = terms_in c.args.terms.now in
-    let slots = map typed_view c.args.slots.now in
-    let same : (length ts == length slots) ≡ true = grind (arith, common_steps, c.len.ensures, length-map c.args.slots.now typed_view, c.if-len-slots.false) in
-    third_found (flat_map (unknown_term s b) ts) (word_if (not (length ts == length slots)) n) (word_if (some_misfit s b ts slots) n) (Ok tt)
-    c.in_ok-all_fit.ensures.passes (ap (λ b. word_if (not b) n) same) (ap (λ misfit. word_if misfit n) (c.in_ok-all_fit.ensures.fits ∙ ap not c.if-all_fit.true))
+    let same : (length (terms_in c.args.terms.now) == length (map typed_view c.args.slots.now)) ≡ true = grind (arith, common_steps, c.len.ensures, length-map c.args.slots.now typed_view, c.if-len-slots.false) in
+    third_found _ _ _ (Ok tt) c.in_ok-all_fit.ensures.passes (ap (λ b. word_if (not b) c.args.symbol.now) same) (ap (λ misfit. word_if misfit c.args.symbol.now) (c.in_ok-all_fit.ensures.fits ∙ ap not c.if-all_fit.true))

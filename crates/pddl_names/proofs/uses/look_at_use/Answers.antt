@@ -1,8 +1,7 @@
-use Rattle.std.proofs.Common.{ℕ, ◌+◌, ◌-◌, List, [], map, refl, ap, sym, ◌∙◌}
+use Rattle.std.proofs.Common.{ℕ, ◌+◌, ◌-◌, List, [], refl, ap, sym, ◌∙◌}
 use Rattle.std.specs.Prelude.{option_map}
 use Rattle.std.specs.Borrow.{Bor}
 use Rattle.std.specs.List.{slice_index_or}
-use Rattle.pddl_formula.specs.TypedLists.{typed_view}
 use Rattle.pddl_formula.specs.declared.type_names.Typed.{Typed}
 use Rattle.pddl_faults.specs.declared.fault.LinkFault.TheVariants as link
 use Rattle.pddl_search.specs.Parts.{terms_in}
@@ -10,26 +9,20 @@ use Rattle.pddl_search.specs.Scopes.{bound_of}
 use Rattle.pddl_faults.proofs.FoundFaults.{found_same}
 use Rattle.pddl_types.specs.KnownNames.{signature_in}
 use Rattle.pddl_types.proofs.Views.{seen_entry}
-use Rattle.pddl_names.specs.Uses.{UsesValue, setting_in, faults_of_use, faults_of_terms}
+use Rattle.pddl_names.specs.Uses.{UsesValue, setting_in}
 use Rattle.pddl_names.proofs.UseFaults.{undeclared_found, declared_is}
 use Rattle.pddl_names.proofs.uses.look_at_use.Goals as goal
 
 pub returns-in-None-clause-found : goal.returns-in-None-clause-found
 returns-in-None-clause-found g c =
-    let s = setting_in c.args.uses.now in
-    let b = bound_of c.args.scope.now in
-    undeclared_found s b (terms_in c.args.terms.now) c.args.declared.now.entries c.args.symbol.now (link.UnknownName c.args.symbol)
+    undeclared_found (setting_in c.args.uses.now) (bound_of c.args.scope.now) (terms_in c.args.terms.now) c.args.declared.now.entries c.args.symbol.now (link.UnknownName c.args.symbol)
     (sym (ap (option_map (λ p. p.2.now)) c.in-None.is) ∙ c.get_full.ensures.value) (λ words k. (refl, k))
 
 pub returns-in-Some-clause-found : goal.returns-in-Some-clause-found
 returns-in-Some-clause-found g c =
-    let s = setting_in c.args.uses.now in
-    let b = bound_of c.args.scope.now in
-    let n = c.args.symbol.now in
-    let ts = terms_in c.args.terms.now in
-    let slots = c.in-Some.slots.now in
-    found_same (faults_of_terms s b n ts (map typed_view slots.now)) (faults_of_use s b (record { name = n; terms = ts; declared = map signature_in c.args.declared.now.entries })) c.look_at_terms.result
-    (declared_is s b ts c.args.declared.now.entries n slots (sym (ap (option_map (λ p. p.2.now)) c.in-Some.is) ∙ c.get_full.ensures.value)) c.look_at_terms.ensures.found
+    found_same _ _ c.look_at_terms.result
+    (declared_is (setting_in c.args.uses.now) (bound_of c.args.scope.now) (terms_in c.args.terms.now) c.args.declared.now.entries c.args.symbol.now c.in-Some.slots.now (sym (ap (option_map (λ p. p.2.now)) c.in-Some.is) ∙ c.get_full.ensures.value))
+    c.look_at_terms.ensures.found
 
 pub look_at_terms-requires-clause-slots : goal.look_at_terms-requires-clause-slots
 look_at_terms-requires-clause-slots g c =
