@@ -34,11 +34,8 @@ loop-number-preserved g c =
 
 pub list_object-requires-clause-group : goal.list_object-requires-clause-group
 list_object-requires-clause-group g c =
-    let xs = c.args.objects.now.items in
-    let x = c.index-deref-number.result in
-    let low : c.loop-number.number < length xs = omega (arith, c.loop-number-test.true, c.len-number-end.ensures) in
-    let at : x ≡ get_or xs c.loop-number.number x = c.index-deref-number.is ∙ ap (λ ys. get_or ys c.loop-number.number x) c.deref.ensures.value in
-    (c.in_ok-group.ensures.group (typed_view x) (viewed_at typed_view xs c.loop-number.number x low at)).1
+    let at = c.index-deref-number.is ∙ ap (λ ys. get_or ys c.loop-number.number c.index-deref-number.result) c.deref.ensures.value in
+    (c.in_ok-group.ensures.group _ (viewed_at typed_view c.args.objects.now.items c.loop-number.number c.index-deref-number.result (omega (arith, c.loop-number-test.true, c.len-number-end.ensures)) at)).1
 
 pub returns-then-not-branch-clause-passes : goal.returns-then-not-branch-clause-passes
 returns-then-not-branch-clause-passes g c = λ before are.

@@ -1,19 +1,14 @@
-use Rattle.std.proofs.Common.{[], not, map, ap, sym, ◌∙◌, subst}
-use Rattle.std.specs.Prelude.{Contains}
-use Rattle.pddl_task.specs.Names.{is_in, repeated}
-use Rattle.pddl_search.proofs.SeenItems.{seen_at, seen_more, seen_bad, seen_good}
+use Rattle.std.proofs.Common.{[], not, ap, sym, ◌∙◌, subst}
+use Rattle.pddl_task.specs.Names.{is_in}
+use Rattle.pddl_search.proofs.SeenItems.{seen_more, seen_bad, seen_good}
 use Rattle.pddl_names.proofs.SeenNames.{HasNames, names_more, was_seen}
 use Rattle.pddl_names.proofs.repeats.repeat_among.Goals as goal
 
 pub returns-then-not-is_new : goal.returns-then-not-is_new
 returns-then-not-is_new g c =
-    let name = g.N.Named.name in
-    let items = c.args.items.now in
-    let i = c.loop-item.item-index in
-    let x = c.item-item.result in
-    subst (λ w. Contains (repeated [] (map name items)) w) (sym c.text-name.ensures)
-    (seen_bad name (λ n. n) is_in [] items i x c.loop-item-test.true c.item-item.is c.loop-item.invariant.rest
-    (sym (was_seen c.loop-item.seen.keys c.text-name.result (seen_at name [] items i) (name x) c.text-name.ensures c.loop-item.invariant.same c.in_ok-is_new.is_new c.in_ok-is_new.ensures.added) ∙ ap not c.if-not-is_new.true))
+    rw c.text-name.ensures
+    (seen_bad g.N.Named.name (λ n. n) is_in [] c.args.items.now c.loop-item.item-index c.item-item.result c.loop-item-test.true c.item-item.is c.loop-item.invariant.rest
+    (sym (was_seen c.loop-item.seen.keys c.text-name.result _ _ c.text-name.ensures c.loop-item.invariant.same _ c.in_ok-is_new.ensures.added) ∙ ap not c.if-not-is_new.true))
 
 pub loop-item-preserved : goal.loop-item-preserved
 loop-item-preserved g c =
@@ -21,10 +16,9 @@ loop-item-preserved g c =
     let items = c.args.items.now in
     let i = c.loop-item.item-index in
     let x = c.item-item.result in
-    let seen = seen_at name [] items i in
     record {
       same = subst (HasNames c.insert_full.new.self.keys) (sym (seen_more name [] items i x c.loop-item-test.true c.item-item.is))
-          (names_more c.loop-item.seen.keys c.text-name.result seen (name x) c.text-name.ensures c.loop-item.invariant.same c.insert_full.new.self.keys c.in_ok-is_new.ensures.keys);
+          (names_more c.loop-item.seen.keys c.text-name.result _ _ c.text-name.ensures c.loop-item.invariant.same _ c.in_ok-is_new.ensures.keys);
       rest = seen_good name (λ n. n) is_in [] items i x c.loop-item-test.true c.item-item.is c.loop-item.invariant.rest
-          (sym (was_seen c.loop-item.seen.keys c.text-name.result seen (name x) c.text-name.ensures c.loop-item.invariant.same c.in_ok-is_new.is_new c.in_ok-is_new.ensures.added) ∙ ap not c.if-not-is_new.false);
+          (sym (was_seen c.loop-item.seen.keys c.text-name.result _ _ c.text-name.ensures c.loop-item.invariant.same _ c.in_ok-is_new.ensures.added) ∙ ap not c.if-not-is_new.false);
     }

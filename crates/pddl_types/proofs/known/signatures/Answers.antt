@@ -1,4 +1,4 @@
-use Rattle.std.proofs.Common.{map, drop, ◌+◌, refl, ap, arith}
+use Rattle.std.proofs.Common.{map, refl, ap, arith}
 use Rattle.std.proofs.lemmas.List.{drop_all}
 use Rattle.pddl_task.specs.Settings.{symbol_of}
 use Rattle.pddl_types.specs.KnownNames.{signature_in}
@@ -10,17 +10,10 @@ use Rattle.pddl_types.proofs.known.signatures.Goals as goal
 pub loop-each-preserved : goal.loop-each-preserved
 loop-each-preserved g c =
     let signature = g.D.Declares.signature in
-    let xs = c.args.declared.now in
-    let i = c.loop-each.each-index in
     let x = c.each-item.result in
-    held_more signature_in symbol_of is_symbol c.loop-each.table c.insert.new.self (map signature xs) (map signature (drop i xs)) (map signature (drop (i + 1) xs)) (signature x)
-    c.name.result c.as_slice.result (views_drop signature xs i x c.loop-each-test.true c.each-item.is)
-    (signature_is c.name.result c.as_slice.result (signature x) c.parameters.result.now.items c.name.ensures c.as_slice.ensures.value c.parameters.ensures) refl
-    c.loop-each.invariant c.in_ok-insert.ensures.entries
+    held_more signature_in symbol_of is_symbol c.loop-each.table c.insert.new.self _ _ _ _ c.name.result c.as_slice.result (views_drop signature c.args.declared.now c.loop-each.each-index x c.loop-each-test.true c.each-item.is)
+    (signature_is c.name.result c.as_slice.result (signature x) c.parameters.result.now.items c.name.ensures c.as_slice.ensures.value c.parameters.ensures) refl c.loop-each.invariant c.in_ok-insert.ensures.entries
 
 pub returns : goal.returns
 returns g c =
-    let signature = g.D.Declares.signature in
-    let xs = c.args.declared.now in
-    let i = c.loop-each.each-index in
-    held_all signature_in symbol_of c.loop-each.table.entries (map signature xs) (map signature (drop i xs)) (ap (map signature) (drop_all i xs (omega (arith, c.loop-each-test.false)))) c.loop-each.invariant
+    held_all signature_in symbol_of _ _ _ (ap (map g.D.Declares.signature) (drop_all c.loop-each.each-index c.args.declared.now (omega (arith, c.loop-each-test.false)))) c.loop-each.invariant

@@ -51,8 +51,4 @@ loop-number-preserved g c =
     }
 
 pub returns : goal.returns
-returns g c =
-    let l = c.loop-number in
-    let xs = c.args.declared.now.items in
-    let all = ap (map type_view) (take_all l.number xs (omega (arith, c.loop-number-test.false, c.len-number-end.ensures))) in
-    subst (λ told. IsTableOf (types_of told) told l.parents.entries) all l.invariant.table
+returns g c = rw (take_all c.loop-number.number c.args.declared.now.items (omega (arith, c.loop-number-test.false, c.len-number-end.ensures))) at c.loop-number.invariant.table

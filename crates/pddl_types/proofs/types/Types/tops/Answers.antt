@@ -1,8 +1,5 @@
-use Rattle.std.proofs.Common.{List, map, take, ap, subst, ◌∙◌}
+use Rattle.std.proofs.Common.{take}
 use Rattle.std.proofs.lemmas.List.{take_all}
-use Rattle.pddl_forest.specs.Spans.{AreTops}
-use Rattle.pddl_task.specs.Names.{Name}
-use Rattle.pddl_types.specs.TypeSpans.{span_of}
 use Rattle.pddl_types.proofs.NamedSpans.{in_table, all_some}
 use Rattle.pddl_types.proofs.types.Types.tops.Goals as goal
 
@@ -11,7 +8,4 @@ keep_tops-requires g c =
     all_some c.args.self.now (in_table c.self.view_is c.self.invariant) (take c.loop-primitive.primitive-index c.as_slice-primitives.result.now) c.loop-primitive.tops.items c.loop-primitive.invariant
 
 pub returns : goal.returns
-returns g c =
-    let spans = λ (names : List Name). map (span_of c.args.self.now) names in
-    let all = take_all c.loop-primitive.primitive-index c.as_slice-primitives.result.now c.loop-primitive-test.false ∙ c.as_slice-primitives.ensures.value in
-    subst (λ ss. AreTops ss c.keep_tops.new.spans.items) (c.loop-primitive.invariant ∙ ap spans all) c.keep_tops.ensures
+returns g c = rw (c.loop-primitive.invariant, take_all c.loop-primitive.primitive-index c.as_slice-primitives.result.now c.loop-primitive-test.false, c.as_slice-primitives.ensures.value) at c.keep_tops.ensures
