@@ -2,16 +2,19 @@
 # Prints MB/s and peak memory of `format`, and of the same work in plain Rust, on files of 1, 4 and 16 MiB: plans that are
 # plain, timed, and with many comments; domains of many actions; problems of many objects and facts. Then seconds and peak
 # memory of `format` on plans of many short steps and of many long ones, beside those of plain Rust; of `domain` and `problem` on
-# files that link, beside those of `format`, which reads and prints them; of `plan` on valid plans, beside those of the same work
-# in plain Rust; and of `plan` alone on actions that quantify over very many variables, and of `serial` beside `plan`. Among
-# those that link are files with an `either` of all of many types, and a variable of it that is spoken of often; types below one with a long name; slots and variables before an `either` of many types; types above themselves, on a long chain or in pairs, are refused. Each figure is that of the best of five runs. Wants GNU time,
-# Python 3 and rustc.
+# files that link, beside those of `format`, which reads and prints them, and of the same work in plain Rust; of `plan` on valid
+# plans, beside those of the same work in plain Rust; and of `plan` alone on actions that quantify over very many variables, and of
+# `serial` beside `plan`. Among those that link are files with an `either` of all of many types, and a variable of it that is
+# spoken of often; types below one with a long name; slots and variables before an `either` of many types; types above
+# themselves, on a long chain or in pairs, are refused. Each figure is that of the best of five runs. Wants GNU time, Python 3 and
+# rustc.
 here=$(cd "$(dirname "$0")" && pwd) || exit 1
 "$here/../pddlcheck" --help >/dev/null || exit 1
 program=$here/../crates/pddlcheck/out/pddlcheck
 folder=$(mktemp -d) || exit 1
 trap 'rm -rf "$folder"' EXIT
 rustc --edition 2021 -O -o "$folder/plain" "$here/plain.rs" || exit 1
+rustc --edition 2021 -O -o "$folder/plain_links" "$here/plain_links.rs" || exit 1
 rustc --edition 2021 -O -o "$folder/plain_plans" "$here/plain_plans.rs" || exit 1
 
 # best NAME COMMAND..: MB/s and bytes of memory a byte of the file
@@ -59,73 +62,85 @@ for case in 'short 1000000' 'long 100000'; do
         "$(seconds "$program" format plan "$folder/file")" "$(seconds "$folder/plain" plan "$folder/file")"
 done
 
-printf '\n%-24s %8s   %-17s   %-17s\n' '' '' 'format' 'linked'
-printf '%-24s %8s  %8s %8s   %8s %8s\n' file bytes seconds MiB seconds MiB
-python3 "$here/files.py" actions 1 >"$folder/domain" || exit 1
+# linked NAME FORMAT COMMAND FILE..: bytes of the files, the figures of `format`, and those of the command and of plain Rust
+linked() {
+    name=$1
+    format=$2
+    shift 2
+    # of files that do not link the status is 2
+    ours=$(seconds sh -c '"$@" || [ $? -eq 2 ]' linked "$program" "$@") || exit 1
+    cp "$folder/line" "$folder/ours"
+    theirs=$(seconds "$folder/plain_links" "$@") || exit 1
+    cmp -s "$folder/ours" "$folder/line" || echo "the two print different lines"
+    shift
+    printf '%-29s %8d  %17s   %s   %s\n' "$name" "$(cat "$@" | wc -c)" "$format" "$ours" "$theirs"
+}
+
+# make KIND N FILE
+make() {
+    python3 "$here/files.py" "$1" "$2" >"$folder/$3" || exit 1
+}
+
+domain=$folder/domain
+problem=$folder/problem
+printf '\n%-29s %8s   %-17s   %-17s   %-17s\n' '' '' 'format' 'linked' 'plain Rust'
+printf '%-29s %8s  %8s %8s   %8s %8s   %8s %8s\n' file bytes seconds MiB seconds MiB seconds MiB
 for count in 500 2000; do
-    python3 "$here/files.py" actions "$count" >"$folder/file" || exit 1
-    printf '%-24s %8d  %s   %s\n' "domain, $count actions" "$(wc -c <"$folder/file")" \
-        "$(seconds "$program" format domain "$folder/file")" "$(seconds "$program" domain "$folder/file")"
+    make actions "$count" domain
+    linked "domain, $count actions" "$(seconds "$program" format domain "$domain")" domain "$domain"
 done
+make actions 1 domain
 for count in 125000 500000; do
-    python3 "$here/files.py" items "$count" >"$folder/file" || exit 1
-    printf '%-24s %8d  %s   %s\n' "problem, $count items" "$(wc -c <"$folder/file")" \
-        "$(seconds "$program" format problem "$folder/file")" "$(seconds "$program" problem "$folder/domain" "$folder/file")"
+    make items "$count" problem
+    linked "problem, $count items" "$(seconds "$program" format problem "$problem")" problem "$domain" "$problem"
 done
 for count in 60000 240000; do
-    python3 "$here/files.py" parameters "$count" >"$folder/domain" || exit 1
-    printf '%-24s %8d  %s   %s\n' "domain, $count parameters" "$(wc -c <"$folder/domain")" \
-        "$(seconds "$program" format domain "$folder/domain")" "$(seconds "$program" domain "$folder/domain")"
-    python3 "$here/files.py" parameters 1 >"$folder/domain" || exit 1
-    python3 "$here/files.py" variables "$count" >"$folder/file" || exit 1
-    printf '%-24s %8d  %s   %s\n' "problem, $count variables" "$(wc -c <"$folder/file")" \
-        "$(seconds "$program" format problem "$folder/file")" "$(seconds "$program" problem "$folder/domain" "$folder/file")"
+    make parameters "$count" domain
+    linked "domain, $count parameters" "$(seconds "$program" format domain "$domain")" domain "$domain"
+    make parameters 1 domain
+    make variables "$count" problem
+    linked "problem, $count variables" "$(seconds "$program" format problem "$problem")" problem "$domain" "$problem"
 done
 for count in 5000 20000; do
-    python3 "$here/files.py" eithers "$count" >"$folder/domain" || exit 1
-    python3 "$here/files.py" facts "$count" >"$folder/file" || exit 1
-    printf '%-24s %8d  %s   %s\n' "problem, $count types" "$(cat "$folder/domain" "$folder/file" | wc -c)" \
-        "$(seconds "$program" format problem "$folder/file")" "$(seconds "$program" problem "$folder/domain" "$folder/file")"
+    make eithers "$count" domain
+    make facts "$count" problem
+    linked "problem, $count types" "$(seconds "$program" format problem "$problem")" problem "$domain" "$problem"
 done
 
 for count in 500 2000; do
-    python3 "$here/files.py" eithers "$count" >"$folder/domain" || exit 1
-    python3 "$here/files.py" spoken "$count" >"$folder/file" || exit 1
-    printf '%-24s %8d  %s   %s\n' "problem, spoken of $count" "$(cat "$folder/domain" "$folder/file" | wc -c)" \
-        "$(seconds "$program" format problem "$folder/file")" "$(seconds "$program" problem "$folder/domain" "$folder/file")"
+    make eithers "$count" domain
+    make spoken "$count" problem
+    linked "problem, spoken of $count" "$(seconds "$program" format problem "$problem")" problem "$domain" "$problem"
 done
 
 for count in 5000 20000; do
-    python3 "$here/files.py" below "$count" >"$folder/domain" || exit 1
+    make below "$count" domain
     # its canonical text names the parent once for each type, which makes gigabytes
-    printf '%-24s %8d  %17s   %s\n' "domain, $count types below" "$(wc -c <"$folder/domain")" - "$(seconds "$program" domain "$folder/domain")"
+    linked "domain, $count types below" - domain "$domain"
 done
 
 for count in 5000 20000; do
-    python3 "$here/files.py" slots "$count" >"$folder/domain" || exit 1
+    make slots "$count" domain
     # its canonical text names all types once for each slot
-    printf '%-24s %8d  %17s   %s\n' "domain, $count slots" "$(wc -c <"$folder/domain")" - "$(seconds "$program" domain "$folder/domain")"
+    linked "domain, $count slots" - domain "$domain"
 done
 
 for count in 25000 100000; do
-    python3 "$here/files.py" named "$count" >"$folder/domain" || exit 1
-    printf '%-24s %8d  %s   %s\n' "domain, name of $count" "$(wc -c <"$folder/domain")" \
-        "$(seconds "$program" format domain "$folder/domain")" "$(seconds "$program" domain "$folder/domain")"
-    python3 "$here/files.py" named-facts "$count" >"$folder/file" || exit 1
-    printf '%-24s %8d  %s   %s\n' "problem, name of $count" "$(wc -c <"$folder/file")" \
-        "$(seconds "$program" format problem "$folder/file")" "$(seconds "$program" problem "$folder/domain" "$folder/file")"
-    python3 "$here/files.py" named-constants "$count" >"$folder/domain" || exit 1
-    python3 "$here/files.py" named-objects "$count" >"$folder/file" || exit 1
+    make named "$count" domain
+    linked "domain, name of $count" "$(seconds "$program" format domain "$domain")" domain "$domain"
+    make named-facts "$count" problem
+    linked "problem, name of $count" "$(seconds "$program" format problem "$problem")" problem "$domain" "$problem"
+    make named-constants "$count" domain
+    make named-objects "$count" problem
     # its canonical text names the type once for each object
-    printf '%-24s %8d  %17s   %s\n' "problem, $count constants" "$(cat "$folder/domain" "$folder/file" | wc -c)" - "$(seconds "$program" problem "$folder/domain" "$folder/file")"
+    linked "problem, $count constants" - problem "$domain" "$problem"
 done
 
 for count in 25000 100000; do
     for case in ring rings; do
-        python3 "$here/files.py" "$case" "$count" >"$folder/domain" || exit 1
-        # its types are above themselves, which is status 2
-        printf '%-24s %8d  %s   %s\n' "domain, $case on $count types" "$(wc -c <"$folder/domain")" \
-            "$(seconds "$program" format domain "$folder/domain")" "$(seconds sh -c '"$@" || [ $? -eq 2 ]' refused "$program" domain "$folder/domain")"
+        # its types are above themselves
+        make "$case" "$count" domain
+        linked "domain, $case on $count types" "$(seconds "$program" format domain "$domain")" domain "$domain"
     done
 done
 
