@@ -1,5 +1,5 @@
 -- Types that are used and not known, part by part.
-use Rattle.std.proofs.Common.{◌≡◌, ℕ, ◌+◌, ◌<◌, List, [], ◌∷◌, ◌++◌, map, filter, not, length, get_or, drop, refl, sym, ap, ◌∙◌, append_assoc}
+use Rattle.std.proofs.Common.{◌≡◌, ℕ, ◌+◌, ◌<◌, List, [], ◌∷◌, ◌++◌, map, length, get_or, drop, refl, sym, ap, ◌∙◌, append_assoc}
 use Rattle.std.specs.List.{flat_map}
 use Rattle.std.proofs.lemmas.List.Concat.{flat_map-append}
 use Rattle.std.proofs.lemmas.List.Elements.{filter-append}
@@ -7,18 +7,14 @@ use Rattle.pddl_formula.specs.TypedLists.{TypedValue}
 use Rattle.pddl_domain.specs.Declarations.{TypeValue, Signature}
 use Rattle.pddl_domain.specs.Domains.{DomainValue}
 use Rattle.pddl_problem.specs.Problems.{ProblemValue}
-use Rattle.pddl_task.specs.Names.{is_in}
-use Rattle.pddl_task.specs.Types.{types_of}
 use Rattle.pddl_task.specs.Places.{Place, domain_places, problem_places}
 use Rattle.pddl_task.specs.Settings.{parameters_of, function_signatures}
-use Rattle.pddl_task.specs.Faults.{primitives_of, variables_at, domain_typed, problem_typed}
+use Rattle.pddl_task.specs.Faults.{variables_at, domain_typed, problem_typed}
 use Rattle.pddl_names.specs.Uses.{unknown_among}
 use Rattle.pddl_faults.proofs.ListPasses.{views_drop}
 
 pub unknown-append : (ts : List TypeValue) (xs ys : List TypedValue) → unknown_among ts (xs ++ ys) ≡ unknown_among ts xs ++ unknown_among ts ys
-unknown-append ts xs ys =
-    ap (filter (λ t. not (is_in (types_of ts) t))) (flat_map-append primitives_of xs ys)
-    ∙ filter-append (λ t. not (is_in (types_of ts) t)) (flat_map primitives_of xs) (flat_map primitives_of ys)
+unknown-append ts xs ys = simp (flat_map-append, filter-append)
 
 -- the types of the variables of places
 pub unknown-places : (ts : List TypeValue) (pls : List Place) → unknown_among ts (flat_map variables_at pls) ≡ flat_map (λ pl. unknown_among ts (variables_at pl)) pls

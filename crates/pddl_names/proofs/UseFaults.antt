@@ -18,7 +18,7 @@ use Rattle.pddl_task.proofs.Lists.{mapped_is, append-none, has_first}
 use Rattle.pddl_faults.specs.declared.fault.LinkFault.{LinkFault}
 use Rattle.pddl_faults.specs.Passes.{Passes}
 use Rattle.pddl_faults.specs.Found.{IsFound, numbered}
-use Rattle.pddl_faults.proofs.FoundFaults.{AreBelow, passed_found, found_first, found_rest, found_same}
+use Rattle.pddl_faults.proofs.FoundFaults.{AreBelow, passed_found, found_first, found_rest}
 use Rattle.pddl_types.specs.KnownNames.{signature_in}
 use Rattle.pddl_types.proofs.Lookups.{is_symbol, signature_found}
 use Rattle.pddl_names.specs.Uses.{faults_of_use, faults_of_terms}
@@ -97,6 +97,4 @@ module _ {A : Type 0} (s : Setting) (b : List TypedValue) (ts : List TermValue) 
 
 -- two terms, which no other faults follow
 pub both_found : (xs ys : List Name) (r : Result (Unit {0}) LinkFault) → IsFound (numbered 26 xs ++ numbered 26 ys) r → IsFound (numbered 26 (xs ++ (ys ++ [])) ++ []) r
-both_found xs ys r h =
-    found_same (numbered 26 xs ++ numbered 26 ys) (numbered 26 (xs ++ (ys ++ [])) ++ []) r
-    (append-none (numbered 26 (xs ++ (ys ++ []))) ∙ ap (λ zs. numbered 26 (xs ++ zs)) (append-none ys) ∙ map-append (λ w. (26, w)) xs ys) h
+both_found xs ys r h = simp (append-none, map-append) h

@@ -1,5 +1,5 @@
 -- Names that are looked up.
-use Rattle.std.proofs.Common.{◌≡◌, ℕ, suc, ◌+◌, Bool, true, false, ◌||◌, not, cond, List, [], ◌∷◌, map, Option, Some, refl, sym, ap, ◌∙◌, arith, bytes_eq}
+use Rattle.std.proofs.Common.{◌≡◌, ℕ, suc, ◌+◌, true, false, ◌||◌, not, cond, List, [], ◌∷◌, map, Some, refl, sym, ap, ◌∙◌, arith, bytes_eq}
 use Rattle.std.specs.Prelude.{is_some, find, option_map, slice_get}
 use Rattle.std.specs.Borrow.{Bor}
 use Rattle.std.specs.List.{position_or_len}
@@ -19,18 +19,15 @@ is_symbol (e ∷ es) n = found_or (bytes_eq n e.0.now) e.1 (lookup (λ k. bytes_
 
 -- ---- what is found, by a value of it
 
-value_at : {X Y Z : Type 0} (f : X → Z) (g : Y → Z) (b : Bool) (x : X) (y : Y) (o : Option X) (p : Option Y)
-    → f x ≡ g y → option_map f o ≡ option_map g p → option_map f (cond b (Some x) o) ≡ option_map g (cond b (Some y) p)
-value_at f g true x y o p here later = ap Some here
-value_at f g false x y o p here later = later
-
 -- the parameters of a predicate or a function
 pub signature_found : {A : Type 0} (es : List (Bor (List ℕ) × Bor (List (Typed A)))) (n : Name)
     → option_map (λ (s : Signature). s.parameters) (find (λ s. bytes_eq n s.name) (map signature_in es)) ≡ option_map (λ (xs : Bor (List (Typed A))). map typed_view xs.now) (lookup (λ k. bytes_eq n k.now) es)
 signature_found [] n = refl
 signature_found {A} (e ∷ es) n =
-    value_at (λ (s : Signature). s.parameters) (λ (xs : Bor (List (Typed A))). map typed_view xs.now) (bytes_eq n e.0.now) (signature_in e) e.1
-    (find (λ s. bytes_eq n s.name) (map signature_in es)) (lookup (λ k. bytes_eq n k.now) es) refl (signature_found es n)
+    elim (bytes_eq n e.0.now) as (λ b. option_map (λ (s : Signature). s.parameters) (cond b (Some (signature_in e)) (find (λ s. bytes_eq n s.name) (map signature_in es))) ≡ option_map (λ (xs : Bor (List (Typed A))). map typed_view xs.now) (cond b (Some e.1) (lookup (λ k. bytes_eq n k.now) es))) [
+      | true ↦ refl
+      | false ↦ signature_found es n
+    ]
 
 -- ---- numbers of names
 

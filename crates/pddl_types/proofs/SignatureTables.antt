@@ -6,7 +6,7 @@ use Rattle.std.specs.Map.{lookup}
 use Rattle.std.proofs.lemmas.List.{map-append, append_assoc, append-nil}
 use Rattle.indexmap.specs.IndexMap.{IndexMap, insert_entry}
 use Rattle.indexmap.proofs.CallerLemmas.{insert_entry-new}
-use Rattle.pddl_formula.specs.TypedLists.{TypedValue, typed_view}
+use Rattle.pddl_formula.specs.TypedLists.{typed_view}
 use Rattle.pddl_formula.specs.declared.type_names.Typed.{Typed}
 use Rattle.pddl_domain.specs.Declarations.{Signature}
 use Rattle.pddl_task.specs.Names.{Name, is_in, word_if, repeated}
@@ -53,9 +53,6 @@ module _ {V S Y : Type 0} (seen : Bor (List ℕ) × V → Y) (symbol : Y → Nam
 pub held_all : {E Y : Type 0} (seen : E → Y) (symbol : Y → Name) (es : List E) (all rest : List Y) → rest ≡ [] → Held seen symbol all es rest → map seen es ≡ all
 held_all seen symbol es all rest none held = sym (append-nil (map seen es)) ∙ ap (λ ys. map seen es ++ ys) (sym none) ∙ held.0
 
-abbrev with : Name → List TypedValue → Signature
-with n xs = record { name = n; parameters = xs }
-
 -- a name and parameters that are lent
 pub signature_is : {A : Type 0} (k : Bor (List ℕ)) (v : Bor (List (Typed A))) (g : Signature) (xs : List (Typed A)) → k.now ≡ g.name → v.now ≡ xs → map typed_view xs ≡ g.parameters → signature_in (k, v) ≡ g
-signature_is k v g xs name parameters views = ap (λ n. with n (map typed_view v.now)) name ∙ ap (with g.name) (ap (map typed_view) parameters ∙ views)
+signature_is k v g xs name parameters views = rw (name, parameters, views) refl

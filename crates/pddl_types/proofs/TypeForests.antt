@@ -24,10 +24,6 @@ module _ (declared : List TypeValue) (rows : List Row) (h : IsTypeTable declared
   pub place_in : (t : Name) → is_in (types_of declared) t ≡ true → StandsAt rows (number_in (names_in rows) t) t
   place_in t type = number_at rows t (h.1.has t ∙ type)
 
-  -- and a place a type
-  pub type_there : (i : ℕ) (t : Name) → StandsAt rows i t → is_in (types_of declared) t ≡ true
-  type_there i t at = sym (h.1.has t) ∙ ap is_some (beside rows i t h.1.once at).1
-
   pub same_place : (i j : ℕ) (t : Name) → StandsAt rows i t → StandsAt rows j t → i ≡ j
   same_place i j t at there = sym (beside rows i t h.1.once at).0 ∙ (beside rows j t h.1.once there).0
 
@@ -48,7 +44,7 @@ module _ (declared : List TypeValue) (rows : List Row) (h : IsTypeTable declared
   pub come_to : (n i g : ℕ) (t u : Name) → StandsAt rows i t → StandsAt rows g u → up ps n i ≡ g → Under (pairs declared) t u
   come_to zero i g t u at there is = itself (one_name rows i g t u is at there)
   come_to (suc n) i g t u at there is =
-      under_through (pairs declared) t (parent_in declared t) u (under_parent declared t (once_declared declared h.0) (type_there i t at))
+      under_through (pairs declared) t (parent_in declared t) u (under_parent declared t (once_declared declared h.0) (sym (h.1.has t) ∙ ap is_some (beside rows i t h.1.once at).1))
       (come_to n (parent_of ps i) g (parent_in declared t) u (parent_at i t at) there is)
 
   -- and what is above it is come to
