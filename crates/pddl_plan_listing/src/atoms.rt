@@ -8,9 +8,9 @@ use pddl_state::{Atom, AtomStore};
 use std::alloc::Allocator;
 
 /// Adds the numbers of each atom.
-fn add_numbered<A: Allocator, B: Allocator>(atoms: &[Atom<A>], lines: &mut Lines<'_, B>) {
+fn add_numbered<A: Allocator>(atoms: &[Atom<A>], lines: &mut Lines) {
     for atom in atoms {
-        lines.number(atom.predicate as u64);
+        lines.shown(&atom.predicate);
         lines.numbers(&atom.args);
         lines.end();
     }
@@ -20,7 +20,7 @@ fn add_numbered<A: Allocator, B: Allocator>(atoms: &[Atom<A>], lines: &mut Lines
 pub fn add_first<A: Allocator, C: Allocator, B: Allocator>(
     alloc: &B,
     task: &Task<'_, '_, A, C>,
-    lines: &mut Lines<'_, B>,
+    lines: &mut Lines,
 ) -> Outcome {
     match initial_atoms(alloc, task) {
         Ok(atoms) => add_numbered(&atoms, lines),
@@ -29,37 +29,29 @@ pub fn add_first<A: Allocator, C: Allocator, B: Allocator>(
     Outcome::Good
 }
 
-/// Adds the names of objects.
-fn add_objects<A: Allocator, C: Allocator, B: Allocator>(
-    task: &Task<'_, '_, A, C>,
-    numbers: &[usize],
-    lines: &mut Lines<'_, B>,
-) {
-    for number in numbers {
-        if let Some(name) = task.object_name(*number) {
-            lines.word(name.as_bytes());
-        }
-    }
-}
-
 /// Adds an atom by the names of its numbers.
-pub fn add_atom<A: Allocator, C: Allocator, D: Allocator, B: Allocator>(
+pub fn add_atom<A: Allocator, C: Allocator, D: Allocator>(
     task: &Task<'_, '_, A, C>,
     atom: &Atom<D>,
-    lines: &mut Lines<'_, B>,
+    lines: &mut Lines,
 ) {
     if let Some(name) = task.predicate_name(atom.predicate) {
-        lines.open(name.as_bytes());
-        add_objects(task, &atom.args, lines);
-        lines.close();
+        lines.word(b"(");
+        lines.add(name.as_bytes());
+        for number in atom.args.iter() {
+            if let Some(name) = task.object_name(*number) {
+                lines.word(name.as_bytes());
+            }
+        }
+        lines.add(b")");
     }
 }
 
 /// Adds atoms by the names of their numbers.
-pub fn add_atoms<A: Allocator, C: Allocator, D: Allocator, B: Allocator>(
+pub fn add_atoms<A: Allocator, C: Allocator, D: Allocator>(
     task: &Task<'_, '_, A, C>,
     atoms: &[Atom<D>],
-    lines: &mut Lines<'_, B>,
+    lines: &mut Lines,
 ) {
     for atom in atoms {
         add_atom(task, atom, lines);
@@ -67,11 +59,11 @@ pub fn add_atoms<A: Allocator, C: Allocator, D: Allocator, B: Allocator>(
 }
 
 /// Adds the atoms of a set of a store.
-pub fn add_set<A: Allocator, C: Allocator, D: Allocator, B: Allocator, S: AtomStore<D>>(
+pub fn add_set<A: Allocator, C: Allocator, D: Allocator, S: AtomStore<D>>(
     task: &Task<'_, '_, A, C>,
     store: &S,
     set: &S::Set,
-    lines: &mut Lines<'_, B>,
+    lines: &mut Lines,
 )
     requires { S.owns store.now set.now }
 {

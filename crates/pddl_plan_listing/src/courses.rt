@@ -17,10 +17,7 @@ use std::alloc::{AllocError, Allocator};
 use std::fmt::Debug;
 
 /// Adds what a call answers, where it does.
-fn add_answer<T: Drop + Debug, B: Allocator>(
-    answer: Result<T, AllocError>,
-    lines: &mut Lines<'_, B>,
-) {
+fn add_answer<T: Drop + Debug>(answer: Result<T, AllocError>, lines: &mut Lines) {
     match answer {
         Ok(answer) => lines.shown(&answer),
         Err(_) => lines.refuse(),
@@ -28,13 +25,13 @@ fn add_answer<T: Drop + Debug, B: Allocator>(
 }
 
 /// Adds the atoms that a step reads.
-fn add_reads<A: Allocator, C: Allocator, D: Allocator, B: Allocator, S: AtomStore<D>, P>(
+fn add_reads<A: Allocator, C: Allocator, D: Allocator, S: AtomStore<D>, P>(
     step: u32,
     task: &Task<'_, '_, A, C>,
     course: &P,
     store: &mut S,
     state: &S::Set,
-    lines: &mut Lines<'_, B>,
+    lines: &mut Lines,
 )
 where
     P: Course<D, S>,
@@ -49,13 +46,13 @@ where
 }
 
 /// Adds the atoms that a step adds and deletes in a state.
-fn add_fired<A: Allocator, C: Allocator, D: Allocator, B: Allocator, S: AtomStore<D>, P>(
+fn add_fired<A: Allocator, C: Allocator, D: Allocator, S: AtomStore<D>, P>(
     step: u32,
     task: &Task<'_, '_, A, C>,
     course: &P,
     store: &mut S,
     state: &S::Set,
-    lines: &mut Lines<'_, B>,
+    lines: &mut Lines,
 )
 where
     P: Course<D, S>,
@@ -75,14 +72,14 @@ where
 }
 
 /// Adds what a step is in a state.
-fn add_step<A: Allocator, C: Allocator, D: Allocator, B: Allocator, S: AtomStore<D>, P>(
+fn add_step<A: Allocator, C: Allocator, D: Allocator, S: AtomStore<D>, P>(
     asked: Asked,
     step: usize,
     task: &Task<'_, '_, A, C>,
     course: &P,
     store: &mut S,
     state: &S::Set,
-    lines: &mut Lines<'_, B>,
+    lines: &mut Lines,
 )
 where
     P: Course<D, S>,
@@ -103,14 +100,14 @@ where
 }
 
 /// Adds what each step is in a state, and then the state, which has not changed, and whether the goal is true in it.
-fn add_steps<A: Allocator, C: Allocator, D: Allocator, B: Allocator, S: AtomStore<D>, P>(
+fn add_steps<A: Allocator, C: Allocator, D: Allocator, S: AtomStore<D>, P>(
     asked: Asked,
     count: usize,
     task: &Task<'_, '_, A, C>,
     course: &P,
     store: &mut S,
     state: &S::Set,
-    lines: &mut Lines<'_, B>,
+    lines: &mut Lines,
 )
 where
     P: Course<D, S>,
@@ -129,14 +126,14 @@ where
 }
 
 /// Adds what each step is in a state, and once more in the same set of the same store, where memory was refused.
-fn add_course_in<A: Allocator, C: Allocator, D: Allocator, B: Allocator, S: AtomStore<D>, P>(
+fn add_course_in<A: Allocator, C: Allocator, D: Allocator, S: AtomStore<D>, P>(
     asked: Asked,
     count: usize,
     task: &Task<'_, '_, A, C>,
     course: &P,
     store: &mut S,
     state: &S::Set,
-    lines: &mut Lines<'_, B>,
+    lines: &mut Lines,
 )
 where
     P: Course<D, S>,
@@ -158,7 +155,7 @@ fn add_compiled<'m, 'a, 'b, 'c, A, B, C, D, S>(
     steps: &Steps<'b, C>,
     store: &mut S,
     state: &S::Set,
-    lines: &mut Lines<'_, D>,
+    lines: &mut Lines,
 )
 where
     A: Allocator,
@@ -185,7 +182,7 @@ pub fn add_course<'m, 'a, 'b, 'c, A, B, C, D, S>(
     task: &Task<'m, 'a, A, B>,
     steps: &Steps<'b, C>,
     mut store: S,
-    lines: &mut Lines<'_, D>,
+    lines: &mut Lines,
 ) -> Outcome
 where
     A: Allocator,

@@ -13,11 +13,11 @@ use pddl_valid::{Accepted, Refusal, Verdict, validate};
 use std::alloc::Allocator;
 
 /// Adds the atoms that hold at an end, and what the steps before it cost.
-pub fn add_end<A: Allocator, C: Allocator, D: Allocator, B: Allocator>(
+pub fn add_end<A: Allocator, C: Allocator, D: Allocator>(
     task: &Task<'_, '_, A, C>,
     atoms: &[Atom<D>],
     cost: u128,
-    lines: &mut Lines<'_, B>,
+    lines: &mut Lines,
 ) {
     add_atoms(task, atoms, lines);
     lines.word(b"cost");
@@ -25,22 +25,23 @@ pub fn add_end<A: Allocator, C: Allocator, D: Allocator, B: Allocator>(
     lines.end();
 }
 
-/// Adds words, and behind them a number from 0 as it is shown, and a mark.
-fn add_counted<B: Allocator>(words: &[u8], number: usize, mark: &str, lines: &mut Lines<'_, B>) {
+/// Adds words, and behind them a number from 0 as it is shown, from 1, and a mark.
+fn add_counted(words: &[u8], number: usize, mark: &[u8], lines: &mut Lines) {
     lines.word(words);
-    lines.counted(number, mark);
+    lines.shown(&number.saturating_add(1));
+    lines.add(mark);
 }
 
 /// Adds the line of a plan that is not accepted.
-pub fn add_refusal<A: Allocator, C: Allocator, D: Allocator, B: Allocator>(
+pub fn add_refusal<A: Allocator, C: Allocator, D: Allocator>(
     task: &Task<'_, '_, A, C>,
     refusal: &Refusal<D>,
-    lines: &mut Lines<'_, B>,
+    lines: &mut Lines,
 ) -> Outcome {
     match refusal {
         Refusal::Precondition { happening, step } => {
-            add_counted(b"invalid: happening", *happening, ",", lines);
-            add_counted(b"step", *step as usize, ":", lines);
+            add_counted(b"invalid: happening", *happening, b",", lines);
+            add_counted(b"step", *step as usize, b":", lines);
             lines.word(b"precondition is false");
         }
         Refusal::Interference {
@@ -49,9 +50,9 @@ pub fn add_refusal<A: Allocator, C: Allocator, D: Allocator, B: Allocator>(
             second,
             atom,
         } => {
-            add_counted(b"invalid: happening", *happening, ",", lines);
-            add_counted(b"steps", *first as usize, "", lines);
-            add_counted(b"and", *second as usize, "", lines);
+            add_counted(b"invalid: happening", *happening, b",", lines);
+            add_counted(b"steps", *first as usize, b"", lines);
+            add_counted(b"and", *second as usize, b"", lines);
             lines.word(b"interfere on");
             add_atom(task, atom, lines);
         }
@@ -62,15 +63,13 @@ pub fn add_refusal<A: Allocator, C: Allocator, D: Allocator, B: Allocator>(
 }
 
 /// Adds the line of an accepted plan of so many steps, and its end, if that is asked for.
-fn add_accepted<A: Allocator, C: Allocator, D: Allocator, E: Allocator, B, S: AtomStore<D>>(
+fn add_accepted<A: Allocator, C: Allocator, D: Allocator, E: Allocator, S: AtomStore<D>>(
     task: &Task<'_, '_, A, C>,
     count: usize,
     has_end: bool,
     accepted: &Accepted<D, E, S>,
-    lines: &mut Lines<'_, B>,
+    lines: &mut Lines,
 ) -> Outcome
-where
-    B: Allocator,
     requires { S.owns accepted.now.store accepted.now.end }
 {
     lines.word(b"valid:");
@@ -97,7 +96,7 @@ pub fn add_verdict<'m, 'a, 'b, 'c, A, B, C, D, S>(
     task: &Task<'m, 'a, A, B>,
     steps: &Steps<'b, C>,
     store: S,
-    lines: &mut Lines<'_, D>,
+    lines: &mut Lines,
 ) -> Outcome
 where
     A: Allocator,

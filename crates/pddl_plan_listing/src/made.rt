@@ -24,22 +24,17 @@ use pddl_state::AtomStore;
 use pddl_valid::{Accepted, Verdict, validate};
 use std::alloc::Allocator;
 
-/// Adds the canonical text of a plan.
-fn add_text<C: Allocator, D: Allocator>(alloc: &D, plan: &Plan<C>, lines: &mut Lines<'_, D>) {
-    match plan_text(alloc, plan) {
-        Ok(text) => lines.lines(&text),
-        Err(_) => lines.refuse(),
-    }
-}
-
 /// Adds the canonical text of a plan, and its verdict and end.
 fn add_plan<A: Allocator, B: Allocator, C: Allocator, D: Allocator>(
     alloc: &D,
     task: &Task<'_, '_, A, B>,
     plan: &Plan<C>,
-    lines: &mut Lines<'_, D>,
+    lines: &mut Lines,
 ) -> Outcome {
-    add_text(alloc, plan, lines);
+    match plan_text(alloc, plan) {
+        Ok(text) => lines.add(&text),
+        Err(_) => lines.refuse(),
+    }
     match link_plan(alloc, task, plan) {
         Ok(steps) => add_verdict(alloc, true, task, &steps, BitStore::new(alloc), lines),
         Err(fault) => add_step_fault(fault, lines),
@@ -51,7 +46,7 @@ fn add_new<A: Allocator, B: Allocator, C: Allocator, D: Allocator>(
     alloc: &D,
     task: &Task<'_, '_, A, B>,
     plan: Plan<C>,
-    lines: &mut Lines<'_, D>,
+    lines: &mut Lines,
 ) -> Outcome {
     let outcome = add_plan(alloc, task, &plan, lines);
     let_go_plan(plan);
@@ -63,7 +58,7 @@ fn add_groups<'a, B: Allocator>(
     alloc: &'a B,
     line: &str,
     groups: &mut Vec<Vec<u32, &'a B>, &'a B>,
-    lines: &mut Lines<'_, B>,
+    lines: &mut Lines,
 ) {
     if line.is_empty() {
         return;
@@ -82,7 +77,7 @@ fn add_split<'m, 'a, 'b, A, B, C, D, E, F, S>(
     task: &Task<'m, 'a, A, B>,
     steps: &Steps<'b, C>,
     accepted: &Accepted<E, F, S>,
-    lines: &mut Lines<'_, D>,
+    lines: &mut Lines,
 )
 where
     A: Allocator,
@@ -101,7 +96,7 @@ where
         Ok(plan) => {
             let _ = add_new(alloc, task, plan, lines);
         }
-        Err(SplitFault::NotASplit) => lines.lines(b"61 NotASplit\n"),
+        Err(SplitFault::NotASplit) => lines.add(b"61 NotASplit\n"),
         Err(SplitFault::Memory) => lines.refuse(),
     }
 }
@@ -114,7 +109,7 @@ fn add_of_accepted<'m, 'a, 'b, A, B, C, D, E, F, S>(
     steps: &Steps<'b, C>,
     fourth: &[u8],
     accepted: &Accepted<E, F, S>,
-    lines: &mut Lines<'_, D>,
+    lines: &mut Lines,
 ) -> Outcome
 where
     A: Allocator,
@@ -149,7 +144,7 @@ pub fn add_made<'m, 'a, 'b, 'c, A, B, C, D, S>(
     steps: &Steps<'b, C>,
     fourth: &[u8],
     store: S,
-    lines: &mut Lines<'_, D>,
+    lines: &mut Lines,
 ) -> Outcome
 where
     A: Allocator,

@@ -10,7 +10,7 @@ use std::alloc::Allocator;
 const MOST_STEPS: usize = 1_000_000;
 
 /// Adds the moment of each happening, if it has one, and its steps.
-fn add_each<A: Allocator, B: Allocator>(found: &[Happening<A>], lines: &mut Lines<'_, B>) {
+fn add_each<A: Allocator>(found: &[Happening<A>], lines: &mut Lines) {
     for happening in found {
         lines.shown_or_none(happening.moment);
         lines.word(b":");
@@ -23,7 +23,7 @@ fn add_each<A: Allocator, B: Allocator>(found: &[Happening<A>], lines: &mut Line
 pub fn add_happenings<C: Allocator, B: Allocator>(
     alloc: &B,
     steps: &Steps<'_, C>,
-    lines: &mut Lines<'_, B>,
+    lines: &mut Lines,
 ) -> Outcome {
     if steps.len() > MOST_STEPS {
         return Outcome::Refused;

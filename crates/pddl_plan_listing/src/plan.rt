@@ -23,7 +23,7 @@ fn add_listed<'m, 'a, 'b, A: Allocator, B: Allocator, C: Allocator, D: Allocator
     task: &Task<'m, 'a, A, B>,
     steps: &Steps<'b, C>,
     fourth: &[u8],
-    lines: &mut Lines<'_, D>,
+    lines: &mut Lines,
 ) -> Outcome
     requires { AreLinkedSteps (task_of_files task.now) steps.now }
 {
@@ -37,71 +37,46 @@ fn add_listed<'m, 'a, 'b, A: Allocator, B: Allocator, C: Allocator, D: Allocator
     }
 }
 
-/// The same, and once more of the same steps, where memory was refused.
-fn add_listed_again<'m, 'a, 'b, A: Allocator, B: Allocator, C: Allocator, D: Allocator>(
-    alloc: &D,
-    listed: OfPlan,
-    task: &Task<'m, 'a, A, B>,
-    steps: &Steps<'b, C>,
-    fourth: &[u8],
-    lines: &mut Lines<'_, D>,
-) -> Outcome
-    requires { AreLinkedSteps (task_of_files task.now) steps.now }
-{
-    let start = lines.size();
-    let outcome = add_listed(alloc, listed, task, steps, fourth, lines);
-    if lines.begin_again(start) {
-        return add_listed(alloc, listed, task, steps, fourth, lines);
-    }
-    outcome
-}
-
-/// Links a plan, and adds what is listed of its steps.
+/// Links a plan, and adds what is listed of its steps, and once more of the same steps, where memory was refused.
 fn add_linked<'m, 'a, A: Allocator, B: Allocator, C: Allocator, D: Allocator>(
     alloc: &D,
     listed: OfPlan,
     task: &Task<'m, 'a, A, B>,
     plan: &Plan<C>,
     fourth: &[u8],
-    lines: &mut Lines<'_, D>,
+    lines: &mut Lines,
 ) -> Outcome {
     match link_plan(alloc, task, plan) {
-        Ok(steps) => add_listed_again(alloc, listed, task, &steps, fourth, lines),
+        Ok(steps) => {
+            let start = lines.size();
+            let mut outcome = add_listed(alloc, listed, task, &steps, fourth, lines);
+            if lines.begin_again(start) {
+                outcome = add_listed(alloc, listed, task, &steps, fourth, lines);
+            }
+            outcome
+        }
         Err(fault) => add_step_fault(fault, lines),
     }
 }
 
-/// The same, and once more of the same task and plan, where memory was refused.
-fn add_linked_again<'m, 'a, A: Allocator, B: Allocator, C: Allocator, D: Allocator>(
-    alloc: &D,
-    listed: OfPlan,
-    task: &Task<'m, 'a, A, B>,
-    plan: &Plan<C>,
-    fourth: &[u8],
-    lines: &mut Lines<'_, D>,
-) -> Outcome {
-    let start = lines.size();
-    let outcome = add_linked(alloc, listed, task, plan, fourth, lines);
-    if lines.begin_again(start) {
-        return add_linked(alloc, listed, task, plan, fourth, lines);
-    }
-    outcome
-}
-
-/// Adds what is listed of the plan in the third file with a task.
+/// Adds what is listed of the plan in the third file with a task, and once more of the same task and plan, where memory was refused.
 pub fn add_plan<A: Allocator, B: Allocator, D: Allocator>(
     alloc: &D,
     listed: OfPlan,
     task: &Task<'_, '_, A, B>,
     files: Files<'_>,
-    lines: &mut Lines<'_, D>,
+    lines: &mut Lines,
 ) -> Outcome {
     match read_plan(alloc, files.third) {
         Ok(plan) => {
-            let outcome = add_linked_again(alloc, listed, task, &plan, files.fourth, lines);
+            let start = lines.size();
+            let mut outcome = add_linked(alloc, listed, task, &plan, files.fourth, lines);
+            if lines.begin_again(start) {
+                outcome = add_linked(alloc, listed, task, &plan, files.fourth, lines);
+            }
             let_go_plan(plan);
             outcome
         }
-        Err(fault) => add_read_fault(&fault, lines),
+        Err(fault) => add_read_fault(alloc, &fault, lines),
     }
 }

@@ -13,24 +13,20 @@ use pddl_valid::{ReplayFault, replay};
 use std::alloc::Allocator;
 
 /// Adds the numbers that a part of a line has to others.
-pub fn add_numbers<'a, B: Allocator>(
-    part: &str,
-    numbers: &mut Vec<u32, &'a B>,
-    lines: &mut Lines<'_, B>,
-) {
+pub fn add_numbers<A: Allocator>(part: &str, numbers: &mut Vec<u32, A>, lines: &mut Lines) {
     for word in part.split(' ') {
         lines.push(numbers, word.parse::<u32>().ok());
     }
 }
 
 /// Adds why a list of steps does not run to its end.
-fn add_replay_fault<B: Allocator>(fault: ReplayFault, lines: &mut Lines<'_, B>) {
+fn add_replay_fault(fault: ReplayFault, lines: &mut Lines) {
     match fault {
         ReplayFault::Memory => lines.refuse(),
         ReplayFault::NotASerialisation => lines.word(b"60 NotASerialisation"),
         ReplayFault::StepFails { place } => {
             lines.word(b"62 StepFails at place");
-            lines.number(place as u64);
+            lines.shown(&place);
         }
     }
     lines.end();
@@ -43,7 +39,7 @@ pub fn add_replay<'m, 'a, 'b, 'c, A, B, C, D, S>(
     steps: &Steps<'b, C>,
     line: &str,
     store: S,
-    lines: &mut Lines<'_, D>,
+    lines: &mut Lines,
 ) -> Outcome
 where
     A: Allocator,

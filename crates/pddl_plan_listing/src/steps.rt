@@ -7,24 +7,21 @@ use pddl_row_driver::Lines;
 use std::alloc::Allocator;
 
 /// Adds the numbers of a step's action and of its objects, and its moment.
-fn add_step<B: Allocator>(step: LinkedStep<'_>, lines: &mut Lines<'_, B>) {
-    lines.number(step.action as u64);
+fn add_step(step: &LinkedStep<'_>, lines: &mut Lines) {
+    lines.shown(&step.action);
     lines.numbers(step.objects);
     if let Some(moment) = step.moment {
         lines.word(b"at");
-        lines.number(moment.billionths());
+        lines.shown(&moment.billionths());
     }
     lines.end();
 }
 
 /// Adds a line for each step, and looks for one past the last.
-pub fn add_steps<C: Allocator, B: Allocator>(
-    steps: &Steps<'_, C>,
-    lines: &mut Lines<'_, B>,
-) -> Outcome {
+pub fn add_steps<C: Allocator>(steps: &Steps<'_, C>, lines: &mut Lines) -> Outcome {
     for number in 0..steps.len().saturating_add(1) {
         if let Some(step) = steps.get(number) {
-            add_step(step, lines);
+            add_step(&step, lines);
         }
     }
     Outcome::Good
@@ -45,16 +42,16 @@ fn told(fault: StepFault) -> (u64, Option<usize>) {
 }
 
 /// Adds the line of a fault.
-pub fn add_step_fault<B: Allocator>(fault: StepFault, lines: &mut Lines<'_, B>) -> Outcome {
+pub fn add_step_fault(fault: StepFault, lines: &mut Lines) -> Outcome {
     let (number, step) = told(fault);
     if number == 0 {
         lines.refuse();
     }
     lines.word(b"fault");
-    lines.number(number);
+    lines.shown(&number);
     if let Some(step) = step {
         lines.word(b"step");
-        lines.number(step as u64);
+        lines.shown(&step);
     }
     lines.end();
     Outcome::Refused

@@ -33,7 +33,7 @@ fn add_over<'m, 'a, 'b, 'c, A, B, C, D, S>(
     steps: &Steps<'b, C>,
     fourth: &[u8],
     store: S,
-    lines: &mut Lines<'_, D>,
+    lines: &mut Lines,
 ) -> Outcome
 where
     A: Allocator,
@@ -61,7 +61,7 @@ pub fn add_over_both<'m, 'a, 'b, A: Allocator, B: Allocator, C: Allocator, D: Al
     task: &Task<'m, 'a, A, B>,
     steps: &Steps<'b, C>,
     fourth: &[u8],
-    lines: &mut Lines<'_, D>,
+    lines: &mut Lines,
 ) -> Outcome
     requires { AreLinkedSteps (task_of_files task.now) steps.now }
 {
@@ -81,7 +81,7 @@ pub fn add_replays<'m, 'a, 'b, A: Allocator, B: Allocator, C: Allocator, D: Allo
     task: &Task<'m, 'a, A, B>,
     steps: &Steps<'b, C>,
     orders: &[u8],
-    lines: &mut Lines<'_, D>,
+    lines: &mut Lines,
 ) -> Outcome
     requires { AreLinkedSteps (task_of_files task.now) steps.now }
 {

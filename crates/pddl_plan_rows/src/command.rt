@@ -104,6 +104,7 @@ impl pddl_row_driver::Command for Command {
 
     fn run(
         self,
+        alloc: Global,
         memory: &Memory,
         files: Files<'_>,
         sources: &mut Sources<'_>,
@@ -134,7 +135,7 @@ impl pddl_row_driver::Command for Command {
                 size.max(1),
                 out,
             ),
-            Command::List(listed) => list(memory, listed, files, out),
+            Command::List(listed) => list(alloc, memory, listed, files, out),
         }
     }
 }

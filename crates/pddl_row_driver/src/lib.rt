@@ -38,8 +38,8 @@
 //! nothing behind its first N files, of which there are two at most. One that says `once` is run only whole: texts at the limits.
 //! Where a command has a twin, that has to print and answer the same for a row whose files are not refused, read whole.
 //!
-//! A listing is what calls below the commands answer, in lines (`lines.rt`). Where memory is refused in one, the same calls are made
-//! once more, of the same values, and have to answer what they answer with ample memory.
+//! A listing is what calls below the commands answer, in lines (`lines.rt`), whose own memory is never refused. Where memory is refused
+//! in one, the same calls are made once more, of the same values, and have to answer what they answer with ample memory.
 //!
 //! A row that does not hold is printed with its name, what was wanted and what was given, and the call that failed; a line
 //! that says nothing of a row as it stands; and a row that is lost shows by the count.

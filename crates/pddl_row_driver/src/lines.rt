@@ -4,8 +4,8 @@ use crate::row::Memory;
 use pddl_device::{Sink, write_text};
 use pddl_file_lines::{Outcome, RunFault};
 use pddl_token::Span;
-use std::alloc::{AllocError, Allocator};
-use std::fmt::{Debug, Display};
+use std::alloc::{AllocError, Allocator, Global};
+use std::fmt::Debug;
 use std::str;
 
 /// A text, which is empty where it is no UTF-8.
@@ -26,11 +26,12 @@ fn is_repeated(text: &[u8], start: usize, half: usize) -> bool {
     }
 }
 
-/// Lines so far. Once memory is refused, they are no more than a beginning, and that is told at the end.
+/// Lines so far. They are held in memory that no run refuses, so that each growth that is refused is one of the calls that are
+/// listed. Once such a growth is, the lines are no more than a beginning, and that is told at the end.
 #[derive(Drop)]
-pub struct Lines<'a, B: Allocator> {
-    alloc: &'a B,
-    text: Vec<u8, &'a B>,
+pub struct Lines {
+    alloc: Global,
+    text: Vec<u8>,
     /// Whether the line at hand has a word.
     has_word: bool,
     is_refused: bool,
@@ -38,9 +39,9 @@ pub struct Lines<'a, B: Allocator> {
     has_begun_again: bool,
 }
 
-impl<'a, B: Allocator> Lines<'a, B> {
+impl Lines {
     /// No lines.
-    pub fn new(alloc: &'a B) -> Self {
+    pub fn new(alloc: Global) -> Self {
         Lines {
             alloc,
             text: Vec::new(alloc),
@@ -100,8 +101,8 @@ impl<'a, B: Allocator> Lines<'a, B> {
         }
     }
 
-    /// Adds bytes.
-    fn add(&mut self, bytes: &[u8]) {
+    /// Adds bytes, which stand against what is before them.
+    pub fn add(&mut self, bytes: &[u8]) {
         if self.text.extend_from_slice(bytes).is_err() {
             self.is_refused = true;
         }
@@ -116,25 +117,21 @@ impl<'a, B: Allocator> Lines<'a, B> {
         self.add(word);
     }
 
-    /// Adds a word that opens a list.
-    pub fn open(&mut self, word: &[u8]) {
-        self.word(b"(");
-        self.add(word);
+    /// Adds words.
+    pub fn words(&mut self, words: &[&[u8]]) {
+        for word in words {
+            self.word(*word);
+        }
     }
 
-    /// Closes a list.
-    pub fn close(&mut self) {
-        self.add(b")");
-    }
-
-    /// Adds lines.
-    pub fn lines(&mut self, lines: &[u8]) {
-        self.has_word = false;
-        self.add(lines);
+    /// Adds words, and the line ends.
+    pub fn line(&mut self, words: &[&[u8]]) {
+        self.words(words);
+        self.end();
     }
 
     /// Adds a word that was made.
-    fn made(&mut self, made: Result<String<&'a B>, AllocError>) {
+    pub fn made<A: Allocator>(&mut self, made: Result<String<A>, AllocError>) {
         match made {
             Ok(word) => self.word(word.as_bytes()),
             Err(_) => self.is_refused = true,
@@ -144,22 +141,6 @@ impl<'a, B: Allocator> Lines<'a, B> {
     /// Adds what a value is printed as.
     pub fn shown<T: Debug>(&mut self, value: &T) {
         self.made(format!(in self.alloc; "{value:?}"));
-    }
-
-    /// Adds what a value says.
-    pub fn said<T: Display>(&mut self, value: &T) {
-        self.made(format!(in self.alloc; "{value}"));
-    }
-
-    /// Adds a number.
-    pub fn number(&mut self, number: u64) {
-        self.shown(&number);
-    }
-
-    /// Adds a number from 0 as it is shown, from 1, and a mark behind it.
-    pub fn counted(&mut self, number: usize, mark: &str) {
-        let number = number.saturating_add(1);
-        self.made(format!(in self.alloc; "{number}{mark}"));
     }
 
     /// Adds what a value is printed as, or `none`.
@@ -179,9 +160,10 @@ impl<'a, B: Allocator> Lines<'a, B> {
 
     /// Adds a span.
     pub fn span(&mut self, span: Span) {
-        let start = span.start;
-        let end = span.end;
-        self.made(format!(in self.alloc; "{start}..{end}"));
+        self.shown(&span.start);
+        self.add(b"..");
+        self.has_word = false;
+        self.shown(&span.end);
     }
 
     /// The line ends.
@@ -204,7 +186,7 @@ impl<'a, B: Allocator> Lines<'a, B> {
 pub fn write_lines<W: Sink>(
     memory: &Memory,
     outcome: Outcome,
-    lines: &Lines<'_, Memory>,
+    lines: &Lines,
     out: &mut W,
 ) -> Result<Outcome, RunFault> {
     if lines.has_begun_again && !memory.has_refused() {

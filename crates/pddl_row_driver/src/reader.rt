@@ -57,23 +57,18 @@ impl<'t> Reader<'t> {
         self.text.add_bytes(b"\n");
     }
 
-    /// Adds the piece so many times: `N PIECE`.
-    fn add_times(&mut self, rest: &str) {
-        match numbered(rest.split_once(' ')) {
-            Some((count, piece)) => {
-                let mut part = Spelled::new(self.text.alloc);
-                part.add(piece);
-                self.text.add_times(count, &part);
+    /// Adds the piece so many times, or for each number below another: `N PIECE`.
+    fn add_repeated(&mut self, rest: &str, is_series: bool) {
+        let Some((count, piece)) = numbered(rest.split_once(' ')) else {
+            self.text.is_wrong = true;
+            return;
+        };
+        for number in 0..count {
+            if is_series {
+                self.text.add_counted(number, piece);
+            } else {
+                self.text.add(piece);
             }
-            None => self.text.is_wrong = true,
-        }
-    }
-
-    /// Adds the piece for each number below another: `N PIECE`.
-    fn add_series(&mut self, rest: &str) {
-        match numbered(rest.split_once(' ')) {
-            Some((count, piece)) => self.text.add_series(count, piece),
-            None => self.text.is_wrong = true,
         }
     }
 
@@ -140,8 +135,8 @@ impl<'t> Reader<'t> {
             "row" => self.begin(rest),
             "|" => self.add_line(rest),
             "part" => self.text.add(rest),
-            "times" => self.add_times(rest),
-            "series" => self.add_series(rest),
+            "times" => self.add_repeated(rest, false),
+            "series" => self.add_repeated(rest, true),
             "copy" => self.add_kept(rest),
             "change" => self.change(rest),
             "keep" => self.keep(rest),

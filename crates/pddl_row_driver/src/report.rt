@@ -16,10 +16,12 @@ fn shown(text: &[u8]) -> &str {
     }
 }
 
-/// Prints the row's name, what is wrong with it, and at which call that fails.
-pub fn report<R: Print>(rt: &R, row: Row<'_>, wrong: &str, trouble: Trouble, number: u64) {
+/// Prints the row's name, and at which call it differs.
+pub fn report<R: Print>(rt: &R, row: Row<'_>, trouble: Trouble, number: u64) {
     let name = row.name;
-    let _ = rt.println(format_args!("the row '{name}' {wrong} at call {number} of {trouble:?}"));
+    let _ = rt.println(format_args!(
+        "the row '{name}' differs, or nothing fails, at call {number} of {trouble:?}"
+    ));
 }
 
 /// Prints what was wanted and what was given.

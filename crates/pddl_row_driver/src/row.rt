@@ -23,9 +23,10 @@ pub trait Command: Copy {
     /// The words of another command that has to print and answer the same for files that are not refused.
     fn twin(self) -> Option<&'static str>;
 
-    /// Runs the command over these readers, this memory and this writer.
+    /// Runs the command over these readers, this memory and this writer. What is listed is held by `alloc`.
     fn run(
         self,
+        alloc: Global,
         memory: &Memory,
         files: Files<'_>,
         sources: &mut Sources<'_>,

@@ -98,12 +98,26 @@ fn is_right(
     }
 }
 
-/// What a run shows in which this failed.
-fn shown_by(is_right: bool, failed: Failures) -> Seen {
+/// How many calls fail at least: some read of each file that is read, some write of a text, and the row's growths.
+fn least(row: Row<'_>, trouble: Trouble) -> u64 {
+    match trouble {
+        Trouble::FirstReads => u64::from(row.ending.files_read >= 1),
+        Trouble::SecondReads => u64::from(row.ending.files_read >= 2),
+        Trouble::ThirdReads => u64::from(row.ending.files_read >= 3),
+        Trouble::Writes(_, _) => u64::from(!row.printed.is_empty()),
+        Trouble::Growths => row.growths,
+        _ => 0,
+    }
+}
+
+/// What a run shows in which this failed, and the call of this number at least where there have to be so many that fail.
+fn shown_by(is_right: bool, failed: Failures, number: u64, least: u64) -> Seen {
     if !is_right || failed.strays {
         Seen::Wrong
     } else if failed.refused || failed.reads != 0 || failed.writes != 0 {
         Seen::Failed
+    } else if number <= least {
+        Seen::Wrong
     } else {
         Seen::Calm
     }
@@ -111,13 +125,14 @@ fn shown_by(is_right: bool, failed: Failures) -> Seen {
 
 /// Runs the row's command over these readers, this memory and this writer.
 fn called<C: Command>(
+    alloc: Global,
     memory: &Memory,
     row: Row<'_>,
     sources: &mut Sources<'_>,
     out: &mut FakeSink<Global>,
 ) -> Result<Outcome, RunFault> {
     match C::named(row.ending.words) {
-        Some(command) => command.run(memory, row.files, sources, out),
+        Some(command) => command.run(alloc, memory, row.files, sources, out),
         None => Err(RunFault::Memory),
     }
 }
@@ -138,11 +153,12 @@ pub fn run<R: Print + AllocGlobal, C: Command>(
         setting.failing_write,
         setting.failure,
     );
-    let ended = called::<C>(&memory, row, &mut sources, &mut out);
+    let ended = called::<C>(rt.alloc(), &memory, row, &mut sources, &mut out);
     let failed = failures_of(row, &sources, out.failures(), memory.has_refused());
-    let seen = shown_by(is_right(row, &ended, out.held(), failed), failed);
+    let right = is_right(row, &ended, out.held(), failed);
+    let seen = shown_by(right, failed, number, least(row, trouble));
     if seen == Seen::Wrong {
-        report(rt, row, "differs", trouble, number);
+        report(rt, row, trouble, number);
         report_given(rt, row, &ended, out.held());
     }
     seen

@@ -106,14 +106,6 @@ impl Spelled {
         }
     }
 
-    /// Adds a text so many times.
-    pub fn add_times(&mut self, count: u64, part: &Spelled) {
-        self.is_wrong |= part.is_wrong;
-        for _ in 0..count {
-            self.add_bytes(&part.bytes);
-        }
-    }
-
     /// Adds what was made of a number.
     fn add_made(&mut self, made: Result<String, AllocError>) {
         match made {
@@ -133,16 +125,14 @@ impl Spelled {
         }
     }
 
-    /// Adds a piece once for each number below `count`: `#` and a digit stand for the number and so much more.
-    pub fn add_series(&mut self, count: u64, piece: &str) {
-        for number in 0..count {
-            let mut parts = piece.split('#');
-            if let Some(plain) = parts.next() {
-                self.add_bytes(plain.as_bytes());
-            }
-            for part in parts {
-                self.add_number(number, part);
-            }
+    /// Adds a piece in which `#` and a digit stand for a number and so much more.
+    pub fn add_counted(&mut self, number: u64, piece: &str) {
+        let mut parts = piece.split('#');
+        if let Some(plain) = parts.next() {
+            self.add_bytes(plain.as_bytes());
+        }
+        for part in parts {
+            self.add_number(number, part);
         }
     }
 

@@ -20,7 +20,7 @@ pub trait OfTask: Copy {
         alloc: &B,
         task: &Task<'_, '_, A, C>,
         files: Files<'_>,
-        lines: &mut Lines<'_, B>,
+        lines: &mut Lines,
     ) -> Outcome;
 }
 
@@ -31,7 +31,7 @@ fn add_linked<A: Allocator, B: Allocator, T: OfTask>(
     domain: &Domain<A>,
     problem: &Problem<A>,
     files: Files<'_>,
-    lines: &mut Lines<'_, B>,
+    lines: &mut Lines,
 ) -> Outcome {
     match link(alloc, domain, problem) {
         Ok(task) => {
@@ -39,42 +39,30 @@ fn add_linked<A: Allocator, B: Allocator, T: OfTask>(
             let_go_task(task);
             outcome
         }
-        Err(fault) => add_link_fault(fault, lines),
+        Err(fault) => add_link_fault(alloc, fault, lines),
     }
 }
 
-/// The same, and once more of the same domain and problem, where memory was refused.
-fn add_linked_again<A: Allocator, B: Allocator, T: OfTask>(
-    alloc: &B,
-    listed: T,
-    domain: &Domain<A>,
-    problem: &Problem<A>,
-    files: Files<'_>,
-    lines: &mut Lines<'_, B>,
-) -> Outcome {
-    let start = lines.size();
-    let outcome = add_linked(alloc, listed, domain, problem, files, lines);
-    if lines.begin_again(start) {
-        return add_linked(alloc, listed, domain, problem, files, lines);
-    }
-    outcome
-}
-
-/// Adds what is listed of the task of a domain and of the problem in the second file.
+/// Adds what is listed of the task of a domain and of the problem in the second file, and once more of the same domain and problem,
+/// where memory was refused.
 fn add_with_problem<'a, B: Allocator, T: OfTask>(
     alloc: &'a B,
     listed: T,
     domain: &Domain<&'a B>,
     files: Files<'_>,
-    lines: &mut Lines<'_, B>,
+    lines: &mut Lines,
 ) -> Outcome {
     match read_problem(alloc, files.second) {
         Ok(problem) => {
-            let outcome = add_linked_again(alloc, listed, domain, &problem, files, lines);
+            let start = lines.size();
+            let mut outcome = add_linked(alloc, listed, domain, &problem, files, lines);
+            if lines.begin_again(start) {
+                outcome = add_linked(alloc, listed, domain, &problem, files, lines);
+            }
             let_go_problem(problem);
             outcome
         }
-        Err(fault) => add_file_fault(&fault, lines),
+        Err(fault) => add_file_fault(alloc, &fault, lines),
     }
 }
 
@@ -83,7 +71,7 @@ pub fn add_task<B: Allocator, T: OfTask>(
     alloc: &B,
     listed: T,
     files: Files<'_>,
-    lines: &mut Lines<'_, B>,
+    lines: &mut Lines,
 ) -> Outcome {
     match read_domain(alloc, files.first) {
         Ok(domain) => {
@@ -91,6 +79,6 @@ pub fn add_task<B: Allocator, T: OfTask>(
             let_go_domain(domain);
             outcome
         }
-        Err(fault) => add_file_fault(&fault, lines),
+        Err(fault) => add_file_fault(alloc, &fault, lines),
     }
 }

@@ -19,8 +19,12 @@ pub enum Trouble {
     Writes(usize, Failure),
 }
 
-/// Each trouble in which a call of some number fails.
-pub static TROUBLES: [Trouble; 10] = [
+/// Each trouble: files that are read whole, in pieces and cut in two, and calls that fail.
+pub static TROUBLES: [Trouble; 14] = [
+    Trouble::Pieces(usize::MAX),
+    Trouble::Pieces(1),
+    Trouble::Pieces(5),
+    Trouble::Cut,
     Trouble::FirstReads,
     Trouble::SecondReads,
     Trouble::ThirdReads,

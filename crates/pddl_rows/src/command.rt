@@ -158,6 +158,7 @@ impl pddl_row_driver::Command for Command {
 
     fn run(
         self,
+        alloc: Global,
         memory: &Memory,
         files: Files<'_>,
         sources: &mut Sources<'_>,
@@ -171,7 +172,7 @@ impl pddl_row_driver::Command for Command {
             }
             Command::Read => write_read(memory, &mut sources.first, files.second, out),
             Command::Write(layout, kind) => write_file(memory, layout, kind, files.first, out),
-            Command::List(listing) => list(memory, listing, files, out),
+            Command::List(listing) => list(alloc, memory, listing, files, out),
         }
     }
 }

@@ -1,15 +1,14 @@
 //! Files that are read and written, and their canonical texts, by the calls below `format`.
 
 use pddl_device::{Sink, Source, SourceFault, WriteFault, read_all, write_text};
-use pddl_domain::{Domain, let_go_domain};
+use pddl_domain::let_go_domain;
 use pddl_domain_reader::read_domain;
 use pddl_file_layout::{domain_text, problem_text, write_domain, write_problem};
 use pddl_file_lines::{Outcome, RunFault, let_go_plan};
 use pddl_kind::Kind;
 use pddl_layout::{plan_text, write_plan};
-use pddl_plan::Plan;
 use pddl_plan_reader::read_plan;
-use pddl_problem::{Problem, let_go_problem};
+use pddl_problem::let_go_problem;
 use pddl_problem_reader::read_problem;
 use pddl_row_driver::text_of;
 use std::alloc::{AllocError, Allocator};
@@ -42,14 +41,14 @@ fn write_made<A: Allocator, W: Sink>(
     }
 }
 
-/// Writes the canonical text of a domain that was read.
-fn write_domain_file<A: Allocator, B: Allocator, W: Sink, F: Drop>(
+/// Writes the canonical text of the domain that a text spells.
+fn write_domain_file<B: Allocator, W: Sink>(
     alloc: &B,
     layout: Layout,
-    read: Result<Domain<A>, F>,
+    text: &[u8],
     out: &mut W,
 ) -> Result<Outcome, RunFault> {
-    match read {
+    match read_domain(alloc, text) {
         Ok(domain) => {
             let ended = match layout {
                 Layout::Text => write_made(domain_text(alloc, &domain), out),
@@ -62,14 +61,14 @@ fn write_domain_file<A: Allocator, B: Allocator, W: Sink, F: Drop>(
     }
 }
 
-/// Writes the canonical text of a problem that was read.
-fn write_problem_file<A: Allocator, B: Allocator, W: Sink, F: Drop>(
+/// Writes the canonical text of the problem that a text spells.
+fn write_problem_file<B: Allocator, W: Sink>(
     alloc: &B,
     layout: Layout,
-    read: Result<Problem<A>, F>,
+    text: &[u8],
     out: &mut W,
 ) -> Result<Outcome, RunFault> {
-    match read {
+    match read_problem(alloc, text) {
         Ok(problem) => {
             let ended = match layout {
                 Layout::Text => write_made(problem_text(alloc, &problem), out),
@@ -82,14 +81,14 @@ fn write_problem_file<A: Allocator, B: Allocator, W: Sink, F: Drop>(
     }
 }
 
-/// Writes the canonical text of a plan that was read.
-fn write_plan_file<A: Allocator, B: Allocator, W: Sink, F: Drop>(
+/// Writes the canonical text of the plan that a text spells.
+fn write_plan_file<B: Allocator, W: Sink>(
     alloc: &B,
     layout: Layout,
-    read: Result<Plan<A>, F>,
+    text: &[u8],
     out: &mut W,
 ) -> Result<Outcome, RunFault> {
-    match read {
+    match read_plan(alloc, text) {
         Ok(plan) => {
             let ended = match layout {
                 Layout::Text => write_made(plan_text(alloc, &plan), out),
@@ -111,9 +110,9 @@ pub fn write_file<B: Allocator, W: Sink>(
     out: &mut W,
 ) -> Result<Outcome, RunFault> {
     match kind {
-        Kind::Domain => write_domain_file(alloc, layout, read_domain(alloc, text), out),
-        Kind::Problem => write_problem_file(alloc, layout, read_problem(alloc, text), out),
-        Kind::Plan => write_plan_file(alloc, layout, read_plan(alloc, text), out),
+        Kind::Domain => write_domain_file(alloc, layout, text, out),
+        Kind::Problem => write_problem_file(alloc, layout, text, out),
+        Kind::Plan => write_plan_file(alloc, layout, text, out),
     }
 }
 

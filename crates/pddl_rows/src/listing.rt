@@ -15,7 +15,7 @@ use pddl_device::Sink;
 use pddl_file_lines::{Outcome, RunFault};
 use pddl_kind::Kind;
 use pddl_row_driver::{Files, Lines, Memory, add_task, write_lines};
-use std::alloc::Allocator;
+use std::alloc::{Allocator, Global};
 pub use values::Value;
 
 /// Adds the lines of a listing of texts.
@@ -23,7 +23,7 @@ fn add_listing<B: Allocator>(
     alloc: &B,
     listing: Listing,
     files: Files<'_>,
-    lines: &mut Lines<'_, B>,
+    lines: &mut Lines,
 ) -> Outcome {
     match listing {
         Listing::Words => words::add_words(alloc, false, files.first, lines),
@@ -41,12 +41,13 @@ fn add_listing<B: Allocator>(
 
 /// Writes a listing of texts.
 pub fn list<W: Sink>(
+    alloc: Global,
     memory: &Memory,
     listing: Listing,
     files: Files<'_>,
     out: &mut W,
 ) -> Result<Outcome, RunFault> {
-    let mut lines = Lines::new(memory);
+    let mut lines = Lines::new(alloc);
     let outcome = add_listing(memory, listing, files, &mut lines);
     write_lines(memory, outcome, &lines, out)
 }

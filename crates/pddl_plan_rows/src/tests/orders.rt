@@ -126,7 +126,7 @@ fn lists(
         third: plan,
         fourth: order,
     };
-    matches!(list(&memory, listed, files, out), Ok(Outcome::Good))
+    matches!(list(alloc, &memory, listed, files, out), Ok(Outcome::Good))
 }
 
 /// How many lines a text has.
@@ -158,7 +158,7 @@ fn ends_alike(alloc: Global, plan: &[u8], order: &[u8]) -> bool {
 
 /// Whether that is so of a plan and of its steps in the order that was drawn.
 fn drawn_ends_alike(alloc: Global, drawn: &Drawn) -> bool {
-    let mut order = Lines::new(&alloc);
+    let mut order = Lines::new(alloc);
     order.numbers(&drawn.order);
     order.end();
     match order.text() {

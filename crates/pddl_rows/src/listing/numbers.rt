@@ -12,26 +12,17 @@ pub fn past_objects<A: Allocator, C: Allocator>(task: &Task<'_, '_, A, C>) -> us
     constants.saturating_add(objects).saturating_add(1)
 }
 
-/// Adds a number, the name that has it, if there is one, and the number of that name.
-fn add_numbered<B: Allocator>(
-    word: &[u8],
-    number: usize,
-    name: &[u8],
-    again: Option<usize>,
-    lines: &mut Lines<'_, B>,
-) {
+/// Adds a number, the name that has it, and the number of that name.
+fn add_numbered(word: &[u8], number: usize, name: &[u8], again: Option<usize>, lines: &mut Lines) {
     lines.word(word);
-    lines.number(number as u64);
+    lines.shown(&number);
     lines.word(name);
     lines.shown_or_none(again);
     lines.end();
 }
 
 /// Adds each object with its number and the number of its name, and looks for some past the last.
-fn add_objects<A: Allocator, C: Allocator, B: Allocator>(
-    task: &Task<'_, '_, A, C>,
-    lines: &mut Lines<'_, B>,
-) {
+fn add_objects<A: Allocator, C: Allocator>(task: &Task<'_, '_, A, C>, lines: &mut Lines) {
     for number in 0..past_objects(task) {
         if let Some(name) = task.object_name(number) {
             let name = name.as_bytes();
@@ -41,10 +32,7 @@ fn add_objects<A: Allocator, C: Allocator, B: Allocator>(
 }
 
 /// Adds each predicate with its number and the number of its name, and looks for one past the last.
-fn add_predicates<A: Allocator, C: Allocator, B: Allocator>(
-    task: &Task<'_, '_, A, C>,
-    lines: &mut Lines<'_, B>,
-) {
+fn add_predicates<A: Allocator, C: Allocator>(task: &Task<'_, '_, A, C>, lines: &mut Lines) {
     for number in 0..task.domain().predicates.len().saturating_add(1) {
         if let Some(name) = task.predicate_name(number) {
             let name = name.as_bytes();
@@ -59,21 +47,18 @@ fn add_predicates<A: Allocator, C: Allocator, B: Allocator>(
     }
 }
 
-/// Adds how many there are of something.
-fn add_count<B: Allocator>(word: &[u8], count: usize, lines: &mut Lines<'_, B>) {
-    lines.word(word);
-    lines.number(count as u64);
-    lines.end();
-}
-
 /// Adds the numbers of a task, and how many actions and items of `:init` its files have.
-pub fn add_numbers<A: Allocator, C: Allocator, B: Allocator>(
+pub fn add_numbers<A: Allocator, C: Allocator>(
     task: &Task<'_, '_, A, C>,
-    lines: &mut Lines<'_, B>,
+    lines: &mut Lines,
 ) -> Outcome {
     add_objects(task, lines);
     add_predicates(task, lines);
-    add_count(b"actions", task.domain().actions.len(), lines);
-    add_count(b"init", task.problem().init.len(), lines);
+    lines.word(b"actions");
+    lines.shown(&task.domain().actions.len());
+    lines.end();
+    lines.word(b"init");
+    lines.shown(&task.problem().init.len());
+    lines.end();
     Outcome::Good
 }

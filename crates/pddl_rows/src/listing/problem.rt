@@ -1,6 +1,6 @@
 //! Problems.
 
-use super::domain::{add_name, add_requirements};
+use super::domain::add_requirements;
 use super::types::add_typed;
 use pddl_file_lines::Outcome;
 use pddl_problem::{Direction, InitItem, Metric, Problem, let_go_problem};
@@ -9,47 +9,33 @@ use pddl_row_driver::{Lines, add_file_fault};
 use pddl_token::Name;
 use std::alloc::Allocator;
 
-/// Adds a name and names of objects behind a word.
-fn add_names<A: Allocator, B: Allocator>(
-    word: &[u8],
-    name: &[u8],
-    objects: &[Name<A>],
-    lines: &mut Lines<'_, B>,
-) {
-    lines.word(word);
-    lines.word(name);
+/// Adds a name and names of objects behind a word, and the line ends.
+fn add_names<A: Allocator>(word: &[u8], name: &[u8], objects: &[Name<A>], lines: &mut Lines) {
+    lines.words(&[word, name]);
     for object in objects {
         lines.word(object.as_bytes());
     }
-}
-
-/// Adds what an item of `:init` says.
-fn add_item<A: Allocator, B: Allocator>(item: &InitItem<A>, lines: &mut Lines<'_, B>) {
-    let (word, name, objects) = match item {
-        InitItem::Holds(fact) => ("holds", fact.predicate.as_bytes(), &fact.objects),
-        InitItem::Fails(fact) => ("fails", fact.predicate.as_bytes(), &fact.objects),
-        InitItem::Value(function, value) => {
-            lines.word(b"value");
-            lines.number(value.billionths());
-            ("of", function.function.as_bytes(), &function.objects)
-        }
-    };
-    add_names(word.as_bytes(), name, objects, lines);
     lines.end();
 }
 
 /// Adds a line for each item of `:init`.
-fn add_init<A: Allocator, B: Allocator>(items: &[InitItem<A>], lines: &mut Lines<'_, B>) {
+fn add_init<A: Allocator>(items: &[InitItem<A>], lines: &mut Lines) {
     for item in items {
-        add_item(item, lines);
+        let (word, name, objects) = match item {
+            InitItem::Holds(fact) => ("holds", fact.predicate.as_bytes(), &fact.objects),
+            InitItem::Fails(fact) => ("fails", fact.predicate.as_bytes(), &fact.objects),
+            InitItem::Value(function, value) => {
+                lines.word(b"value");
+                lines.shown(&value.billionths());
+                ("of", function.function.as_bytes(), &function.objects)
+            }
+        };
+        add_names(word.as_bytes(), name, objects, lines);
     }
 }
 
-/// Adds a metric, if there is one.
-fn add_metric<A: Allocator, B: Allocator>(metric: Option<&Metric<A>>, lines: &mut Lines<'_, B>) {
-    let Some(metric) = metric else {
-        return;
-    };
+/// Adds a metric.
+fn add_metric<A: Allocator>(metric: &Metric<A>, lines: &mut Lines) {
     let word = match metric.direction {
         Direction::Minimize => "minimize",
         Direction::Maximize => "maximize",
@@ -61,31 +47,29 @@ fn add_metric<A: Allocator, B: Allocator>(metric: Option<&Metric<A>>, lines: &mu
         &function.objects,
         lines,
     );
-    lines.end();
 }
 
 /// Adds a problem's parts.
-fn add_parts<A: Allocator, B: Allocator>(
-    problem: &Problem<A>,
-    lines: &mut Lines<'_, B>,
-) -> Outcome {
-    add_name(b"problem", &problem.name, lines);
-    add_name(b"domain", &problem.domain, lines);
+fn add_parts<A: Allocator>(problem: &Problem<A>, lines: &mut Lines) -> Outcome {
+    lines.line(&[b"problem", problem.name.as_bytes()]);
+    lines.line(&[b"domain", problem.domain.as_bytes()]);
     add_requirements(&problem.requirements, lines);
     add_typed(b"object", &problem.objects, lines);
     add_init(&problem.init, lines);
-    add_metric(problem.metric.as_ref(), lines);
+    if let Some(metric) = &problem.metric {
+        add_metric(metric, lines);
+    }
     Outcome::Good
 }
 
 /// Adds the parts of the problem that a text spells.
-pub fn add_problem<B: Allocator>(alloc: &B, text: &[u8], lines: &mut Lines<'_, B>) -> Outcome {
+pub fn add_problem<B: Allocator>(alloc: &B, text: &[u8], lines: &mut Lines) -> Outcome {
     match read_problem(alloc, text) {
         Ok(problem) => {
             let outcome = add_parts(&problem, lines);
             let_go_problem(problem);
             outcome
         }
-        Err(fault) => add_file_fault(&fault, lines),
+        Err(fault) => add_file_fault(alloc, &fault, lines),
     }
 }

@@ -9,11 +9,8 @@ use pddl_row_driver::{Files, Lines, OfTask};
 use std::alloc::Allocator;
 
 /// Adds the ground size of the goal.
-fn add_size<A: Allocator, C: Allocator, B: Allocator>(
-    task: &Task<'_, '_, A, C>,
-    lines: &mut Lines<'_, B>,
-) -> Outcome {
-    lines.number(u64::from(task.ground_size(&task.problem().goal)));
+fn add_size<A: Allocator, C: Allocator>(task: &Task<'_, '_, A, C>, lines: &mut Lines) -> Outcome {
+    lines.shown(&task.ground_size(&task.problem().goal));
     lines.end();
     Outcome::Good
 }
@@ -24,7 +21,7 @@ impl OfTask for Listed {
         alloc: &B,
         task: &Task<'_, '_, A, C>,
         files: Files<'_>,
-        lines: &mut Lines<'_, B>,
+        lines: &mut Lines,
     ) -> Outcome {
         match self {
             Listed::Numbers => add_numbers(task, lines),

@@ -17,33 +17,28 @@ pub enum Value {
     Name,
 }
 
-/// A number in billionths.
-fn billionths_of(number: Option<Fixed>) -> Option<u64> {
-    match number {
-        Some(number) => Some(number.billionths()),
-        None => None,
+/// The number of as many billionths as a text says, if there is one.
+fn number_of(billionths: &str) -> Option<Fixed> {
+    match billionths.parse::<u64>() {
+        Ok(billionths) => Fixed::new(billionths),
+        Err(_) => None,
     }
 }
 
-/// Adds the name that a text is, or `none`.
-fn add_name<B: Allocator>(alloc: &B, text: &str, lines: &mut Lines<'_, B>) {
-    match lines.kept(Name::new(alloc, text.as_bytes())) {
-        Some(name) => lines.word(name.as_bytes()),
+/// Adds a number in billionths, or `none`.
+fn add_billionths(number: Option<Fixed>, lines: &mut Lines) {
+    match number {
+        Some(number) => lines.shown(&number.billionths()),
         None => lines.word(b"none"),
     }
 }
 
-/// Adds what a line is.
-fn add_value<B: Allocator>(alloc: &B, value: Value, line: &str, lines: &mut Lines<'_, B>) {
-    match value {
-        Value::Number => lines.shown_or_none(billionths_of(value_of(line.as_bytes()))),
-        Value::Billionths => {
-            let count = line.parse::<u64>().ok();
-            lines.shown_or_none(billionths_of(count.and_then(Fixed::new)));
-        }
-        Value::Name => add_name(alloc, line, lines),
+/// Adds the name that a text is, or `none`.
+fn add_name<B: Allocator>(alloc: &B, text: &[u8], lines: &mut Lines) {
+    match lines.kept(Name::new(alloc, text)) {
+        Some(name) => lines.word(name.as_bytes()),
+        None => lines.word(b"none"),
     }
-    lines.end();
 }
 
 /// Adds what each line of a text is.
@@ -51,10 +46,15 @@ pub fn add_values<B: Allocator>(
     alloc: &B,
     value: Value,
     text: &[u8],
-    lines: &mut Lines<'_, B>,
+    lines: &mut Lines,
 ) -> Outcome {
     for line in text_of(text).lines() {
-        add_value(alloc, value, line, lines);
+        match value {
+            Value::Number => add_billionths(value_of(line.as_bytes()), lines),
+            Value::Billionths => add_billionths(number_of(line), lines),
+            Value::Name => add_name(alloc, line.as_bytes(), lines),
+        }
+        lines.end();
     }
     Outcome::Good
 }
@@ -67,22 +67,14 @@ fn position_told(text: &[u8], place: &str) -> Option<Pos> {
     }
 }
 
-/// Adds a line and a column, or `none`.
-fn add_position<B: Allocator>(found: Option<Pos>, lines: &mut Lines<'_, B>) {
-    match found {
-        Some(found) => {
-            lines.number(u64::from(found.line));
-            lines.number(u64::from(found.col));
-        }
-        None => lines.word(b"none"),
-    }
-    lines.end();
-}
-
-/// Adds the positions in a text of the places that the lines of another tell.
-pub fn add_places<B: Allocator>(text: &[u8], places: &[u8], lines: &mut Lines<'_, B>) -> Outcome {
+/// Adds the line and the column, or `none`, of each place in a text that a line of another tells.
+pub fn add_places(text: &[u8], places: &[u8], lines: &mut Lines) -> Outcome {
     for place in text_of(places).lines() {
-        add_position(position_told(text, place), lines);
+        match position_told(text, place) {
+            Some(found) => lines.numbers(&[found.line, found.col]),
+            None => lines.word(b"none"),
+        }
+        lines.end();
     }
     Outcome::Good
 }

@@ -9,7 +9,7 @@ use pddl_token::Token;
 use std::alloc::Allocator;
 
 /// Adds a word's kind, its span and its bytes.
-fn add_token<B: Allocator>(token: &Token<'_>, lines: &mut Lines<'_, B>) {
+fn add_token(token: &Token<'_>, lines: &mut Lines) {
     lines.shown(&token.kind);
     lines.span(token.span);
     lines.word(token.text);
@@ -17,7 +17,7 @@ fn add_token<B: Allocator>(token: &Token<'_>, lines: &mut Lines<'_, B>) {
 }
 
 /// Adds a line for each word.
-fn add_tokens<B: Allocator>(tokens: &[Token<'_>], lines: &mut Lines<'_, B>) -> Outcome {
+fn add_tokens(tokens: &[Token<'_>], lines: &mut Lines) -> Outcome {
     for token in tokens {
         add_token(token, lines);
     }
@@ -25,42 +25,38 @@ fn add_tokens<B: Allocator>(tokens: &[Token<'_>], lines: &mut Lines<'_, B>) -> O
 }
 
 /// Adds a word, or a list's span and how many items it has.
-fn add_item<A: Allocator, B: Allocator>(item: &Item<'_, A>, lines: &mut Lines<'_, B>) {
+fn add_item<A: Allocator>(item: &Item<'_, A>, lines: &mut Lines) {
     match item {
         Item::Word(token) => add_token(token, lines),
         Item::List(items, span) => {
             lines.word(b"List");
             lines.span(*span);
             lines.word(b"of");
-            lines.number(items.len() as u64);
+            lines.shown(&items.len());
             lines.end();
         }
     }
 }
 
-/// Adds a line for each item of a list, behind a dash.
-fn add_inner<A: Allocator, B: Allocator>(item: &Item<'_, A>, lines: &mut Lines<'_, B>) {
-    if let Item::List(items, _) = item {
-        for inner in items {
-            lines.word(b"-");
-            add_item(inner, lines);
-        }
-    }
-}
-
-/// Adds a line for each item, and for each of those in it.
-fn add_all<A: Allocator, B: Allocator>(items: &[Item<'_, A>], lines: &mut Lines<'_, B>) -> Outcome {
+/// Adds a line for each item, and for each of those in it, behind a dash.
+fn add_all<A: Allocator>(items: &[Item<'_, A>], lines: &mut Lines) -> Outcome {
     for item in items {
         add_item(item, lines);
-        add_inner(item, lines);
+        if let Item::List(items, _) = item {
+            for inner in items {
+                lines.word(b"-");
+                add_item(inner, lines);
+            }
+        }
     }
     Outcome::Good
 }
 
 /// Adds the lines for items that were read, or the fault of their text.
 fn add_read<A: Allocator, B: Allocator>(
+    alloc: &B,
     read: Result<Vec<Item<'_, A>, A>, TextFault>,
-    lines: &mut Lines<'_, B>,
+    lines: &mut Lines,
 ) -> Outcome {
     match read {
         Ok(items) => {
@@ -68,13 +64,13 @@ fn add_read<A: Allocator, B: Allocator>(
             drop(items);
             outcome
         }
-        Err(fault) => add_text_fault(fault, lines),
+        Err(fault) => add_text_fault(alloc, fault, lines),
     }
 }
 
 /// Adds the lines for the items of a text.
-pub fn add_items<B: Allocator>(alloc: &B, text: &[u8], lines: &mut Lines<'_, B>) -> Outcome {
-    add_read(items_of(alloc, text), lines)
+pub fn add_items<B: Allocator>(alloc: &B, text: &[u8], lines: &mut Lines) -> Outcome {
+    add_read(alloc, items_of(alloc, text), lines)
 }
 
 /// Adds a line for each word of a text, or the lines for the items that its words form.
@@ -82,29 +78,29 @@ pub fn add_words<B: Allocator>(
     alloc: &B,
     as_items: bool,
     text: &[u8],
-    lines: &mut Lines<'_, B>,
+    lines: &mut Lines,
 ) -> Outcome {
     match lex(alloc, text) {
-        Ok(tokens) if as_items => add_read(lists(alloc, &tokens), lines),
+        Ok(tokens) if as_items => add_read(alloc, lists(alloc, &tokens), lines),
         Ok(tokens) => add_tokens(&tokens, lines),
-        Err(fault) => add_text_fault(fault, lines),
+        Err(fault) => add_text_fault(alloc, fault, lines),
     }
 }
 
 /// Adds what is said of a fault.
-fn add_message<B: Allocator>(fault: TextFault, lines: &mut Lines<'_, B>) -> Outcome {
+fn add_message<B: Allocator>(alloc: &B, fault: TextFault, lines: &mut Lines) -> Outcome {
     if fault == TextFault::Memory {
         lines.refuse();
     }
-    lines.said(&fault);
+    lines.made(format!(in alloc; "{fault}"));
     lines.end();
     Outcome::Refused
 }
 
 /// Adds what is said of the fault in a text, if there is one.
-pub fn add_fault<B: Allocator>(alloc: &B, text: &[u8], lines: &mut Lines<'_, B>) -> Outcome {
+pub fn add_fault<B: Allocator>(alloc: &B, text: &[u8], lines: &mut Lines) -> Outcome {
     match items_of(alloc, text) {
         Ok(_) => Outcome::Good,
-        Err(fault) => add_message(fault, lines),
+        Err(fault) => add_message(alloc, fault, lines),
     }
 }

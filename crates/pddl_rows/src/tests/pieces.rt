@@ -1,6 +1,7 @@
 //! Lexers and readers of texts that come in pieces, where no row of a text can say what they do.
 
 use pddl_fakes::Refusing;
+use pddl_file_lines::let_go_plan;
 use pddl_plan::Plan;
 use pddl_plan_reader::{PlanReader, read_plan};
 use pddl_scan::{LONGEST, TextFault};
@@ -61,7 +62,13 @@ fn answers<B: Allocator>(
 
 /// Whether a reader answered at the end that it has failed.
 fn has_failed<A: Allocator>(read: Result<Plan<A>, ReadFault>) -> bool {
-    matches!(read, Err(ReadFault::Text(TextFault::AlreadyFailed)))
+    match read {
+        Ok(plan) => {
+            let_go_plan(plan);
+            false
+        }
+        Err(fault) => matches!(fault, ReadFault::Text(TextFault::AlreadyFailed)),
+    }
 }
 
 /// Whether the reader of the longest text of blanks answers this fault for so many bytes more and fails for good, or answers none.
@@ -123,7 +130,11 @@ fn wanted(size: usize) -> (u64, u64) {
 /// What was read, told so.
 fn told<A: Allocator>(read: Result<Plan<A>, ReadFault>) -> (u64, u64) {
     match read {
-        Ok(plan) => (0, plan.len() as u64),
+        Ok(plan) => {
+            let steps = plan.len() as u64;
+            let_go_plan(plan);
+            (0, steps)
+        }
         Err(ReadFault::Text(TextFault::Stray { at })) => (2, u64::from(at)),
         Err(ReadFault::Text(TextFault::Unclosed { at })) => (7, u64::from(at)),
         Err(ReadFault::Step { span, .. }) => (15, u64::from(span.start)),
