@@ -1,4 +1,4 @@
-//! Rows of files alone and of linked domains and problems, as tests across crates. There is nothing here but tests.
+//! Rows of files alone, of linked domains and problems, and of command lines, as tests across crates. There is nothing here but tests.
 //!
 //! A row is data, and `pddl_row_driver` says how it is written. Each file of `rows/` has the rows of one subject as a `static` text, and
 //! a test of `tests.rt` says how many rows it has. A row more needs no code: write it into its subject, and add one to the

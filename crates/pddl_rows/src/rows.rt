@@ -2,6 +2,7 @@
 //! other letters than those of ASCII.
 
 mod changed_problems;
+mod command_lines;
 mod costs;
 mod domains;
 mod format_domains;
@@ -25,6 +26,7 @@ mod values;
 mod words;
 
 pub use changed_problems::CHANGED_PROBLEMS;
+pub use command_lines::{COMMAND_LINES, HELP};
 pub use costs::COSTS;
 pub use domains::DOMAINS;
 pub use format_domains::FORMAT_DOMAINS;

@@ -1,5 +1,6 @@
 //! Each text of rows holds, and has as many rows as here.
 
+mod command_lines;
 mod devices;
 mod pieces;
 

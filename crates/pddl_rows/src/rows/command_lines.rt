@@ -1,13 +1,7 @@
-//! Rows of command lines.
-
-use pddl_words::{Job, parse_words, words_status};
-use std::alloc::{AllocError, Global};
-use std::num::NonZeroU32;
-use std::process::Abort;
-use std::test::Fail;
+//! Command lines, and what they ask for. Between their words stand strokes.
 
 /// Words, the program's name first, and what they ask for: a job, or nothing, with the exit status of that.
-static WORDS: &str = "\
+pub static COMMAND_LINES: &[u8] = b"\
 pddlcheck|domain|my.pddl => domain my.pddl
 pddlcheck|domain|domain => domain domain
 pddlcheck|problem|my.pddl|other.pddl => problem my.pddl, other.pddl
@@ -107,7 +101,7 @@ pddlcheck|help|reformat => status 3
 ";
 
 /// Words that ask for help, and a part of the help that is printed.
-static HELP: &str = "\
+pub static HELP: &[u8] = b"\
 pddlcheck|--help => Usage: pddlcheck <COMMAND>
 pddlcheck|--help => domain
 pddlcheck|--help => problem
@@ -142,127 +136,3 @@ pddlcheck|format|--help => planning domain or problem
 pddlcheck|format|--help => /dev/stdin
 pddlcheck|format|--help => Exit status:
 ";
-
-/// A command and its files, as the rows say it.
-fn files_told(alloc: Global, command: &str, paths: &[&str]) -> Result<String, AllocError> {
-    let files = paths.join(alloc, ", ")?;
-    format!(in alloc; "{command} {files}")
-}
-
-/// What a serial form is asked of, as the rows say it.
-fn serial_told(
-    alloc: Global,
-    paths: &[&str],
-    reverse: bool,
-    groups: Option<NonZeroU32>,
-) -> Result<String, AllocError> {
-    let reversed = if reverse { " reversed" } else { "" };
-    let serial = files_told(alloc, "serial", paths)?;
-    match groups {
-        Some(size) => format!(in alloc; "{serial}{reversed} in groups of {size}"),
-        None => format!(in alloc; "{serial}{reversed}"),
-    }
-}
-
-/// A job, as the rows say it.
-fn job_told(alloc: Global, job: &Job<'_>) -> Result<String, AllocError> {
-    match *job {
-        Job::Domain { path } => files_told(alloc, "domain", &[path]),
-        Job::Problem { domain, problem } => files_told(alloc, "problem", &[domain, problem]),
-        Job::Plan {
-            domain,
-            problem,
-            plan,
-        } => files_told(alloc, "plan", &[domain, problem, plan]),
-        Job::Serial {
-            domain,
-            problem,
-            plan,
-            reverse,
-            groups,
-        } => serial_told(alloc, &[domain, problem, plan], reverse, groups),
-        Job::Format { kind, path } => format!(in alloc; "format {kind:?} {path}"),
-    }
-}
-
-/// What words ask for, as the rows say it.
-fn told(alloc: Global, words: &[&str]) -> Result<String, AllocError> {
-    match parse_words(alloc, words) {
-        Ok(job) => job_told(alloc, &job),
-        Err(error) => format!(in alloc; "status {}", words_status(&error)),
-    }
-}
-
-/// What is printed where the words ask for no job, and nothing where they ask for one.
-fn message(alloc: Global, words: &[&str]) -> Result<String, AllocError> {
-    match parse_words(alloc, words) {
-        Ok(_) => Ok(String::new(alloc)),
-        Err(error) => format!(in alloc; "{error}"),
-    }
-}
-
-/// What rows say of words.
-#[derive(Clone, Copy)]
-enum Said {
-    /// What they ask for.
-    Job,
-    /// A part of the help that is printed.
-    Help,
-}
-
-/// The words of a row.
-fn words_of<'r>(alloc: Global, words: &'r str) -> Result<Vec<&'r str>, AllocError> {
-    let words = words.split('|').filter(|word| !word.is_empty());
-    words.collect(alloc)
-}
-
-/// What there is to say of the words of a row.
-fn found(alloc: Global, said: Said, words: &str) -> Result<String, AllocError> {
-    let words = words_of(alloc, words)?;
-    match said {
-        Said::Job => told(alloc, &words),
-        Said::Help => message(alloc, &words),
-    }
-}
-
-/// Whether this was found, or is a part of it.
-fn holds(said: Said, found: &str, want: &str) -> bool {
-    match said {
-        Said::Job => found == want,
-        Said::Help => found.contains(want),
-    }
-}
-
-/// What was found for the row of a line is what it says.
-fn is_found<R: Abort>(rt: &R, holds: bool, line: &str, found: &str) {
-    assert!(rt; holds, "{line}: {found}");
-}
-
-/// The row of a line holds.
-fn row_holds<R: Abort + AllocGlobal>(rt: &R, said: Said, line: &str) -> Result<(), Fail> {
-    let (words, want) = line.split_once(" => ").ok_or("a row has words")?;
-    let found = found(rt.alloc(), said, words)?;
-    is_found(rt, holds(said, &found, want), line, &found);
-    Ok(())
-}
-
-/// All rows of a text hold, and there are so many.
-fn all_hold<R: Abort + AllocGlobal>(rt: &R, said: Said, text: &str, rows: u64) -> Result<(), Fail> {
-    let mut held = 0u64;
-    for line in text.lines() {
-        row_holds(rt, said, line)?;
-        held = held.saturating_add(1);
-    }
-    assert!(rt; held == rows, "{held} rows");
-    Ok(())
-}
-
-#[test]
-fn words_ask_for_jobs(rt: HostRuntime) -> Result<(), Fail> {
-    all_hold(&rt, Said::Job, WORDS, 96)
-}
-
-#[test]
-fn help_names_the_commands_and_the_statuses(rt: HostRuntime) -> Result<(), Fail> {
-    all_hold(&rt, Said::Help, HELP, 33)
-}
