@@ -1,10 +1,10 @@
 use super::operations::Operation;
 use super::samples::has_marked;
 use super::sets::{TwoSets, agrees, are_disjoint_as_marked, runs};
-use super::trials::{Kind, Trial, goes_right};
+use super::trials::{Kind, Memory, Trial, goes_right};
 use pddl_fakes::Refusing;
 use pddl_state::{Atom, AtomStore};
-use std::alloc::Allocator;
+use std::alloc::{Allocator, Global};
 use std::process::Abort;
 
 // Operations that make each set grow, from nothing and past its first word, and take from it.
@@ -24,8 +24,8 @@ const SCRIPT: [(Operation, usize); 12] = [
 ];
 
 /// Runs the script, and then the calls that take no memory.
-pub fn runs_script<A: Allocator, B: Allocator, S: AtomStore<A>>(
-    refusing: &Refusing<B>,
+pub fn runs_script<A: Allocator, S: AtomStore<A>>(
+    refusing: &Memory,
     sets: &mut TwoSets<A, S>,
 ) -> bool
     requires first_own { S.owns sets.old.store sets.old.first }
@@ -39,8 +39,8 @@ pub fn runs_script<A: Allocator, B: Allocator, S: AtomStore<A>>(
     takes_no_memory(refusing, sets)
 }
 
-fn runs_step<A: Allocator, B: Allocator, S: AtomStore<A>>(
-    refusing: &Refusing<B>,
+fn runs_step<A: Allocator, S: AtomStore<A>>(
+    refusing: &Memory,
     sets: &mut TwoSets<A, S>,
     step: (Operation, usize),
 ) -> bool
@@ -56,8 +56,8 @@ fn runs_step<A: Allocator, B: Allocator, S: AtomStore<A>>(
 }
 
 /// The calls that take no memory: where the next growth would be refused, none is asked for.
-fn takes_no_memory<A: Allocator, B: Allocator, S: AtomStore<A>>(
-    refusing: &Refusing<B>,
+fn takes_no_memory<A: Allocator, S: AtomStore<A>>(
+    refusing: &Memory,
     sets: &mut TwoSets<A, S>,
 ) -> bool
     requires first_own { S.owns sets.old.store sets.old.first }
@@ -123,28 +123,16 @@ fn stays_empty<A: Allocator, S: AtomStore<A>>(
     requires first_own { S.owns store.old first.old }
     requires second_own { S.owns store.old second.now }
 {
-    !store.has(first, atom)
+    let is_empty = !store.has(first, atom)
         && store.insert(first, atom).is_err()
         && !store.has(first, atom)
-        && store.disjoint(first, second)
-        && lacks_after(store, first, second, atom)
-}
-
-fn lacks_after<A: Allocator, S: AtomStore<A>>(
-    store: &S,
-    set: &mut S::Set,
-    less: &S::Set,
-    atom: &Atom<A>,
-) -> bool
-    requires set_own { S.owns store.now set.old }
-    requires less_own { S.owns store.now less.now }
-{
-    store.subtract(set, less);
-    !store.has(set, atom)
+        && store.disjoint(first, second);
+    store.subtract(first, second);
+    is_empty && !store.has(first, atom)
 }
 
 // Runs the script with each growth refused in turn, until none is.
-fn refused_in_turn<B: Allocator + Copy>(rt: &impl Abort, alloc: B, kind: Kind) {
+fn refused_in_turn(rt: &impl Abort, alloc: Global, kind: Kind) {
     let mut runs = 0u64;
     for n in 1..2000u64 {
         if !is_refused(rt, alloc, kind, n) {
@@ -156,7 +144,7 @@ fn refused_in_turn<B: Allocator + Copy>(rt: &impl Abort, alloc: B, kind: Kind) {
     assert!(rt; runs > 100 && runs < 1999, "{runs} runs");
 }
 
-fn is_refused<B: Allocator>(rt: &impl Abort, alloc: B, kind: Kind, n: u64) -> bool {
+fn is_refused(rt: &impl Abort, alloc: Global, kind: Kind, n: u64) -> bool {
     let alloc = Refusing::nth(alloc, n);
     let is_right = goes_right(&alloc, &alloc, kind, Trial::Script);
     let has_refused = alloc.has_refused();
@@ -181,7 +169,7 @@ fn every_growth_refused(rt: HostRuntime) {
     nothing_held(&rt, rt.alloc(), Kind::Bits);
 }
 
-fn nothing_held<B: Allocator>(rt: &impl Abort, alloc: B, kind: Kind) {
+fn nothing_held(rt: &impl Abort, alloc: Global, kind: Kind) {
     let alloc = Refusing::each(alloc);
     let is_right = goes_right(&alloc, &alloc, kind, Trial::Nothing);
     drop(alloc);

@@ -1,7 +1,7 @@
 //! Two sets of a store, with the marks of what they are to have, where growths may be refused.
 use super::operations::{Operation, done, marks_after};
 use super::samples::{has_marked, is_least_marked, lists_marked};
-use pddl_fakes::Refusing;
+use super::trials::Memory;
 use pddl_state::{Atom, AtomStore};
 use std::alloc::{AllocError, Allocator};
 
@@ -35,8 +35,8 @@ pub fn empty_sets<A: Allocator, S: AtomStore<A>>(store: S, atoms: &[Atom<A>]) ->
 
 /// Does an operation to the sets and to their marks, with an atom and its number. Where memory was refused, no set has changed,
 /// and the operation does its work when it is called again.
-pub fn runs<A: Allocator, B: Allocator, S: AtomStore<A>>(
-    refusing: &Refusing<B>,
+pub fn runs<A: Allocator, S: AtomStore<A>>(
+    refusing: &Memory,
     sets: &mut TwoSets<A, S>,
     step: (Operation, usize),
     atom: &Atom<A>,
@@ -82,10 +82,7 @@ pub fn have_marked<A: Allocator, S: AtomStore<A>>(sets: &TwoSets<A, S>) -> bool
 }
 
 /// Whether what the sets have, singly and together, is what is marked. A call that is refused is called again.
-pub fn agrees<A: Allocator, B: Allocator, S: AtomStore<A>>(
-    refusing: &Refusing<B>,
-    sets: &TwoSets<A, S>,
-) -> bool
+pub fn agrees<A: Allocator, S: AtomStore<A>>(refusing: &Memory, sets: &TwoSets<A, S>) -> bool
     requires first_own { S.owns sets.now.store sets.now.first }
     requires second_own { S.owns sets.now.store sets.now.second }
 {
@@ -102,8 +99,8 @@ pub fn agrees<A: Allocator, B: Allocator, S: AtomStore<A>>(
         && shares(refusing, sets)
 }
 
-fn lists<A: Allocator, B: Allocator, S: AtomStore<A>>(
-    refusing: &Refusing<B>,
+fn lists<A: Allocator, S: AtomStore<A>>(
+    refusing: &Memory,
     store: &S,
     set: &S::Set,
     marks: u128,
@@ -138,10 +135,7 @@ pub fn are_disjoint_as_marked<A: Allocator, S: AtomStore<A>>(sets: &TwoSets<A, S
     sets.store.disjoint(&sets.first, &sets.second) == (sets.marks.0 & sets.marks.1 == 0)
 }
 
-fn shares<A: Allocator, B: Allocator, S: AtomStore<A>>(
-    refusing: &Refusing<B>,
-    sets: &TwoSets<A, S>,
-) -> bool
+fn shares<A: Allocator, S: AtomStore<A>>(refusing: &Memory, sets: &TwoSets<A, S>) -> bool
     requires first_own { S.owns sets.now.store sets.now.first }
     requires second_own { S.owns sets.now.store sets.now.second }
 {

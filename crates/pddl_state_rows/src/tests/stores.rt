@@ -1,9 +1,8 @@
 use super::operations::Operation;
 use super::samples::{is_least_marked, lists_marked, mark, sample, samples};
 use super::sets::{TwoSets, agrees, runs};
-use super::trials::{Kind, Trial, goes_right_unrefused};
-use crate::caller::{Merged, merge, two_sets};
-use pddl_fakes::Refusing;
+use super::trials::{Kind, Memory, Trial, goes_right_unrefused};
+use crate::caller::{merge, two_sets};
 use pddl_state::{Atom, AtomStore};
 use std::alloc::Allocator;
 use std::test::Fail;
@@ -22,8 +21,8 @@ fn drawn(draw: u32) -> (Operation, usize) {
 }
 
 /// Four hundred operations on two sets of a store, each compared with what it does to their marks.
-pub fn runs_draws<A: Allocator + Copy, B: Allocator, S: AtomStore<A>>(
-    refusing: &Refusing<B>,
+pub fn runs_draws<A: Allocator + Copy, S: AtomStore<A>>(
+    refusing: &Memory,
     alloc: A,
     sets: &mut TwoSets<A, S>,
 ) -> bool
@@ -40,8 +39,8 @@ pub fn runs_draws<A: Allocator + Copy, B: Allocator, S: AtomStore<A>>(
     true
 }
 
-fn runs_draw<A: Allocator + Copy, B: Allocator, S: AtomStore<A>>(
-    refusing: &Refusing<B>,
+fn runs_draw<A: Allocator + Copy, S: AtomStore<A>>(
+    refusing: &Memory,
     alloc: A,
     sets: &mut TwoSets<A, S>,
     step: (Operation, usize),
@@ -63,29 +62,22 @@ fn runs_draw<A: Allocator + Copy, B: Allocator, S: AtomStore<A>>(
 fn both_stores_keep_to_the_marks(rt: HostRuntime) {
     let alloc = rt.alloc();
     assert!(rt;
-        goes_right_unrefused(alloc, Kind::Sorted, Trial::Draws),
+        goes_right_unrefused(alloc, alloc, Kind::Sorted, Trial::Draws),
         "sorted store"
     );
     assert!(rt;
-        goes_right_unrefused(alloc, Kind::Bits, Trial::Draws),
+        goes_right_unrefused(alloc, alloc, Kind::Bits, Trial::Draws),
         "bit store"
     );
     // A lent allocator serves too.
     assert!(rt;
-        goes_right_unrefused(&alloc, Kind::Bits, Trial::Draws),
+        goes_right_unrefused(alloc, &alloc, Kind::Bits, Trial::Draws),
         "lent allocator"
     );
 }
 
-// Whether two sets had the first marks in common, of which the least is told, and one got the second from the other and has the third.
-fn shows<A: Allocator>(merged: &Merged<A>, marks: (u128, u128, u128), atoms: &[Atom<A>]) -> bool {
-    let (shared, added, all) = marks;
-    is_least_marked(&merged.shared, shared, atoms)
-        && lists_marked(&merged.added, added, atoms)
-        && lists_marked(&merged.all, all, atoms)
-}
-
-// Whether a set that is merged with another shows these marks.
+// Whether a set that is merged with another had the first marks in common with it, of which the least is told, got the second from it
+// and has the third.
 fn merges_to<A: Allocator, S: AtomStore<A>>(
     store: &S,
     set: &mut S::Set,
@@ -99,7 +91,10 @@ fn merges_to<A: Allocator, S: AtomStore<A>>(
     let Ok(merged) = merge(store, set, more) else {
         return false;
     };
-    let is_right = shows(&merged, marks, atoms);
+    let (shared, added, all) = marks;
+    let is_right = is_least_marked(&merged.shared, shared, atoms)
+        && lists_marked(&merged.added, added, atoms)
+        && lists_marked(&merged.all, all, atoms);
     drop(merged);
     is_right
 }
@@ -138,11 +133,11 @@ fn both_merge<A: Allocator, S: AtomStore<A>>(
 #[test]
 fn both_stores_serve_a_caller(rt: HostRuntime) {
     assert!(rt;
-        goes_right_unrefused(rt.alloc(), Kind::Sorted, Trial::Merges),
+        goes_right_unrefused(rt.alloc(), rt.alloc(), Kind::Sorted, Trial::Merges),
         "sorted store"
     );
     assert!(rt;
-        goes_right_unrefused(rt.alloc(), Kind::Bits, Trial::Merges),
+        goes_right_unrefused(rt.alloc(), rt.alloc(), Kind::Bits, Trial::Merges),
         "bit store"
     );
 }
@@ -156,20 +151,19 @@ fn atoms_rise(rt: HostRuntime) -> Result<(), Fail> {
     Ok(())
 }
 
+// Whether each atom comes before the next and differs from it, and is equal to its copy.
 fn rise<A: Allocator + Copy>(alloc: A, atoms: &[Atom<A>]) -> bool {
     for number in 1..atoms.len() {
-        if !is_before(alloc, &atoms[number - 1], &atoms[number]) {
+        let (atom, next) = (&atoms[number - 1], &atoms[number]);
+        let is_right = *atom < *next && *atom != *next && is_copied(alloc, atom);
+        if !is_right {
             return false;
         }
     }
     true
 }
 
-// Whether an atom comes before the next, differs from it and is equal to its copy.
-fn is_before<A: Allocator>(alloc: A, atom: &Atom<A>, next: &Atom<A>) -> bool {
-    *atom < *next && *atom != *next && is_copied(alloc, atom)
-}
-
+// Whether an atom is equal to its copy.
 fn is_copied<A: Allocator>(alloc: A, atom: &Atom<A>) -> bool {
     let Ok(copy) = atom.copy(alloc) else {
         return false;

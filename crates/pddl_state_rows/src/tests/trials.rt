@@ -6,7 +6,10 @@ use super::stores::{merges, runs_draws};
 use pddl_bit_store::BitStore;
 use pddl_fakes::Refusing;
 use pddl_state::{AtomStore, SortedStore};
-use std::alloc::Allocator;
+use std::alloc::{Allocator, Global};
+
+/// Memory of which growths may be refused.
+pub type Memory = Refusing<Global>;
 
 /// Which store.
 #[derive(Clone, Copy)]
@@ -30,8 +33,8 @@ pub enum Trial {
 
 /// Whether what is tried in a new store goes right. The first allocator tells whether a growth was refused; the store grows by the
 /// other, which is the first one, lent, where growths are refused.
-pub fn goes_right<A: Allocator + Copy, B: Allocator>(
-    refusing: &Refusing<B>,
+pub fn goes_right<A: Allocator + Copy>(
+    refusing: &Memory,
     alloc: A,
     kind: Kind,
     trial: Trial,
@@ -42,8 +45,8 @@ pub fn goes_right<A: Allocator + Copy, B: Allocator>(
     }
 }
 
-fn goes_right_in<A: Allocator + Copy, B: Allocator, S: AtomStore<A>>(
-    refusing: &Refusing<B>,
+fn goes_right_in<A: Allocator + Copy, S: AtomStore<A>>(
+    refusing: &Memory,
     alloc: A,
     store: S,
     trial: Trial,
@@ -55,8 +58,8 @@ fn goes_right_in<A: Allocator + Copy, B: Allocator, S: AtomStore<A>>(
 }
 
 // What is tried with atoms: all but `Nothing`. Where the atoms are refused, nothing else is tried.
-fn serves<A: Allocator + Copy, B: Allocator, S: AtomStore<A>>(
-    refusing: &Refusing<B>,
+fn serves<A: Allocator + Copy, S: AtomStore<A>>(
+    refusing: &Memory,
     alloc: A,
     store: S,
     trial: Trial,
@@ -71,8 +74,8 @@ fn serves<A: Allocator + Copy, B: Allocator, S: AtomStore<A>>(
     is_right
 }
 
-fn runs_trial<A: Allocator + Copy, B: Allocator, S: AtomStore<A>>(
-    refusing: &Refusing<B>,
+fn runs_trial<A: Allocator + Copy, S: AtomStore<A>>(
+    refusing: &Memory,
     alloc: A,
     sets: &mut TwoSets<A, S>,
     trial: Trial,
@@ -87,10 +90,13 @@ fn runs_trial<A: Allocator + Copy, B: Allocator, S: AtomStore<A>>(
     }
 }
 
-/// Whether it goes right where no memory is refused.
-pub fn goes_right_unrefused<A: Allocator + Copy>(alloc: A, kind: Kind, trial: Trial) -> bool {
-    let refusing = Refusing::nth(alloc, 0);
-    let is_right = goes_right(&refusing, alloc, kind, trial);
-    drop(refusing);
-    is_right
+/// Whether it goes right in a store that grows by an allocator which refuses nothing.
+pub fn goes_right_unrefused<A: Allocator + Copy>(
+    global: Global,
+    alloc: A,
+    kind: Kind,
+    trial: Trial,
+) -> bool {
+    let refusing = Refusing::nth(global, 0);
+    goes_right(&refusing, alloc, kind, trial)
 }
