@@ -113,6 +113,12 @@ for count in 500 2000; do
     linked "problem, spoken of $count" "$(seconds "$program" format problem "$problem")" problem "$domain" "$problem"
 done
 
+for count in 10000 40000; do
+    make above "$count" domain
+    make above-goal "$count" problem
+    linked "problem, $count types above" "$(seconds "$program" format problem "$problem")" problem "$domain" "$problem"
+done
+
 for count in 5000 20000; do
     make below "$count" domain
     # its canonical text names the parent once for each type, which makes gigabytes

@@ -5,13 +5,14 @@ A plan has steps with three objects each: plain, timed, or with a comment before
 actions; a problem has many objects and a long `:init`.
 
 Usage: files.py plain|timed|comments|domain|problem MIB
-       files.py actions|items|parameters|variables|eithers|facts|spoken|crossed|crossed-goal|seen|ring|rings|below|slots|named|named-facts|named-constants|named-objects|short|long N
+       files.py actions|items|parameters|variables|eithers|facts|spoken|crossed|crossed-goal|above|above-goal|seen|ring|rings|below|slots|named|named-facts|named-constants|named-objects|short|long N
 
 The second form makes a domain with so many actions, or a problem of it with so many items in `:init` and two objects for each five of them: these link.
 So do a domain with an action of so many parameters, and a problem of it whose goal quantifies over so many variables of a type with one object, beside
 twice as many others; each variable is spoken of once. So do a domain of so many types with a slot and a parameter of an `either` of them all, a problem of it with an object
 of each and three facts for each, one whose goal speaks thirty times as often of a variable of that `either`, and a valid plan of a step for each. So do so many types with as many predicates of a slot of an `either` of them all, and a problem
-of it whose goal has each of these of each of as many variables of such an `either`. So do so many types below one whose name has five letters for each of them, and
+of it whose goal has each of these of each of as many variables of such an `either`. So do so many types below a chain of as many others, each of which is the type of a predicate's slot, and a problem
+of it whose goal has each predicate of one variable of an `either` of half of the types below. So do so many types below one whose name has five letters for each of them, and
 so many types with a predicate of as many slots, and a quantifier of as many variables, each list before one `either` of them all. So do an action that speaks so many times of a parameter whose type has a name of as many letters,
 and a problem of it with so many facts of an object of that type; and a domain with so many constants of such a type, and a problem of it that lists them again. So many types in a chain, the last two of which are above themselves, do not, nor do so many in pairs, each the parent of the other. Or it makes a plan of so many steps, each with two objects of few letters, or with eight of many.
 """
@@ -158,6 +159,18 @@ def crossed_variables(count):
     return f"(define (problem crossed-1)\n  (:domain crossed)\n  (:init)\n  (:goal (forall ({variables})\n    (and {atoms}))))\n"
 
 
+def chain_above(count):
+    chain = "".join(f"c{number + 1} - c{number}\n    " for number in range(count - 1))
+    predicates = " ".join(f"(p{number} ?x - c{number})" for number in range(count))
+    return f"(define (domain above)\n  (:types {chain}{numbered('t#', count)} - c{count - 1})\n  (:predicates {predicates}))\n"
+
+
+def below_chain(count):
+    either = " ".join(f"t{number}" for number in range(0, count, 2))
+    atoms = " ".join(f"(p{number} ?v)" for number in range(count))
+    return f"(define (problem above-1)\n  (:domain above)\n  (:init)\n  (:goal (exists (?v - (either {either}))\n    (and {atoms}))))\n"
+
+
 def many_seen(count):
     return "".join(f"(see o{number})\n" for number in range(count))
 
@@ -218,6 +231,8 @@ COUNTED = {
     "spoken": much_spoken,
     "crossed": crossed_slots,
     "crossed-goal": crossed_variables,
+    "above": chain_above,
+    "above-goal": below_chain,
     "seen": many_seen,
     "ring": ring_of_types,
     "rings": rings_of_types,

@@ -1,7 +1,7 @@
 //! Spans of numbers, and what they hold.
 
-ghost use Rattle.std.specs.Prelude.{◌≡◌, ◌==◌, not};
-ghost use Rattle.pddl_forest.specs.Spans.{holds, some_holds, hold_all, AreApart};
+ghost use Rattle.std.specs.Prelude.{◌≡◌, ◌==◌, ◌<◌, ◌≤◌, ℕ, length, not};
+ghost use Rattle.pddl_forest.specs.Spans.{holds, some_holds, hold_all, span_at, AreApart};
 
 /// The numbers from a first to a last.
 #[derive(Clone, Copy)]
@@ -32,8 +32,18 @@ fn behind_holder(spans: &[Span], number: usize) -> usize
     }
 }
 
+/// How many of some spans, each behind the one before, begin at or before a number.
+fn begun_by(spans: &[Span], number: usize) -> usize
+    requires { AreApart spans.now }
+    ensures within { result ≤ length spans.now }
+    ensures before { (i : ℕ) → i < result → (span_at spans.now i).first ≤ number }
+    ensures behind { (i : ℕ) → result ≤ i → i < length spans.now → number < (span_at spans.now i).first }
+{
+    spans.partition_point(|span| span.first <= number)
+}
+
 /// Whether spans, each behind the one before, hold the first number of each of others. What holds one is looked for first behind what held the one before.
-pub fn hold_all(outer: &[Span], inner: &[Span]) -> bool
+fn hold_each(outer: &[Span], inner: &[Span]) -> bool
     requires { AreApart outer.now }
     ensures { result ≡ hold_all outer.now inner.now }
 {
@@ -49,4 +59,34 @@ pub fn hold_all(outer: &[Span], inner: &[Span]) -> bool
         }
     }
     true
+}
+
+/// The same of others that stand each behind the one before too, so that those which one span holds stand side by side.
+fn hold_runs(outer: &[Span], inner: &[Span]) -> bool
+    requires outer { AreApart outer.now }
+    requires inner { AreApart inner.now }
+    ensures { result ≡ hold_all outer.now inner.now }
+{
+    let mut next = 0;
+    for span in outer {
+        if next < inner.len() && inner[next].first < span.first {
+            return false;
+        }
+        next = begun_by(inner, span.last);
+    }
+    next == inner.len()
+}
+
+/// Whether spans, each behind the one before, hold the first number of each of others. Where there are several of these, they stand so too. The work grows
+/// with the fewer of both, and with the logarithm of the more.
+pub fn hold_all(outer: &[Span], inner: &[Span]) -> bool
+    requires outer { AreApart outer.now }
+    requires inner { 1 < length inner.now → AreApart inner.now }
+    ensures { result ≡ hold_all outer.now inner.now }
+{
+    if 1 < inner.len() && outer.len() < inner.len() {
+        hold_runs(outer, inner)
+    } else {
+        hold_each(outer, inner)
+    }
 }

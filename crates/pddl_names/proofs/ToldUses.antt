@@ -50,6 +50,11 @@ module _ (t : TypesValue) (told : List (List Span)) where
     variable_low None in_it = absurd (none_in_scope scope number in_it)
     variable_low (Some x) in_it = (variable_told x in_it).0
 
+    -- and its tops are apart
+    pub variable_apart : (found : Option TypedValue) → IsInScope scope found number → AreApart (slice_index_or told number [])
+    variable_apart None in_it = absurd (none_in_scope scope number in_it)
+    variable_apart (Some x) in_it = (variable_told x in_it).1.apart
+
 -- ---- a slot
 
 number_read : (numbers : List ℕ) (i : ℕ) (read : Option (Bor ℕ)) → IsItemAt numbers i read → slice_get numbers i ≡ option_copied read

@@ -79,7 +79,8 @@ impl<'k, 't, 'm, 'a, A: Allocator, B: Allocator> Uses<'k, 't, 'm, 'a, A, B> {
     /// Fails where memory for that is refused.
     fn variable_fits(&mut self, variable: usize, slot: usize) -> Result<bool, AllocError>
         requires variable { variable < length self.old.told }
-        requires apart { AreApart (slice_index_or self.old.slots.told slot []) }
+        requires apart { AreApart (slice_index_or self.old.told variable []) }
+        requires slot { AreApart (slice_index_or self.old.slots.told slot []) }
         ensures kept { self.new ≡ self.old }
         ensures fits { IfOk result (TellsFit self.old.types self.old.told self.old.slots.told (variable, slot)) }
     {

@@ -1,6 +1,6 @@
 //! Objects by name, with the spans of their types.
 
-ghost use Rattle.std.specs.Prelude.{◌≡◌, List, ℕ, false, map, take, find, slice_get};
+ghost use Rattle.std.specs.Prelude.{◌≡◌, List, ℕ, false, map, take, find, length, slice_get, IfSome};
 ghost use Rattle.std.specs.Option.{option_map_or};
 ghost use Rattle.pddl_task.specs.Names.{is_named};
 ghost use Rattle.pddl_task.specs.Types.{pairs, fits};
@@ -41,7 +41,8 @@ impl<'m, 'a, A: Allocator, B: Allocator> Listed<'m, 'a, A, B> {
 
     /// The span of the type of the object of this name, one of the first so many, as what is told of the type, where each object has one type.
     pub fn told_of(&self, name: &[u8], limit: usize) -> Option<&[Span]>
-        ensures { (t : TypesValue) → AreListed t self.now → AreSingle t.declared (map object_in self.now.objects.entries) → IsToldOf t (find (is_named name.now) (take limit (map object_in self.now.objects.entries))) result }
+        ensures one { IfSome result (λ told. length told.now ≡ 1) }
+        ensures told { (t : TypesValue) → AreListed t self.now → AreSingle t.declared (map object_in self.now.objects.entries) → IsToldOf t (find (is_named name.now) (take limit (map object_in self.now.objects.entries))) result }
     {
         let number = self.objects.get_index_of(name)?;
         if number >= limit {

@@ -121,7 +121,8 @@ impl<'m, 'a, A: Allocator, B: Allocator> Types<'m, 'a, A, B> {
 
     /// Whether a term of a type of which the first spans are told fits a slot of which the second are. One of the two types has known primitives.
     pub fn fits(&self, told: &[Span], tops: &[Span]) -> bool
-        requires { AreApart tops.now }
+        requires tops { AreApart tops.now }
+        requires told { 1 < length told.now → AreApart told.now }
         ensures { (types slot : List (List ℕ)) → IsTold self.now types told.now → IsTold self.now slot tops.now
             → IsTrue (are_types self.now.declared types) ⊎ IsTrue (are_types self.now.declared slot) → result ≡ fits (pairs self.now.declared) types slot }
     {

@@ -8,7 +8,7 @@ pub returns-in-Object : goal.returns-in-Object
 returns-in-Object g c =
     let k = c.args.known.now in
     let n = c.in-Object.object.now in
-    rw c.in-Object.is (ap (λ known. word_if (not known) n) (sym (c.is_some.ensures ∙ told_some k.types.now _ c.told_of.result (c.told_of.ensures k.types.now k.objects k.single) ∙ is_bound _ n)))
+    rw c.in-Object.is (ap (λ known. word_if (not known) n) (sym (c.is_some.ensures ∙ told_some k.types.now _ c.told_of.result (c.told_of.ensures.told k.types.now k.objects k.single) ∙ is_bound _ n)))
 
 pub returns-in-Variable : goal.returns-in-Variable
 returns-in-Variable g c =

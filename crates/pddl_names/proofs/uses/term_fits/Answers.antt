@@ -1,10 +1,13 @@
 use Rattle.std.proofs.Common.{sym, ap, ◌∙◌}
 use Rattle.std.specs.Prelude.{is_some}
-use Rattle.pddl_names.proofs.ToldUses.{bound_some, variable_low, past_slots, variable_fits}
+use Rattle.pddl_names.proofs.ToldUses.{bound_some, variable_low, variable_apart, past_slots, variable_fits}
 use Rattle.pddl_names.proofs.uses.term_fits.Goals as goal
 
 pub variable_fits-requires-clause-variable : goal.variable_fits-requires-clause-variable
 variable_fits-requires-clause-variable g c = variable_low c.args.uses.now.types c.args.uses.now.told c.args.scope.now c.in-Some.number c.requires.told _ c.in-Some.ensures
+
+pub variable_fits-requires-clause-apart : goal.variable_fits-requires-clause-apart
+variable_fits-requires-clause-apart g c = variable_apart c.args.uses.now.types c.args.uses.now.told c.args.scope.now c.in-Some.number c.requires.told _ c.in-Some.ensures
 
 pub returns-in-None-slot-clause-fits : goal.returns-in-None-slot-clause-fits
 returns-in-None-slot-clause-fits g c =
