@@ -1,3 +1,4 @@
 pub mod NamedWell
 pub mod Settings
 pub mod Stages
+pub mod Turned

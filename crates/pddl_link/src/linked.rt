@@ -1,10 +1,12 @@
 //! Links a domain and a problem.
 
-ghost use Rattle.std.specs.Prelude.{◌≡◌, [], map, drop, IfOk, OnOk};
+ghost use Rattle.std.specs.Prelude.{◌≡◌, ◌++◌, ℕ, List, [], map, drop, IfOk, IsOk, OnOk};
 ghost use Rattle.pddl_domain.specs.Domains.{domain_view};
 ghost use Rattle.pddl_problem.specs.Problems.{problem_view};
+ghost use Rattle.pddl_task.specs.Names.{Name};
 ghost use Rattle.pddl_task.specs.Linked.{domain_fault, fault_in, faults, rules, NoneStands};
 ghost use Rattle.pddl_faults.specs.Passes.{Verdict};
+ghost use Rattle.pddl_faults.specs.Found.{IsFound};
 ghost use Rattle.pddl_search.specs.Claims.{HoldsValues};
 ghost use Rattle.pddl_types.specs.TypeSpans.{IsEmpty};
 ghost use Rattle.pddl_names.specs.ObjectTables.{AreAllListed};
@@ -26,6 +28,24 @@ use pddl_sizes::ObjectOrder;
 use pddl_types::{Declared, Fitting, Listed, SlotTops, Types, let_go_declared, let_go_objects};
 use std::alloc::{AllocError, Allocator};
 
+/// The lowest of the faults of what is declared, listed and bound. Of two with one number that of a constant comes before that of what else is declared, and that
+/// of an object behind it.
+fn first_of_three<'d>(
+    is_constant: bool,
+    declared: Result<(), LinkFault<'d>>,
+    listed: Result<(), LinkFault<'d>>,
+    bound: Result<(), LinkFault<'d>>,
+) -> Result<(), LinkFault<'d>>
+    ensures found { (xs ys zs : List (ℕ × Name)) → IsFound xs declared.entry → IsFound ys listed.entry → IsFound zs bound.entry → IsFound (xs ++ (ys ++ zs)) result }
+    ensures both { OnOk result (IsOk declared.entry × IsOk listed.entry) }
+{
+    if is_constant {
+        lower(listed, lower(declared, bound))
+    } else {
+        lower(declared, lower(listed, bound))
+    }
+}
+
 /// The lowest fault of names in a domain and a problem, whose constants and objects are added to none.
 fn look_at_both<'m, 'a, A: Allocator, B: Allocator>(
     alloc: &'a B,
@@ -42,7 +62,9 @@ fn look_at_both<'m, 'a, A: Allocator, B: Allocator>(
     let declared = look_at_domain(alloc, types, domain);
     let all = list_all(alloc, types, listed, domain, problem);
     let bound = look_at_problem(alloc, types, problem);
-    lower(declared, lower(all, bound))
+    // how many are constants is told once all of these are listed
+    let is_constant = listed.constants == 0 && domain.constants.len() > 0;
+    first_of_three(is_constant, declared, all, bound)
 }
 
 /// The lowest fault of what a domain and a problem use, where none of names stands; the values of functions of objects are added to none.

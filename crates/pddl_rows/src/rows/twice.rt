@@ -161,4 +161,19 @@ copy bare
 file
 | link: fault 25 ObjectTypes c
 refused problem
+
+row twice 19
+file (define (domain d) (:types a b) (:constants c - a c - b) (:predicates (p) (p)))
+| link: fault 24 NameTwice c
+refused domain
+copy bare
+file
+| link: fault 24 NameTwice c
+refused problem
+
+row twice 20
+file (define (domain d) (:types a b) (:predicates (p) (p)))
+file (define (problem x) (:domain d) (:objects o - a o - b) (:init) (:goal (and)))
+| link: fault 24 NameTwice p
+refused problem
 ";
