@@ -1,4 +1,4 @@
-pub mod BoundTypes
+pub mod Scopes
 pub mod InitClaims
 pub mod SeenItems
 pub mod Walks

@@ -1,4 +1,3 @@
-pub mod Bound
 pub mod Parts
 pub mod Scopes
 pub mod Walks

@@ -1,26 +1,41 @@
--- What is bound in a scope, and what stays while a search goes on.
-use Rattle.std.specs.Prelude.{◌≡◌, ◌⊎◌, ℕ, List, [], Option}
-use Rattle.pddl_formula.specs.TypedLists.{TypedValue}
-use Rattle.pddl_task.specs.Names.{Name}
-use Rattle.pddl_task.specs.Places.{Place, binding}
-use Rattle.pddl_search.specs.Bound.{IsBound}
-use Rattle.pddl_search.specs.declared.scope.Scope.{Scope, Empty, Inside'}
+-- Variables in scope with the numbers of their types, the innermost first, and what stays while a search goes on.
+use Rattle.std.specs.Prelude.{◌≡◌, ℕ, suc, List, [], ◌∷◌, map, length, cond, unwrap_or, bytes_eq}
+use Rattle.std.specs.Borrow.{Bor}
+use Rattle.std.specs.Map.{lookup}
+use Rattle.pddl_formula.specs.TypedLists.{TypedValue, typed_view}
+use Rattle.pddl_task.specs.Names.{Name, is_named}
+use Rattle.pddl_task.specs.Places.{Place}
+use Rattle.pddl_search.specs.declared.scope.Bound.{Bound}
 
--- the variables that are bound in a scope, the innermost first
-abbrev pub bound_of : {A B : _} → Scope A B → List TypedValue
-bound_of Empty = []
-bound_of (Inside' xs p outer) = binding xs.now.list (bound_of outer)
+-- a variable with the number of its type
+abbrev pub entry_of : {A : _} → Bound A → TypedValue × ℕ
+entry_of b = (typed_view b.variable.now, b.number)
 
--- the types of its variables have these numbers
-abbrev pub AllNumbered : {A B : _} → (List TypedValue → List ℕ → Type 0) → Scope A B → Type 0
-AllNumbered are_numbers Empty = Unit
-AllNumbered are_numbers (Inside' xs p outer) = are_numbers xs.now.list xs.now.numbers × AllNumbered are_numbers outer
+-- the variables, without the numbers of their types
+abbrev pub bound_in : List (TypedValue × ℕ) → List TypedValue
+bound_in es = map (λ e. e.0) es
 
--- one of its variables, and the number of its type
-abbrev pub IsInScope : {A B : _} → Scope A B → Option TypedValue → ℕ → Type 0
-IsInScope Empty found number = ⊥
-IsInScope (Inside' xs p outer) found number = IsBound xs.now found number ⊎ IsInScope outer found number
+-- how many are in scope up to the innermost of a name; 0 where none of the name is
+abbrev pub depth_of : Name → List (TypedValue × ℕ) → ℕ
+depth_of n [] = 0
+depth_of n (e ∷ es) = cond (is_named n e.0) (suc (length es)) (depth_of n es)
 
--- numbers of types stay, and so do the faults that are looked for
-abbrev pub IsKept : (before after : List TypedValue → List ℕ → Type 0) → (found now : Place → List (ℕ × Name)) → Type 0
-IsKept before after found now = ((xs : List TypedValue) (numbers : List ℕ) → before xs numbers → after xs numbers) × (now ≡ found)
+-- each knows the depth of the one of its name that it hides
+abbrev pub AreHidden : {A : _} → List (Bound A) → Type 0
+AreHidden [] = Unit
+AreHidden (b ∷ bs) = (b.hidden ≡ depth_of b.variable.now.name (map entry_of bs)) × AreHidden bs
+
+-- so it does, and a table has the depth of the innermost of each name
+pub record IsScope {A : Type 0} (bs : List (Bound A)) (table : List (Bor Name × ℕ)) : Type 0 where
+  pub hidden : AreHidden bs
+  pub depths : (n : Name) → unwrap_or (lookup (λ k. bytes_eq n k.now) table) 0 ≡ depth_of n (map entry_of bs)
+
+-- the variables of a list are entered one after another
+abbrev pub entered : List TypedValue → List ℕ → List (TypedValue × ℕ) → List (TypedValue × ℕ)
+entered [] numbers es = es
+entered (x ∷ xs) [] es = es
+entered (x ∷ xs) (n ∷ numbers) es = entered xs numbers ((x, n) ∷ es)
+
+-- what is bound stays, and so do the faults that are looked for
+abbrev pub IsKept : (before after : List TypedValue → Type 0) → (found now : Place → List (ℕ × Name)) → Type 0
+IsKept before after found now = ((b : List TypedValue) → before b → after b) × (now ≡ found)

@@ -1,70 +1,134 @@
-//! The variables in scope at a place, and what a search for faults promises there.
+//! The variables in scope, looked up by name.
 
-ghost use Rattle.std.specs.Prelude.{◌≡◌, List, ℕ, map, find, IfOk, MatchOption};
+ghost use Rattle.std.specs.Prelude.{◌≡◌, ℕ, [], ◌∷◌, map, drop, find, length, option_map, OnOk, OnErr};
 ghost use Rattle.pddl_formula.specs.TypedLists.{typed_view};
 ghost use Rattle.pddl_task.specs.Names.{is_named};
-ghost use Rattle.pddl_task.specs.Places.{at};
-ghost use Rattle.pddl_faults.specs.Found.{IsFound};
-ghost use Rattle.pddl_search.specs.Parts.{part_in};
-ghost use Rattle.pddl_search.specs.Scopes.{bound_of, AllNumbered, IsInScope, IsKept};
+ghost use Rattle.pddl_search.specs.Scopes.{depth_of, entered};
 
-use crate::part::Part;
-use crate::variables::Variables;
-use pddl_faults::LinkFault;
-use pddl_formula::TypedList;
+use indexmap::IndexMap;
+use pddl_formula::{Typed, TypedList};
 use pddl_hash::Hashed;
 use std::alloc::{AllocError, Allocator};
+use std::marker::Model;
 
-/// The variables in scope, a list for each quantifier, the innermost first.
+/// A variable in scope with the number of its type, and the depth of the one of its name that it hides, or 0.
 #[derive(Drop)]
-pub enum Scope<'s, 'd, 'a, A: Allocator, B: Allocator> {
-    Empty,
-    Inside(&'s Variables<'d, 'a, A, B>, &'s Scope<'s, 'd, 'a, A, B>),
+struct Bound<'d, A: Allocator> {
+    variable: &'d Typed<A>,
+    number: usize,
+    hidden: usize,
 }
 
-/// The number of the type of the innermost variable of this name.
-pub fn bound_number<A: Allocator, B: Allocator>(scope: &Scope<A, B>, name: &[u8]) -> Option<usize>
-    ensures { MatchOption result (find (is_named name.now) (bound_of scope.now) ≡ None) (IsInScope scope.now (find (is_named name.now) (bound_of scope.now))) }
-{
-    match scope {
-        Scope::Empty => None,
-        Scope::Inside(variables, outer) => {
-            let variables = *variables;
-            match variables.number_of(name) {
-                Some(number) => Some(number),
-                None => bound_number(*outer, name),
+/// The variables in scope, the innermost last, and the depth of the innermost of each name: how many are in scope up to it, or 0 where none of the name is.
+///
+/// Contracts see them with the numbers of their types, the innermost first.
+#[derive(Drop)]
+pub struct Scope<'d, 'a, A: Allocator, B: Allocator> {
+    bound: Vec<Bound<'d, A>, &'a B>,
+    depths: IndexMap<&'d [u8], usize, Hashed, &'a B>,
+}
+
+impl<'d, 'a, A: Allocator, B: Allocator> Model for Scope<'d, 'a, A, B> {
+    ghost use Rattle.std.specs.Prelude.{List, ℕ, map, reverse};
+    ghost use Rattle.pddl_formula.specs.TypedLists.{TypedValue};
+    ghost use Rattle.pddl_search.specs.Scopes.{entry_of, IsScope};
+
+    ghost Value = { List (TypedValue × ℕ) };
+
+    ghost view = { λ s. map entry_of (reverse s.bound.items) };
+
+    ghost invariant = { λ s. IsScope (reverse s.bound.items) s.depths.entries };
+}
+
+impl<'d, 'a, A: Allocator, B: Allocator> Scope<'d, 'a, A, B> {
+    /// Nothing is in scope.
+    pub fn new(alloc: &'a B, hashed: Hashed) -> Scope<'d, 'a, A, B>
+        ensures { result ≡ [] }
+    {
+        Scope {
+            bound: Vec::new(alloc),
+            depths: IndexMap::with_hasher(alloc, hashed),
+        }
+    }
+
+    /// The depth of the innermost variable of a name, or 0.
+    fn depth_of(&self, name: &[u8]) -> usize
+        ensures { result ≡ depth_of name.now self.now }
+    {
+        self.depths.get(name).copied().unwrap_or(0)
+    }
+
+    /// The number of the type of the innermost variable of a name.
+    pub fn number_of(&self, name: &[u8]) -> Option<usize>
+        ensures { result ≡ option_map (λ e. e.1) (find (λ e. is_named name.now e.0) self.now) }
+    {
+        let depth = self.depth_of(name);
+        if depth == 0 {
+            return None;
+        }
+        Some(self.bound[depth - 1].number)
+    }
+
+    /// Adds a variable whose type has a number.
+    ///
+    /// Fails where memory for it is refused; then nothing is added.
+    fn push(&mut self, variable: &'d Typed<A>, number: usize) -> Result<(), AllocError>
+        ensures pushed { OnOk result (self.new ≡ (typed_view variable.now, number) ∷ self.old) }
+        ensures stays { OnErr result (self.new ≡ self.old) }
+    {
+        let name = variable.name.as_bytes();
+        let hidden = self.depth_of(name);
+        let depth = self.bound.len() + 1;
+        self.bound.reserve(1)?;
+        self.depths.insert(name, depth)?;
+        self.bound.push(Bound {
+            variable,
+            number,
+            hidden,
+        })?;
+        Ok(())
+    }
+
+    /// Takes the innermost variable away, where there is one.
+    fn pop(&mut self)
+        ensures { self.new ≡ drop 1 self.old }
+    {
+        if let Some(last) = self.bound.pop() {
+            let name = last.variable.name.as_bytes();
+            match self.depths.insert(name, last.hidden) {
+                Ok(_) => {}
+                // the name stands in the table, so no memory is asked for
+                Err(_) => unreachable!(),
             }
         }
     }
-}
 
-/// A search for faults, place by place, which gives the types of typed lists numbers. Tables of variables take their memory from `B`.
-pub trait Search<A: Allocator, B: Allocator> {
-    ghost use Rattle.pddl_formula.specs.TypedLists.{TypedValue};
-    ghost use Rattle.pddl_task.specs.Places.{Place};
+    /// Takes so many of the innermost variables away.
+    pub fn leave(&mut self, many: usize)
+        ensures { self.new ≡ drop many self.old }
+    {
+        for _ in 0..many {
+            self.pop();
+        }
+    }
 
-    /// That these are the numbers of the types of items.
-    ghost are_numbers: { Self → List TypedValue → List ℕ → Type 0 };
-
-    ghost found: { Self → Place → List (ℕ × List ℕ) };
-
-    /// How tables of variables hash.
-    fn hashed(&self) -> Hashed;
-
-    /// Numbers of the types of a list's items. Those that were given before stay.
+    /// Adds the variables of a list in turn, whose types have these numbers.
     ///
-    /// Fails where memory is refused.
-    fn numbers<'a>(
-        &mut self,
-        alloc: &'a B,
-        list: &TypedList<A>,
-    ) -> Result<Vec<usize, &'a B>, AllocError>
-        ensures kept { IsKept (are_numbers self.old) (are_numbers self.new) (found self.old) (found self.new) }
-        ensures numbers { IfOk result (λ numbers. are_numbers self.new (map typed_view list.now.items) numbers.items) };
-
-    /// The lowest of the faults that stand at a place.
-    fn look<'d>(&mut self, part: &Part<'d, A>, scope: &Scope<A, B>) -> Result<(), LinkFault<'d>>
-        requires { ∥ AllNumbered (are_numbers self.old) scope.now ∥₁ }
-        ensures kept { IsKept (are_numbers self.old) (are_numbers self.new) (found self.old) (found self.new) }
-        ensures found { IsFound (found self.old (at (bound_of scope.now) (part_in part.now))) result };
+    /// Fails where memory for them is refused; then none is added.
+    pub fn enter(&mut self, list: &'d TypedList<A>, numbers: &[usize]) -> Result<(), AllocError>
+        requires { length numbers.now ≡ length list.now.items }
+        ensures entered { OnOk result (self.new ≡ entered (map typed_view list.now.items) numbers.now self.old) }
+        ensures stays { OnErr result (self.new ≡ self.old) }
+    {
+        for place in 0..list.len() {
+            match self.push(&list[place], numbers[place]) {
+                Ok(()) => {}
+                Err(error) => {
+                    self.leave(place);
+                    return Err(error);
+                }
+            }
+        }
+        Ok(())
+    }
 }

@@ -1,4 +1,4 @@
-use Rattle.std.proofs.Common.{map}
+use Rattle.std.proofs.Common.{[], map}
 use Rattle.std.specs.List.{flat_map}
 use Rattle.pddl_problem.specs.Inits.{init_view}
 use Rattle.pddl_task.specs.Places.{init_places}
@@ -6,4 +6,5 @@ use Rattle.pddl_search.proofs.Walks.{HasComeTo}
 use Rattle.pddl_search.proofs.search_files.search_init.Given as goal
 
 abbrev pub invariant-loop-item : goal.invariant-loop-item
-invariant-loop-item g l = HasComeTo g.S.Search.are_numbers g.S.Search.found (λ items. flat_map init_places (map init_view items)) l.fn.search l.search l.init l.item-index l.found
+invariant-loop-item g l =
+    HasComeTo (g.S.Search.is_bound l.fn.search l.fn.scope) (g.S.Search.is_bound l.search l.scope) (g.S.Search.found l.fn.search) (g.S.Search.found l.search) (λ (b : Unit {0}). g.S.Search.is_bound l.fn.search l.fn.scope []) (λ (b : Unit {0}) items. flat_map init_places (map init_view items)) l.init l.item-index l.found
