@@ -11,7 +11,7 @@ use Rattle.pddl_task.specs.Types.{fits}
 use Rattle.pddl_task.specs.Settings.{Setting}
 use Rattle.pddl_task.specs.Faults.{typed_term, unknown_term, is_misfit, some_misfit}
 use Rattle.pddl_search.specs.Parts.{term_name}
-use Rattle.pddl_search.proofs.BoundTypes.{is_bound}
+use Rattle.pddl_search.proofs.Scopes.{is_bound}
 use Rattle.pddl_faults.proofs.ListTurns.{rest_is}
 use Rattle.pddl_names.specs.Uses.{fit_of}
 

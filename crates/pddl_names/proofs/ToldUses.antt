@@ -1,59 +1,84 @@
 -- What is told of the types of terms and of slots.
-use Rattle.std.proofs.Common.{◌≡◌, ◌<◌, ◌⊎◌, ℕ, Bool, true, false, true≢false, List, [], length, refl, ap, sym, ◌∙◌, subst, arith, inl, inr}
-use Rattle.std.specs.Prelude.{IsTrue, Option, Some, None, IfSome, MatchOption, is_some, slice_get}
+use Rattle.std.proofs.Common.{◌≡◌, ◌<◌, ◌⊎◌, ℕ, zero, suc, Bool, true, false, true≢false, cond, List, [], ◌∷◌, length, drop, refl, ap, sym, ◌∙◌, subst, arith, inl, inr}
+use Rattle.std.specs.Prelude.{IsTrue, Contains, Option, Some, None, is_some, option_map, find, slice_get}
 use Rattle.std.specs.Borrow.{Bor}
-use Rattle.std.specs.Coded.{le_prop}
 use Rattle.std.specs.List.{slice_index_or}
 use Rattle.std.specs.Option.{option_copied}
 use Rattle.std.specs.Slice.{IsItemAt}
-use Rattle.std.proofs.Math.Bool.{Bool-set}
-use Rattle.std.proofs.Math.Logic.{∥∥₁_elim}
-use Rattle.std.proofs.lemmas.Option.{same_Some, slice_get_within, slice_get_past, slice_get_read, slice_get-get_or}
+use Rattle.std.proofs.lemmas.Option.{same_Some, slice_get_within, slice_get_past, slice_get_read}
 use Rattle.pddl_forest.specs.declared.spans.Span.{Span}
-use Rattle.pddl_forest.specs.Spans.{AreApart}
 use Rattle.pddl_formula.specs.TypedLists.{TypedValue}
 use Rattle.pddl_domain.specs.Declarations.{TypeValue}
-use Rattle.pddl_task.specs.Names.{Name}
+use Rattle.pddl_task.specs.Names.{Name, is_named}
 use Rattle.pddl_task.specs.Types.{pairs, fits}
-use Rattle.pddl_task.proofs.Lists.{at_place, some_at}
-use Rattle.pddl_search.specs.declared.scope.Scope.{Scope, Empty, Inside'}
-use Rattle.pddl_search.specs.Scopes.{AllNumbered, IsInScope}
-use Rattle.pddl_search.proofs.BoundTypes.{numbered_in_scope}
+use Rattle.pddl_task.proofs.Lists.{has_none, has_first, has_later, has_cases, at_place, some_at}
+use Rattle.pddl_search.specs.Scopes.{bound_in, entered}
 use Rattle.pddl_types.specs.TypeSpans.{TypesValue, IsTold, IsToldOf, are_types}
-use Rattle.pddl_types.specs.ToldTops.{IsToldAt, AreToldAt}
-use Rattle.pddl_names.specs.Uses.{UsesValue, AreSlots, IsSlotAt, TellsFit, fit_of}
+use Rattle.pddl_types.specs.ToldTops.{IsToldAt, AreToldAt, AreKept}
+use Rattle.pddl_types.proofs.NumberedTops.{kept_told}
+use Rattle.pddl_names.specs.Uses.{UsesValue, AreSlots, IsSlotAt, TellsFit, AreToldIn, fit_of}
 
 -- ---- a variable
 
-none_in_scope : {A B : Type 0} (scope : Scope A B) (number : ℕ) → IsInScope scope None number → ⊥
-none_in_scope Empty number in_it = in_it
-none_in_scope (Inside' xs p outer) number (inl one) = cc (one.3)
-none_in_scope (Inside' xs p outer) number (inr further) = none_in_scope outer number further
+found_in : (n : Name) (scope : List (TypedValue × ℕ)) (e : TypedValue × ℕ) → find (λ (d : TypedValue × ℕ). is_named n d.0) scope ≡ Some e → Contains scope e
+found_in n [] e is = cc
+found_in n (d ∷ scope) e is =
+    elim (is_named n d.0) as (λ b. cond b (Some d) (find (λ (c : TypedValue × ℕ). is_named n c.0) scope) ≡ Some e → Contains (d ∷ scope) e) [
+      | true ↦ λ h. subst (Contains (d ∷ scope)) (same_Some d e h) (has_first d scope)
+      | false ↦ λ h. has_later d scope e (found_in n scope e h)
+    ] is
+
+-- the innermost one of a name, with and without its number
+find_in : (n : Name) (scope : List (TypedValue × ℕ)) → find (is_named n) (bound_in scope) ≡ option_map (λ (e : TypedValue × ℕ). e.0) (find (λ (e : TypedValue × ℕ). is_named n e.0) scope)
+find_in n [] = refl
+find_in n (e ∷ scope) =
+    elim (is_named n e.0) as (λ b. cond b (Some e.0) (find (is_named n) (bound_in scope)) ≡ option_map (λ (d : TypedValue × ℕ). d.0) (cond b (Some e) (find (λ (d : TypedValue × ℕ). is_named n d.0) scope))) [
+      | true ↦ refl
+      | false ↦ find_in n scope
+    ]
+
+some_mapped : {X Y : Type 0} (f : X → Y) (o : Option X) → is_some (option_map f o) ≡ is_some o
+some_mapped f None = refl
+some_mapped f (Some x) = refl
 
 -- what is in scope has a number, and nothing else
-pub bound_some : {A B : Type 0} (scope : Scope A B) (found : Option TypedValue) (number : Option ℕ) → MatchOption number (found ≡ None) (IsInScope scope found) → is_some number ≡ is_some found
-bound_some scope None None is = refl
-bound_some scope (Some x) None is = absurd (cc (is))
-bound_some scope None (Some n) in_it = absurd (none_in_scope scope n in_it)
-bound_some scope (Some x) (Some n) in_it = refl
+pub bound_some : (n : Name) (scope : List (TypedValue × ℕ)) (number : Option ℕ) → number ≡ option_map (λ (e : TypedValue × ℕ). e.1) (find (λ (e : TypedValue × ℕ). is_named n e.0) scope)
+    → is_some number ≡ is_some (find (is_named n) (bound_in scope))
+bound_some n scope number is =
+    let o = find (λ (e : TypedValue × ℕ). is_named n e.0) scope in
+    ap is_some is ∙ some_mapped (λ (e : TypedValue × ℕ). e.1) o ∙ sym (some_mapped (λ (e : TypedValue × ℕ). e.0) o) ∙ sym (ap is_some (find_in n scope))
 
-module _ (t : TypesValue) (told : List (List Span)) where
-  told_there : (list : List TypedValue) (numbers : List ℕ) (i : ℕ) (x : TypedValue) → AreToldAt t told list numbers → slice_get list i ≡ Some x → IsToldAt t told x.of (slice_index_or numbers i 0)
-  told_there list numbers i x are at = are.each i (slice_index_or numbers i 0) x at (slice_get-get_or numbers i 0 (omega (arith, slice_get_within list i x at, are.many)))
+-- nothing is in scope
+pub nothing_bound : (t : TypesValue) (told : List (List Span)) (scope : List (TypedValue × ℕ)) → scope ≡ [] → (bound_in scope ≡ []) × AreToldIn t told scope
+nothing_bound t told scope none = (ap bound_in none, λ e in_it. absurd (has_none e (subst (λ (es : List (TypedValue × ℕ)). Contains es e) none in_it)))
 
-  module _ {A B : Type 0} (scope : Scope A B) (number : ℕ) (all : ∥ AllNumbered (AreToldAt t told) scope ∥₁) where
-    -- its type is told at its number
-    pub variable_told : (x : TypedValue) → IsInScope scope (Some x) number → IsToldAt t told x.of number
-    variable_told x in_it = ∥∥₁_elim all (hlevel (Bool-set, le_prop)) (λ each. numbered_in_scope (AreToldAt t told) (λ y. IsToldAt t told y.of) told_there scope x number each in_it)
+-- what is told in a scope is told still while more is, in a part of it, and with the variables of a list
+pub told_still : (t : TypesValue) (told new : List (List Span)) (scope : List (TypedValue × ℕ)) → AreKept told new → AreToldIn t told scope → AreToldIn t new scope
+told_still t told new scope kept all e in_it = kept_told t told new e.0.of e.1 kept (all e in_it)
 
-    pub variable_low : (found : Option TypedValue) → IsInScope scope found number → number < length told
-    variable_low None in_it = absurd (none_in_scope scope number in_it)
-    variable_low (Some x) in_it = (variable_told x in_it).0
+dropped : {X : Type 0} (k : ℕ) (xs : List X) (x : X) → Contains (drop k xs) x → Contains xs x
+dropped zero xs x c = c
+dropped (suc k) [] x c = c
+dropped (suc k) (y ∷ xs) x c = has_later y xs x (dropped k xs x c)
 
-    -- and its tops are apart
-    pub variable_apart : (found : Option TypedValue) → IsInScope scope found number → AreApart (slice_index_or told number [])
-    variable_apart None in_it = absurd (none_in_scope scope number in_it)
-    variable_apart (Some x) in_it = (variable_told x in_it).1.apart
+pub told_behind : (t : TypesValue) (told : List (List Span)) (k : ℕ) (scope : List (TypedValue × ℕ)) → AreToldIn t told scope → AreToldIn t told (drop k scope)
+told_behind t told k scope all e in_it = all e (dropped k scope e in_it)
+
+pub told_entered : (t : TypesValue) (told : List (List Span)) (xs : List TypedValue) (numbers : List ℕ) (scope : List (TypedValue × ℕ)) → AreToldAt t told xs numbers → AreToldIn t told scope → AreToldIn t told (entered xs numbers scope)
+told_entered t told [] numbers scope are all = all
+told_entered t told (x ∷ xs) [] scope are all = all
+told_entered t told (x ∷ xs) (n ∷ numbers) scope are all =
+    told_entered t told xs numbers ((x, n) ∷ scope) (record { many = omega (arith, are.many); each = λ i m y at is. are.each (suc i) m y at is })
+    (λ e in_it. elim (has_cases (x, n) scope e in_it) as (λ _. IsToldAt t told e.0.of e.1) [
+      | inl same ↦ subst (λ (d : TypedValue × ℕ). IsToldAt t told d.0.of d.1) same (are.each 0 n x refl refl)
+      | inr later ↦ all e later
+    ])
+
+-- a number at which tops are told is low
+pub some_told : (told : List (List Span)) (k : ℕ) → 0 < length (slice_index_or told k []) → k < length told
+some_told [] k some = absurd (omega (arith, some))
+some_told (tops ∷ told) zero some = omega arith
+some_told (tops ∷ told) (suc k) some = omega (arith, some_told told k some)
 
 -- ---- a slot
 
@@ -71,13 +96,6 @@ slot_read u slots numbers i read slot are item copied = here (slice_get slots i)
     here (Some x) (Some n) at is = (are.told.each i n x at is, are.types x (at_place slots i x at))
     here (Some x) None at is = cc (is, (some_at numbers i (omega (arith, slice_get_within slots i x at, are.told.many))).1)
     here None (Some n) at is = cc (at, (some_at slots i (omega (arith, slice_get_within numbers i n is, are.told.many))).1)
-
--- and apart
-pub slot_apart : (t : TypesValue) (told : List (List Span)) (x : Option TypedValue) (slot : Option ℕ) → IsSlotAt t told x slot → IfSome slot (λ number. AreApart (slice_index_or told number []))
-slot_apart t told None None is = tt
-slot_apart t told (Some x) (Some n) is = is.0.1.apart
-slot_apart t told None (Some n) is = absurd is
-slot_apart t told (Some x) None is = absurd is
 
 -- ---- whether a type fits a slot
 
@@ -117,7 +135,15 @@ module _ (t : TypesValue) (there : List (List Span)) (number : ℕ) (fit : Bool)
   object_fits (Some y) told known found = fit_found (λ types. IsTold t types told.now) y known found
 
   -- whether a variable does
-  pub variable_fits : {A B : Type 0} (here : List (List Span)) (scope : Scope A B) (y : Option TypedValue) (variable : ℕ) → ∥ AllNumbered (AreToldAt t here) scope ∥₁ → IsInScope scope y variable
-      → TellsFit t here there (variable, number) fit → (slot : Option ℕ) → slot ≡ Some number → (x : Option TypedValue) → IsSlotAt t there x slot → Some fit ≡ fit_of (pairs t.declared) y x
-  variable_fits here scope None variable all in_it found = absurd (none_in_scope scope variable in_it)
-  variable_fits here scope (Some y) variable all in_it found = fit_found (λ types. IsToldAt t here types variable) y (variable_told t here scope variable all y in_it) found
+  pub variable_fits : (here : List (List Span)) (n : Name) (scope : List (TypedValue × ℕ)) (variable : ℕ) → AreToldIn t here scope
+      → Some variable ≡ option_map (λ (e : TypedValue × ℕ). e.1) (find (λ (e : TypedValue × ℕ). is_named n e.0) scope)
+      → TellsFit t here there (variable, number) fit → (slot : Option ℕ) → slot ≡ Some number → (x : Option TypedValue) → IsSlotAt t there x slot
+      → Some fit ≡ fit_of (pairs t.declared) (find (is_named n) (bound_in scope)) x
+  variable_fits here n scope variable all is found slot at x slot_is =
+      here_is (find (λ (e : TypedValue × ℕ). is_named n e.0) scope) refl is ∙ ap (λ y. fit_of (pairs t.declared) y x) (sym (find_in n scope))
+    where
+      here_is : (o : Option (TypedValue × ℕ)) → find (λ (e : TypedValue × ℕ). is_named n e.0) scope ≡ o → Some variable ≡ option_map (λ (e : TypedValue × ℕ). e.1) o
+          → Some fit ≡ fit_of (pairs t.declared) (option_map (λ (e : TypedValue × ℕ). e.0) o) x
+      here_is None there has = cc
+      here_is (Some e) there has =
+          fit_found (λ types. IsToldAt t here types variable) e.0 (subst (IsToldAt t here e.0.of) (sym (same_Some variable e.1 has)) (all e (found_in n scope e there))) found slot at x slot_is

@@ -64,6 +64,10 @@ pub record UsesValue : Type 0 where
 abbrev pub setting_in : UsesValue → Setting
 setting_in u = record { pairs = pairs u.types.declared; predicates = u.predicates; functions = u.functions; objects = u.objects }
 
+-- the tops of the types of all that is in scope are told at their numbers
+abbrev pub AreToldIn : TypesValue → List (List Span) → List (TypedValue × ℕ) → Type 0
+AreToldIn t told scope = (e : TypedValue × ℕ) → Contains scope e → IsToldAt t told e.0.of e.1
+
 -- the tops of these slots are told at these numbers, and their types are known
 pub record AreSlots (u : UsesValue) (slots : List TypedValue) (numbers : List ℕ) : Type 0 where
   pub told : AreToldAt u.types u.slots.told slots numbers

@@ -3,7 +3,6 @@
 use crate::repeats::name_twice;
 use pddl_faults::{LinkFault, lower};
 use pddl_formula::TypedList;
-use pddl_hash::Hashed;
 use pddl_search::{Part, Scope, Search};
 use pddl_types::Types;
 use std::alloc::{AllocError, Allocator};
@@ -18,24 +17,22 @@ pub struct Bindings<'t, 'm, 'a, A: Allocator, B: Allocator> {
 impl<'t, 'm, 'a, A: Allocator, B: Allocator> Search<A, B> for Bindings<'t, 'm, 'a, A, B> {
     ghost use Rattle.pddl_names.specs.Uses.{binding_faults};
 
-    ghost are_numbers = { λ search items numbers. Unit };
+    ghost is_bound = { λ search scope variables. Unit };
 
     ghost found = { λ search place. binding_faults search.types.now.declared place };
 
-    fn hashed(&self) -> Hashed {
-        self.types.hashed()
-    }
-
-    /// Types have no numbers here, since none is asked for.
-    fn numbers<'c>(
+    /// Nothing is put in scope, since no name is looked up.
+    fn enter<'d, 's>(
         &mut self,
-        alloc: &'c B,
-        _list: &TypedList<A>,
-    ) -> Result<Vec<usize, &'c B>, AllocError> {
-        Ok(Vec::new(alloc))
+        _scope: &mut Scope<'d, 's, A, B>,
+        _variables: &'d TypedList<A>,
+    ) -> Result<(), AllocError> {
+        Ok(())
     }
 
-    fn look<'d>(&mut self, part: &Part<'d, A>, _scope: &Scope<A, B>) -> Result<(), LinkFault<'d>> {
+    fn leave<'d, 's>(&mut self, _scope: &mut Scope<'d, 's, A, B>, _variables: &'d TypedList<A>) {}
+
+    fn look<'d>(&mut self, _scope: &Scope<A, B>, part: &Part<'d, A>) -> Result<(), LinkFault<'d>> {
         match part {
             Part::Binds(variables) => {
                 let types = self.types.known(*variables);

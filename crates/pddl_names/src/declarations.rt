@@ -18,7 +18,7 @@ use pddl_domain::{Action, Domain};
 use pddl_faults::{LinkFault, lower};
 use pddl_hash::Hashed;
 use pddl_problem::Problem;
-use pddl_search::{object_types, search_action, search_problem};
+use pddl_search::{Scope, object_types, search_action, search_problem};
 use pddl_types::{Declares, Types};
 use std::alloc::Allocator;
 
@@ -53,6 +53,7 @@ fn look_at_each<'m, 'a, A: Allocator, B: Allocator>(
     alloc: &'a B,
     types: &Types<'m, 'a, A, B>,
     seen: &mut IndexSet<&'m [u8], Hashed, &'a B>,
+    scope: &mut Scope<'m, 'a, A, B>,
     actions: &'m [Action<A>],
 ) -> Result<(), LinkFault<'m>>
     requires { seen.old.keys ≡ [] }
@@ -62,7 +63,7 @@ fn look_at_each<'m, 'a, A: Allocator, B: Allocator>(
     for action in actions {
         let name = action.name.as_bytes();
         let (_, is_new) = seen.insert_full(name)?;
-        let bound = search_action(alloc, &mut Bindings { alloc, types }, action);
+        let bound = search_action(&mut Bindings { alloc, types }, scope, action);
         found = lower(found, lower(once(is_new, name), bound));
     }
     found
@@ -77,7 +78,8 @@ fn look_at_actions<'m, 'a, A: Allocator, B: Allocator>(
     ensures { IsFound (action_faults types.now.declared [] (map action_view actions.now)) result }
 {
     let mut seen = IndexSet::with_hasher(alloc, types.hashed());
-    look_at_each(alloc, types, &mut seen, actions)
+    let mut scope = Scope::new(alloc, types.hashed());
+    look_at_each(alloc, types, &mut seen, &mut scope, actions)
 }
 
 /// The lowest fault of types and names in a domain, but for constants with two types.
@@ -108,6 +110,7 @@ pub fn look_at_problem<'m, 'a, A: Allocator, B: Allocator>(
     ensures { IsFound (joined (problem_parts types.now.declared (problem_view problem.now))) result }
 {
     let used = types.known(&problem.objects);
-    let bound = search_problem(alloc, &mut Bindings { alloc, types }, problem);
+    let mut scope = Scope::new(alloc, types.hashed());
+    let bound = search_problem(&mut Bindings { alloc, types }, &mut scope, problem);
     lower(used, lower(bound, object_types(&problem.objects)))
 }

@@ -16,7 +16,8 @@ use pddl_domain::Domain;
 use pddl_faults::{LinkFault, lower};
 use pddl_problem::Problem;
 use pddl_search::{
-    Values, contradictions, cost_values, metric, object_fluents, search_domain, search_problem,
+    Scope, Values, contradictions, cost_values, metric, object_fluents, search_domain,
+    search_problem,
 };
 use pddl_types::Known;
 use std::alloc::Allocator;
@@ -31,7 +32,8 @@ pub fn look_at_domain_uses<'k, 'm, 'a, A: Allocator, B: Allocator>(
     ensures { IsFound (joined (domain_uses (domain_view domain.now))) result }
 {
     let mut uses = Uses::of(alloc, known);
-    let used = search_domain(alloc, &mut uses, domain);
+    let mut scope = Scope::new(alloc, known.types.hashed());
+    let used = search_domain(&mut uses, &mut scope, domain);
     lower(used, object_fluents(domain))
 }
 
@@ -52,7 +54,8 @@ pub fn look_at_problem_uses<'k, 'm, 'a, A: Allocator, B: Allocator>(
     ensures values { OnOk result (HoldsValues (problem_view problem.now).init values.new.entries) }
 {
     let mut uses = Uses::of(alloc, known);
-    let used = search_problem(alloc, &mut uses, problem);
+    let mut scope = Scope::new(alloc, known.types.hashed());
+    let used = search_problem(&mut uses, &mut scope, problem);
     let claimed = contradictions(alloc, known.types.hashed(), &problem.init);
     let metric = metric(&problem.metric);
     let told = cost_values(values, &problem.init);

@@ -5,7 +5,6 @@ ghost use Rattle.std.specs.Prelude.{◌≡◌, ◌<◌, ◌≤◌, ◌+◌, ◌-
 ghost use Rattle.std.specs.List.{flat_map, slice_index_or};
 ghost use Rattle.pddl_formula.specs.Terms.{term_view};
 ghost use Rattle.pddl_formula.specs.TypedLists.{TypedValue, typed_view};
-ghost use Rattle.pddl_forest.specs.Spans.{AreApart};
 ghost use Rattle.pddl_domain.specs.Declarations.{Signature};
 ghost use Rattle.pddl_task.specs.Names.{is_named, word_if};
 ghost use Rattle.pddl_task.specs.Types.{pairs};
@@ -14,17 +13,16 @@ ghost use Rattle.pddl_task.specs.Faults.{typed_term, unknown_term, some_misfit, 
 ghost use Rattle.pddl_faults.specs.Passes.{Passes};
 ghost use Rattle.pddl_faults.specs.Found.{IsFound};
 ghost use Rattle.pddl_search.specs.Parts.{term_in, term_name, terms_in};
-ghost use Rattle.pddl_search.specs.Scopes.{bound_of, AllNumbered};
+ghost use Rattle.pddl_search.specs.Scopes.{bound_in};
 ghost use Rattle.pddl_types.specs.KnownNames.{signature_in, object_in};
 ghost use Rattle.pddl_types.specs.Settings.{setting_of};
-ghost use Rattle.pddl_types.specs.ToldTops.{AreToldAt};
-ghost use Rattle.pddl_names.specs.Uses.{setting_in, AreSlots, IsSlotAt, TellsFit, fit_of, faults_of_use, faults_of_terms};
+ghost use Rattle.pddl_names.specs.Uses.{setting_in, AreSlots, IsSlotAt, TellsFit, AreToldIn, fit_of, faults_of_use, faults_of_terms};
 
 use indexmap::IndexMap;
 use pddl_faults::{LinkFault, lower};
 use pddl_formula::{Term, Typed, TypedList};
 use pddl_hash::Hashed;
-use pddl_search::{LentTerm, Part, Scope, Search, Terms, bound_number};
+use pddl_search::{LentTerm, Part, Scope, Search, Terms};
 use pddl_token::Fixed;
 use pddl_types::{Known, Signatures, ToldTops};
 use std::alloc::{AllocError, Allocator};
@@ -78,9 +76,6 @@ impl<'k, 't, 'm, 'a, A: Allocator, B: Allocator> Uses<'k, 't, 'm, 'a, A, B> {
     ///
     /// Fails where memory for that is refused.
     fn variable_fits(&mut self, variable: usize, slot: usize) -> Result<bool, AllocError>
-        requires variable { variable < length self.old.told }
-        requires apart { AreApart (slice_index_or self.old.told variable []) }
-        requires slot { AreApart (slice_index_or self.old.slots.told slot []) }
         ensures kept { self.new ≡ self.old }
         ensures fits { IfOk result (TellsFit self.old.types self.old.told self.old.slots.told (variable, slot)) }
     {
@@ -105,7 +100,6 @@ fn object_fits<'t, 'm, 'a, A: Allocator, B: Allocator>(
     object: &[u8],
     slot: Option<usize>,
 ) -> Option<bool>
-    requires { IfSome slot (λ number. AreApart (slice_index_or known.now.slots.now.told number [])) }
     ensures { (x : Option TypedValue) → IsSlotAt known.now.types.now known.now.slots.now.told x slot
         → result ≡ fit_of (pairs known.now.types.now.declared) (find (is_named object.now) (take known.now.limit (map object_in known.now.listed.now.objects.entries))) x }
 {
@@ -125,14 +119,12 @@ fn term_fits<'k, 't, 'm, 'a, A: Allocator, B: Allocator>(
     scope: &Scope<A, B>,
     slot: Option<usize>,
 ) -> Result<Option<bool>, AllocError>
-    requires told { ∥ AllNumbered (AreToldAt uses.old.types uses.old.told) scope.now ∥₁ }
-    requires apart { IfSome slot (λ number. AreApart (slice_index_or uses.old.slots.told number [])) }
     ensures kept { uses.new ≡ uses.old }
-    ensures fits { IfOk result (λ fit. (x : Option TypedValue) → IsSlotAt uses.old.types uses.old.slots.told x slot → fit ≡ fit_of (pairs uses.old.types.declared) (typed_term (setting_in uses.old) (bound_of scope.now) (term_in term.now)) x) }
+    ensures fits { AreToldIn uses.old.types uses.old.told scope.now → IfOk result (λ fit. (x : Option TypedValue) → IsSlotAt uses.old.types uses.old.slots.told x slot → fit ≡ fit_of (pairs uses.old.types.declared) (typed_term (setting_in uses.old) (bound_in scope.now) (term_in term.now)) x) }
 {
     match term {
         LentTerm::Object(object) => Ok(object_fits(uses.known, *object, slot)),
-        LentTerm::Variable(variable) => match bound_number(scope, *variable) {
+        LentTerm::Variable(variable) => match scope.number_of(*variable) {
             None => Ok(None),
             Some(number) => match slot {
                 None => Ok(Some(true)),
@@ -152,11 +144,10 @@ fn terms_fit<'k, 't, 'm, 'a, 'd, A: Allocator, B: Allocator>(
     numbers: &[usize],
     scope: &Scope<A, B>,
 ) -> Result<bool, LinkFault<'d>>
-    requires told { ∥ AllNumbered (AreToldAt uses.old.types uses.old.told) scope.now ∥₁ }
-    requires slots { AreSlots uses.old (map typed_view slots.now) numbers.now }
+    requires { AreSlots uses.old (map typed_view slots.now) numbers.now }
     ensures kept { uses.new ≡ uses.old }
-    ensures passes { Passes 26 (flat_map (unknown_term (setting_in uses.old) (bound_of scope.now)) (terms_in terms.now)) result }
-    ensures fits { IfOk result (λ fits. some_misfit (setting_in uses.old) (bound_of scope.now) (terms_in terms.now) (map typed_view slots.now) ≡ not fits) }
+    ensures passes { AreToldIn uses.old.types uses.old.told scope.now → Passes 26 (flat_map (unknown_term (setting_in uses.old) (bound_in scope.now)) (terms_in terms.now)) result }
+    ensures fits { AreToldIn uses.old.types uses.old.told scope.now → IfOk result (λ fits. some_misfit (setting_in uses.old) (bound_in scope.now) (terms_in terms.now) (map typed_view slots.now) ≡ not fits) }
 {
     let mut all_fit = true;
     for i in 0..terms.len() {
@@ -178,10 +169,9 @@ fn look_at_terms<'k, 't, 'm, 'a, 'd, A: Allocator, B: Allocator>(
     numbers: &[usize],
     scope: &Scope<A, B>,
 ) -> Result<(), LinkFault<'d>>
-    requires told { ∥ AllNumbered (AreToldAt uses.old.types uses.old.told) scope.now ∥₁ }
-    requires slots { AreSlots uses.old (map typed_view slots.now) numbers.now }
+    requires { AreSlots uses.old (map typed_view slots.now) numbers.now }
     ensures kept { uses.new ≡ uses.old }
-    ensures found { IsFound (faults_of_terms (setting_in uses.old) (bound_of scope.now) symbol.now (terms_in terms.now) (map typed_view slots.now)) result }
+    ensures found { AreToldIn uses.old.types uses.old.told scope.now → IsFound (faults_of_terms (setting_in uses.old) (bound_in scope.now) symbol.now (terms_in terms.now) (map typed_view slots.now)) result }
 {
     let all_fit = terms_fit(uses, terms, slots, numbers, scope)?;
     if terms.len() != slots.len() {
@@ -203,12 +193,11 @@ fn look_at_use<'k, 't, 'm, 'a, 'd, A: Allocator, B: Allocator>(
     terms: &Terms<'d, A>,
     scope: &Scope<A, B>,
 ) -> Result<(), LinkFault<'d>>
-    requires told { ∥ AllNumbered (AreToldAt uses.old.types uses.old.told) scope.now ∥₁ }
     requires room { length declared.now.entries ≤ end }
     requires slots { (k : ℕ) (f : Signature) → slice_get (map signature_in declared.now.entries) k ≡ Some f
         → AreSlots uses.old f.parameters (slice_index_or uses.old.slots.numbers (end - length declared.now.entries + k) []) }
     ensures kept { uses.new ≡ uses.old }
-    ensures found { IsFound (faults_of_use (setting_in uses.old) (bound_of scope.now) (record { name = symbol.now; terms = terms_in terms.now; declared = map signature_in declared.now.entries })) result }
+    ensures found { AreToldIn uses.old.types uses.old.told scope.now → IsFound (faults_of_use (setting_in uses.old) (bound_in scope.now) (record { name = symbol.now; terms = terms_in terms.now; declared = map signature_in declared.now.entries })) result }
 {
     match declared.get_full(symbol) {
         None => Err(LinkFault::UnknownName(symbol)),
@@ -227,9 +216,8 @@ fn look_at_predicate<'k, 't, 'm, 'a, 'd, A: Allocator, B: Allocator>(
     terms: &Terms<'d, A>,
     scope: &Scope<A, B>,
 ) -> Result<(), LinkFault<'d>>
-    requires { ∥ AllNumbered (AreToldAt uses.old.types uses.old.told) scope.now ∥₁ }
     ensures kept { uses.new ≡ uses.old }
-    ensures found { IsFound (faults_of_use (setting_in uses.old) (bound_of scope.now) (record { name = predicate.now; terms = terms_in terms.now; declared = uses.old.predicates })) result }
+    ensures found { AreToldIn uses.old.types uses.old.told scope.now → IsFound (faults_of_use (setting_in uses.old) (bound_in scope.now) (record { name = predicate.now; terms = terms_in terms.now; declared = uses.old.predicates })) result }
 {
     let known = uses.known;
     let end = known.slots.len() - known.functions.len();
@@ -243,9 +231,8 @@ fn look_at_function<'k, 't, 'm, 'a, 'd, A: Allocator, B: Allocator>(
     terms: &Terms<'d, A>,
     scope: &Scope<A, B>,
 ) -> Result<(), LinkFault<'d>>
-    requires { ∥ AllNumbered (AreToldAt uses.old.types uses.old.told) scope.now ∥₁ }
     ensures kept { uses.new ≡ uses.old }
-    ensures found { IsFound (faults_of_use (setting_in uses.old) (bound_of scope.now) (record { name = function.now; terms = terms_in terms.now; declared = uses.old.functions })) result }
+    ensures found { AreToldIn uses.old.types uses.old.told scope.now → IsFound (faults_of_use (setting_in uses.old) (bound_in scope.now) (record { name = function.now; terms = terms_in terms.now; declared = uses.old.functions })) result }
 {
     let known = uses.known;
     look_at_use(
@@ -264,11 +251,11 @@ fn is_known<'t, 'm, 'a, A: Allocator, B: Allocator>(
     term: &LentTerm,
     scope: &Scope<A, B>,
 ) -> bool
-    ensures { unknown_term (setting_of known.now) (bound_of scope.now) (term_in term.now) ≡ word_if (not result) (term_name (term_in term.now)) }
+    ensures { unknown_term (setting_of known.now) (bound_in scope.now) (term_in term.now) ≡ word_if (not result) (term_name (term_in term.now)) }
 {
     match term {
         LentTerm::Object(object) => known.listed.told_of(*object, known.limit).is_some(),
-        LentTerm::Variable(variable) => bound_number(scope, *variable).is_some(),
+        LentTerm::Variable(variable) => scope.number_of(*variable).is_some(),
     }
 }
 
@@ -278,7 +265,7 @@ fn look_at_term<'t, 'm, 'a, 'd, A: Allocator, B: Allocator>(
     term: &'d Term<A>,
     scope: &Scope<A, B>,
 ) -> Result<(), LinkFault<'d>>
-    ensures { Passes 26 (unknown_term (setting_of known.now) (bound_of scope.now) (term_view term.now)) result }
+    ensures { Passes 26 (unknown_term (setting_of known.now) (bound_in scope.now) (term_view term.now)) result }
 {
     let term = LentTerm::of(term);
     if is_known(known, &term, scope) {
@@ -300,26 +287,29 @@ fn look_at_amount<'d>(function: &'d [u8], amount: Fixed) -> Result<(), LinkFault
 }
 
 impl<'k, 't, 'm, 'a, A: Allocator, B: Allocator> Search<A, B> for Uses<'k, 't, 'm, 'a, A, B> {
-    ghost use Rattle.pddl_types.specs.ToldTops.{AreToldAt};
-    ghost use Rattle.pddl_names.specs.Uses.{setting_in, use_faults};
+    ghost use Rattle.std.specs.Prelude.{◌≡◌};
+    ghost use Rattle.pddl_search.specs.Scopes.{bound_in};
+    ghost use Rattle.pddl_names.specs.Uses.{setting_in, use_faults, AreToldIn};
 
-    ghost are_numbers = { λ uses items numbers. AreToldAt uses.types uses.told items numbers };
+    ghost is_bound = { λ uses scope variables. (bound_in scope ≡ variables) × AreToldIn uses.types uses.told scope };
 
     ghost found = { λ uses place. use_faults (setting_in uses) place };
 
-    fn hashed(&self) -> Hashed {
-        self.known.types.hashed()
-    }
-
-    fn numbers<'c>(
+    fn enter<'d, 's>(
         &mut self,
-        alloc: &'c B,
-        list: &TypedList<A>,
-    ) -> Result<Vec<usize, &'c B>, AllocError> {
-        self.told.tell_all(alloc, self.known.types, list)
+        scope: &mut Scope<'d, 's, A, B>,
+        variables: &'d TypedList<A>,
+    ) -> Result<(), AllocError> {
+        let alloc = *self.fitting.allocator();
+        let numbers = self.told.tell_all(alloc, self.known.types, variables)?;
+        scope.enter(variables, &numbers)
     }
 
-    fn look<'d>(&mut self, part: &Part<'d, A>, scope: &Scope<A, B>) -> Result<(), LinkFault<'d>> {
+    fn leave<'d, 's>(&mut self, scope: &mut Scope<'d, 's, A, B>, variables: &'d TypedList<A>) {
+        scope.leave(variables.len());
+    }
+
+    fn look<'d>(&mut self, scope: &Scope<A, B>, part: &Part<'d, A>) -> Result<(), LinkFault<'d>> {
         match part {
             Part::Says(predicate, terms) => look_at_predicate(self, *predicate, terms, scope),
             Part::Calls(function, terms) => look_at_function(self, *function, terms, scope),

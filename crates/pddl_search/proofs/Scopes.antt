@@ -10,7 +10,7 @@ use Rattle.pddl_formula.specs.TypedLists.{TypedValue, typed_view}
 use Rattle.pddl_task.specs.Names.{Name, is_in, is_named, item_of}
 use Rattle.pddl_task.specs.Places.{Place, binding}
 use Rattle.pddl_task.proofs.Lists.{bytes_same, same_bytes}
-use Rattle.pddl_search.specs.Scopes.{entry_of, bound_in, depth_of, AreHidden, IsScope, entered, IsKept}
+use Rattle.pddl_search.specs.Scopes.{entry_of, bound_in, depth_of, IsScope, entered, IsKept}
 use Rattle.pddl_search.specs.declared.scope.Bound.{Bound}
 use Rattle.indexmap.specs.IndexMap.{insert_entry}
 use Rattle.pddl_faults.proofs.PutValues.{found_or, lookup_put}

@@ -2,6 +2,7 @@
 use Rattle.std.specs.Prelude.{◌≡◌, ◌<◌, ℕ, List, [], Some, length, slice_get}
 use Rattle.std.specs.List.{slice_index_or}
 use Rattle.pddl_forest.specs.declared.spans.Span.{Span}
+use Rattle.pddl_forest.specs.Spans.{AreApart}
 use Rattle.pddl_formula.specs.TypedLists.{TypedValue}
 use Rattle.pddl_domain.specs.Declarations.{Signature}
 use Rattle.pddl_task.specs.Names.{Name}
@@ -14,6 +15,10 @@ IsToldAt t told names number = (number < length told) × IsTold t names (slice_i
 -- those of the types of items are told at these numbers
 abbrev pub AreToldAt : TypesValue → List (List Span) → List TypedValue → List ℕ → Type 0
 AreToldAt t told items numbers = HaveEach (IsToldAt t told) items numbers
+
+-- those of each type are apart
+abbrev pub AreAllApart : List (List Span) → Type 0
+AreAllApart told = (k : ℕ) → AreApart (slice_index_or told k [])
 
 -- what was told is told still
 abbrev pub AreKept : List (List Span) → List (List Span) → Type 0

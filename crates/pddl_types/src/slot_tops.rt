@@ -4,6 +4,7 @@ ghost use Rattle.std.specs.Prelude.{◌≡◌, [], ◌++◌, List, map, length, 
 ghost use Rattle.std.specs.List.{slice_index_or};
 ghost use Rattle.pddl_formula.specs.TypedLists.{TypedValue};
 ghost use Rattle.pddl_domain.specs.Declarations.{Signature};
+ghost use Rattle.pddl_forest.specs.Spans.{AreApart};
 ghost use Rattle.pddl_types.specs.TypeSpans.{TypesValue, IsTold};
 ghost use Rattle.pddl_types.specs.ToldTops.{AreSlotTops};
 
@@ -81,7 +82,8 @@ impl<'a, B: Allocator> SlotTops<'a, B> {
 
     /// The tops that are told at a number.
     pub fn tops(&self, number: usize) -> &[Span]
-        ensures { result.now ≡ slice_index_or self.now.told number [] }
+        ensures tops { result.now ≡ slice_index_or self.now.told number [] }
+        ensures apart { AreApart result.now }
     {
         self.told.at(number)
     }

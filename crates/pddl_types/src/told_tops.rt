@@ -3,6 +3,7 @@
 ghost use Rattle.std.specs.Prelude.{◌≡◌, [], map, IfOk};
 ghost use Rattle.std.specs.List.{slice_index_or};
 ghost use Rattle.pddl_formula.specs.TypedLists.{typed_view};
+ghost use Rattle.pddl_forest.specs.Spans.{AreApart};
 ghost use Rattle.pddl_types.specs.ToldTops.{IsToldAt, AreToldAt, AreKept};
 
 use crate::types::Types;
@@ -22,10 +23,13 @@ pub struct ToldTops<'a, B: Allocator> {
 impl<'a, B: Allocator> Model for ToldTops<'a, B> {
     ghost use Rattle.std.specs.Prelude.{List, map};
     ghost use Rattle.pddl_forest.specs.declared.spans.Span.{Span};
+    ghost use Rattle.pddl_types.specs.ToldTops.{AreAllApart};
 
     ghost Value = { List (List Span) };
 
     ghost view = { λ t. map (λ tops. tops.items) t.tops.items };
+
+    ghost invariant = { λ t. AreAllApart (map (λ tops. tops.items) t.tops.items) };
 }
 
 impl<'a, B: Allocator> ToldTops<'a, B> {
@@ -80,7 +84,8 @@ impl<'a, B: Allocator> ToldTops<'a, B> {
 
     /// The tops of the type of a number, or none where no type has it.
     pub fn at(&self, number: usize) -> &[Span]
-        ensures { result.now ≡ slice_index_or self.now number [] }
+        ensures tops { result.now ≡ slice_index_or self.now number [] }
+        ensures apart { AreApart result.now }
     {
         match self.tops.get(number) {
             Some(tops) => tops.as_slice(),

@@ -30,7 +30,7 @@ loop-action-preserved g c =
       so_far =
           up_to_more _ c.lower.result (ap (action_faults ts before.seen) (views_drop action_view all i a c.loop-action-test.true c.action-item.is)) c.lower-found.ensures.found
           (c.lower.ensures.found _ _ (passed_as 24 c.once.result (ap (λ b. word_if b c.as_bytes-name.result.now) seen ∙ ap (word_if (is_in before.seen a.name)) c.as_bytes-name.ensures.value) c.once.ensures)
-          c.search_action-bound.ensures.found) before.so_far;
+          (c.search_action-bound.ensures.found tt)) before.so_far;
     }
 
 pub returns : goal.returns

@@ -11,12 +11,13 @@ use Rattle.pddl_faults.proofs.FoundFaults.{passed_found}
 use Rattle.pddl_search.specs.Claims.{HoldsValues}
 use Rattle.pddl_names.specs.Uses.{use_faults}
 use Rattle.pddl_names.proofs.FoundParts.{passed_as, passed_part, second_kept}
+use Rattle.pddl_names.proofs.ToldUses.{nothing_bound}
 use Rattle.pddl_names.proofs.files.look_at_problem_uses.Goals as goal
 
 pub returns-clause-found : goal.returns-clause-found
 returns-clause-found g c =
     let used = λ (s : Setting). flat_map (use_faults s) (problem_places (problem_view c.args.problem.now)) in
-    c.lower-4.ensures.found _ _ (subst (λ s. IsFound (used s) c.search_problem-used.result) (c.of-uses.ensures.known ∙ c.requires.known) c.search_problem-used.ensures.found)
+    c.lower-4.ensures.found _ _ (subst (λ s. IsFound (used s) c.search_problem-used.result) (c.of-uses.ensures.known ∙ c.requires.known) (c.search_problem-used.ensures.found (nothing_bound c.of-uses.result.types c.of-uses.result.told c.new-scope.result c.new-scope.ensures)))
     (c.lower-3.ensures.found _ _ (passed_as 29 c.contradictions-claimed.result (ap (λ is. clashing contradicts [] (map init_view is)) c.deref.ensures.value) c.contradictions-claimed.ensures)
     (c.lower-2.ensures.found _ _ (passed_found 33 _ c.metric-metric.result c.metric-metric.ensures)
     (c.lower.ensures.found _ _ (passed_found 35 _ c.args.size c.requires.size)

@@ -2,7 +2,7 @@ use Rattle.std.proofs.Common.{◌<◌, ◌≡◌, Some, length, get_or, slice_ge
 use Rattle.std.specs.HashSet.{HashSet}
 use Rattle.pddl_formula.specs.TypedLists.{typed_view}
 use Rattle.pddl_types.specs.KnownNames.{object_in}
-use Rattle.pddl_search.proofs.BoundTypes.{viewed_at}
+use Rattle.pddl_search.proofs.Scopes.{viewed_at}
 use Rattle.pddl_names.proofs.MetTypes.{type_of_number}
 use Rattle.pddl_names.proofs.ObjectTables.{listed_start, listed_twice, listed_more, listed_all}
 use Rattle.pddl_names.proofs.objects.add_objects.Goals as goal

@@ -1,6 +1,6 @@
 use Rattle.std.proofs.Common.{not, sym, ap, ◌∙◌}
 use Rattle.pddl_task.specs.Names.{word_if}
-use Rattle.pddl_search.proofs.BoundTypes.{is_bound}
+use Rattle.pddl_search.proofs.Scopes.{is_bound}
 use Rattle.pddl_names.proofs.ToldUses.{bound_some, told_some}
 use Rattle.pddl_names.proofs.uses.is_known.Goals as goal
 
@@ -13,4 +13,4 @@ returns-in-Object g c =
 pub returns-in-Variable : goal.returns-in-Variable
 returns-in-Variable g c =
     let n = c.in-Variable.variable.now in
-    rw c.in-Variable.is (ap (λ known. word_if (not known) n) (sym (c.is_some-in-Variable.ensures ∙ bound_some c.args.scope.now _ c.bound_number.result c.bound_number.ensures ∙ is_bound _ n)))
+    rw c.in-Variable.is (ap (λ known. word_if (not known) n) (sym (c.is_some-in-Variable.ensures ∙ bound_some n c.args.scope.now c.number_of.result c.number_of.ensures ∙ is_bound _ n)))

@@ -19,4 +19,4 @@ pub returns-in-Some : goal.returns-in-Some
 returns-in-Some g c =
     let k = c.args.known.now in
     object_fits k.types.now k.slots.now.told c.in-Some.slot c.fits.result _ c.in_ok-told.told (c.in_ok-told.ensures.told k.types.now k.objects k.single)
-    (λ types names told at. c.fits.ensures types names told (subst (IsTold k.types.now names) (sym c.tops.ensures) at.1)) c.args.slot c.in-Some.is
+    (λ types names told at. c.fits.ensures types names told (subst (IsTold k.types.now names) (sym c.tops.ensures.tops) at.1)) c.args.slot c.in-Some.is

@@ -1,7 +1,7 @@
 use Rattle.std.proofs.Common.{refl}
 use Rattle.std.proofs.lemmas.List.Concat.{flat_map-append}
 use Rattle.pddl_effect.specs.Effects.{effect_view}
-use Rattle.pddl_effect.proofs.Views.{view_when, view_add, view_del}
+use Rattle.pddl_effect.proofs.Views.{view_when}
 use Rattle.pddl_task.specs.Places.{effect_places}
 use Rattle.pddl_search.proofs.Walks.{at_start, one_more, at_end}
 use Rattle.pddl_search.proofs.search.+effects.Goals as goal

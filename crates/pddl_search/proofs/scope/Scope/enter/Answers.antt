@@ -1,4 +1,4 @@
-use Rattle.std.proofs.Common.{◌<◌, map, length, drop, ap, sym, ◌∙◌, subst, add-one, arith}
+use Rattle.std.proofs.Common.{◌<◌, map, length, sym, ◌∙◌, add-one, arith}
 use Rattle.std.specs.List.{slice_index_or}
 use Rattle.std.proofs.lemmas.Option.{slice_get-get_or}
 use Rattle.pddl_formula.specs.TypedLists.{typed_view}

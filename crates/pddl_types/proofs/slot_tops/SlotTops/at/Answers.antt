@@ -12,7 +12,7 @@ returns-in-Some g c = λ t signatures f x are here at.
     let numbers = c.numbers.result.now in
     let told = subst (AreToldAt t v.told f.parameters) (sym c.numbers.ensures) (slots_at t signatures v c.args.name f are here) in
     let (low, is) = told.each c.args.slot c.in-Some.number.now x at (slice_get_read numbers (length numbers) c.args.slot c.in-Some.number.now refl (ltb-true c.args.slot (length numbers) (sym c.in-Some.ensures.lookup.0)) c.in-Some.ensures.lookup.1) in
-    subst (IsTold t x.of) (sym (c.at.ensures ∙ ap (λ (w : SlotsValue). slice_index_or w.told c.in-Some.number.now []) c.self.view_is)) is
+    subst (IsTold t x.of) (sym (c.at.ensures.tops ∙ ap (λ (w : SlotsValue). slice_index_or w.told c.in-Some.number.now []) c.self.view_is)) is
 
 pub returns-in-None : goal.returns-in-None
 returns-in-None g c = λ t signatures f x are here at.
