@@ -1,17 +1,19 @@
 -- What is told of the types of terms and of slots.
-use Rattle.std.proofs.Common.{◌≡◌, ◌<◌, ◌⊎◌, ℕ, zero, suc, Bool, true, false, true≢false, cond, List, [], ◌∷◌, length, drop, refl, ap, sym, ◌∙◌, subst, arith, inl, inr}
-use Rattle.std.specs.Prelude.{IsTrue, Contains, Option, Some, None, is_some, option_map, find, slice_get}
+use Rattle.std.proofs.Common.{◌≡◌, ◌<◌, ◌⊎◌, ℕ, zero, suc, Bool, true, false, true≢false, cond, List, [], ◌∷◌, length, drop, refl, ap, sym, ◌∙◌, subst, arith, inr}
+use Rattle.std.specs.Prelude.{IsTrue, Option, Some, None, is_some, option_map, find, slice_get}
 use Rattle.std.specs.Borrow.{Bor}
 use Rattle.std.specs.List.{slice_index_or}
 use Rattle.std.specs.Option.{option_copied}
 use Rattle.std.specs.Slice.{IsItemAt}
+use Rattle.std.proofs.lemmas.List.Elements.{All-nil, All-weaker, All-drop, All-cons, All-contains}
+use Rattle.std.proofs.lemmas.List.Folds.{find_at}
 use Rattle.std.proofs.lemmas.Option.{same_Some, slice_get_within, slice_get_past, slice_get_read}
 use Rattle.pddl_forest.specs.declared.spans.Span.{Span}
 use Rattle.pddl_formula.specs.TypedLists.{TypedValue}
 use Rattle.pddl_domain.specs.Declarations.{TypeValue}
 use Rattle.pddl_task.specs.Names.{Name, is_named}
 use Rattle.pddl_task.specs.Types.{pairs, fits}
-use Rattle.pddl_task.proofs.Lists.{has_none, has_first, has_later, has_cases, at_place, some_at}
+use Rattle.pddl_task.proofs.Lists.{at_place, some_at}
 use Rattle.pddl_search.specs.Scopes.{bound_in, entered}
 use Rattle.pddl_types.specs.TypeSpans.{TypesValue, IsTold, IsToldOf, are_types}
 use Rattle.pddl_types.specs.ToldTops.{IsToldAt, AreToldAt, AreKept}
@@ -20,22 +22,11 @@ use Rattle.pddl_names.specs.Uses.{UsesValue, AreSlots, IsSlotAt, TellsFit, AreTo
 
 -- ---- a variable
 
-found_in : (n : Name) (scope : List (TypedValue × ℕ)) (e : TypedValue × ℕ) → find (λ (d : TypedValue × ℕ). is_named n d.0) scope ≡ Some e → Contains scope e
-found_in n [] e is = cc
-found_in n (d ∷ scope) e is =
-    elim (is_named n d.0) as (λ b. cond b (Some d) (find (λ (c : TypedValue × ℕ). is_named n c.0) scope) ≡ Some e → Contains (d ∷ scope) e) [
-      | true ↦ λ h. subst (Contains (d ∷ scope)) (same_Some d e h) (has_first d scope)
-      | false ↦ λ h. has_later d scope e (found_in n scope e h)
-    ] is
-
 -- the innermost one of a name, with and without its number
 find_in : (n : Name) (scope : List (TypedValue × ℕ)) → find (is_named n) (bound_in scope) ≡ option_map (λ (e : TypedValue × ℕ). e.0) (find (λ (e : TypedValue × ℕ). is_named n e.0) scope)
 find_in n [] = refl
 find_in n (e ∷ scope) =
-    elim (is_named n e.0) as (λ b. cond b (Some e.0) (find (is_named n) (bound_in scope)) ≡ option_map (λ (d : TypedValue × ℕ). d.0) (cond b (Some e) (find (λ (d : TypedValue × ℕ). is_named n d.0) scope))) [
-      | true ↦ refl
-      | false ↦ find_in n scope
-    ]
+    elim (is_named n e.0) as (λ b. cond b (Some e.0) (find (is_named n) (bound_in scope)) ≡ option_map (λ (d : TypedValue × ℕ). d.0) (cond b (Some e) (find (λ (d : TypedValue × ℕ). is_named n d.0) scope))) [ true ↦ refl | false ↦ find_in n scope ]
 
 some_mapped : {X Y : Type 0} (f : X → Y) (o : Option X) → is_some (option_map f o) ≡ is_some o
 some_mapped f None = refl
@@ -48,31 +39,24 @@ bound_some n scope number is =
     let o = find (λ (e : TypedValue × ℕ). is_named n e.0) scope in
     ap is_some is ∙ some_mapped (λ (e : TypedValue × ℕ). e.1) o ∙ sym (some_mapped (λ (e : TypedValue × ℕ). e.0) o) ∙ sym (ap is_some (find_in n scope))
 
--- nothing is in scope
-pub nothing_bound : (t : TypesValue) (told : List (List Span)) (scope : List (TypedValue × ℕ)) → scope ≡ [] → (bound_in scope ≡ []) × AreToldIn t told scope
-nothing_bound t told scope none = (ap bound_in none, λ e in_it. absurd (has_none e (subst (λ (es : List (TypedValue × ℕ)). Contains es e) none in_it)))
+module _ (t : TypesValue) where
+  -- nothing is in scope
+  pub nothing_bound : (told : List (List Span)) (scope : List (TypedValue × ℕ)) → scope ≡ [] → (bound_in scope ≡ []) × AreToldIn t told scope
+  nothing_bound told scope none = (ap bound_in none, subst (AreToldIn t told) (sym none) (All-nil (λ e. IsToldAt t told e.0.of e.1)))
 
--- what is told in a scope is told still while more is, in a part of it, and with the variables of a list
-pub told_still : (t : TypesValue) (told new : List (List Span)) (scope : List (TypedValue × ℕ)) → AreKept told new → AreToldIn t told scope → AreToldIn t new scope
-told_still t told new scope kept all e in_it = kept_told t told new e.0.of e.1 kept (all e in_it)
+  -- what is told in a scope is told still while more is, in a part of it, and with the variables of a list
+  pub told_still : (told new : List (List Span)) (scope : List (TypedValue × ℕ)) → AreKept told new → AreToldIn t told scope → AreToldIn t new scope
+  told_still told new scope kept = All-weaker (λ e. IsToldAt t told e.0.of e.1) (λ e. IsToldAt t new e.0.of e.1) (λ e. kept_told t told new e.0.of e.1 kept) scope
 
-dropped : {X : Type 0} (k : ℕ) (xs : List X) (x : X) → Contains (drop k xs) x → Contains xs x
-dropped zero xs x c = c
-dropped (suc k) [] x c = c
-dropped (suc k) (y ∷ xs) x c = has_later y xs x (dropped k xs x c)
+  pub told_behind : (told : List (List Span)) (k : ℕ) (scope : List (TypedValue × ℕ)) → AreToldIn t told scope → AreToldIn t told (drop k scope)
+  told_behind told k scope = All-drop (λ e. IsToldAt t told e.0.of e.1) k scope
 
-pub told_behind : (t : TypesValue) (told : List (List Span)) (k : ℕ) (scope : List (TypedValue × ℕ)) → AreToldIn t told scope → AreToldIn t told (drop k scope)
-told_behind t told k scope all e in_it = all e (dropped k scope e in_it)
-
-pub told_entered : (t : TypesValue) (told : List (List Span)) (xs : List TypedValue) (numbers : List ℕ) (scope : List (TypedValue × ℕ)) → AreToldAt t told xs numbers → AreToldIn t told scope → AreToldIn t told (entered xs numbers scope)
-told_entered t told [] numbers scope are all = all
-told_entered t told (x ∷ xs) [] scope are all = all
-told_entered t told (x ∷ xs) (n ∷ numbers) scope are all =
-    told_entered t told xs numbers ((x, n) ∷ scope) (record { many = omega (arith, are.many); each = λ i m y at is. are.each (suc i) m y at is })
-    (λ e in_it. elim (has_cases (x, n) scope e in_it) as (λ _. IsToldAt t told e.0.of e.1) [
-      | inl same ↦ subst (λ (d : TypedValue × ℕ). IsToldAt t told d.0.of d.1) same (are.each 0 n x refl refl)
-      | inr later ↦ all e later
-    ])
+  pub told_entered : (told : List (List Span)) (xs : List TypedValue) (numbers : List ℕ) (scope : List (TypedValue × ℕ)) → AreToldAt t told xs numbers → AreToldIn t told scope → AreToldIn t told (entered xs numbers scope)
+  told_entered told [] numbers scope are all = all
+  told_entered told (x ∷ xs) [] scope are all = all
+  told_entered told (x ∷ xs) (n ∷ numbers) scope are all =
+      told_entered told xs numbers ((x, n) ∷ scope) (record { many = omega (arith, are.many); each = λ i m y at is. are.each (suc i) m y at is })
+      (All-cons (λ e. IsToldAt t told e.0.of e.1) (x, n) scope (are.each 0 n x refl refl) all)
 
 -- a number at which tops are told is low
 pub some_told : (told : List (List Span)) (k : ℕ) → 0 < length (slice_index_or told k []) → k < length told
@@ -146,4 +130,4 @@ module _ (t : TypesValue) (there : List (List Span)) (number : ℕ) (fit : Bool)
           → Some fit ≡ fit_of (pairs t.declared) (option_map (λ (e : TypedValue × ℕ). e.0) o) x
       here_is None there has = cc
       here_is (Some e) there has =
-          fit_found (λ types. IsToldAt t here types variable) e.0 (subst (IsToldAt t here e.0.of) (sym (same_Some variable e.1 has)) (all e (found_in n scope e there))) found slot at x slot_is
+          fit_found (λ types. IsToldAt t here types variable) e.0 (subst (IsToldAt t here e.0.of) (sym (same_Some variable e.1 has)) (All-contains (λ d. IsToldAt t here d.0.of d.1) scope e all (at_place scope _ e (sym (find_at (λ (d : TypedValue × ℕ). is_named n d.0) scope) ∙ there)))) found slot at x slot_is

@@ -1,6 +1,6 @@
 -- The faults that are looked for together at each place, each told by its number and its word.
 use Rattle.std.specs.Prelude.{◌≡◌, ◌<◌, ◌⊎◌, ⊤, Bool, true, IsTrue, not, ◌==◌, ◌&&◌, ℕ, List, ◌++◌, filter, length, Option, Some, None, Contains}
-use Rattle.std.specs.List.{flat_map}
+use Rattle.std.specs.List.{All, flat_map}
 use Rattle.std.specs.Map.{lookup}
 use Rattle.pddl_formula.specs.Terms.{TermValue}
 use Rattle.pddl_formula.specs.TypedLists.{TypedValue}
@@ -66,7 +66,7 @@ setting_in u = record { pairs = pairs u.types.declared; predicates = u.predicate
 
 -- the tops of the types of all that is in scope are told at their numbers
 abbrev pub AreToldIn : TypesValue → List (List Span) → List (TypedValue × ℕ) → Type 0
-AreToldIn t told scope = (e : TypedValue × ℕ) → Contains scope e → IsToldAt t told e.0.of e.1
+AreToldIn t told scope = All (λ e. IsToldAt t told e.0.of e.1) scope
 
 -- the tops of these slots are told at these numbers, and their types are known
 pub record AreSlots (u : UsesValue) (slots : List TypedValue) (numbers : List ℕ) : Type 0 where

@@ -1,6 +1,6 @@
 //! The variables in scope, looked up by name.
 
-ghost use Rattle.std.specs.Prelude.{◌≡◌, ℕ, [], ◌∷◌, map, drop, find, length, option_map, OnOk, OnErr};
+ghost use Rattle.std.specs.Prelude.{◌≡◌, ℕ, [], ◌∷◌, map, drop, find, length, option_map, MatchResult};
 ghost use Rattle.pddl_formula.specs.TypedLists.{typed_view};
 ghost use Rattle.pddl_task.specs.Names.{is_named};
 ghost use Rattle.pddl_search.specs.Scopes.{depth_of, entered};
@@ -73,8 +73,7 @@ impl<'d, 'a, A: Allocator, B: Allocator> Scope<'d, 'a, A, B> {
     ///
     /// Fails where memory for it is refused; then nothing is added.
     fn push(&mut self, variable: &'d Typed<A>, number: usize) -> Result<(), AllocError>
-        ensures pushed { OnOk result (self.new ≡ (typed_view variable.now, number) ∷ self.old) }
-        ensures stays { OnErr result (self.new ≡ self.old) }
+        ensures { MatchResult result (λ _. self.new ≡ (typed_view variable.now, number) ∷ self.old) (λ _. self.new ≡ self.old) }
     {
         let name = variable.name.as_bytes();
         let hidden = self.depth_of(name);
@@ -117,8 +116,7 @@ impl<'d, 'a, A: Allocator, B: Allocator> Scope<'d, 'a, A, B> {
     /// Fails where memory for them is refused; then none is added.
     pub fn enter(&mut self, list: &'d TypedList<A>, numbers: &[usize]) -> Result<(), AllocError>
         requires { length numbers.now ≡ length list.now.items }
-        ensures entered { OnOk result (self.new ≡ entered (map typed_view list.now.items) numbers.now self.old) }
-        ensures stays { OnErr result (self.new ≡ self.old) }
+        ensures { MatchResult result (λ _. self.new ≡ entered (map typed_view list.now.items) numbers.now self.old) (λ _. self.new ≡ self.old) }
     {
         for place in 0..list.len() {
             match self.push(&list[place], numbers[place]) {

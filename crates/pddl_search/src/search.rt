@@ -24,7 +24,7 @@ use std::alloc::{AllocError, Allocator};
 
 /// A search for faults, place by place, which is told what is bound. The table of what is in scope takes its memory from `B`.
 pub trait Search<A: Allocator, B: Allocator> {
-    ghost use Rattle.std.specs.Prelude.{◌≡◌, ℕ, List, map, OnOk, OnErr};
+    ghost use Rattle.std.specs.Prelude.{◌≡◌, ℕ, List, map, MatchResult};
     ghost use Rattle.pddl_formula.specs.TypedLists.{TypedValue, typed_view};
     ghost use Rattle.pddl_task.specs.Places.{Place, at, binding};
     ghost use Rattle.pddl_faults.specs.Found.{IsFound};
@@ -45,8 +45,8 @@ pub trait Search<A: Allocator, B: Allocator> {
         variables: &'d TypedList<A>,
     ) -> Result<(), AllocError>
         ensures found { found self.new ≡ found self.old }
-        ensures bound { OnOk result ((b : List TypedValue) → is_bound self.old scope.old b → is_bound self.new scope.new (binding (map typed_view variables.now.items) b)) }
-        ensures stays { OnErr result ((b : List TypedValue) → is_bound self.old scope.old b → is_bound self.new scope.new b) };
+        ensures bound { (b : List TypedValue) → is_bound self.old scope.old b
+            → MatchResult result (λ _. is_bound self.new scope.new (binding (map typed_view variables.now.items) b)) (λ _. is_bound self.new scope.new b) };
 
     /// Takes away what the variables of a list bind, the last that was entered.
     fn leave<'d, 'a>(&mut self, scope: &mut Scope<'d, 'a, A, B>, variables: &'d TypedList<A>)

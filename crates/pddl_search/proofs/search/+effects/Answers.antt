@@ -22,3 +22,8 @@ search_effects-loop-effect-preserved g t c =
 
 pub search_effects-returns-clause-found : goal.search_effects-returns-clause-found
 search_effects-returns-clause-found g t c = at_end c.deref-effect-items.result.now c.deref-effect-items.ensures.value c.loop-effect-test.false (λ b. refl) c.loop-effect.invariant
+
+pub search_each-returns-clause-found : goal.search_each-returns-clause-found
+search_each-returns-clause-found g t c = λ b is.
+    c.lower.ensures.found _ _ (c.look-own.ensures.found b is)
+    (rw (c.enter.ensures.found, c.look-own.ensures.kept.1, c.deref.ensures) at c.search_effect-found.ensures.found _ (c.in_ok-enter.ensures.bound b (c.look-own.ensures.kept.0 b is)))

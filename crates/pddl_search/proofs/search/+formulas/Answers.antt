@@ -22,3 +22,8 @@ search_formulas-loop-formula-preserved g t c =
 
 pub search_formulas-returns-clause-found : goal.search_formulas-returns-clause-found
 search_formulas-returns-clause-found g t c = at_end c.deref-formula-items.result.now c.deref-formula-items.ensures.value c.loop-formula-test.false (λ b. refl) c.loop-formula.invariant
+
+pub search_quantified-returns-clause-found : goal.search_quantified-returns-clause-found
+search_quantified-returns-clause-found g t c = λ b is.
+    c.lower.ensures.found _ _ (c.look-own.ensures.found b is)
+    (rw (c.enter.ensures.found, c.look-own.ensures.kept.1, c.deref.ensures) at c.search_formula-found.ensures.found _ (c.in_ok-enter.ensures.bound b (c.look-own.ensures.kept.0 b is)))

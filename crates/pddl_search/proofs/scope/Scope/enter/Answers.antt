@@ -14,4 +14,4 @@ loop-place-preserved g c =
     let low : i < length list = omega (arith, c.loop-place-test.true, c.len-place-end.ensures) in
     let at = viewed_at typed_view list i x low (rw c.deref.ensures.value at c.index-deref-place.is) in
     let next = entered_next (map typed_view list) numbers i (typed_view x) (slice_index_or numbers i 0) c.loop-place.self at (slice_get-get_or numbers i 0 (omega (arith, low, c.requires))) in
-    rw (c.in-Ok.ensures.pushed, add-one) (record { left = sym next ∙ c.loop-place.invariant.left; behind = c.loop-place.invariant.behind })
+    rw (c.in-Ok.ensures, add-one) (record { left = sym next ∙ c.loop-place.invariant.left; behind = c.loop-place.invariant.behind })
