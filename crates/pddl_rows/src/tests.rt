@@ -27,7 +27,7 @@ fn costs(rt: HostRuntime) -> Result<(), Fail> {
 
 #[test]
 fn domains(rt: HostRuntime) -> Result<(), Fail> {
-    all_hold(&rt, rows::DOMAINS, 24)
+    all_hold(&rt, rows::DOMAINS, 27)
 }
 
 #[test]

@@ -125,7 +125,24 @@ file )) (:goal (and)))
 | good: problem p
 once good problem
 
-# A long list of variables has a table. What is bound further in hides it.
+# What is bound further in hides what is bound outside it, and is gone where its list ends.
+row variables that hide one another in turn
+part (define (domain d) (:types a b) (:predicates (p ?x - a) (q ?x - b)) (:action n :parameters (?x - a) :precondition (and
+part  (exists (?x - b) (and (q ?x) (forall (?x - a) (p ?x)) (q ?x))) (p ?x))
+file  :effect (and (forall (?x - b) (q ?x)) (not (p ?x)))))
+| good: domain d
+good domain
+
+row a variable behind its list
+file (define (domain d) (:predicates (p ?x)) (:action n :precondition (and (forall (?x) (p ?x)) (p ?x))))
+| link: fault 26 UnknownName x
+refused domain
+
+row a parameter of the action before
+file (define (domain d) (:predicates (p ?x)) (:action m :parameters (?x) :precondition (p ?x)) (:action n :precondition (p ?x)))
+| link: fault 26 UnknownName x
+refused domain
+
 part (define (domain d) (:types a b) (:predicates (p ?x - a) (q ?x - b)) (:action n :parameters (
 series 16  ?v#0
 part  - a ?w - b) :precondition
