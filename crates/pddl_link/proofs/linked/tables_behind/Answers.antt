@@ -16,5 +16,4 @@ returns-in-Ok-clause-tables g c =
       spans_are = c.requires.listed.spans;
       single = single_objects (domain_view c.args.domain.now) (problem_view c.args.problem.now) c.args.types.now (map object_in c.args.listed.now.objects.entries) c.args.listed.now.spans.items
           c.requires.named c.requires.types c.requires.listed.objects c.requires.listed.spans.spans;
-      values_are = c.in-Ok.ensures.values;
     }
