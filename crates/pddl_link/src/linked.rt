@@ -119,32 +119,6 @@ fn tables_of<'m, 'a, A: Allocator, B: Allocator>(
     })
 }
 
-/// The tables of a domain and a problem behind their objects, where no fault of what is used stands, and none of names.
-fn tables_behind<'m, 'a, A: Allocator, B: Allocator>(
-    alloc: &'a B,
-    types: &Types<'m, 'a, A, B>,
-    listed: &Listed<'m, 'a, A, B>,
-    domain: &'m Domain<A>,
-    problem: &'m Problem<A>,
-) -> Result<Tables<'m, 'a, A, B>, LinkFault<'m>>
-    requires types { types.now.declared ≡ (domain_view domain.now).types }
-    requires named { NoneStands (map (fault_in (domain_view domain.now) (problem_view problem.now)) name_rules) }
-    requires listed { AreAllListed (domain_view domain.now) (problem_view problem.now) types.now listed.now }
-    ensures tables { IfOk result (HoldBehindTypes (domain_view domain.now) (problem_view problem.now) types.now listed.now) }
-    ensures verdict { Verdict (map (fault_in (domain_view domain.now) (problem_view problem.now)) use_rules) result }
-{
-    let tables = tables_of(alloc, types, listed, domain)?;
-    match look_at_uses(alloc, types, listed, &tables, domain, problem) {
-        Ok(()) => Ok(tables),
-        Err(fault) => {
-            let_go_declared(tables.declared);
-            drop(tables.parameters);
-            drop(tables.order);
-            Err(fault)
-        }
-    }
-}
-
 /// The tables of a domain and a problem behind their types, where no fault from 23 on stands. Objects are added to none.
 fn tables_behind_types<'m, 'a, A: Allocator, B: Allocator>(
     alloc: &'a B,
@@ -158,9 +132,16 @@ fn tables_behind_types<'m, 'a, A: Allocator, B: Allocator>(
     ensures tables { IfOk result (HoldBehindTypes (domain_view domain.now) (problem_view problem.now) types.now listed.new) }
     ensures verdict { Verdict (map (fault_in (domain_view domain.now) (problem_view problem.now)) (drop 3 rules)) result }
 {
-    match look_at_both(alloc, types, listed, domain, problem) {
-        Ok(()) => tables_behind(alloc, types, listed, domain, problem),
-        Err(fault) => Err(fault),
+    look_at_both(alloc, types, listed, domain, problem)?;
+    let tables = tables_of(alloc, types, listed, domain)?;
+    match look_at_uses(alloc, types, listed, &tables, domain, problem) {
+        Ok(()) => Ok(tables),
+        Err(fault) => {
+            let_go_declared(tables.declared);
+            drop(tables.parameters);
+            drop(tables.order);
+            Err(fault)
+        }
     }
 }
 
