@@ -48,8 +48,9 @@ pub fn look_at_problem_uses<'k, 'm, 'a, A: Allocator, B: Allocator>(
 {
     let mut uses = Uses::of(alloc, known);
     let used = search_problem(alloc, &mut uses, problem);
-    let claimed = contradictions(alloc, known.types.hashed(), &problem.init);
+    let hashed = known.types.hashed();
+    let claimed = contradictions(alloc, hashed, &problem.init);
     let metric = metric(&problem.metric);
-    let told = cost_values(alloc, known.types.hashed(), &problem.init);
+    let told = cost_values(alloc, hashed, &problem.init);
     lower(used, lower(claimed, lower(metric, lower(size, told))))
 }
