@@ -78,7 +78,7 @@ fn add_claims<'d, 'a, A: Allocator, B: Allocator>(
     Ok(())
 }
 
-/// Whether what is claimed agrees, by a table of its own.
+/// No item claims another number than one before it, and none a total cost above 0: a table of its own is filled and let go.
 fn claims_agree<'d, 'a, A: Allocator, B: Allocator>(
     alloc: &'a B,
     hashed: Hashed,
