@@ -1,20 +1,18 @@
 //! Links a domain and a problem.
 
-ghost use Rattle.std.specs.Prelude.{◌≡◌, ◌++◌, ℕ, List, [], map, drop, IfOk, IsOk, OnOk};
+ghost use Rattle.std.specs.Prelude.{◌≡◌, ◌++◌, ℕ, List, map, drop, IfOk, IsOk, OnOk};
 ghost use Rattle.pddl_domain.specs.Domains.{domain_view};
 ghost use Rattle.pddl_problem.specs.Problems.{problem_view};
 ghost use Rattle.pddl_task.specs.Names.{Name};
 ghost use Rattle.pddl_task.specs.Linked.{domain_fault, fault_in, faults, rules, NoneStands};
 ghost use Rattle.pddl_faults.specs.Passes.{Verdict};
 ghost use Rattle.pddl_faults.specs.Found.{IsFound};
-ghost use Rattle.pddl_search.specs.Claims.{HoldsValues};
 ghost use Rattle.pddl_types.specs.TypeSpans.{IsEmpty};
 ghost use Rattle.pddl_names.specs.ObjectTables.{AreAllListed};
 ghost use Rattle.pddl_names.specs.FaultParts.{first_rules, name_rules, use_rules};
 ghost use Rattle.pddl_linked_task.specs.TaskTables.{HoldDeclared, HoldBehindTypes};
 ghost use Rattle.pddl_linked_task.specs.LinkedTasks.{files};
 
-use indexmap::IndexMap;
 use pddl_domain::Domain;
 use pddl_faults::{LinkFault, lower};
 use pddl_linked_task::{Tables, Task};
@@ -23,7 +21,7 @@ use pddl_names::{
     look_at_problem_uses, type_twice,
 };
 use pddl_problem::Problem;
-use pddl_search::{Values, domain_name};
+use pddl_search::domain_name;
 use pddl_sizes::ObjectOrder;
 use pddl_types::{Declared, Fitting, Listed, SlotTops, Types, let_go_declared, let_go_objects};
 use std::alloc::{AllocError, Allocator};
@@ -67,13 +65,12 @@ fn look_at_both<'m, 'a, A: Allocator, B: Allocator>(
     first_of_three(is_constant, declared, all, bound)
 }
 
-/// The lowest fault of what a domain and a problem use, where none of names stands; the values of functions of objects are added to none.
+/// The lowest fault of what a domain and a problem use, where none of names stands.
 fn look_at_uses<'t, 'm, 'a, A: Allocator, B: Allocator>(
     alloc: &'a B,
     types: &'t Types<'m, 'a, A, B>,
     listed: &'t Listed<'m, 'a, A, B>,
     tables: &'t Tables<'m, 'a, A, B>,
-    values: &mut Values<'m, 'a, A, B>,
     domain: &'m Domain<A>,
     problem: &'m Problem<A>,
 ) -> Result<(), LinkFault<'m>>
@@ -81,9 +78,7 @@ fn look_at_uses<'t, 'm, 'a, A: Allocator, B: Allocator>(
     requires named { NoneStands (map (fault_in (domain_view domain.now) (problem_view problem.now)) name_rules) }
     requires listed { AreAllListed (domain_view domain.now) (problem_view problem.now) types.now listed.now }
     requires tables { HoldDeclared (domain_view domain.now) types.now listed.now tables.now }
-    requires none { values.old.entries ≡ [] }
-    ensures values { OnOk result (HoldsValues (problem_view problem.now).init values.new.entries) }
-    ensures verdict { Verdict (map (fault_in (domain_view domain.now) (problem_view problem.now)) use_rules) result }
+    ensures { Verdict (map (fault_in (domain_view domain.now) (problem_view problem.now)) use_rules) result }
 {
     let inner = tables.declared.known(types, listed, listed.constants);
     let outer = tables.declared.known(types, listed, listed.objects.len());
@@ -97,7 +92,7 @@ fn look_at_uses<'t, 'm, 'a, A: Allocator, B: Allocator>(
     let size = goal_size(&fitting, domain, problem);
     lower(
         used,
-        look_at_problem_uses(alloc, &outer, size, values, domain, problem),
+        look_at_problem_uses(alloc, &outer, size, domain, problem),
     )
 }
 
@@ -124,25 +119,22 @@ fn tables_of<'m, 'a, A: Allocator, B: Allocator>(
     })
 }
 
-/// The tables of a domain and a problem behind their objects, where no fault of what is used stands, and none of names. The values of functions of objects
-/// are added to none.
-fn tables_behind<'m, 'a, A: Allocator, B: Allocator>(
+/// The tables of a domain and a problem behind their types, where no fault from 23 on stands. Objects are added to none.
+fn tables_behind_types<'m, 'a, A: Allocator, B: Allocator>(
     alloc: &'a B,
     types: &Types<'m, 'a, A, B>,
-    listed: &Listed<'m, 'a, A, B>,
-    values: &mut Values<'m, 'a, A, B>,
+    listed: &mut Listed<'m, 'a, A, B>,
     domain: &'m Domain<A>,
     problem: &'m Problem<A>,
 ) -> Result<Tables<'m, 'a, A, B>, LinkFault<'m>>
     requires types { types.now.declared ≡ (domain_view domain.now).types }
-    requires named { NoneStands (map (fault_in (domain_view domain.now) (problem_view problem.now)) name_rules) }
-    requires listed { AreAllListed (domain_view domain.now) (problem_view problem.now) types.now listed.now }
-    requires none { values.old.entries ≡ [] }
-    ensures tables { IfOk result (λ tables. HoldBehindTypes (domain_view domain.now) (problem_view problem.now) types.now listed.now tables values.new.entries) }
-    ensures verdict { Verdict (map (fault_in (domain_view domain.now) (problem_view problem.now)) use_rules) result }
+    requires no_objects { IsEmpty listed.old }
+    ensures tables { IfOk result (HoldBehindTypes (domain_view domain.now) (problem_view problem.now) types.now listed.new) }
+    ensures verdict { Verdict (map (fault_in (domain_view domain.now) (problem_view problem.now)) (drop 3 rules)) result }
 {
+    look_at_both(alloc, types, listed, domain, problem)?;
     let tables = tables_of(alloc, types, listed, domain)?;
-    match look_at_uses(alloc, types, listed, &tables, values, domain, problem) {
+    match look_at_uses(alloc, types, listed, &tables, domain, problem) {
         Ok(()) => Ok(tables),
         Err(fault) => {
             let_go_declared(tables.declared);
@@ -150,28 +142,6 @@ fn tables_behind<'m, 'a, A: Allocator, B: Allocator>(
             drop(tables.order);
             Err(fault)
         }
-    }
-}
-
-/// The tables of a domain and a problem behind their types, where no fault from 23 on stands. Objects and the values of functions of objects are added to
-/// none.
-fn tables_behind_types<'m, 'a, A: Allocator, B: Allocator>(
-    alloc: &'a B,
-    types: &Types<'m, 'a, A, B>,
-    listed: &mut Listed<'m, 'a, A, B>,
-    values: &mut Values<'m, 'a, A, B>,
-    domain: &'m Domain<A>,
-    problem: &'m Problem<A>,
-) -> Result<Tables<'m, 'a, A, B>, LinkFault<'m>>
-    requires types { types.now.declared ≡ (domain_view domain.now).types }
-    requires no_objects { IsEmpty listed.old }
-    requires no_values { values.old.entries ≡ [] }
-    ensures tables { IfOk result (λ tables. HoldBehindTypes (domain_view domain.now) (problem_view problem.now) types.now listed.new tables values.new.entries) }
-    ensures verdict { Verdict (map (fault_in (domain_view domain.now) (problem_view problem.now)) (drop 3 rules)) result }
-{
-    match look_at_both(alloc, types, listed, domain, problem) {
-        Ok(()) => tables_behind(alloc, types, listed, values, domain, problem),
-        Err(fault) => Err(fault),
     }
 }
 
@@ -206,9 +176,8 @@ pub fn link<'m, 'a, A: Allocator, B: Allocator>(
 {
     let types = types_of(alloc, domain, problem)?;
     let mut listed = Listed::new(alloc, types.hashed());
-    let mut values: Values<'m, 'a, A, B> = IndexMap::with_hasher(alloc, types.hashed());
-    match tables_behind_types(alloc, &types, &mut listed, &mut values, domain, problem) {
-        Ok(tables) => Ok(Task::of(domain, problem, types, listed, tables, values)),
+    match tables_behind_types(alloc, &types, &mut listed, domain, problem) {
+        Ok(tables) => Ok(Task::of(domain, problem, types, listed, tables)),
         Err(fault) => {
             drop(types);
             let_go_objects(listed);

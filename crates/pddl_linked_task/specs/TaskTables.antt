@@ -1,7 +1,6 @@
 -- Tables of what two linked files declare.
-use Rattle.std.specs.Prelude.{◌≡◌, ℕ, List, map}
+use Rattle.std.specs.Prelude.{◌≡◌, map}
 use Rattle.pddl_domain.specs.Domains.{DomainValue}
-use Rattle.pddl_problem.specs.Inits.{GroundValue}
 use Rattle.pddl_problem.specs.Problems.{ProblemValue}
 use Rattle.pddl_task.specs.Settings.{objects_of}
 use Rattle.pddl_task.specs.Linked.{IsLinked}
@@ -10,7 +9,6 @@ use Rattle.pddl_types.specs.TypeSpans.{TypesValue, AreSingle, AreListed}
 use Rattle.pddl_types.specs.ToldTops.{AreSlotTops}
 use Rattle.pddl_types.specs.Settings.{AreDeclared}
 use Rattle.pddl_types.specs.declared.listed.Listed.{Listed}
-use Rattle.pddl_search.specs.Claims.{HoldsValues}
 use Rattle.pddl_sizes.specs.ObjectOrders.{IsOrderOf}
 use Rattle.pddl_linked_task.specs.declared.task.Tables.{Tables}
 
@@ -21,16 +19,14 @@ pub record HoldDeclared {A B : Type 0} (d : DomainValue) (types : TypesValue) (l
   pub ordered : ∥ IsOrderOf listed.spans.items tables.order ∥₁
 
 -- tables hold what two files declare beside types
-pub record HoldBehindTypes {A B : Type 0} (d : DomainValue) (p : ProblemValue) (types : TypesValue) (listed : Listed A B) (tables : Tables A B)
-    (values : List (GroundValue × ℕ)) : Type 0 where
+pub record HoldBehindTypes {A B : Type 0} (d : DomainValue) (p : ProblemValue) (types : TypesValue) (listed : Listed A B) (tables : Tables A B) : Type 0 where
   pub tables_are : HoldDeclared d types listed tables
   pub objects_are : map object_in listed.objects.entries ≡ objects_of d p
   pub spans_are : AreListed types listed
   pub single : AreSingle types.declared (map object_in listed.objects.entries)
-  pub values_are : HoldsValues p.init values
 
 -- two files are linked, and the tables hold what they declare
-pub record AreTablesOf {A B : Type 0} (d : DomainValue) (p : ProblemValue) (types : TypesValue) (listed : Listed A B) (tables : Tables A B) (values : List (GroundValue × ℕ)) : Type 0 where
+pub record AreTablesOf {A B : Type 0} (d : DomainValue) (p : ProblemValue) (types : TypesValue) (listed : Listed A B) (tables : Tables A B) : Type 0 where
   pub linked : IsLinked d p
   pub types_are : types.declared ≡ d.types
-  pub behind : HoldBehindTypes d p types listed tables values
+  pub behind : HoldBehindTypes d p types listed tables

@@ -6,7 +6,10 @@ ghost use Rattle.pddl_formula.specs.Formulas.{formula_view};
 ghost use Rattle.pddl_formula.specs.TypedLists.{TypedValue};
 ghost use Rattle.pddl_domain.specs.Actions.{ActionValue, action_view};
 ghost use Rattle.pddl_domain.specs.Domains.{domain_view};
+ghost use Rattle.pddl_problem.specs.Inits.{function_view};
 ghost use Rattle.pddl_problem.specs.Problems.{problem_view};
+ghost use Rattle.pddl_task.specs.Names.{same_names};
+ghost use Rattle.pddl_task.specs.Faults.{same_ground};
 ghost use Rattle.pddl_task.specs.Types.{pairs, fits, is_subtype};
 ghost use Rattle.pddl_task.specs.GroundSize.{capped, formula_size, action_size};
 ghost use Rattle.pddl_task.specs.Linked.{IsLinked};
@@ -18,8 +21,7 @@ ghost use Rattle.pddl_linked_task.specs.TaskTables.{AreTablesOf};
 use pddl_domain::{Action, Domain};
 use pddl_formula::{Formula, TypeNames};
 use pddl_hash::Hashed;
-use pddl_problem::Problem;
-use pddl_search::{Ground, Values};
+use pddl_problem::{GroundFunction, InitItem, Problem};
 use pddl_sizes::{ObjectOrder, action_ground_size, ground_size};
 use pddl_token::Name;
 use pddl_types::{Declared, Fitting, Listed, SlotTops, Types};
@@ -45,8 +47,6 @@ pub struct Task<'m, 'a, A: Allocator, B: Allocator> {
     types: Types<'m, 'a, A, B>,
     listed: Listed<'m, 'a, A, B>,
     tables: Tables<'m, 'a, A, B>,
-    /// The values that `:init` gives to functions of objects.
-    values: Values<'m, 'a, A, B>,
 }
 
 impl<'m, 'a, A: Allocator, B: Allocator> Model for Task<'m, 'a, A, B> {
@@ -63,7 +63,29 @@ impl<'m, 'a, A: Allocator, B: Allocator> Model for Task<'m, 'a, A, B> {
 
     ghost view = { λ t. files (domain_view t.domain.now) (problem_view t.problem.now) };
 
-    ghost invariant = { λ t. AreTablesOf (domain_view t.domain.now) (problem_view t.problem.now) t.types t.listed t.tables t.values.entries };
+    ghost invariant = { λ t. AreTablesOf (domain_view t.domain.now) (problem_view t.problem.now) t.types t.listed t.tables };
+}
+
+/// Whether objects that are asked for have these names, in their order.
+fn are_asked<A: Allocator>(objects: &[&[u8]], names: &[Name<A>]) -> bool
+    ensures { result ≡ same_names (map (λ o. o.now) objects.now) names.now }
+{
+    if objects.len() != names.len() {
+        return false;
+    }
+    for i in 0..names.len() {
+        if objects[i] != names[i].as_bytes() {
+            return false;
+        }
+    }
+    true
+}
+
+/// Whether a function of objects is the one that is asked for.
+fn is_asked<A: Allocator>(function: &[u8], objects: &[&[u8]], call: &GroundFunction<A>) -> bool
+    ensures { result ≡ same_ground (record { name = function.now; objects = map (λ o. o.now) objects.now }) (function_view call.now) }
+{
+    function == call.function.as_bytes() && are_asked(objects, &call.objects)
 }
 
 impl<'m, 'a, A: Allocator, B: Allocator> Task<'m, 'a, A, B> {
@@ -74,9 +96,8 @@ impl<'m, 'a, A: Allocator, B: Allocator> Task<'m, 'a, A, B> {
         types: Types<'m, 'a, A, B>,
         listed: Listed<'m, 'a, A, B>,
         tables: Tables<'m, 'a, A, B>,
-        values: Values<'m, 'a, A, B>,
     ) -> Task<'m, 'a, A, B>
-        requires { AreTablesOf (domain_view domain.now) (problem_view problem.now) types listed tables values.entries }
+        requires { AreTablesOf (domain_view domain.now) (problem_view problem.now) types listed tables }
         ensures { result ≡ files (domain_view domain.now) (problem_view problem.now) }
     {
         Task {
@@ -85,7 +106,6 @@ impl<'m, 'a, A: Allocator, B: Allocator> Task<'m, 'a, A, B> {
             types,
             listed,
             tables,
-            values,
         }
     }
 
@@ -221,14 +241,19 @@ impl<'m, 'a, A: Allocator, B: Allocator> Task<'m, 'a, A, B> {
     }
 
     /// The cost that `:init` gives a function of these objects, or `None` where it gives none.
+    ///
+    /// It looks through `:init`. Whoever asks for many costs takes `task_prices` of `pddl_tables`, which makes a table of them once.
     pub fn cost<'q>(&self, function: &'q [u8], objects: &'q [&'q [u8]]) -> Option<u64>
         ensures { result ≡ cost_of (task_of_files self.now) (record { name = function.now; objects = map (λ o. o.now) objects.now }) }
     {
-        let call = Ground::asked(function, objects);
-        match self.values.get(&call) {
-            Some(billionths) => Some(*billionths / 1_000_000_000),
-            None => None,
+        for item in &self.problem.init {
+            if let InitItem::Value(call, amount) = item {
+                if is_asked(function, objects, call) {
+                    return Some(amount.billionths() / 1_000_000_000);
+                }
+            }
         }
+        None
     }
 
     /// The name of the predicate of a number, or `None` past the last.

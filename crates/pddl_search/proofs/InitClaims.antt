@@ -1,19 +1,18 @@
 -- What is claimed in `:init`, one item after another, beside a table of what was claimed so far.
-use Rattle.std.proofs.Common.{◌≡◌, ℕ, suc, ◌+◌, ◌<◌, ◌≤◌, Bool, true, false, ◌&&◌, ◌||◌, ◌==◌, not, cond, List, [], ◌∷◌, ◌++◌, map, length, get_or, Option, Some, None, refl, ap, sym, ◌∙◌, subst, true≢false, arith}
+use Rattle.std.proofs.Common.{◌≡◌, ℕ, ◌+◌, ◌<◌, Bool, true, false, ◌&&◌, ◌||◌, ◌==◌, not, cond, List, [], ◌∷◌, ◌++◌, map, length, get_or, Option, Some, None, refl, ap, sym, ◌∙◌, subst, true≢false, arith}
 use Rattle.std.specs.Prelude.{Contains, unwrap_or}
-use Rattle.std.specs.List.{list_any, filter_map, cons_option}
+use Rattle.std.specs.List.{list_any}
 use Rattle.std.specs.Map.{lookup}
 use Rattle.std.proofs.Math.Bool.{and-true, and-false, or-false, or_comm, or_self}
 use Rattle.std.proofs.Math.Path.{fun_ext}
-use Rattle.std.proofs.lemmas.List.{take_all}
 use Rattle.std.proofs.lemmas.Bool.Decides.{nat_tests}
 use Rattle.pddl_problem.specs.Inits.{GroundValue, InitValue, holds, fails, value}
 use Rattle.pddl_task.specs.Names.{word_if, wrong_words}
 use Rattle.pddl_task.specs.Faults.{same_ground, contradicts, revalues, starts_above_zero, init_name, clashing}
-use Rattle.pddl_task.proofs.Lists.{or_left, or_none, none_left, none_right, none_of, any_none}
+use Rattle.pddl_task.proofs.Lists.{or_none, none_left, none_right, none_of, any_none}
 use Rattle.pddl_search.specs.declared.init.Claimed.{Claimed}
 use Rattle.pddl_search.specs.declared.init.Claimed.TheVariants.{Literals, Values}
-use Rattle.pddl_search.specs.Claims.{claim_in, wrong_in, is_failure, HoldsClaims}
+use Rattle.pddl_search.specs.Claims.{claim_in, wrong_in, is_failure}
 use Rattle.pddl_search.specs.Grounds.{ground_equiv, ground_is}
 use Rattle.pddl_search.proofs.SeenItems.{any_more, seen_at, seen_more, AreLeft, seen_bad, seen_good}
 
@@ -107,23 +106,6 @@ told_more es next k q v w agrees grows =
       | false ↦ λ _. or-false (at_odds (told_by es q) w)
     ] refl)
 
--- what it says of a key is what is claimed first of it
-told_first : (kind : Claimed) (q : GroundValue) (o : Option ℕ) (seen : List InitValue)
-    → ((v : ℕ) → list_any (λ j. disagree (Some (q, v)) (claim_in kind j)) seen ≡ at_odds o v) → o ≡ lookup (same_ground q) (filter_map (claim_in kind) seen)
-told_first kind q None [] told = refl
-told_first kind q (Some u) [] told = absurd (true≢false (sym (unequal_yes (suc u) u (λ e. omega (arith, e))) ∙ sym (told (suc u))))
-told_first kind q o (x ∷ seen) told =
-    let later = λ (v : ℕ). list_any (λ j. disagree (Some (q, v)) (claim_in kind j)) seen in
-    let found = lookup (same_ground q) (filter_map (claim_in kind) seen) in
-    elim (claim_in kind x) as (λ c. ((v : ℕ) → disagree (Some (q, v)) c || later v ≡ at_odds o v) → o ≡ lookup (same_ground q) (cons_option c (filter_map (claim_in kind) seen))) [
-      | None ↦ told_first kind q o seen
-      | Some d ↦ elim (same_ground q d.0) as (λ b. ((v : ℕ) → (b && unequal v d.1) || later v ≡ at_odds o v) → o ≡ cond b (Some d.1) found) [ true ↦ first_told o d.1 later | false ↦ told_first kind q o seen ]
-    ] told
-  where
-    first_told : (p : Option ℕ) (n : ℕ) (more : ℕ → Bool) → ((v : ℕ) → unequal v n || more v ≡ at_odds p v) → p ≡ Some n
-    first_told None n more k = absurd (true≢false (sym (or_left (unequal (suc n) n) (more (suc n)) (unequal_yes (suc n) n (λ e. omega (arith, e)))) ∙ k (suc n) ∙ unequal_own (suc n)))
-    first_told (Some u) n more k = ap Some (unequal_is u n (none_left (unequal u n) (more u) (k u ∙ unequal_own u)))
-
 -- In front of item i, a table tells what was claimed so far, and the words of the whole are those of what is left.
 pub record Checked {X : Type 0} (view : X → InitValue) (kind : Claimed) (xs : List X) (i : ℕ) (es : List (GroundValue × ℕ)) : Type 0 where
   pub told : TellsClaims kind es (seen_at view [] xs i)
@@ -163,10 +145,6 @@ module _ {X : Type 0} {view : X → InitValue} {kind : Claimed} {xs : List X} wh
           pass next
           (λ q w. rw (any_more, claims, l.told q w) (told_more es next k q v w (ap (unequal v) (sym before_is) ∙ none_left (unequal v before) (starts_above_zero (view x)) fine) (grows q)))
           (wrong_here ∙ fine)
-
-  -- all have been looked at
-  pub all_checked : {i : ℕ} {es : List (GroundValue × ℕ)} → length xs ≤ i → Checked view kind xs i es → HoldsClaims kind (map view xs) es
-  all_checked {i = i} {es = es} past l = λ q. told_first kind q (told_by es q) (map view xs) (λ v. subst (λ ys. TellsClaims kind es (map view ys)) (take_all i xs past) l.told q v)
 
 -- ---- where no atom fails, none holds and fails
 

@@ -1,18 +1,11 @@
 -- Predicates and functions of objects that compare as equal are the same: what a table's keys have to show.
-use Rattle.std.specs.Prelude.{◌≡◌, true, List, map, bytes_eq}
+use Rattle.std.specs.Prelude.{◌≡◌, true, bytes_eq}
 use Rattle.std.proofs.Common.{ap, ◌∙◌}
 use Rattle.std.specs.Cmp.{IsEquivalence, and_equiv, on_equiv, first_so, second_so}
 use Rattle.std.specs.Cmp.Lexicographic.{pointwise_decides, bytes_decides, lists_equiv, nat_list_eq_equiv}
 use Rattle.pddl_problem.specs.Inits.{GroundValue}
-use Rattle.pddl_task.specs.Names.{Name, same_names}
+use Rattle.pddl_task.specs.Names.{same_names}
 use Rattle.pddl_task.specs.Faults.{same_ground}
-use Rattle.pddl_search.specs.declared.ground.LentNames.{LentNames}
-use Rattle.pddl_search.specs.declared.ground.LentNames.TheVariants.{Listed, Asked}
-
--- names that are lent
-abbrev pub names_in : {A : _} → LentNames A → List Name
-names_in (Listed ns) = ns.now
-names_in (Asked ns) = map (λ n. n.now) ns.now
 
 pub ground_equiv : IsEquivalence same_ground
 ground_equiv = and_equiv (on_equiv (λ (g : GroundValue). g.name) nat_list_eq_equiv) (on_equiv (λ (g : GroundValue). g.objects) (lists_equiv nat_list_eq_equiv))

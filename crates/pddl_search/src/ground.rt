@@ -1,40 +1,32 @@
 //! Predicates and functions of objects, as keys of tables.
 
-ghost use Rattle.std.specs.Prelude.{◌≡◌, ◌<◌, ◌++◌, map, length, get_or};
+ghost use Rattle.std.specs.Prelude.{◌≡◌, ◌++◌};
 ghost use Rattle.std.proofs.Common.{ap};
 ghost use Rattle.std.specs.Cmp.{partial_equiv_from_equiv};
 ghost use Rattle.std.specs.Hash as fed;
 ghost use Rattle.std.specs.List.{fold};
 ghost use Rattle.pddl_task.specs.Names.{same_names};
 ghost use Rattle.pddl_task.specs.Faults.{same_ground};
-ghost use Rattle.pddl_search.specs.Grounds.{names_in, ground_equiv, ground_is};
+ghost use Rattle.pddl_search.specs.Grounds.{ground_equiv, ground_is};
 
 use pddl_token::Name;
 use std::alloc::Allocator;
 use std::hash::{Hash, Hasher};
 use std::marker::Model;
 
-/// Names in order, lent: as a file has them, or each by itself.
-#[derive(Drop)]
-pub enum LentNames<'d, A: Allocator> {
-    Listed(&'d [Name<A>]),
-    Asked(&'d [&'d [u8]]),
-}
-
 /// A predicate or a function with the names of objects, lent. Two are equal where their names are.
 #[derive(Drop)]
 pub struct Ground<'d, A: Allocator> {
     name: &'d [u8],
-    objects: LentNames<'d, A>,
+    objects: &'d [Name<A>],
 }
 
 impl<'d, A: Allocator> Model for Ground<'d, A> {
     ghost use Rattle.pddl_problem.specs.Inits.{GroundValue};
-    ghost use Rattle.pddl_search.specs.Grounds.{names_in};
 
     ghost Value = { GroundValue };
 
-    ghost view = { λ g. record { name = g.name.now; objects = names_in g.objects } };
+    ghost view = { λ g. record { name = g.name.now; objects = g.objects.now } };
 }
 
 impl<'d, A: Allocator> Ground<'d, A> {
@@ -42,61 +34,19 @@ impl<'d, A: Allocator> Ground<'d, A> {
     pub fn of(name: &'d [u8], objects: &'d [Name<A>]) -> Ground<'d, A>
         ensures { result ≡ record { name = name.now; objects = objects.now } }
     {
-        Ground {
-            name,
-            objects: LentNames::Listed(objects),
-        }
-    }
-
-    /// The predicate or function of this name with objects of these names.
-    pub fn asked(name: &'d [u8], objects: &'d [&'d [u8]]) -> Ground<'d, A>
-        ensures { result ≡ record { name = name.now; objects = map (λ o. o.now) objects.now } }
-    {
-        Ground {
-            name,
-            objects: LentNames::Asked(objects),
-        }
-    }
-}
-
-impl<'d, A: Allocator> LentNames<'d, A> {
-    /// How many there are.
-    fn len(&self) -> usize
-        ensures { result ≡ length (names_in self.now) }
-    {
-        match self {
-            LentNames::Listed(names) => names.len(),
-            LentNames::Asked(names) => names.len(),
-        }
-    }
-
-    /// The name of a number from 0.
-    fn at(&self, number: usize) -> &'d [u8]
-        requires { number < length (names_in self.now) }
-        ensures { result.now ≡ get_or (names_in self.now) number result.now }
-    {
-        match self {
-            LentNames::Listed(names) => {
-                let names = *names;
-                names[number].as_bytes()
-            }
-            LentNames::Asked(names) => {
-                let names = *names;
-                names[number]
-            }
-        }
+        Ground { name, objects }
     }
 }
 
 /// Whether two lists have the same names in the same order.
-fn same_names<A: Allocator>(first: &LentNames<A>, second: &LentNames<A>) -> bool
-    ensures { result ≡ same_names (names_in first.now) (names_in second.now) }
+fn same_names<A: Allocator>(first: &[Name<A>], second: &[Name<A>]) -> bool
+    ensures { result ≡ same_names first.now second.now }
 {
     if first.len() != second.len() {
         return false;
     }
     for i in 0..first.len() {
-        if first.at(i) != second.at(i) {
+        if first[i].as_bytes() != second[i].as_bytes() {
             return false;
         }
     }
@@ -104,12 +54,12 @@ fn same_names<A: Allocator>(first: &LentNames<A>, second: &LentNames<A>) -> bool
 }
 
 /// Feeds names to a hasher.
-fn hash_names<A: Allocator, H: Hasher>(names: &LentNames<A>, state: &mut H)
-    ensures { state.new ≡ fold H.write state.old (fed.slice (fed.slice fed.u8) (names_in names.now)) }
+fn hash_names<A: Allocator, H: Hasher>(names: &[Name<A>], state: &mut H)
+    ensures { state.new ≡ fold H.write state.old (fed.slice (fed.slice fed.u8) names.now) }
 {
     state.write_usize(names.len());
-    for i in 0..names.len() {
-        names.at(i).hash(state);
+    for name in names {
+        name.as_bytes().hash(state);
     }
 }
 
@@ -119,7 +69,7 @@ impl<'d, A: Allocator> PartialEq for Ground<'d, A> {
     ghost laws = { partial_equiv_from_equiv ground_equiv };
 
     fn eq(&self, other: &Ground<'d, A>) -> bool {
-        self.name == other.name && same_names(&self.objects, &other.objects)
+        self.name == other.name && same_names(self.objects, other.objects)
     }
 }
 
@@ -134,6 +84,6 @@ impl<'d, A: Allocator> Hash for Ground<'d, A> {
 
     fn hash<H: Hasher>(&self, state: &mut H) {
         self.name.hash(state);
-        hash_names(&self.objects, state);
+        hash_names(self.objects, state);
     }
 }

@@ -1,12 +1,11 @@
 //! Atoms that hold and fail in `:init`, and functions of objects that have two values there.
 
-ghost use Rattle.std.specs.Prelude.{◌≡◌, [], map, Some, OnOk};
-ghost use Rattle.std.specs.List.{list_any};
+ghost use Rattle.std.specs.Prelude.{◌≡◌, [], map, Some};
 ghost use Rattle.pddl_problem.specs.Inits.{init_view};
 ghost use Rattle.pddl_task.specs.Names.{wrong_words};
 ghost use Rattle.pddl_task.specs.Faults.{contradicts, init_name, clashing, wrong_values, starts_above_zero};
 ghost use Rattle.pddl_faults.specs.Passes.{fault_of, Passes};
-ghost use Rattle.pddl_search.specs.Claims.{claim_in, wrong_in, fault_number, is_failure, HoldsClaims, HoldsValues};
+ghost use Rattle.pddl_search.specs.Claims.{claim_in, wrong_in, fault_number, is_failure};
 
 use crate::ground::Ground;
 use indexmap::IndexMap;
@@ -14,9 +13,6 @@ use pddl_faults::LinkFault;
 use pddl_hash::Hashed;
 use pddl_problem::InitItem;
 use std::alloc::Allocator;
-
-/// Functions of objects, each with its value in billionths.
-pub type Values<'d, 'a, A, B> = IndexMap<Ground<'d, A>, u64, Hashed, &'a B>;
 
 /// What is looked at: which atoms hold, or the values of functions of objects.
 #[derive(Clone, Copy)]
@@ -63,14 +59,13 @@ fn starts_above_zero<A: Allocator>(item: &InitItem<A>) -> bool
 }
 
 /// Adds what is claimed. No item claims another number than one before it, and none a total cost above 0.
-fn claims_agree<'d, 'a, A: Allocator, B: Allocator>(
-    claims: &mut Values<'d, 'a, A, B>,
+fn add_claims<'d, 'a, A: Allocator, B: Allocator>(
+    claims: &mut IndexMap<Ground<'d, A>, u64, Hashed, &'a B>,
     init: &'d [InitItem<A>],
     kind: Claimed,
 ) -> Result<(), LinkFault<'d>>
     requires { claims.old.entries ≡ [] }
-    ensures passes { Passes (fault_number kind) (wrong_words (wrong_in kind) init_name [] (map init_view init.now)) result }
-    ensures claims { OnOk result (HoldsClaims kind (map init_view init.now) claims.new.entries) }
+    ensures { Passes (fault_number kind) (wrong_words (wrong_in kind) init_name [] (map init_view init.now)) result }
 {
     for item in init {
         if let Some((ground, number)) = claim(item, kind) {
@@ -81,6 +76,19 @@ fn claims_agree<'d, 'a, A: Allocator, B: Allocator>(
         }
     }
     Ok(())
+}
+
+/// No item claims another number than one before it, and none a total cost above 0: a table of its own is filled and let go.
+fn claims_agree<'d, 'a, A: Allocator, B: Allocator>(
+    alloc: &'a B,
+    hashed: Hashed,
+    init: &'d [InitItem<A>],
+    kind: Claimed,
+) -> Result<(), LinkFault<'d>>
+    ensures { Passes (fault_number kind) (wrong_words (wrong_in kind) init_name [] (map init_view init.now)) result }
+{
+    let mut claims = IndexMap::with_hasher(alloc, hashed);
+    add_claims(&mut claims, init, kind)
 }
 
 /// Whether an item says of an atom that it fails.
@@ -101,18 +109,16 @@ pub fn contradictions<'d, 'a, A: Allocator, B: Allocator>(
     if !init.iter().any(is_failure) {
         return Ok(());
     }
-    let mut said = IndexMap::with_hasher(alloc, hashed);
-    claims_agree(&mut said, init, Claimed::Literals)
+    claims_agree(alloc, hashed, init, Claimed::Literals)
 }
 
-/// Adds the values of functions of objects. None of them has two, and `total-cost` starts at none but 0.
+/// No function of objects has two values, and `total-cost` starts at none but 0.
 pub fn cost_values<'d, 'a, A: Allocator, B: Allocator>(
-    values: &mut Values<'d, 'a, A, B>,
+    alloc: &'a B,
+    hashed: Hashed,
     init: &'d [InitItem<A>],
 ) -> Result<(), LinkFault<'d>>
-    requires { values.old.entries ≡ [] }
-    ensures passes { Passes 31 (wrong_values [] (map init_view init.now)) result }
-    ensures values { OnOk result (HoldsValues (map init_view init.now) values.new.entries) }
+    ensures { Passes 31 (wrong_values [] (map init_view init.now)) result }
 {
-    claims_agree(values, init, Claimed::Values)
+    claims_agree(alloc, hashed, init, Claimed::Values)
 }

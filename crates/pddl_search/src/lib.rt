@@ -11,8 +11,7 @@ mod scope;
 mod search;
 mod search_files;
 
-pub use ground::Ground;
-pub use init::{Values, contradictions, cost_values};
+pub use init::{contradictions, cost_values};
 pub use part::{LentTerm, Part, Terms};
 pub use passes::{domain_name, metric, object_fluents, object_types};
 pub use scope::Scope;

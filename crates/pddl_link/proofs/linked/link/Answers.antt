@@ -25,8 +25,8 @@ of-requires g c =
       behind = c.in-Ok.ensures.tables;
     }
 
-pub returns-clause-verdict : goal.returns-clause-verdict
-returns-clause-verdict g c =
+pub returns-in-Err-clause-verdict : goal.returns-in-Err-clause-verdict
+returns-in-Err-clause-verdict g c =
     let d = domain_view c.args.domain.now in
     let q = problem_view c.args.problem.now in
     decided_after {T = Unit {0}} (map (fault_in d q) first_rules) (map (fault_in d q) (drop 3 rules)) (Err c.in-Err.fault) c.in_ok-types.ensures.verdict c.in-Err.ensures.verdict

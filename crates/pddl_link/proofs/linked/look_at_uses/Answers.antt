@@ -5,11 +5,10 @@ use Rattle.pddl_problem.specs.Problems.{problem_view}
 use Rattle.pddl_task.specs.Names.{firsts}
 use Rattle.pddl_task.specs.Settings.{objects_of}
 use Rattle.pddl_task.specs.Linked.{fault_in}
-use Rattle.pddl_search.specs.Claims.{HoldsValues}
 use Rattle.pddl_types.specs.KnownNames.{object_in}
 use Rattle.pddl_link.proofs.NamedWell.{in_the_domain, slot_types, single_objects}
 use Rattle.pddl_names.specs.FaultParts.{joined, domain_uses, problem_uses, use_rules}
-use Rattle.pddl_names.proofs.FoundParts.{found_parts, second_kept}
+use Rattle.pddl_names.proofs.FoundParts.{found_parts}
 use Rattle.pddl_names.proofs.RuleParts.{uses_stand}
 use Rattle.pddl_link.proofs.Settings.{setting_by_tables}
 use Rattle.pddl_link.proofs.Stages.{verdict_of}
@@ -33,16 +32,12 @@ look_at_problem_uses-requires-clause-known g c =
 pub look_at_problem_uses-requires-clause-size : goal.look_at_problem_uses-requires-clause-size
 look_at_problem_uses-requires-clause-size g c = c.goal_size-size.ensures
 
-pub returns-clause-values : goal.returns-clause-values
-returns-clause-values g c =
-    second_kept c.look_at_domain_uses-used.result c.look_at_problem_uses.result c.lower.result (HoldsValues (problem_view c.args.problem.now).init c.look_at_problem_uses.new.values.entries) c.lower.ensures.both c.look_at_problem_uses.ensures.values
-
-pub returns-clause-verdict : goal.returns-clause-verdict
-returns-clause-verdict g c =
+pub returns : goal.returns
+returns g c =
     let d = domain_view c.args.domain.now in
     let p = problem_view c.args.problem.now in
     verdict_of (joined (domain_uses d ++ problem_uses d p)) (map (fault_in d p) use_rules) c.lower.result (uses_stand d p)
-    (found_parts (domain_uses d) (problem_uses d p) c.look_at_domain_uses-used.result c.look_at_problem_uses.result c.lower.result c.lower.ensures.found c.look_at_domain_uses-used.ensures c.look_at_problem_uses.ensures.found)
+    (found_parts (domain_uses d) (problem_uses d p) c.look_at_domain_uses-used.result c.look_at_problem_uses.result c.lower.result c.lower.ensures.found c.look_at_domain_uses-used.ensures c.look_at_problem_uses.ensures)
 
 pub known-inner-requires-clause-slots : goal.known-inner-requires-clause-slots
 known-inner-requires-clause-slots g c = rw (c.requires.tables.declared.predicates, c.requires.tables.declared.functions) c.requires.tables.declared.slots

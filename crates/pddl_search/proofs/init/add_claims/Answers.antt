@@ -2,15 +2,15 @@ use Rattle.std.proofs.Common.{◌≡◌, true, ◌||◌, refl, sym, ◌∙◌}
 use Rattle.pddl_problem.specs.Inits.{init_view}
 use Rattle.pddl_task.specs.Faults.{starts_above_zero}
 use Rattle.pddl_task.proofs.Lists.{or_left, or_right, or_none}
-use Rattle.pddl_search.proofs.InitClaims.{unequal, unequal_yes, unequal_no, told_before, checked_start, checked_none, checked_wrong, checked_more, all_checked}
-use Rattle.pddl_search.proofs.init.claims_agree.Goals as goal
-use Rattle.pddl_search.proofs.init.claims_agree.Goals.{then-number-before-via-then-number-before, then-number-before-via-else-number-before+then-starts_above_zero, in-Some+in_ok-insert+else-number-before+else-starts_above_zero, in_default}
+use Rattle.pddl_search.proofs.InitClaims.{unequal, unequal_yes, unequal_no, told_before, checked_start, checked_none, checked_wrong, checked_more}
+use Rattle.pddl_search.proofs.init.add_claims.Goals as goal
+use Rattle.pddl_search.proofs.init.add_claims.Goals.{then-number-before-via-then-number-before, then-number-before-via-else-number-before+then-starts_above_zero, in-Some+in_ok-insert+else-number-before+else-starts_above_zero, in_default}
 
 pub loop-item-init : goal.loop-item-init
 loop-item-init g c = checked_start c.args.claims.now.entries c.requires
 
-pub returns-then-number-before-clause-passes : goal.returns-then-number-before-clause-passes
-returns-then-number-before-clause-passes g c =
+pub returns-then-number-before : goal.returns-then-number-before
+returns-then-number-before g c =
     let x = init_view c.item-item.result in
     let differs = unequal c.in-Some.number c.unwrap_or-before.result in
     let wrong : differs || starts_above_zero x ≡ true = elim c.then-number-before.branch [
@@ -30,6 +30,3 @@ loop-item-preserved g c =
           rw w.claims-is (checked_more c.loop-item-test.true c.item-item.is c.loop-item.invariant (sym c.claim.ensures ∙ w.in-Some.is) before_is w.insert.new.self.entries right w.in_ok-insert.ensures.updates.0)
       | in_default w ↦ rw w.claims-is (checked_none c.loop-item-test.true c.item-item.is c.loop-item.invariant (sym c.claim.ensures ∙ w.in_default.is))
     ]
-
-pub returns-clause-claims : goal.returns-clause-claims
-returns-clause-claims g c = all_checked c.loop-item-test.false c.loop-item.invariant
