@@ -62,7 +62,9 @@ fn close_list<'t, 'a, B: Allocator>(
             at: token.span.start,
         });
     };
-    let inner = mem::replace(items, list.items);
+    let mut inner = mem::replace(items, list.items);
+    // most lists are short, and a growth makes room for four items
+    inner.shrink_to_fit();
     items.push(Item::List(
         inner,
         Span {
