@@ -71,8 +71,9 @@ fn apply<A: Allocator, S: AtomStore<A>>(
     store.unite(state, adds)
 }
 
-/// The state after a step alone. A step does not interfere with itself, so its reads are not made.
-fn apply_alone<A: Allocator, S: AtomStore<A>, P: Course<A, S>>(
+/// The state after a step alone: first without all that it deletes, then with all that it adds. A step does not interfere with
+/// itself, so its reads are not made. Fails only for want of memory.
+pub fn apply_alone<A: Allocator, S: AtomStore<A>, P: Course<A, S>>(
     course: &P,
     step: u32,
     store: &mut S,
