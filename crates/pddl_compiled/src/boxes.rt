@@ -18,21 +18,6 @@ pub(crate) fn boxed<'b, T: Drop, B: Allocator>(
     Ok(Box::new(alloc, value?)?)
 }
 
-/// A value, and one in a box.
-///
-/// Fails as the second failed, and where memory for the box is refused.
-pub(crate) fn with_boxed<'b, T: Drop, U: Drop, B: Allocator>(
-    alloc: &'b B,
-    first: T,
-    second: Result<U, AllocError>,
-) -> Result<(T, Box<U, &'b B>), AllocError>
-    ensures first { IfOk result (λ made. made.0 ≡ first) }
-    ensures second { IfOk result (λ made. second ≡ Ok made.1.value) }
-{
-    let second = boxed(alloc, second)?;
-    Ok((first, second))
-}
-
 /// Two values, the second in a box.
 ///
 /// Fails as the first failed, or else as the second did, and where memory for the box is refused.
@@ -44,7 +29,9 @@ pub(crate) fn both_boxed<'b, T: Drop, U: Drop, B: Allocator>(
     ensures first { IfOk result (λ made. first ≡ Ok made.0) }
     ensures second { IfOk result (λ made. second ≡ Ok made.1.value) }
 {
-    with_boxed(alloc, first?, second)
+    let first = first?;
+    let second = boxed(alloc, second)?;
+    Ok((first, second))
 }
 
 /// Two values, each in a box.

@@ -11,7 +11,7 @@ ghost use Rattle.pddl_compiled.specs.Views.{change_view};
 ghost use Rattle.pddl_compiled.specs.Scopes.{scope_view, range_items};
 
 use crate::binder::bind;
-use crate::boxes::{both_boxed, push_made, with_boxed};
+use crate::boxes::{both_boxed, push_made};
 use crate::compiled::Change;
 use crate::conditions::compile_condition;
 use crate::lookups::Lookups;
@@ -31,7 +31,7 @@ fn for_each<'b, B: Allocator>(
 ) -> Result<Change<&'b B>, AllocError>
     ensures { IfOk result (λ c. IsOkAnd inner.entry (λ i. change_view c ≡ value.each range.entry.items (change_view i))) }
 {
-    let (range, inner) = with_boxed(alloc, range, inner)?;
+    let (range, inner) = both_boxed(alloc, Ok(range), inner)?;
     Ok(Change::Forall(range, inner))
 }
 
@@ -107,7 +107,11 @@ pub fn compile_change<'f, 'b, A: Allocator, B: Allocator, L: Lookups<A, B>>(
     ensures { IfOk result (λ c. change_view c ≡ change_of (L.tables lookups.now) (effect_view effect.now) (scope_view scope.now)) }
 {
     match effect {
-        Effect::And(parts) => compile_parts(alloc, lookups, parts, &*scope),
+        Effect::And(parts) => {
+            let mut changes = Vec::new(alloc);
+            let made = add_changes(alloc, lookups, parts, &*scope, &mut changes);
+            made.and(Ok(Change::And(changes)))
+        }
         Effect::Forall(variables, inner) => {
             compile_quantified(alloc, lookups, variables, inner, &*scope)
         }
@@ -145,23 +149,6 @@ fn compile_quantified<'f, 'b, A: Allocator, B: Allocator, L: Lookups<A, B>>(
         compile_change(alloc, lookups, inner, &inside)
     };
     for_each_of(alloc, binder.ranges, inner)
-}
-
-/// The change that does those of effects.
-///
-/// Fails where memory for it is refused.
-#[cycle(changes)]
-fn compile_parts<'f, 'b, A: Allocator, B: Allocator, L: Lookups<A, B>>(
-    alloc: &'b B,
-    lookups: &L,
-    effects: &'f Vec<Effect<A>, A>,
-    scope: &'f Scope<'f>,
-) -> Result<Change<&'b B>, AllocError>
-    ensures { IfOk result (λ c. change_view c ≡ value.both (value.changes_of (map (λ e. change_of (L.tables lookups.now) (effect_view e) (scope_view scope.now)) effects.now.items))) }
-{
-    let mut changes = Vec::new(alloc);
-    let made = add_changes(alloc, lookups, effects, &*scope, &mut changes);
-    made.and(Ok(Change::And(changes)))
 }
 
 /// Puts the changes of effects behind others.

@@ -9,7 +9,7 @@ ghost use Rattle.pddl_compiled.specs.Views.{condition_view};
 ghost use Rattle.pddl_compiled.specs.Scopes.{scope_view, range_items};
 
 use crate::binder::bind;
-use crate::boxes::{both_in_boxes, boxed, push_made, with_boxed};
+use crate::boxes::{both_boxed, both_in_boxes, boxed, push_made};
 use crate::compiled::Condition;
 use crate::lookups::Lookups;
 use crate::scope::Scope;
@@ -28,7 +28,7 @@ fn quantified<'b, B: Allocator>(
 ) -> Result<Condition<&'b B>, AllocError>
     ensures { IfOk result (λ c. IsOkAnd inner.entry (λ i. condition_view c ≡ cond some value.existential value.universal range.entry.items (condition_view i))) }
 {
-    let (range, inner) = with_boxed(alloc, range, inner)?;
+    let (range, inner) = both_boxed(alloc, Ok(range), inner)?;
     Ok(if some {
         Condition::Exists(range, inner)
     } else {

@@ -173,9 +173,10 @@ fn scoped<'a, B: Allocator>(
 ) -> Result<Option<Effect<&'a B>>, AllocError>
     ensures { (e : Option EffectValue) → IfOk body.entry (λ found. option_map effect_view found ≡ e) → IfOk result (λ found. option_map effect_view found ≡ scoped_by scope (item_tree item.now) e) }
 {
+    let body = boxed(alloc, body);
     match scope {
-        Scope::Variables => universal(variables_of(alloc, item), boxed(alloc, body)),
-        Scope::Condition => conditional(formula_of(alloc, item), boxed(alloc, body)),
+        Scope::Variables => universal(variables_of(alloc, item), body),
+        Scope::Condition => conditional(formula_of(alloc, item), body),
     }
 }
 

@@ -1,8 +1,9 @@
 -- Lists that are filled with a value of each item.
-use Rattle.std.proofs.Common.{◌≡◌, ℕ, ◌+◌, ◌<◌, ◌≤◌, Bool, true, false, List, [], ◌∷◌, ◌++◌, Vec, length, get_or, drop, map, ap, ◌∙◌}
-use Rattle.std.specs.Prelude.{Option, Some, None, Result, Ok, Err, IfOk, option_map, option_and_then}
+use Rattle.std.proofs.Common.{◌≡◌, ℕ, ◌+◌, ◌<◌, ◌≤◌, Bool, true, false, List, [], ◌∷◌, ◌++◌, Vec, length, get_or, drop, map, refl, sym, subst, ap, ◌∙◌, true≢false}
+use Rattle.std.specs.Prelude.{Option, Some, None, Result, Ok, Err, IfOk, IsOkAnd, option_map, option_and_then}
 use Rattle.std.proofs.lemmas.List.{map_push}
 use Rattle.std.specs.Bool.{then_some}
+use Rattle.pddl_formula.specs.Reserved.{type_of}
 use Rattle.pddl_build.specs.Results.{right_of, PushesFound, Pushed}
 use Rattle.pddl_build.proofs.Parts.{pushed_some, pushed_none}
 use Rattle.pddl_items.specs.declared.item.Item.{Item}
@@ -62,3 +63,29 @@ module _ {A T B X : Type 0} (view : T → X) (read : Tree → Option X) (xs : Li
   fill_end i past (Ok (Some v)) so_far = each_end read xs i (map view v.items) whole past so_far
   fill_end i past (Ok None) so_far = so_far
   fill_end i past (Err e) so_far = tt
+
+-- ---- a list of one name, and the type that it is
+
+module _ {A : Type 0} (list : Vec (List ℕ) A) (old : List (List ℕ)) (none : old ≡ []) (names : Option (Vec (List ℕ) A)) where
+  abbrev type : Option (List (List ℕ))
+  type = option_and_then type_of (option_map (λ v. v.items) names)
+
+  type_is : {E : Type 0} (value : Result (Option (List ℕ)) E) (right : Result Bool E) → PushesFound old value list.items right → right_of list right ≡ Ok names → IsOkAnd value (λ n. type ≡ option_map (λ t. t ∷ []) n)
+  type_is (Ok (Some x)) (Ok true) put is =
+      subst (λ r. IfOk r (λ o. option_and_then type_of (option_map (λ v. v.items) o) ≡ Some (x ∷ []))) is (ap type_of (put.0 ∙ ap (λ l. l ++ x ∷ []) none))
+  type_is (Ok (Some x)) (Ok false) put is = absurd (true≢false (sym put.1))
+  type_is (Ok (Some x)) (Err e) put is = absurd (cc (is))
+  type_is (Ok None) right put is = subst (λ r. IfOk r (λ o. option_and_then type_of (option_map (λ v. v.items) o) ≡ None)) (sym (ap (right_of list) put.1) ∙ is) refl
+  type_is (Err e) right put is = absurd (cc (sym (ap (right_of list) put.1) ∙ is))
+
+  pub one_type : {E F : Type 0} (value : Result (Option (List ℕ)) E) (right : Result Bool E) (found : Result (Option (List (List ℕ))) F) → PushesFound old value list.items right → right_of list right ≡ Ok names
+      → IfOk found (λ t. t ≡ type) → IfOk found (λ t. IsOkAnd value (λ n. t ≡ option_map (λ t. t ∷ []) n))
+  one_type (Ok n) right (Ok t) put is same = same ∙ type_is (Ok n) right put is
+  one_type (Err e) right (Ok t) put is same = type_is (Err e) right put is
+  one_type value right (Err e) put is same = tt
+
+-- what is said of a value, of what it is known to be
+pub of_known : {X Y E F : Type 0} (h : X → Y) (value : Result X E) (made : Result Y F) (x : X) → IfOk value (λ v. v ≡ x) → IfOk made (λ m. IsOkAnd value (λ v. m ≡ h v)) → IfOk made (λ m. m ≡ h x)
+of_known h (Ok v) (Ok m) x is same = same ∙ ap h is
+of_known h (Err e) (Ok m) x is same = absurd same
+of_known h value (Err e) x is same = tt

@@ -1,9 +1,10 @@
 -- Items as the code goes over them, and values read from each.
 use Rattle.std.proofs.Common.{◌≡◌, ℕ, ◌+◌, ◌-◌, ◌<◌, ◌≤◌, List, [], ◌∷◌, ◌++◌, length, get_or, take, drop, map, refl, sym, ap, ◌∙◌, arith, add-one, drop-cons}
-use Rattle.std.specs.Prelude.{Option, Some, None, option_and_then, if◌then◌else◌, codes}
+use Rattle.std.specs.Prelude.{Option, Some, None, option_map, option_and_then, if◌then◌else◌, codes}
 use Rattle.std.proofs.lemmas.List.{append-nil, drop_all, take_all}
 use Rattle.pddl_items.specs.declared.item.Item.{Item}
-use Rattle.pddl_token.specs.Trees.{Tree}
+use Rattle.pddl_token.specs.Spelling.{Word}
+use Rattle.pddl_token.specs.Trees.{Tree, leaf}
 use Rattle.pddl_token.specs.TreeWords.{list}
 use Rattle.pddl_items.specs.ItemTrees.{item_tree, item_trees}
 use Rattle.pddl_items.specs.Inner.TreeReading.{both, all_of, is_word_at}
@@ -65,6 +66,9 @@ either_by_head (x ∷ xs) h some first = rw (take_all (length (x ∷ xs) - 1) xs
 
 pub atom_at_list : (ts : List Tree) → atom_at (list ts) ≡ atom_of_list ts
 atom_at_list ts = ap atom_of_list (list_of_trees_of ts)
+
+pub type_at_word : (t : Tree) (w : Word) → t ≡ leaf w → type_at t ≡ option_map (λ n. n ∷ []) (type_name_at t)
+type_at_word t w is = rw is refl
 
 pub type_at_list : (ts : List Tree) → type_at (list ts) ≡ either_of ts
 type_at_list ts = ap either_of (list_of_trees_of ts)

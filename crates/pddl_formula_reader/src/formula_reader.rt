@@ -1,13 +1,13 @@
 //! Formulas read from items.
 
-ghost use Rattle.std.specs.Prelude.{◌≡◌, [], Option, Some, IfOk, map, option_map};
+ghost use Rattle.std.specs.Prelude.{◌≡◌, [], Option, Some, IfOk, cond, map, option_map};
 ghost use Rattle.std.specs.Option.{option_zip};
 ghost use Rattle.pddl_items.specs.ItemTrees.{item_tree, item_trees};
 ghost use Rattle.pddl_items.specs.Inner.TreeReading.{all_of};
 ghost use Rattle.pddl_build.specs.Results.{map_found, both_of, Pushed};
 ghost use Rattle.pddl_formula.specs.declared.formula.Formula.TheVariants as cases;
 ghost use Rattle.pddl_formula.specs.Formulas.{FormulaValue, formula_view, negation, implication};
-ghost use Rattle.pddl_formula_reader.specs.Inner.Reading.{variables_at, behind, only, two, quantified, quantifying, equality_of, formula_of_list, formula_at, condition_at};
+ghost use Rattle.pddl_formula_reader.specs.Inner.Reading.{variables_at, behind, only, two, quantified, binding, quantifying, equality_of, formula_of_list, formula_at, condition_at};
 
 use crate::head::{Head, head_of};
 use crate::term_reader::{atom_of_list, term_of};
@@ -23,9 +23,6 @@ enum Quantifier {
     Exists,
     Forall,
 }
-
-/// Variables, and the formula that they are bound in.
-type Bound<A> = (TypedList<A>, Box<Formula<A>, A>);
 
 /// The formula that an item spells, or `None` where it spells none (Kovacs, `<GD>` without preferences and comparisons;
 /// that reserved words name no predicate is own).
@@ -55,8 +52,8 @@ fn list_formula_of<'a, B: Allocator>(
     match items {
         [] => Ok(None),
         [head, rest @ ..] => match head_of(head) {
-            Head::And => conjunction(formulas_of(alloc, items)),
-            Head::Or => disjunction(formulas_of(alloc, items)),
+            Head::And => junction(true, formulas_of(alloc, items)),
+            Head::Or => junction(false, formulas_of(alloc, items)),
             Head::Not => negation_of(alloc, items),
             Head::Imply => implication_of(alloc, items),
             Head::Exists => quantified_of(alloc, Quantifier::Exists, items),
@@ -179,43 +176,45 @@ fn quantified<'a, B: Allocator>(
     ensures { (f : Option FormulaValue) → IfOk body.entry (λ found. option_map formula_view found ≡ f)
         → IfOk result (λ found. option_map formula_view found ≡ option_map (λ b. quantifying quantifier b.0 b.1) (option_zip (variables_at (item_tree variables.now)) f)) }
 {
-    let bound = bind(variables_of(alloc, variables), boxed(alloc, body));
-    match quantifier {
-        Quantifier::Exists => existential(bound),
-        Quantifier::Forall => universal(bound),
-    }
+    bound(
+        quantifier,
+        variables_of(alloc, variables),
+        boxed(alloc, body),
+    )
 }
 
-/// Variables, and the formula that they are bound in, if both were read.
-fn bind<A: Allocator>(
+/// The formula of variables, and of the formula that they are bound in, if both were read.
+fn bound<A: Allocator>(
+    quantifier: Quantifier,
     variables: Result<Option<TypedList<A>>, AllocError>,
     body: Result<Option<Box<Formula<A>, A>>, AllocError>,
-) -> Result<Option<Bound<A>>, AllocError>
-    ensures { result ≡ both_of variables body }
+) -> Result<Option<Formula<A>>, AllocError>
+    ensures { result ≡ map_found (binding quantifier) (both_of variables body) }
 {
-    both(variables, body)
+    let Some((variables, body)) = both(variables, body)? else {
+        return Ok(None);
+    };
+    Ok(Some(match quantifier {
+        Quantifier::Exists => Formula::Exists(variables, body),
+        Quantifier::Forall => Formula::Forall(variables, body),
+    }))
 }
 
-fn conjunction<A: Allocator>(
+/// The formula that all of some formulas hold, or else that one of them does.
+fn junction<A: Allocator>(
+    all: bool,
     formulas: Result<Option<Vec<Formula<A>, A>>, AllocError>,
 ) -> Result<Option<Formula<A>>, AllocError>
-    ensures { result ≡ map_found cases.And formulas }
+    ensures { result ≡ map_found (cond all cases.And cases.Or) formulas }
 {
     let Some(formulas) = formulas? else {
         return Ok(None);
     };
-    Ok(Some(Formula::And(formulas)))
-}
-
-fn disjunction<A: Allocator>(
-    formulas: Result<Option<Vec<Formula<A>, A>>, AllocError>,
-) -> Result<Option<Formula<A>>, AllocError>
-    ensures { result ≡ map_found cases.Or formulas }
-{
-    let Some(formulas) = formulas? else {
-        return Ok(None);
-    };
-    Ok(Some(Formula::Or(formulas)))
+    Ok(Some(if all {
+        Formula::And(formulas)
+    } else {
+        Formula::Or(formulas)
+    }))
 }
 
 fn negation<A: Allocator>(
@@ -238,28 +237,6 @@ fn implication<A: Allocator>(
         return Ok(None);
     };
     Ok(Some(Formula::Imply(left, right)))
-}
-
-fn existential<A: Allocator>(
-    binding: Result<Option<Bound<A>>, AllocError>,
-) -> Result<Option<Formula<A>>, AllocError>
-    ensures { result ≡ map_found (λ p. cases.Exists p.0 p.1) binding }
-{
-    let Some((variables, body)) = binding? else {
-        return Ok(None);
-    };
-    Ok(Some(Formula::Exists(variables, body)))
-}
-
-fn universal<A: Allocator>(
-    binding: Result<Option<Bound<A>>, AllocError>,
-) -> Result<Option<Formula<A>>, AllocError>
-    ensures { result ≡ map_found (λ p. cases.Forall p.0 p.1) binding }
-{
-    let Some((variables, body)) = binding? else {
-        return Ok(None);
-    };
-    Ok(Some(Formula::Forall(variables, body)))
 }
 
 fn atomic<A: Allocator>(

@@ -1,6 +1,6 @@
 //! Types and typed lists read from items.
 
-ghost use Rattle.std.specs.Prelude.{◌≡◌, [], ◌∷◌, ◌++◌, false, IsTrue, IfOk, Err, MatchResult, Some, map, option_map, option_and_then};
+ghost use Rattle.std.specs.Prelude.{◌≡◌, [], ◌∷◌, ◌++◌, false, IsTrue, IfOk, IsOkAnd, Err, MatchResult, map, option_map, option_and_then};
 ghost use Rattle.std.specs.Bool.{then_some};
 ghost use Rattle.pddl_token.specs.Names.{name_of as name_in};
 ghost use Rattle.pddl_items.specs.ItemTrees.{item_tree, item_trees};
@@ -98,16 +98,16 @@ fn either_of<'a, B: Allocator>(
     type_of_names(alloc, names)
 }
 
-/// The type of one primitive type.
+/// The type of one primitive type, if there is one.
 fn single<'a, B: Allocator>(
     alloc: &'a B,
-    name: TypeName<&'a B>,
+    name: Result<Option<TypeName<&'a B>>, AllocError>,
 ) -> Result<Option<TypeNames<&'a B>>, AllocError>
-    ensures { IfOk result (λ found. found ≡ Some (name.entry ∷ [])) }
+    ensures { IfOk result (λ found. IsOkAnd name.entry (λ n. found ≡ option_map (λ t. t ∷ []) n)) }
 {
-    let mut names = Vec::with_capacity(alloc, 1)?;
-    names.push(name)?;
-    TypeNames::new(alloc, names)
+    let mut names = Vec::new(alloc);
+    let right = push_found(&mut names, name);
+    type_of_names(alloc, list_if_right(names, right)?)
 }
 
 /// The type that an item spells, or `None` where it spells none: a primitive type, or `(either t+)` of primitive types
@@ -121,12 +121,7 @@ pub fn type_of<'a, B: Allocator>(
     ensures { IfOk result (λ found. found ≡ type_at (item_tree item.now)) }
 {
     match item {
-        Item::Word(_) => {
-            let Some(name) = type_name_of(alloc, item)? else {
-                return Ok(None);
-            };
-            single(alloc, name)
-        }
+        Item::Word(_) => single(alloc, type_name_of(alloc, item)),
         Item::List(items, _) => either_of(alloc, items),
     }
 }
@@ -155,10 +150,7 @@ pub fn type_called<'a, B: Allocator>(
 ) -> Result<Option<TypeNames<&'a B>>, AllocError>
     ensures { IfOk result (λ found. found ≡ option_map (λ n. n ∷ []) (option_and_then type_name_of (name_in name.now))) }
 {
-    let Some(name) = type_name_called(alloc, name)? else {
-        return Ok(None);
-    };
-    single(alloc, name)
+    single(alloc, type_name_called(alloc, name))
 }
 
 /// The item of a typed list of this sort.

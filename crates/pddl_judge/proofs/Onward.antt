@@ -8,11 +8,16 @@ use Rattle.pddl_happenings.proofs.Copies.{number_within}
 use Rattle.pddl_happenings.proofs.Prefixes.{front_of}
 use Rattle.pddl_happenings.proofs.TurnsTaken.{all_listed}
 use Rattle.pddl_happenings.specs.Accepted.{AllFine, IsFine, after, after_all, cost_of, cost_of_all}
-use Rattle.pddl_happenings.specs.Failures.{AtHappening}
+use Rattle.pddl_happenings.specs.Failures.{AtHappening, IsFirstClash, IsFirstUnready}
 use Rattle.pddl_happenings.specs.Happenings.{HaveEachOnce, numbers_to}
 use Rattle.pddl_happenings.specs.Steps.{Step}
 use Rattle.pddl_judge.proofs.Overlaps.{next}
 use Rattle.pddl_judge.specs.HappeningValues.{HappeningValue, groups_of}
+use Rattle.pddl_judge.specs.Stages.{FailsBy, IsRefusedBy}
+use Rattle.pddl_judge.specs.Verdicts.{IsLeast}
+use Rattle.pddl_judge.specs.declared.refusal.Refusal.{Refusal}
+use Rattle.pddl_judge.specs.declared.refusal.Refusal.TheVariants.{Precondition, Interference, Goal}
+use Rattle.pddl_state.specs.Atoms.{AtomValue}
 
 module _ {A : Type 0} (p : ℕ → Step A) (start here there : A → Bool) (items : List HappeningValue) (h : ℕ) (d : HappeningValue) (at : d ≡ get_or items h d) (lt : h < length items) (whole : List (List ℕ)) where
   abbrev left : List (List ℕ)
@@ -56,6 +61,16 @@ module _ {A : Type 0} (p : ℕ → Step A) (start here there : A → Bool) (item
     at_more P so_far one n more =
         let e : h + suc n ≡ (h + 1) + n = omega arith in
         subst (AtHappening p P start whole) e (so_far (suc n) (subst (λ l. AtHappening p P here l (suc n)) (sym left_is) (one, subst (λ s. AtHappening p P s rest n) is more)))
+
+-- the first of what is left fails, and so do all of them
+module _ {B : Type 0} (p : ℕ → Step AtomValue) (goal : (AtomValue → Bool) → Bool) (start here : AtomValue → Bool) (items : List HappeningValue) (h : ℕ) (d : HappeningValue) (at : d ≡ get_or items h d) (lt : h < length items) (whole : List (List ℕ)) where
+  pub refused_here : (f : Refusal B)
+      → ((step n : ℕ) → AtHappening p (λ s q. IsFirstUnready p s q step) here (groups_of (drop h items)) n → AtHappening p (λ s q. IsFirstUnready p s q step) start whole (h + n))
+      → ((first second : ℕ) (a : AtomValue) (n : ℕ) → AtHappening p (λ s q. IsFirstClash p (IsLeast a) s q first second) here (groups_of (drop h items)) n → AtHappening p (λ s q. IsFirstClash p (IsLeast a) s q first second) start whole (h + n))
+      → FailsBy p here d.steps h f → IsRefusedBy p goal start whole f
+  refused_here (Precondition n step) unready clashes fails = subst (AtHappening p (λ s q. IsFirstUnready p s q step) start whole) (sym fails.0) (at_here p start here here items h d at lt whole (λ s q. IsFirstUnready p s q step) (unready step) fails.1)
+  refused_here (Interference n first second a) unready clashes fails = subst (AtHappening p (λ s q. IsFirstClash p (IsLeast a) s q first second) start whole) (sym fails.0) (at_here p start here here items h d at lt whole (λ s q. IsFirstClash p (IsLeast a) s q first second) (clashes first second a) fails.1)
+  refused_here Goal unready clashes fails = absurd fails
 
 -- nothing is left of happenings at their end
 pub fine_at_end : {A : Type 0} (p : ℕ → Step A) (here : A → Bool) (items : List HappeningValue) (h : ℕ) → length items ≤ h → AllFine p here (groups_of (drop h items))

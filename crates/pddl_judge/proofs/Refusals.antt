@@ -15,7 +15,10 @@ use Rattle.pddl_happenings.specs.Happenings.{HaveEachOnce}
 use Rattle.pddl_happenings.specs.Steps.{Step, clash}
 use Rattle.pddl_judge.proofs.Overlaps.{default}
 use Rattle.pddl_judge.specs.Touches.{AllPairwise}
-use Rattle.pddl_judge.specs.Verdicts.{IsLeast}
+use Rattle.pddl_judge.specs.Stages.{IsRefusedBy}
+use Rattle.pddl_judge.specs.Verdicts.{IsLeast, IfGoal, IfInterference, IfPrecondition}
+use Rattle.pddl_judge.specs.declared.refusal.Refusal.{Refusal}
+use Rattle.pddl_judge.specs.declared.refusal.Refusal.TheVariants.{Precondition, Interference, Goal}
 use Rattle.pddl_state.specs.Atoms.{AtomValue}
 
 first_below : {X : Type 0} (P Q : X → Type 0) (xs : List X) (k : ℕ) → FirstAt P Q xs k → k < length xs
@@ -114,11 +117,24 @@ not_fine_once p P off s [] n once at fine = at
 not_fine_once p P off s (g ∷ gs) zero once at fine = off s g once.0 at fine.0
 not_fine_once p P off s (g ∷ gs) (suc n) once at fine = not_fine_once p P off (after p s g) gs n once.1 at.1 fine.1
 
-pub refused_unready : {A : Type 0} (p : ℕ → Step A) (goal : (A → Bool) → Bool) (s : A → Bool) (hs : List (List ℕ)) (h step : ℕ) → AtHappening p (λ t q. IsFirstUnready p t q step) s hs h → NotAccepted p goal s hs
-refused_unready p goal s hs h step at e c run = not_fine p (λ t q. IsFirstUnready p t q step) (unready_not_fine p step) s hs h at run.fine
+-- happenings that are refused are not accepted
+module _ {B : Type 0} (p : ℕ → Step AtomValue) (goal : (AtomValue → Bool) → Bool) (s : AtomValue → Bool) (hs : List (List ℕ)) where
+  pub not_accepted : (n : ℕ) → HaveEachOnce n hs → (f : Refusal B) → IsRefusedBy p goal s hs f → NotAccepted p goal s hs
+  not_accepted n each (Precondition h step) at e c run = not_fine p (λ t q. IsFirstUnready p t q step) (unready_not_fine p step) s hs h at run.fine
+  not_accepted n each (Interference h first second a) at e c run = not_fine_once p (λ t q. IsFirstClash p (IsLeast a) t q first second) (λ t g once clash fine. clash_not_fine p t g first second a (distinct_places g once) clash fine) s hs h (each_once hs (is_distinct n hs each)) at run.fine
+  not_accepted n each Goal off e c run = true≢false (sym run.goal_holds ∙ (ap goal run.end_is ∙ off.1))
 
-pub refused_clash : (p : ℕ → Step AtomValue) (goal : (AtomValue → Bool) → Bool) (s : AtomValue → Bool) (hs : List (List ℕ)) (n h first second : ℕ) (a : AtomValue) → HaveEachOnce n hs → AtHappening p (λ t q. IsFirstClash p (IsLeast a) t q first second) s hs h → NotAccepted p goal s hs
-refused_clash p goal s hs n h first second a each at e c run = not_fine_once p (λ t q. IsFirstClash p (IsLeast a) t q first second) (λ t g once clash fine. clash_not_fine p t g first second a (distinct_places g once) clash fine) s hs h (each_once hs (is_distinct n hs each)) at run.fine
+  pub by_precondition : (f : Refusal B) → IsRefusedBy p goal s hs f → IfPrecondition f (λ h step. AtHappening p (λ t g. IsFirstUnready p t g step) s hs h)
+  by_precondition (Precondition h step) at = at
+  by_precondition (Interference h first second a) at = tt
+  by_precondition Goal off = tt
 
-pub refused_goal : {A : Type 0} (p : ℕ → Step A) (goal : (A → Bool) → Bool) (s : A → Bool) (hs : List (List ℕ)) → goal (after_all p s hs) ≡ false → NotAccepted p goal s hs
-refused_goal p goal s hs off e c run = true≢false (sym run.goal_holds ∙ (ap goal run.end_is ∙ off))
+  pub by_interference : (f : Refusal B) → IsRefusedBy p goal s hs f → IfInterference f (λ h first second a. AtHappening p (λ t g. IsFirstClash p (IsLeast a) t g first second) s hs h)
+  by_interference (Precondition h step) at = tt
+  by_interference (Interference h first second a) at = at
+  by_interference Goal off = tt
+
+  pub by_goal : {Q : Type 0} → (AllFine p s hs × goal (after_all p s hs) ≡ false → Q) → (f : Refusal B) → IsRefusedBy p goal s hs f → IfGoal f Q
+  by_goal so (Precondition h step) at = tt
+  by_goal so (Interference h first second a) at = tt
+  by_goal so Goal off = so off

@@ -40,8 +40,7 @@ fn join_step<A: Allocator, S: AtomStore<A>, P: Course<A, S>>(
 {
     let one = touch(course, step, store, state)?;
     let apart = are_apart(store, &one, behind);
-    join(store, behind, &one)?;
-    Ok(apart)
+    join(store, behind, &one).and(Ok(apart))
 }
 
 /// The place of the first step of a happening that interferes with one behind it, by a test of each step, from the last to the

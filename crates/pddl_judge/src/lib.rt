@@ -14,4 +14,5 @@ pub use course::Course;
 pub use happening::Happening;
 pub use plan_happenings::{plain_happenings, timed_happenings};
 pub use refusal::Refusal;
+pub use stage::apply_alone;
 pub use verdict::{Accepted, Verdict, judge};

@@ -63,11 +63,9 @@ pub fn plain_happenings<'a, B: Allocator>(
 {
     let mut happenings = Vec::new(alloc);
     for step in 0..steps {
-        let mut alone = Vec::new(alloc);
-        alone.push(step)?;
         happenings.push(Happening {
             moment: None,
-            steps: alone,
+            steps: vec![in alloc; step; 1]?,
         })?;
     }
     Ok(happenings)

@@ -1,28 +1,18 @@
 //! One happening: its preconditions, its costs, its clashes, and the state after it.
 
-ghost use Rattle.std.specs.Prelude.{◌≡◌, ◌≤◌, ◌<◌, ◌*◌, ⊤, ◌∷◌, [], All, IfOk, MatchOption, length, not, ◌&&◌, ◌||◌};
+ghost use Rattle.std.specs.Prelude.{◌≡◌, ◌≤◌, ◌<◌, ◌*◌, ⊤, ◌∷◌, [], All, IfErr, IfOk, MatchOption, length, not, ◌&&◌, ◌||◌};
 ghost use Rattle.pddl_state.specs.Atoms.{AtomValue};
 ghost use Rattle.pddl_happenings.specs.Accepted.{after, cost_of, IsReady, IsFine};
 ghost use Rattle.pddl_happenings.specs.Failures.{IsFirstUnready, IsFirstClash};
 ghost use Rattle.pddl_judge.specs.Verdicts.{IsLeast};
-ghost use Rattle.pddl_judge.specs.Stages.{OnPassed, OnUnready, OnClashing};
+ghost use Rattle.pddl_judge.specs.Stages.{Passes, FailsBy};
 
 use crate::clash::{Clash, clash_in_row, first_row};
 use crate::course::Course;
+use crate::refusal::Refusal;
 use crate::touch::nothing_touched;
 use pddl_state::AtomStore;
 use std::alloc::{AllocError, Allocator};
-
-/// How a happening goes.
-#[derive(Drop)]
-pub(crate) enum Stage<A: Allocator> {
-    /// It passes, at a cost.
-    Passed(u128),
-    /// The precondition of a step is false.
-    Unready(u32),
-    /// Two steps interfere.
-    Clashing(Clash<A>),
-}
 
 /// The first step of a happening whose precondition is false.
 fn first_unready<A: Allocator, S: AtomStore<A>, P: Course<A, S>>(
@@ -81,8 +71,9 @@ fn apply<A: Allocator, S: AtomStore<A>>(
     store.unite(state, adds)
 }
 
-/// The state after a step alone. A step does not interfere with itself, so its reads are not made.
-fn apply_alone<A: Allocator, S: AtomStore<A>, P: Course<A, S>>(
+/// The state after a step alone: first without all that it deletes, then with all that it adds. A step does not interfere with
+/// itself, so its reads are not made. Fails only for want of memory.
+pub fn apply_alone<A: Allocator, S: AtomStore<A>, P: Course<A, S>>(
     course: &P,
     step: u32,
     store: &mut S,
@@ -121,54 +112,38 @@ fn apply_together<A: Allocator, S: AtomStore<A>, P: Course<A, S>>(
     }
 }
 
-/// The first clash of a happening whose preconditions are all true, or else the state after it.
-fn apply_group<A: Allocator, S: AtomStore<A>, P: Course<A, S>>(
-    course: &P,
-    group: &[u32],
-    store: &mut S,
-    state: &mut S::Set,
-) -> Result<Option<Clash<A>>, AllocError>
-    requires steps { All (λ k. k < P.count_of course.now) group.now }
-    requires own { S.owns store.old state.old }
-    requires ready { All (IsReady (P.steps_of course.now) (S.content store.old state.old)) group.now }
-    ensures own { IfOk result (λ found. MatchOption found (S.owns store.new state.new) (λ c. ⊤)) }
-    ensures content { IfOk result (λ found. MatchOption found (S.content store.new state.new ≡ after (P.steps_of course.now) (S.content store.old state.old) group.now) (λ c. ⊤)) }
-    ensures fine { IfOk result (λ found. MatchOption found (IsFine (P.steps_of course.now) (S.content store.old state.old) group.now) (λ c. IsFirstClash (P.steps_of course.now) (IsLeast c.atom) (S.content store.old state.old) group.now c.first c.second)) }
-{
-    if group.len() == 1 {
-        apply_alone(course, group[0], store, state)?;
-        Ok(None)
-    } else {
-        apply_together(course, group, store, state)
-    }
-}
-
-/// Executes a happening in a state, as far as it goes.
+/// Executes a happening of a number in a state, as far as it goes; answers what it costs, or why it fails.
 pub(crate) fn pass<A: Allocator, S: AtomStore<A>, P: Course<A, S>>(
     course: &P,
+    happening: usize,
     group: &[u32],
     store: &mut S,
     state: &mut S::Set,
-) -> Result<Stage<A>, AllocError>
+) -> Result<Result<u128, Refusal<A>>, AllocError>
     requires steps { All (λ k. k < P.count_of course.now) group.now }
     requires few { length group.now ≤ 1000000 }
     requires own { S.owns store.old state.old }
-    ensures own { IfOk result (λ s. OnPassed s (λ cost. S.owns store.new state.new)) }
-    ensures fine { IfOk result (λ s. OnPassed s (λ cost. IsFine (P.steps_of course.now) (S.content store.old state.old) group.now)) }
-    ensures content { IfOk result (λ s. OnPassed s (λ cost. S.content store.new state.new ≡ after (P.steps_of course.now) (S.content store.old state.old) group.now)) }
-    ensures cost { IfOk result (λ s. OnPassed s (λ cost. cost ≡ cost_of (P.steps_of course.now) (S.content store.old state.old) group.now)) }
-    ensures bound { IfOk result (λ s. OnPassed s (λ cost. cost ≤ length group.now * 18446744073709551616000000)) }
-    ensures unready { IfOk result (λ s. OnUnready s (λ step. IsFirstUnready (P.steps_of course.now) (S.content store.old state.old) group.now step)) }
-    ensures clash { IfOk result (λ s. OnClashing s (λ c. IsFirstClash (P.steps_of course.now) (IsLeast c.atom) (S.content store.old state.old) group.now c.first c.second)) }
+    ensures own { IfOk result (λ r. IfOk r (λ cost. S.owns store.new state.new)) }
+    ensures passes { IfOk result (λ r. IfOk r (λ cost. Passes (P.steps_of course.now) (S.content store.old state.old) group.now (S.content store.new state.new) cost)) }
+    ensures bound { IfOk result (λ r. IfOk r (λ cost. cost ≤ length group.now * 18446744073709551616000000)) }
+    ensures fails { IfOk result (λ r. IfErr r (FailsBy (P.steps_of course.now) (S.content store.old state.old) group.now happening)) }
 {
     match first_unready(course, group, store, state)? {
-        Some(step) => Ok(Stage::Unready(step)),
-        None => {
-            let cost = group_cost(course, group, store, state)?;
-            match apply_group(course, group, store, state)? {
-                Some(clash) => Ok(Stage::Clashing(clash)),
-                None => Ok(Stage::Passed(cost)),
-            }
-        }
+        Some(step) => return Ok(Err(Refusal::Precondition { happening, step })),
+        None => {}
+    }
+    let cost = group_cost(course, group, store, state)?;
+    if group.len() == 1 {
+        apply_alone(course, group[0], store, state)?;
+        return Ok(Ok(cost));
+    }
+    match apply_together(course, group, store, state)? {
+        Some(clash) => Ok(Err(Refusal::Interference {
+            happening,
+            first: clash.first,
+            second: clash.second,
+            atom: clash.atom,
+        })),
+        None => Ok(Ok(cost)),
     }
 }

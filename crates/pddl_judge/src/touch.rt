@@ -1,6 +1,6 @@
 //! What a step touches in a state, and what two steps both touch.
 
-ghost use Rattle.std.specs.Prelude.{◌≡◌, ◌<◌, ◌↔◌, false, IfOk, IsTrue, ◌&&◌, MatchOption};
+ghost use Rattle.std.specs.Prelude.{◌≡◌, ◌<◌, ◌↔◌, false, IfOk, OnOk, IsTrue, ◌&&◌, MatchOption};
 ghost use Rattle.pddl_state.specs.Atoms.{AtomValue};
 ghost use Rattle.pddl_state.specs.AtomSets.{no_atoms, union, intersection, difference};
 ghost use Rattle.pddl_judge.specs.Touches.{touch_in, touch_of, join_of, Owned, crossing, overlap, Apart};
@@ -90,8 +90,7 @@ pub(crate) fn join<A: Allocator, S: AtomStore<A>>(
 {
     store.unite(&mut all.reads, &one.reads)?;
     store.unite(&mut all.adds, &one.adds)?;
-    store.unite(&mut all.dels, &one.dels)?;
-    Ok(())
+    store.unite(&mut all.dels, &one.dels)
 }
 
 /// The atoms of a set that another lacks.
@@ -110,21 +109,6 @@ fn without<A: Allocator, S: AtomStore<A>>(
     Ok(rest)
 }
 
-/// The atoms that two sets have in common.
-fn both<A: Allocator, S: AtomStore<A>>(
-    store: &S,
-    a: &S::Set,
-    b: &S::Set,
-) -> Result<S::Set, AllocError>
-    requires a_own { S.owns store.now a.now }
-    requires b_own { S.owns store.now b.now }
-    ensures own { IfOk result (λ c. S.owns store.now c) }
-    ensures content { IfOk result (λ c. S.content store.now c ≡ intersection (S.content store.now a.now) (S.content store.now b.now)) }
-{
-    let rest = without(store, a, b)?;
-    without(store, a, &rest)
-}
-
 /// Adds the atoms that two sets have in common to a set.
 fn add_both<A: Allocator, S: AtomStore<A>>(
     store: &S,
@@ -135,48 +119,33 @@ fn add_both<A: Allocator, S: AtomStore<A>>(
     requires all_own { S.owns store.now all.old }
     requires a_own { S.owns store.now a.now }
     requires b_own { S.owns store.now b.now }
-    ensures own { IfOk result (λ _. S.owns store.now all.new) }
-    ensures content { IfOk result (λ _. S.content store.now all.new ≡ union (S.content store.now all.old) (intersection (S.content store.now a.now) (S.content store.now b.now))) }
+    ensures own { S.owns store.now all.new }
+    ensures content { OnOk result (S.content store.now all.new ≡ union (S.content store.now all.old) (intersection (S.content store.now a.now) (S.content store.now b.now))) }
 {
-    let common = both(store, a, b)?;
+    let rest = without(store, a, b)?;
+    let common = without(store, a, &rest)?;
     store.unite(all, &common)
 }
 
-/// The atoms that one adds or deletes and the other reads, and those that one adds and the other deletes.
-fn crossing_of<A: Allocator, S: AtomStore<A>>(
+/// Adds the atoms that one adds or deletes and the other reads, and those that one adds and the other deletes.
+fn add_crossing<A: Allocator, S: AtomStore<A>>(
     store: &S,
+    all: &mut S::Set,
     one: &Touched<S::Set>,
     other: &Touched<S::Set>,
-) -> Result<S::Set, AllocError>
+) -> Result<(), AllocError>
+    requires all_own { S.owns store.now all.old }
     requires one_own { Owned (S.owns store.now) one.now }
     requires other_own { Owned (S.owns store.now) other.now }
-    ensures own { IfOk result (λ c. S.owns store.now c) }
-    ensures content { IfOk result (λ c. S.content store.now c ≡ crossing (touch_in (S.content store.now) one.now) (touch_in (S.content store.now) other.now)) }
+    ensures own { S.owns store.now all.new }
+    ensures content { OnOk result (S.content store.now all.new ≡ union (S.content store.now all.old) (crossing (touch_in (S.content store.now) one.now) (touch_in (S.content store.now) other.now))) }
 {
-    let mut crossing = both(store, &one.adds, &other.reads)?;
-    add_both(store, &mut crossing, &one.dels, &other.reads)?;
-    add_both(store, &mut crossing, &one.adds, &other.dels)?;
-    Ok(crossing)
+    add_both(store, all, &one.adds, &other.reads)?;
+    add_both(store, all, &one.dels, &other.reads)?;
+    add_both(store, all, &one.adds, &other.dels)
 }
 
-/// The atoms that keep two steps from being apart.
-fn clash_of<A: Allocator, S: AtomStore<A>>(
-    store: &S,
-    one: &Touched<S::Set>,
-    other: &Touched<S::Set>,
-) -> Result<S::Set, AllocError>
-    requires one_own { Owned (S.owns store.now) one.now }
-    requires other_own { Owned (S.owns store.now) other.now }
-    ensures own { IfOk result (λ c. S.owns store.now c) }
-    ensures content { IfOk result (λ c. (x : AtomValue) → S.content store.now c x ≡ overlap (touch_in (S.content store.now) one.now) (touch_in (S.content store.now) other.now) x) }
-{
-    let mut clash = crossing_of(store, one, other)?;
-    let rest = crossing_of(store, other, one)?;
-    store.unite(&mut clash, &rest)?;
-    Ok(clash)
-}
-
-/// The least of these atoms; None where there is none.
+/// The least of the atoms that keep two steps from being apart; None where there is none.
 pub(crate) fn least_clash<A: Allocator, S: AtomStore<A>>(
     store: &S,
     one: &Touched<S::Set>,
@@ -186,7 +155,8 @@ pub(crate) fn least_clash<A: Allocator, S: AtomStore<A>>(
     requires other_own { Owned (S.owns store.now) other.now }
     ensures { IfOk result (λ found. MatchOption found (Apart (touch_in (S.content store.now) one.now) (touch_in (S.content store.now) other.now)) (λ a. IsLeast a (overlap (touch_in (S.content store.now) one.now) (touch_in (S.content store.now) other.now)))) }
 {
-    let clash = clash_of(store, one, other)?;
-    let atoms = store.list(&clash)?;
-    Ok(atoms.into_iter().next())
+    let mut clash = store.empty();
+    add_crossing(store, &mut clash, one, other)?;
+    add_crossing(store, &mut clash, other, one)?;
+    store.common(&clash, &clash)
 }

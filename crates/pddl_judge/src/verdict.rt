@@ -1,15 +1,16 @@
 ghost use Rattle.std.specs.Prelude.{◌≡◌, ◌≤◌, IfOk, IfErr, false};
-ghost use Rattle.pddl_happenings.specs.Accepted.{AllFine, after_all, cost_of_all, IsAcceptedRun, NotAccepted};
+ghost use Rattle.pddl_happenings.specs.Accepted.{AllFine, after_all, IsAcceptedRun, NotAccepted};
 ghost use Rattle.pddl_happenings.specs.Failures.{IsFirstUnready, IsFirstClash, AtHappening};
 ghost use Rattle.pddl_happenings.specs.Happenings.{HaveEachOnce};
 ghost use Rattle.pddl_happenings.specs.Serialisations.{Converges};
 ghost use Rattle.pddl_judge.specs.HappeningValues.{groups_of};
+ghost use Rattle.pddl_judge.specs.Stages.{IsRefusedBy};
 ghost use Rattle.pddl_judge.specs.Verdicts.{IsLeast, IfPrecondition, IfInterference, IfGoal, OnAccepted, OnRefused};
 
 use crate::course::Course;
 use crate::happening::Happening;
 use crate::refusal::Refusal;
-use crate::stage::{Stage, pass};
+use crate::stage::pass;
 use pddl_state::AtomStore;
 use std::alloc::{AllocError, Allocator};
 
@@ -35,7 +36,8 @@ pub enum Verdict<A: Allocator, B: Allocator, S: AtomStore<A>> {
     Refused(Refusal<A>),
 }
 
-/// Executes happenings one after another, up to the first that fails; answers what they cost.
+/// Executes happenings one after another, up to the first that fails, and looks at the goal at their end; answers what they
+/// cost, or why they are refused.
 fn run<A: Allocator, B: Allocator, S: AtomStore<A>, P: Course<A, S>>(
     course: &P,
     happenings: &[Happening<B>],
@@ -46,32 +48,22 @@ fn run<A: Allocator, B: Allocator, S: AtomStore<A>, P: Course<A, S>>(
     requires each { HaveEachOnce (P.count_of course.now) (groups_of happenings.now) }
     requires own { S.owns store.old state.old }
     ensures own { IfOk result (λ r. IfOk r (λ cost. S.owns store.new state.new)) }
-    ensures fine { IfOk result (λ r. IfOk r (λ cost. AllFine (P.steps_of course.now) (S.content store.old state.old) (groups_of happenings.now))) }
-    ensures end { IfOk result (λ r. IfOk r (λ cost. S.content store.new state.new ≡ after_all (P.steps_of course.now) (S.content store.old state.old) (groups_of happenings.now))) }
-    ensures cost { IfOk result (λ r. IfOk r (λ cost. cost ≡ cost_of_all (P.steps_of course.now) (S.content store.old state.old) (groups_of happenings.now))) }
-    ensures precondition { IfOk result (λ r. IfErr r (λ f. IfPrecondition f (λ h step. AtHappening (P.steps_of course.now) (λ s g. IsFirstUnready (P.steps_of course.now) s g step) (S.content store.old state.old) (groups_of happenings.now) h))) }
-    ensures interference { IfOk result (λ r. IfErr r (λ f. IfInterference f (λ h first second a. AtHappening (P.steps_of course.now) (λ s g. IsFirstClash (P.steps_of course.now) (IsLeast a) s g first second) (S.content store.old state.old) (groups_of happenings.now) h))) }
-    ensures not_goal { IfOk result (λ r. IfErr r (λ f. IfGoal f ⊥)) }
-    ensures refused { IfOk result (λ r. IfErr r (λ f. NotAccepted (P.steps_of course.now) (P.goal_of course.now) (S.content store.old state.old) (groups_of happenings.now))) }
+    ensures accepted { IfOk result (λ r. IfOk r (λ cost. IsAcceptedRun (P.steps_of course.now) (P.goal_of course.now) (S.content store.old state.old) (groups_of happenings.now) (S.content store.new state.new) cost)) }
+    ensures refused { IfOk result (λ r. IfErr r (IsRefusedBy (P.steps_of course.now) (P.goal_of course.now) (S.content store.old state.old) (groups_of happenings.now))) }
 {
     let mut cost = 0;
     for (h, happening) in happenings.iter().enumerate() {
-        match pass(course, &happening.steps, store, state)? {
-            Stage::Passed(spent) => cost += spent,
-            Stage::Unready(step) => {
-                return Ok(Err(Refusal::Precondition { happening: h, step }));
-            }
-            Stage::Clashing(clash) => {
-                return Ok(Err(Refusal::Interference {
-                    happening: h,
-                    first: clash.first,
-                    second: clash.second,
-                    atom: clash.atom,
-                }));
-            }
+        match pass(course, h, &happening.steps, store, state)? {
+            Ok(spent) => cost += spent,
+            Err(refusal) => return Ok(Err(refusal)),
         }
     }
-    Ok(Ok(cost))
+    let good = course.goal_holds(store, state)?;
+    if good {
+        Ok(Ok(cost))
+    } else {
+        Ok(Err(Refusal::Goal))
+    }
 }
 
 /// The verdict on a plan's happenings, which have each of its steps once, from a state of a store.
@@ -103,19 +95,12 @@ pub fn judge<A: Allocator, B: Allocator, S: AtomStore<A>, P: Course<A, S>>(
     ensures refused { IfOk result (λ v. OnRefused v (λ r. NotAccepted (P.steps_of course.now) (P.goal_of course.now) (S.content store state) (groups_of happenings.items))) }
 {
     match run(course, &happenings, &mut store, &mut state)? {
+        Ok(cost) => Ok(Verdict::Accepted(Accepted {
+            cost,
+            happenings,
+            store,
+            end: state,
+        })),
         Err(refusal) => Ok(Verdict::Refused(refusal)),
-        Ok(cost) => {
-            let good = course.goal_holds(&store, &state)?;
-            if good {
-                Ok(Verdict::Accepted(Accepted {
-                    cost,
-                    happenings,
-                    store,
-                    end: state,
-                }))
-            } else {
-                Ok(Verdict::Refused(Refusal::Goal))
-            }
-        }
     }
 }

@@ -5,26 +5,9 @@ ghost use Rattle.pddl_happenings.specs.Accepted.{after, after_all, cost_of_all};
 ghost use Rattle.pddl_happenings.specs.Happenings.{singles};
 ghost use Rattle.pddl_happenings.specs.Serialisations.{RunsSerially, FailsAt};
 
-use pddl_judge::Course;
+use pddl_judge::{Course, apply_alone};
 use pddl_state::AtomStore;
 use std::alloc::{AllocError, Allocator};
-
-/// The state after a step alone: first without all that it deletes, then with all that it adds.
-fn execute<A: Allocator, S: AtomStore<A>, P: Course<A, S>>(
-    course: &P,
-    step: u32,
-    store: &mut S,
-    state: &mut S::Set,
-) -> Result<(), AllocError>
-    requires step { step < P.count_of course.now }
-    requires own { S.owns store.old state.old }
-    ensures own { IfOk result (λ _. S.owns store.new state.new) }
-    ensures content { IfOk result (λ _. S.content store.new state.new ≡ after (P.steps_of course.now) (S.content store.old state.old) (step ∷ [])) }
-{
-    let (adds, dels) = course.fired(step, store, state)?;
-    store.subtract(state, &dels);
-    store.unite(state, &adds)
-}
 
 /// Executes steps one after another, up to the first whose precondition is false; answers what they cost, or its place.
 pub(crate) fn run_serially<A: Allocator, S: AtomStore<A>, P: Course<A, S>>(
@@ -49,7 +32,7 @@ pub(crate) fn run_serially<A: Allocator, S: AtomStore<A>, P: Course<A, S>>(
             return Ok(Err(i));
         }
         cost += course.cost(*step, store, state)?;
-        execute(course, *step, store, state)?;
+        apply_alone(course, *step, store, state)?;
     }
     Ok(Ok(cost))
 }

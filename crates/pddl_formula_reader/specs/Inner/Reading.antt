@@ -1,6 +1,6 @@
 -- The values that trees spell, computed from the trees, for the readers above. What they mean stands in Terms, TypedLists and
 -- Formulas.
-use Rattle.std.specs.Prelude.{ℕ, List, [], ◌∷◌, ◌++◌, map, Bool, true, false, Option, Some, None, option_map, option_and_then, if◌then◌else◌, codes}
+use Rattle.std.specs.Prelude.{ℕ, List, [], ◌∷◌, ◌++◌, map, Vec, Box, Bool, true, false, Option, Some, None, option_map, option_and_then, if◌then◌else◌, codes}
 use Rattle.std.specs.Str.{bytes_eq}
 use Rattle.pddl_token.specs.declared.token.TokenKind.{TokenKind}
 use Rattle.pddl_token.specs.declared.token.TokenKind.TheVariants.{Name, Variable, Equal}
@@ -11,6 +11,9 @@ use Rattle.pddl_formula_reader.specs.declared.formula_reader.Quantifier.{Quantif
 use Rattle.pddl_formula_reader.specs.declared.formula_reader.Quantifier.TheVariants as quantifiers
 use Rattle.pddl_formula_reader.specs.declared.head.Head.{Head}
 use Rattle.pddl_formula_reader.specs.declared.head.Head.TheVariants as heads
+use Rattle.pddl_formula.specs.declared.type_names.Typed.{Typed}
+use Rattle.pddl_formula.specs.declared.formula.Formula.{Formula}
+use Rattle.pddl_formula.specs.declared.formula.Formula.TheVariants as cases
 use Rattle.pddl_formula.specs.Reserved.{predicate_of, type_name_of, type_of}
 use Rattle.pddl_formula.specs.Terms.{TermValue, name, variable, AtomValue}
 use Rattle.pddl_formula.specs.TypedLists.{WithType, TypedValue, object, of_type}
@@ -137,6 +140,11 @@ abbrev pub quantified : {F G : Type 0} → (List TypedValue → F → G) → Lis
 quantified make [] os = None
 quantified make (vs ∷ ts) [] = None
 quantified make (vs ∷ ts) (o ∷ os) = option_and_then (λ xs. option_map (make xs) (only os)) (variables_at vs)
+
+-- the formula of the program that a quantifier makes of variables and a formula
+abbrev pub binding : {A : Type 0} → Quantifier → Vec (Typed A) A × Box (Formula A) A → Formula A
+binding quantifiers.Exists b = cases.Exists b.0 b.1
+binding quantifiers.Forall b = cases.Forall b.0 b.1
 
 -- what a quantifier makes of variables and a formula
 abbrev pub quantifying : Quantifier → List TypedValue → FormulaValue → FormulaValue

@@ -1,4 +1,4 @@
-use Rattle.std.proofs.Common.{map, ap, ◌∙◌}
+use Rattle.std.proofs.Common.{◌≡◌, ◌++◌, map, ap, ◌∙◌}
 use Rattle.std.specs.Prelude.{Ok}
 use Rattle.pddl_formula.specs.TypedLists.{typed_view}
 use Rattle.pddl_formula.specs.Formulas.{formula_view}
@@ -8,7 +8,7 @@ use Rattle.pddl_compiled.specs.Compiler.{nested, condition_of, change_of}
 use Rattle.pddl_compiled.specs.Views.{change_view, changes_view}
 use Rattle.pddl_compiled.specs.Scopes.{scope_view}
 use Rattle.pddl_compiled.specs.declared.compiled.Change.TheVariants as changes
-use Rattle.pddl_compiled.proofs.Binders.{weaker, ok_known}
+use Rattle.pddl_compiled.proofs.Binders.{after, weaker, ok_known}
 use Rattle.pddl_compiled.proofs.Rows.{view_both, view_when}
 use Rattle.pddl_compiled.proofs.Cases.{both_right, each_right, when_right, add_right, del_right, increase_right}
 use Rattle.pddl_compiled.proofs.Quantifiers.{inside_closed, inside_open, around_right, one_item, no_item}
@@ -45,7 +45,12 @@ add_changes-loop-effect-preserved g t c =
 
 pub compile_change-returns-in-And : goal.compile_change-returns-in-And
 compile_change-returns-in-And g t c =
-    weaker _ _ (λ k is. is ∙ both_right (g.L.Lookups.tables c.args.lookups.now) (scope_view c.args.scope.now) c.args.effect.now c.in-And.parts c.in-And.is) c.compile_parts.result c.compile_parts.ensures
+    let tables = g.L.Lookups.tables c.args.lookups.now in
+    let scope = scope_view c.args.scope.now in
+    let all = map (λ e. change_of tables (effect_view e) scope) c.in-And.parts.items in
+    let changes = c.add_changes-made.new.changes in
+    rw c.and.ensures (after c.add_changes-made.result _ _ (λ k. change_view k ≡ change_of tables (effect_view c.args.effect.now) scope) c.add_changes-made.ensures
+    (λ added. view_both changes ∙ (ap value.both (ap value.changes_of (added ∙ ap (λ l. map change_view l ++ all) c.new-changes.ensures.items)) ∙ both_right tables scope c.args.effect.now c.in-And.parts c.in-And.is)))
 
 pub compile_quantified-returns : goal.compile_quantified-returns
 compile_quantified-returns g t c =

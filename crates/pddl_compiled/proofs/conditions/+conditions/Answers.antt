@@ -1,4 +1,4 @@
-use Rattle.std.proofs.Common.{true, cond, map, refl, ap, ◌∙◌}
+use Rattle.std.proofs.Common.{◌≡◌, true, cond, ◌++◌, map, refl, sym, ap, ◌∙◌}
 use Rattle.pddl_formula.specs.Formulas.{formula_view}
 use Rattle.pddl_formula.specs.Terms.{term_view}
 use Rattle.pddl_formula.specs.TypedLists.{typed_view}
@@ -6,14 +6,14 @@ use Rattle.pddl_task.specs.Names.{number_in}
 use Rattle.pddl_compiled.specs.Compiler.{places_of, nested, condition_of}
 use Rattle.pddl_compiled.specs.Compiled as value
 use Rattle.pddl_compiled.specs.declared.compiled.Condition.TheVariants.{Known}
-use Rattle.pddl_compiled.proofs.Rows.{view_known, view_atom, view_not, view_imply}
+use Rattle.pddl_compiled.proofs.Rows.{view_known, view_atom, view_not, view_imply, view_and, view_or}
 use Rattle.pddl_compiled.proofs.Cases.{atom_right, equal_right, not_right, imply_right, and_right, or_right, exists_right, forall_right}
 use Rattle.std.specs.Prelude.{Ok}
-use Rattle.pddl_compiled.specs.Views.{place_view, condition_view}
+use Rattle.pddl_compiled.specs.Views.{place_view, condition_view, conditions_view}
 use Rattle.pddl_compiled.specs.Scopes.{scope_view}
-use Rattle.pddl_compiled.proofs.Binders.{weaker, ok_known}
+use Rattle.pddl_compiled.proofs.Binders.{after, weaker, ok_known}
 use Rattle.pddl_compiled.proofs.Quantifiers.{inside_closed, inside_open, around_right, one_item, no_item}
-use Rattle.pddl_compiled.proofs.conditions.+conditions.Goals.{compile_quantified-then-binder, compile_quantified-else-binder}
+use Rattle.pddl_compiled.proofs.conditions.+conditions.Goals.{compile_parts-then-all, compile_parts-else-all, compile_quantified-then-binder, compile_quantified-else-binder}
 use Rattle.pddl_compiled.proofs.conditions.+conditions.Goals as goal
 
 pub compile_condition-returns-in-Equal : goal.compile_condition-returns-in-Equal
@@ -95,3 +95,15 @@ compile_condition-returns-in_ok-first-in-Imply g t c =
     ∙ (ap (λ k. value.implication k (condition_view second.value)) (ok_known _ c.compile_condition-first.result first.value c.in_ok-first-in-Imply.ensures.first c.compile_condition-first.ensures ∙ ap (λ f. condition_of tables (formula_view f) scope) c.deref-in-Imply.ensures)
     ∙ (ap (value.implication (condition_of tables (formula_view c.in-Imply.first.value) scope)) (ok_known _ c.compile_condition-second.result second.value c.in_ok-first-in-Imply.ensures.second c.compile_condition-second.ensures ∙ ap (λ f. condition_of tables (formula_view f) scope) c.deref-in-Imply-2.ensures)
     ∙ imply_right tables scope c.args.formula.now c.in-Imply.first c.in-Imply.second c.in-Imply.is))
+
+pub compile_parts-returns : goal.compile_parts-returns
+compile_parts-returns g t c =
+    let node = cond c.args.all value.conjunction value.disjunction in
+    let all = map (λ f. condition_of (g.L.Lookups.tables c.args.lookups.now) (formula_view f) (scope_view c.args.scope.now)) c.args.formulas.now.items in
+    let made = c.add_conditions-made.new.conditions in
+    let is : condition_view c.if-all.and ≡ node (conditions_view made.items) = elim c.if-all.branch [
+      | compile_parts-then-all w ↦ ap condition_view w.and-is ∙ (view_and made ∙ ap (λ b. cond b value.conjunction value.disjunction (conditions_view made.items)) (sym w.if-all.true))
+      | compile_parts-else-all w ↦ ap condition_view w.and-is ∙ (view_or made ∙ ap (λ b. cond b value.conjunction value.disjunction (conditions_view made.items)) (sym w.if-all.false))
+    ] in
+    rw c.and.ensures (after c.add_conditions-made.result _ _ (λ k. condition_view k ≡ node (value.conditions_of all)) c.add_conditions-made.ensures
+    (λ added. is ∙ ap (λ l. node (value.conditions_of l)) (added ∙ ap (λ l. map condition_view l ++ all) c.new-conditions.ensures.items)))

@@ -16,15 +16,15 @@ returns-in-Variables g c e body =
     let variables = variables_at (item_tree c.args.item.now) in
     rw (c.in-Variables.is, made_of_two universal variables e)
     (found_reads (λ p. cases.Forall p.0 p.1) effect_view (λ p. (map typed_view p.0.items, effect_view p.1.value)) (λ p. universal p.0 p.1) (λ p. view_forall p.0 p.1)
-    (both_of c.variables_of.result c.boxed.result) c.universal.result _ c.universal.ensures
-    (both_reads (λ v. map typed_view v.items) (λ b. effect_view b.value) c.variables_of.result c.boxed.result (both_of c.variables_of.result c.boxed.result)
-    variables e c.variables_of.ensures (boxed_reads effect_view c.args.body c.boxed.result e body c.boxed.ensures) refl))
+    (both_of c.variables_of.result c.boxed-body.result) c.universal.result _ c.universal.ensures
+    (both_reads (λ v. map typed_view v.items) (λ b. effect_view b.value) c.variables_of.result c.boxed-body.result (both_of c.variables_of.result c.boxed-body.result)
+    variables e c.variables_of.ensures (boxed_reads effect_view c.args.body c.boxed-body.result e body c.boxed-body.ensures) refl))
 
 pub returns-in-Condition : goal.returns-in-Condition
 returns-in-Condition g c e body =
     let condition = formula_at (item_tree c.args.item.now) in
     rw (c.in-Condition.is, made_of_two conditional condition e)
     (found_reads (λ p. cases.When p.0 p.1) effect_view (λ p. (formula_view p.0, effect_view p.1.value)) (λ p. conditional p.0 p.1) (λ p. view_when p.0 p.1)
-    (both_of c.formula_of.result c.boxed-in-Condition.result) c.conditional.result _ c.conditional.ensures
-    (both_reads formula_view (λ b. effect_view b.value) c.formula_of.result c.boxed-in-Condition.result (both_of c.formula_of.result c.boxed-in-Condition.result)
-    condition e c.formula_of.ensures (boxed_reads effect_view c.args.body c.boxed-in-Condition.result e body c.boxed-in-Condition.ensures) refl))
+    (both_of c.formula_of.result c.boxed-body.result) c.conditional.result _ c.conditional.ensures
+    (both_reads formula_view (λ b. effect_view b.value) c.formula_of.result c.boxed-body.result (both_of c.formula_of.result c.boxed-body.result)
+    condition e c.formula_of.ensures (boxed_reads effect_view c.args.body c.boxed-body.result e body c.boxed-body.ensures) refl))

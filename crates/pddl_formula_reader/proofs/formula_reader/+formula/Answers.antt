@@ -55,12 +55,12 @@ quantified_of-returns g t c =
 pub list_formula_of-returns-in-And : goal.list_formula_of-returns-in-And
 list_formula_of-returns-in-And g t c =
     rw (by_head c.args.items.now c.head-item.result heads.And (omega arith) c.head-item.is (sym c.in-And.is ∙ c.head_of.ensures))
-    (found_reads cases.And formula_view (λ v. map formula_view v.items) (λ fs. conjunction (formulas_of fs)) view_and c.formulas_of.result c.conjunction.result _ c.conjunction.ensures c.formulas_of.ensures)
+    (found_reads cases.And formula_view (λ v. map formula_view v.items) (λ fs. conjunction (formulas_of fs)) view_and c.formulas_of.result c.junction.result _ c.junction.ensures c.formulas_of.ensures)
 
 pub list_formula_of-returns-in-Or : goal.list_formula_of-returns-in-Or
 list_formula_of-returns-in-Or g t c =
     rw (by_head c.args.items.now c.head-item.result heads.Or (omega arith) c.head-item.is (sym c.in-Or.is ∙ c.head_of.ensures))
-    (found_reads cases.Or formula_view (λ v. map formula_view v.items) (λ fs. disjunction (formulas_of fs)) view_or c.formulas_of-in-Or.result c.disjunction.result _ c.disjunction.ensures c.formulas_of-in-Or.ensures)
+    (found_reads cases.Or formula_view (λ v. map formula_view v.items) (λ fs. disjunction (formulas_of fs)) view_or c.formulas_of-in-Or.result c.junction-in-Or.result _ c.junction-in-Or.ensures c.formulas_of-in-Or.ensures)
 
 pub list_formula_of-returns-in-Exists : goal.list_formula_of-returns-in-Exists
 list_formula_of-returns-in-Exists g t c =

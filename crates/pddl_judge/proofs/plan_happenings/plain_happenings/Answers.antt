@@ -19,12 +19,14 @@ further f done new alone i n whole h one is so_far =
 
 pub loop-step-preserved : goal.loop-step-preserved
 loop-step-preserved g c =
-    let d = c.push-in-loop-step.new.self in
-    let one : c.push.new.self.items ≡ c.loop-step.step ∷ [] = search rules in
-    let is : d.items ≡ c.loop-step.happenings.items ++ record { moment = None; steps = c.push.new.self.items } ∷ [] = search rules in
+    let before = c.loop-step.happenings.items in
+    let after = c.push.new.self.items in
+    let alone : List ℕ = c.in_ok-vec.field-0.items in
+    let one : alone ≡ c.loop-step.step ∷ [] = search rules in
+    let is : after ≡ before ++ record { moment = None; steps = alone } ∷ [] = c.in_ok-push.ensures.items in
     record {
-      no_moments = subst (All (λ m. m ≡ None)) (sym (ap moments_of is ∙ map-append (λ h. h.moment) c.loop-step.happenings.items (record { moment = None; steps = c.push.new.self.items } ∷ []))) (All-push (λ m. m ≡ None) (moments_of c.loop-step.happenings.items) None c.loop-step.invariant.no_moments refl);
-      steps = further (λ h. h.steps) c.loop-step.happenings.items d.items (record { moment = None; steps = c.push.new.self.items }) c.loop-step.step c.args.steps (plain_happenings c.args.steps) c.loop-step-test.true one is c.loop-step.invariant.steps;
+      no_moments = subst (All (λ m. m ≡ None)) (sym (ap moments_of is ∙ map-append (λ h. h.moment) before (record { moment = None; steps = alone } ∷ []))) (All-push (λ m. m ≡ None) (moments_of before) None c.loop-step.invariant.no_moments refl);
+      steps = further (λ h. h.steps) before after (record { moment = None; steps = alone }) c.loop-step.step c.args.steps (plain_happenings c.args.steps) c.loop-step-test.true one is c.loop-step.invariant.steps;
     }
 
 pub returns-clause-each : goal.returns-clause-each

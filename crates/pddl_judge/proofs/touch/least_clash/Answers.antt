@@ -1,17 +1,22 @@
-use Rattle.std.proofs.Common.{rules, ◌∙◌, ◌+◌, None, Some, ◌≡◌, ◌∷◌, length, List}
-use Rattle.std.specs.Prelude.{MatchOption}
-use Rattle.pddl_state.specs.Atoms.{AtomValue}
-use Rattle.pddl_judge.specs.Touches.{touch_in, overlap}
-use Rattle.pddl_judge.proofs.Atoms.{least_first}
+use Rattle.std.proofs.Common.{◌≡◌, Bool, false, ◌&&◌, ◌||◌, Ok, Err, MatchOption, ap, arith, ◌∙◌}
+use Rattle.std.specs.Prelude.{IfOk, IfSome, true}
+use Rattle.pddl_state.specs.AtomSets.{AreDisjoint, IsLowerBound, intersection, union}
+use Rattle.pddl_judge.specs.Touches.{touch_in, crossing, overlap, Apart}
+use Rattle.pddl_judge.specs.Verdicts.{IsLeast}
+use Rattle.pddl_judge.proofs.Atoms.{least_of_itself}
 use Rattle.pddl_judge.proofs.touch.least_clash.Goals as goal
+
+both_ways : (xr xa xd yr ya yd : Bool) → ((false || (((xa && yr) || (xd && yr)) || (xa && yd))) || (((ya && xr) || (yd && xr)) || (ya && xd))) ≡ (((xa || xd) && yr) || (((ya || yd) && xr) || ((xa && yd) || (ya && xd))))
+both_ways xr xa xd yr ya yd = grind arith
 
 pub returns : goal.returns
 returns g c =
-    let content = g.S.AtomStore.content in
-    let clash = overlap (touch_in (content c.args.store.now) c.args.one.now) (touch_in (content c.args.store.now) c.args.other.now) in
-    let items : List AtomValue = c.in_ok-atoms.atoms.items in
-    let rest = c.into_iter.result.rest in
-    let is : rest.items ≡ items = search rules in
-    let long : length rest.items ≡ rest.len = search rules in
-    let first : MatchOption c.next.result (rest.len ≡ 0) (λ x. rest.items ≡ x ∷ c.next.new.self.rest.items) = elim c.next.result as (λ o. MatchOption o (rest.len ≡ 0 × c.next.new.self.rest.len ≡ 0) (λ x. rest.items ≡ x ∷ c.next.new.self.rest.items × c.next.new.self.rest.len + 1 ≡ rest.len) → MatchOption o (rest.len ≡ 0) (λ x. rest.items ≡ x ∷ c.next.new.self.rest.items)) [ None ↦ λ w. w.0 | Some x ↦ λ w. w.0 ] c.next.ensures.cases in
-    least_first items rest.items c.next.new.self.rest.items rest.len c.next.result clash is long first c.in_ok-atoms.ensures.rising (λ x. (λ i. c.in_ok-atoms.ensures.content i x) ∙ c.in_ok-clash.ensures.content x)
+    let content = g.S.AtomStore.content c.args.store.now in
+    let one = touch_in content c.args.one.now in
+    let other = touch_in content c.args.other.now in
+    let clash = content c.add_crossing-2.new.all in
+    let united : clash ≡ union (union (λ x. false) (crossing one other)) (crossing other one) = c.in_ok-add_crossing-2.ensures.content ∙ ap (λ s. union s (crossing other one)) (c.in_ok-add_crossing.ensures.content ∙ ap (λ s. union s (crossing one other)) c.empty-clash.ensures.content) in
+    elim c.common.result as (λ r. IfOk r (λ o. MatchOption o (AreDisjoint clash clash) (λ x. intersection clash clash x ≡ true)) → IfOk r (λ o. IfSome o (λ x. IsLowerBound x (intersection clash clash))) → IfOk r (λ o. MatchOption o (Apart one other) (λ a. IsLeast a (overlap one other)))) [
+      | Ok o ↦ least_of_itself o clash (overlap one other) (λ x. (λ i. united i x) ∙ both_ways (one.reads x) (one.adds x) (one.dels x) (other.reads x) (other.adds x) (other.dels x))
+      | Err _ ↦ λ _ _. tt
+    ] c.common.ensures.common c.common.ensures.least

@@ -1,15 +1,16 @@
-use Rattle.std.proofs.Common.{◌≡◌, ◌<◌, ◌≤◌, ◌*◌, ◌+◌, ℕ, [], arith, refl, length, get_or, drop, subst, sym, ap, ◌∙◌}
+use Rattle.std.proofs.Common.{◌≡◌, ◌<◌, ◌≤◌, ◌*◌, ◌+◌, ℕ, Bool, List, [], arith, refl, length, get_or, drop, subst, sym, ap, ◌∙◌}
 use borrow.Author.Count.{falls}
 use Rattle.std.specs.Prelude.{All}
 use Rattle.std.proofs.lemmas.List.{drop_all}
 use Rattle.std.specs.List.{concat}
-use Rattle.pddl_happenings.specs.Accepted.{AllFine, IsFine, after, after_all, cost_of, cost_of_all}
+use Rattle.pddl_happenings.specs.Accepted.{AllFine, after_all, cost_of_all}
 use Rattle.pddl_happenings.specs.Failures.{AtHappening, IsFirstUnready, IsFirstClash}
+use Rattle.pddl_happenings.specs.Steps.{Step}
 use Rattle.pddl_happenings.proofs.ListedOnce.{as_many}
-use Rattle.pddl_judge.specs.HappeningValues.{groups_of}
+use Rattle.pddl_judge.specs.HappeningValues.{HappeningValue, groups_of}
+use Rattle.pddl_judge.specs.Stages.{FailsBy, Passes}
 use Rattle.pddl_judge.specs.Verdicts.{IsLeast}
-use Rattle.pddl_judge.proofs.Onward.{room_more, few_more, fine_more, end_more, cost_more, at_more, at_here, steps_within}
-use Rattle.pddl_judge.proofs.Refusals.{refused_unready, refused_clash}
+use Rattle.pddl_judge.proofs.Onward.{room_more, few_more, fine_more, end_more, cost_more, at_more, fine_at_end, refused_here, steps_within}
 use Rattle.pddl_judge.proofs.verdict.run.Goals as goal
 
 pub loop-h-init : goal.loop-h-init
@@ -69,24 +70,19 @@ loop-h-preserved g c =
     let lt : h < length items = c.loop-h-test.true in
     let steps : c.deref.result.now ≡ d.steps = c.deref.ensures.value ∙ ap (λ k. k.steps) c.happening.view_is in
     let there = content c.pass.new.store c.pass.new.state in
-    let spent = c.in-Passed.spent in
-    let fine : IsFine p here c.deref.result.now = rw c.in-Passed.is at c.in_ok-spent.ensures.fine in
-    let one : IsFine p here d.steps = subst (IsFine p here) steps fine in
-    let made : there ≡ after p here c.deref.result.now = rw c.in-Passed.is at c.in_ok-spent.ensures.content in
-    let is : there ≡ after p here d.steps = made ∙ ap (after p here) steps in
-    let costs : spent ≡ cost_of p here c.deref.result.now = rw c.in-Passed.is at c.in_ok-spent.ensures.cost in
-    let cost : spent ≡ cost_of p here d.steps = costs ∙ ap (cost_of p here) steps in
-    let bounded : spent ≤ length c.deref.result.now * 18446744073709551616000000 = rw c.in-Passed.is at c.in_ok-spent.ensures.bound in
+    let spent = c.in-Ok.spent in
+    let passes : Passes p here d.steps there spent = subst (λ l. Passes p here l there spent) steps (rw c.in-Ok.is at c.in_ok-spent.ensures.passes) in
+    let bounded : spent ≤ length c.deref.result.now * 18446744073709551616000000 = rw c.in-Ok.is at c.in_ok-spent.ensures.bound in
     let bound : spent ≤ length d.steps * 18446744073709551616000000 = subst (λ l. spent ≤ length l * 18446744073709551616000000) steps bounded in
     record {
-      own = rw c.in-Passed.is at c.in_ok-spent.ensures.own;
-      fine = fine_more p start here there items h d at lt whole is c.loop-h.invariant.fine one;
-      end = end_more p start here there items h d at lt whole is c.loop-h.invariant.end;
-      cost_is = cost_more p start here there items h d at lt whole is c.loop-h.cost spent c.loop-h.invariant.cost_is cost;
+      own = rw c.in-Ok.is at c.in_ok-spent.ensures.own;
+      fine = fine_more p start here there items h d at lt whole passes.end_is c.loop-h.invariant.fine passes.fine;
+      end = end_more p start here there items h d at lt whole passes.end_is c.loop-h.invariant.end;
+      cost_is = cost_more p start here there items h d at lt whole passes.end_is c.loop-h.cost spent c.loop-h.invariant.cost_is passes.cost_is;
       room = room_more p start here there items h d at lt whole c.loop-h.cost spent 18446744073709551616000000000000 c.loop-h.invariant.room bound;
       few = (few_more p start here there items h d at lt whole 1000000 c.loop-h.invariant.few).1;
-      unready = λ step. at_more p start here there items h d at lt whole is (λ s q. IsFirstUnready p s q step) (c.loop-h.invariant.unready step) one;
-      clashes = λ first second a. at_more p start here there items h d at lt whole is (λ s q. IsFirstClash p (IsLeast a) s q first second) (c.loop-h.invariant.clashes first second a) one;
+      unready = λ step. at_more p start here there items h d at lt whole passes.end_is (λ s q. IsFirstUnready p s q step) (c.loop-h.invariant.unready step) passes.fine;
+      clashes = λ first second a. at_more p start here there items h d at lt whole passes.end_is (λ s q. IsFirstClash p (IsLeast a) s q first second) (c.loop-h.invariant.clashes first second a) passes.fine;
     }
 
 pub loop-h-smaller : goal.loop-h-smaller
@@ -102,100 +98,71 @@ overflow_add-cost g c =
     let h = c.loop-h.h in
     let d = c.index-happenings-h.result in
     let steps : c.deref.result.now ≡ d.steps = c.deref.ensures.value ∙ ap (λ k. k.steps) c.happening.view_is in
-    let spent = c.in-Passed.spent in
-    let bound : spent ≤ length c.deref.result.now * 18446744073709551616000000 = rw c.in-Passed.is at c.in_ok-spent.ensures.bound in
+    let spent = c.in-Ok.spent in
+    let bound : spent ≤ length c.deref.result.now * 18446744073709551616000000 = rw c.in-Ok.is at c.in_ok-spent.ensures.bound in
     let room = room_more p start here here items h d c.index-happenings-h.is c.loop-h-test.true (groups_of items) c.loop-h.cost spent 18446744073709551616000000000000 c.loop-h.invariant.room (subst (λ l. spent ≤ length l * 18446744073709551616000000) steps bound) in
     omega (arith, room)
 
-pub returns : goal.returns
-returns g c =
+pub returns-in-Err : goal.returns-in-Err
+returns-in-Err g c =
+    let content = g.S.AtomStore.content in
     let p = g.P.Course.steps_of c.args.course.now in
-    let here = g.S.AtomStore.content c.loop-h.store c.loop-h.state in
+    let start = content c.args.store.now c.args.state.now in
+    let here = content c.loop-h.store c.loop-h.state in
     let items = c.args.happenings.now in
-    let none : groups_of (drop c.loop-h.h items) ≡ [] = ap groups_of (drop_all c.loop-h.h items c.loop-h-test.false) in
+    let h = c.loop-h.h in
+    let d = c.index-happenings-h.result in
+    let steps : c.deref.result.now ≡ d.steps = c.deref.ensures.value ∙ ap (λ k. k.steps) c.happening.view_is in
+    let fails : FailsBy p here d.steps h c.in-Err.refusal = subst (λ l. FailsBy p here l h c.in-Err.refusal) steps (rw c.in-Err.is at c.in_ok-spent.ensures.fails) in
+    record {
+      own = tt;
+      accepted = tt;
+      refused = refused_here p (g.P.Course.goal_of c.args.course.now) start here items h d c.index-happenings-h.is c.loop-h-test.true (groups_of items) c.in-Err.refusal c.loop-h.invariant.unready c.loop-h.invariant.clashes fails;
+    }
+
+module _ {A : Type 0} (p : ℕ → Step A) (start here : A → Bool) (items : List HappeningValue) (h : ℕ) (done : length items ≤ h) where
+  fine_at : (AllFine p here (groups_of (drop h items)) → AllFine p start (groups_of items)) → AllFine p start (groups_of items)
+  fine_at so_far = so_far (fine_at_end p here items h done)
+
+  nothing_left : groups_of (drop h items) ≡ []
+  nothing_left = ap groups_of (drop_all h items done)
+
+  end_at : after_all p here (groups_of (drop h items)) ≡ after_all p start (groups_of items) → here ≡ after_all p start (groups_of items)
+  end_at so_far = sym (ap (after_all p here) nothing_left) ∙ so_far
+
+  cost_at : (cost : ℕ) → cost + cost_of_all p here (groups_of (drop h items)) ≡ cost_of_all p start (groups_of items) → cost ≡ cost_of_all p start (groups_of items)
+  cost_at cost so_far = omega (arith, so_far, ap (cost_of_all p here) nothing_left)
+
+pub returns-then-good : goal.returns-then-good
+returns-then-good g c =
+    let p = g.P.Course.steps_of c.args.course.now in
+    let content = g.S.AtomStore.content in
+    let start = content c.args.store.now c.args.state.now in
+    let here = content c.loop-h.store c.loop-h.state in
+    let items = c.args.happenings.now in
+    let h = c.loop-h.h in
     record {
       own = c.loop-h.invariant.own;
-      fine = c.loop-h.invariant.fine (subst (AllFine p here) (sym none) tt);
-      end = sym (ap (after_all p here) none) ∙ c.loop-h.invariant.end;
-      cost = omega (arith, c.loop-h.invariant.cost_is, ap (cost_of_all p here) none);
-      precondition = tt;
-      interference = tt;
-      not_goal = tt;
+      accepted = record {
+        fine = fine_at p start here items h c.loop-h-test.false c.loop-h.invariant.fine;
+        end_is = end_at p start here items h c.loop-h-test.false c.loop-h.invariant.end;
+        goal_holds = sym c.in_ok-good.ensures ∙ c.if-good.true;
+        cost_is = cost_at p start here items h c.loop-h-test.false c.loop-h.cost c.loop-h.invariant.cost_is;
+      };
       refused = tt;
     }
 
-pub returns-in-Unready-clause-precondition : goal.returns-in-Unready-clause-precondition
-returns-in-Unready-clause-precondition g c =
-    let content = g.S.AtomStore.content in
+pub returns-else-good : goal.returns-else-good
+returns-else-good g c =
     let p = g.P.Course.steps_of c.args.course.now in
+    let holds = g.P.Course.goal_of c.args.course.now in
+    let content = g.S.AtomStore.content in
     let start = content c.args.store.now c.args.state.now in
     let here = content c.loop-h.store c.loop-h.state in
     let items = c.args.happenings.now in
-    let whole = groups_of items in
     let h = c.loop-h.h in
-    let d = c.index-happenings-h.result in
-    let at : d ≡ get_or items h d = c.index-happenings-h.is in
-    let lt : h < length items = c.loop-h-test.true in
-    let steps : c.deref.result.now ≡ d.steps = c.deref.ensures.value ∙ ap (λ k. k.steps) c.happening.view_is in
-    let step = c.in-Unready.step in
-    let told : IsFirstUnready p here c.deref.result.now step = rw c.in-Unready.is at c.in_ok-spent.ensures.unready in
-    let one : IsFirstUnready p here d.steps step = subst (λ l. IsFirstUnready p here l step) steps told in
-    at_here p start here here items h d at lt whole (λ s q. IsFirstUnready p s q step) (c.loop-h.invariant.unready step) one
-
-pub returns-in-Unready-clause-refused : goal.returns-in-Unready-clause-refused
-returns-in-Unready-clause-refused g c =
-    let content = g.S.AtomStore.content in
-    let p = g.P.Course.steps_of c.args.course.now in
-    let start = content c.args.store.now c.args.state.now in
-    let here = content c.loop-h.store c.loop-h.state in
-    let items = c.args.happenings.now in
-    let whole = groups_of items in
-    let h = c.loop-h.h in
-    let d = c.index-happenings-h.result in
-    let at : d ≡ get_or items h d = c.index-happenings-h.is in
-    let lt : h < length items = c.loop-h-test.true in
-    let steps : c.deref.result.now ≡ d.steps = c.deref.ensures.value ∙ ap (λ k. k.steps) c.happening.view_is in
-    let step = c.in-Unready.step in
-    let told : IsFirstUnready p here c.deref.result.now step = rw c.in-Unready.is at c.in_ok-spent.ensures.unready in
-    let one : IsFirstUnready p here d.steps step = subst (λ l. IsFirstUnready p here l step) steps told in
-    refused_unready p (g.P.Course.goal_of c.args.course.now) start whole h step (at_here p start here here items h d at lt whole (λ s q. IsFirstUnready p s q step) (c.loop-h.invariant.unready step) one)
-
-pub returns-in-Clashing-clause-interference : goal.returns-in-Clashing-clause-interference
-returns-in-Clashing-clause-interference g c =
-    let content = g.S.AtomStore.content in
-    let p = g.P.Course.steps_of c.args.course.now in
-    let start = content c.args.store.now c.args.state.now in
-    let here = content c.loop-h.store c.loop-h.state in
-    let items = c.args.happenings.now in
-    let whole = groups_of items in
-    let h = c.loop-h.h in
-    let d = c.index-happenings-h.result in
-    let at : d ≡ get_or items h d = c.index-happenings-h.is in
-    let lt : h < length items = c.loop-h-test.true in
-    let steps : c.deref.result.now ≡ d.steps = c.deref.ensures.value ∙ ap (λ k. k.steps) c.happening.view_is in
-    let a = c.in-Clashing.clash.atom in
-    let first = c.in-Clashing.clash.first in
-    let second = c.in-Clashing.clash.second in
-    let told : IsFirstClash p (IsLeast a) here c.deref.result.now first second = rw c.in-Clashing.is at c.in_ok-spent.ensures.clash in
-    let one : IsFirstClash p (IsLeast a) here d.steps first second = subst (λ l. IsFirstClash p (IsLeast a) here l first second) steps told in
-    at_here p start here here items h d at lt whole (λ s q. IsFirstClash p (IsLeast a) s q first second) (c.loop-h.invariant.clashes first second a) one
-
-pub returns-in-Clashing-clause-refused : goal.returns-in-Clashing-clause-refused
-returns-in-Clashing-clause-refused g c =
-    let content = g.S.AtomStore.content in
-    let p = g.P.Course.steps_of c.args.course.now in
-    let start = content c.args.store.now c.args.state.now in
-    let here = content c.loop-h.store c.loop-h.state in
-    let items = c.args.happenings.now in
-    let whole = groups_of items in
-    let h = c.loop-h.h in
-    let d = c.index-happenings-h.result in
-    let at : d ≡ get_or items h d = c.index-happenings-h.is in
-    let lt : h < length items = c.loop-h-test.true in
-    let steps : c.deref.result.now ≡ d.steps = c.deref.ensures.value ∙ ap (λ k. k.steps) c.happening.view_is in
-    let a = c.in-Clashing.clash.atom in
-    let first = c.in-Clashing.clash.first in
-    let second = c.in-Clashing.clash.second in
-    let told : IsFirstClash p (IsLeast a) here c.deref.result.now first second = rw c.in-Clashing.is at c.in_ok-spent.ensures.clash in
-    let one : IsFirstClash p (IsLeast a) here d.steps first second = subst (λ l. IsFirstClash p (IsLeast a) here l first second) steps told in
-    refused_clash p (g.P.Course.goal_of c.args.course.now) start whole (g.P.Course.count_of c.args.course.now) h first second a c.requires.each (at_here p start here here items h d at lt whole (λ s q. IsFirstClash p (IsLeast a) s q first second) (c.loop-h.invariant.clashes first second a) one)
+    record {
+      own = tt;
+      accepted = tt;
+      refused = (fine_at p start here items h c.loop-h-test.false c.loop-h.invariant.fine, sym (ap holds (end_at p start here items h c.loop-h-test.false c.loop-h.invariant.end)) ∙ (sym c.in_ok-good.ensures ∙ c.if-good.false));
+    }
