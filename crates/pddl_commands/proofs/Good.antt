@@ -1,6 +1,6 @@
 -- What is said of files that are good.
 use Rattle.std.proofs.Common.{◌≡◌, List, ℕ, sym, subst}
-use Rattle.std.specs.Prelude.{codes, Result, Ok}
+use Rattle.std.specs.Prelude.{codes, IsErrOf, Result, Ok}
 use Rattle.pddl_domain.specs.Domains.{DomainValue}
 use Rattle.pddl_domain_reader.specs.DomainTexts.{SpellsDomain}
 use Rattle.pddl_task.specs.Linked.{domain_faults, IsGood}
@@ -12,7 +12,7 @@ use Rattle.pddl_layout.specs.PlanLayout.{plan_text}
 use Rattle.pddl_plan.specs.Plans.{PlanValue}
 use Rattle.pddl_step_reader.specs.PlanTexts.{SpellsPlan}
 use Rattle.pddl_file_lines.specs.declared.outcome.Outcome.{Outcome}
-use Rattle.pddl_file_lines.specs.declared.outcome.Outcome.TheVariants.{Good}
+use Rattle.pddl_file_lines.specs.declared.outcome.Outcome.TheVariants.{Good, Refused}
 use Rattle.pddl_commands.specs.Checks.{good_line, IsDomainJudged}
 use Rattle.pddl_commands.specs.Formats.{IsFormatted}
 
@@ -31,3 +31,10 @@ printed_good d text printed outcome is spells line = subst (λ o. IsFormatted Do
 -- so is that of a plan
 pub plan_printed : (p : PlanValue) (text printed : List ℕ) (outcome : Outcome) → outcome ≡ Good → SpellsPlan p text → printed ≡ plan_text p → IsFormatted Plan text printed outcome
 plan_printed p text printed outcome is spells line = subst (λ o. IsFormatted Plan text printed o) (sym is) (record { value = p; spells = spells; printed_is = line })
+
+-- an outcome that refuses is not that of a good file, and what is answered is no error
+pub refused_is_bad : Refused ≡ Good → ⊥
+refused_is_bad is = cc (is)
+
+pub answered : {T E : Type 0} {x : T} {e : E} → IsErrOf (Ok x) e → ⊥
+answered is = cc (is)

@@ -8,6 +8,7 @@ use Rattle.pddl_file_lines.specs.Contents.{IsContent}
 use Rattle.pddl_file_lines.specs.Refusals.{IsRefused}
 use Rattle.pddl_file_lines.proofs.Left.{some_left, no_domain_left, stands_still}
 use Rattle.pddl_file_lines.proofs.Made.{if_made, only_memory, on_any}
+use Rattle.pddl_commands.proofs.Good.{answered, refused_is_bad}
 use Rattle.pddl_commands.proofs.checking.read_both.Goals as goal
 
 pub refused_domain-requires : goal.refused_domain-requires
@@ -39,11 +40,11 @@ returns g c =
     record {
       answer = (content.1.0, given.0, content.1.1, given.1, inl (refl, content.1.2));
       read = (inr content.0, inl refl);
-      good_at_end = λ good. absurd (cc (good));
+      good_at_end = λ good. absurd (refused_is_bad good);
       none_failed = (c.in_ok-text.ensures.none_failed, refl);
-      memory = λ is. absurd (cc (is));
-      read_failed = λ is. absurd (cc (is));
-      no_write = λ is. absurd (cc (is));
+      memory = λ is. (c.in_ok-text.ensures.none_failed, refl);
+      read_failed = λ is. absurd (answered is);
+      no_write = λ is. answered is;
       stands = c.read_file.ensures.stands;
       problem_stands = stands_still (g.T.Source.remaining c.args.problem.now);
       domain_first = λ none. refl;
