@@ -62,9 +62,7 @@ fn close_list<'t, 'a, B: Allocator>(
             at: token.span.start,
         });
     };
-    let mut inner = mem::replace(items, list.items);
-    // most lists are short, and a growth makes room for four items
-    inner.shrink_to_fit();
+    let inner = mem::replace(items, list.items);
     items.push(Item::List(
         inner,
         Span {
