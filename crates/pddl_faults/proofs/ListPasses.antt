@@ -1,21 +1,15 @@
 -- The words of a fault that is looked for in a list, one by one.
-use Rattle.std.proofs.Common.{◌≡◌, ℕ, ◌+◌, ◌<◌, ◌≤◌, Bool, true, false, not, cond, List, [], ◌∷◌, map, filter, length, get_or, drop, refl, sym, ap, ◌∙◌, subst, arith, add-one, drop-cons}
+use Rattle.std.proofs.Common.{◌≡◌, ℕ, ◌+◌, ◌<◌, ◌≤◌, Bool, true, false, not, cond, List, [], ◌∷◌, map, filter, length, get_or, drop, refl, sym, ap, ◌∙◌, subst, arith}
 use Rattle.std.specs.Prelude.{Contains, nat_lt}
 use Rattle.std.proofs.lemmas.List.{drop_all}
 use Rattle.pddl_task.specs.Names.{Name}
+use Rattle.pddl_faults.proofs.ListTurns.{views_drop}
 
 kept_front : {Y : Type 0} (test : Y → Bool) (word : Y → Name) (y : Y) (rest : List Y) (whole : List Name)
     → map word (filter test (y ∷ rest)) ≡ whole → test y ≡ true → Contains whole (word y)
 kept_front test word y rest whole is holds =
     let front : word y ∷ map word (filter test rest) ≡ whole = ap (λ b. map word (cond b (y ∷ filter test rest) (filter test rest))) (sym holds) ∙ is in
     subst (λ ws. Contains ws (word y)) front (0, omega arith, refl)
-
-front : {X Y : Type 0} (view : X → Y) (xs : List X) (i : ℕ) (x : X) → i < length xs → map view (drop i xs) ≡ view (get_or xs i x) ∷ map view (drop (i + 1) xs)
-front view xs i x h = rw (add-one, drop-cons xs i x) refl
-
--- what is left of a list of views: its first, and the rest
-pub views_drop : {X Y : Type 0} (view : X → Y) (xs : List X) (i : ℕ) (x : X) → i < length xs → x ≡ get_or xs i x → map view (drop i xs) ≡ view x ∷ map view (drop (i + 1) xs)
-views_drop view xs i x h at = front view xs i x h ∙ ap (λ y. view y ∷ map view (drop (i + 1) xs)) (sym at)
 
 -- A walk over the items of a list has come to an element: the fault stands there, with its word
 pub found_at : {X Y : Type 0} (view : X → Y) (test : Y → Bool) (word : Y → Name) (items xs : List X) (i : ℕ) (x : X) (w : Name) (whole : List Name)

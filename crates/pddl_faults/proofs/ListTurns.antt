@@ -1,8 +1,19 @@
--- Lists that are gone through, element by element, for those that pass a test.
-use Rattle.std.proofs.Common.{◌≡◌, ℕ, ◌+◌, ◌<◌, List, ◌∷◌, length, get_or, drop, refl, sym, ap, ◌∙◌, add-one, drop-cons}
+-- Lists that are gone through, element by element: what is left, and what was seen.
+use Rattle.std.proofs.Common.{◌≡◌, ℕ, ◌+◌, ◌<◌, List, [], ◌∷◌, ◌++◌, map, length, get_or, take, drop, refl, sym, ap, ◌∙◌, add-one, drop-cons, append_assoc}
+use Rattle.std.proofs.lemmas.List.{map_more}
 
 front : {X : Type 0} (xs : List X) (i : ℕ) (d : X) → i < length xs → drop i xs ≡ get_or xs i d ∷ drop (i + 1) xs
 front xs i d h = rw (add-one, drop-cons xs i d) refl
 
 pub rest_is : {X : Type 0} (xs : List X) (i : ℕ) (x : X) → i < length xs → x ≡ get_or xs i x → drop i xs ≡ x ∷ drop (i + 1) xs
 rest_is xs i x h at = front xs i x h ∙ ap (λ y. y ∷ drop (i + 1) xs) (sym at)
+
+-- what is seen of what is left
+pub views_drop : {X Y : Type 0} (view : X → Y) (xs : List X) (i : ℕ) (x : X) → i < length xs → x ≡ get_or xs i x → map view (drop i xs) ≡ view x ∷ map view (drop (i + 1) xs)
+views_drop view xs i x h at = ap (map view) (rest_is xs i x h at)
+
+-- what was seen before, and of so many and one more
+pub seen_more : {X Y : Type 0} (view : X → Y) (before : List Y) (xs : List X) (i : ℕ) (x : X) → i < length xs → x ≡ get_or xs i x
+    → before ++ map view (take (i + 1) xs) ≡ (before ++ map view (take i xs)) ++ view x ∷ []
+seen_more view before xs i x h at =
+    ap (λ ys. before ++ ys) (map_more view xs i x h ∙ ap (λ y. map view (take i xs) ++ view y ∷ []) (sym at)) ∙ sym (append_assoc before (map view (take i xs)) (view x ∷ []))

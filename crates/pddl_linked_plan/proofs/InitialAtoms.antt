@@ -17,8 +17,7 @@ use Rattle.pddl_task.proofs.KnownAtoms.{initial_is_known}
 use Rattle.pddl_task.proofs.Lists.{and_both}
 use Rattle.pddl_task.proofs.LinkedTasks.{predicates_stand_once, objects_stand_once}
 use Rattle.pddl_task.proofs.LowestFault.{linked_is_good}
-use Rattle.pddl_faults.proofs.ListTurns.{rest_is}
-use Rattle.pddl_faults.proofs.ListPasses.{views_drop}
+use Rattle.pddl_faults.proofs.ListTurns.{rest_is, views_drop}
 use Rattle.pddl_linked_plan.specs.LinkedLaws.{name_at}
 use Rattle.pddl_linked_plan.specs.NumberedAtoms.{numbered, initial_atoms, NamesAtom, IsInRange, named_atom}
 use Rattle.pddl_task.proofs.Numbers.{is_placed}

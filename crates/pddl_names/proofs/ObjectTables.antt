@@ -24,7 +24,8 @@ use Rattle.pddl_types.specs.KnownNames.{AreNamed, object_in}
 use Rattle.pddl_types.proofs.Lookups.{entry_at}
 use Rattle.pddl_types.proofs.Views.{seen_entry}
 use Rattle.pddl_names.specs.ObjectTables.{put, IsPut, AreFirsts}
-use Rattle.pddl_search.proofs.SeenItems.{seen_at, seen_more, AreLeft, seen_bad, seen_good}
+use Rattle.pddl_faults.proofs.ListTurns.{seen_more}
+use Rattle.pddl_search.proofs.SeenItems.{seen_at, AreLeft, seen_bad, seen_good}
 
 -- ---- each name at its first place
 

@@ -11,7 +11,7 @@ use Rattle.pddl_task.specs.Places.{Place, domain_places, problem_places}
 use Rattle.pddl_task.specs.Settings.{parameters_of, function_signatures}
 use Rattle.pddl_task.specs.Faults.{variables_at, domain_typed, problem_typed}
 use Rattle.pddl_names.specs.Uses.{unknown_among}
-use Rattle.pddl_faults.proofs.ListPasses.{views_drop}
+use Rattle.pddl_faults.proofs.ListTurns.{views_drop}
 
 pub unknown-append : (ts : List TypeValue) (xs ys : List TypedValue) → unknown_among ts (xs ++ ys) ≡ unknown_among ts xs ++ unknown_among ts ys
 unknown-append ts xs ys = simp (flat_map-append, filter-append)

@@ -3,10 +3,9 @@ use Rattle.std.proofs.Common.{◌≡◌, ℕ, ◌+◌, ◌<◌, Bool, true, fals
 use Rattle.std.specs.Prelude.{Contains}
 use Rattle.std.specs.List.{list_any}
 use Rattle.std.proofs.Math.Bool.{or-false}
-use Rattle.std.proofs.lemmas.List.{map_more, append_assoc}
 use Rattle.std.proofs.lemmas.List.Folds.{list_any-append}
 use Rattle.pddl_task.specs.Names.{Name, word_if, wrong_words}
-use Rattle.pddl_faults.proofs.ListPasses.{views_drop}
+use Rattle.pddl_faults.proofs.ListTurns.{views_drop, seen_more}
 
 pub any_more : {I : Type 0} (f : I → Bool) (xs : List I) (x : I) → list_any f (xs ++ x ∷ []) ≡ list_any f xs || f x
 any_more f xs x = list_any-append f xs (x ∷ []) ∙ ap (λ b. list_any f xs || b) (or-false (f x))
@@ -14,11 +13,6 @@ any_more f xs x = list_any-append f xs (x ∷ []) ∙ ap (λ b. list_any f xs ||
 -- what was seen before the walk, and what the walk has seen
 abbrev pub seen_at : {X I : Type 0} → (X → I) → List I → List X → ℕ → List I
 seen_at view before xs i = before ++ map view (take i xs)
-
-pub seen_more : {X I : Type 0} (view : X → I) (before : List I) (xs : List X) (i : ℕ) (x : X) → i < length xs → x ≡ get_or xs i x
-    → seen_at view before xs (i + 1) ≡ seen_at view before xs i ++ view x ∷ []
-seen_more view before xs i x h at =
-    ap (λ ys. before ++ ys) (map_more view xs i x h ∙ ap (λ y. map view (take i xs) ++ view y ∷ []) (sym at)) ∙ sym (append_assoc before (map view (take i xs)) (view x ∷ []))
 
 -- the words of items behind others: that of each that is bad beside those seen
 module _ {X I : Type 0} (view : X → I) (word : I → Name) (bad : List I → I → Bool) (before : List I) (xs : List X) where

@@ -1,7 +1,6 @@
 -- Views of a list's views.
-use Rattle.std.proofs.Common.{◌≡◌, ℕ, ◌+◌, ◌<◌, List, [], ◌∷◌, ◌++◌, map, length, get_or, take, ap, sym, ◌∙◌, append_assoc}
+use Rattle.std.proofs.Common.{◌≡◌, ℕ, List, map, ap, sym, ◌∙◌}
 use Rattle.std.specs.Prelude.{Some, slice_get, option_map}
-use Rattle.std.proofs.lemmas.List.{map_more}
 use Rattle.std.proofs.lemmas.Option.{slice_get-map}
 use Rattle.std.proofs.lemmas.Simd.{map-map}
 
@@ -12,9 +11,3 @@ seen_of see view {xs} same = sym (map-map see view xs) ∙ ap (λ zs. map see (m
 -- what is seen of an entry
 pub seen_entry : {E Y : Type 0} (view : E → Y) (es : List E) (k : ℕ) (e : E) → slice_get es k ≡ Some e → slice_get (map view es) k ≡ Some (view e)
 seen_entry view es k e at = slice_get-map view es k ∙ ap (option_map view) at
-
--- what is seen of so many and one more
-pub seen_next : {X Y : Type 0} (see : X → Y) (before : List Y) (xs : List X) (i : ℕ) (x : X) → i < length xs → x ≡ get_or xs i x
-    → before ++ map see (take (i + 1) xs) ≡ (before ++ map see (take i xs)) ++ see x ∷ []
-seen_next see before xs i x low is =
-    ap (λ ys. before ++ ys) (map_more see xs i x low ∙ ap (λ y. map see (take i xs) ++ see y ∷ []) (sym is)) ∙ sym (append_assoc before (map see (take i xs)) (see x ∷ []))

@@ -3,7 +3,7 @@ use Rattle.std.proofs.lemmas.List.{drop_all}
 use Rattle.pddl_domain.specs.Actions.{action_view}
 use Rattle.pddl_task.specs.Names.{is_in, word_if}
 use Rattle.pddl_faults.proofs.FoundFaults.{up_to_none, up_to_more, up_to_all}
-use Rattle.pddl_faults.proofs.ListPasses.{views_drop}
+use Rattle.pddl_faults.proofs.ListTurns.{views_drop}
 use Rattle.pddl_names.specs.FaultParts.{action_faults}
 use Rattle.pddl_names.proofs.FoundParts.{passed_as}
 use Rattle.pddl_names.proofs.SeenNames.{has, names_more, was_seen}

@@ -1,7 +1,8 @@
 use Rattle.std.proofs.Common.{◌≡◌, ◌<◌, false, not, length, get_or, refl, ap, sym, ◌∙◌}
 use Rattle.pddl_domain.specs.Declarations.{function_view, number}
 use Rattle.pddl_task.specs.Names.{same_names}
-use Rattle.pddl_faults.proofs.ListPasses.{views_drop, found_at, none_left, not_of}
+use Rattle.pddl_faults.proofs.ListPasses.{found_at, none_left, not_of}
+use Rattle.pddl_faults.proofs.ListTurns.{views_drop}
 use Rattle.pddl_search.proofs.passes.object_fluents.Goals as goal
 
 pub returns-then-not-is_number : goal.returns-then-not-is_number

@@ -2,7 +2,7 @@ use Rattle.std.proofs.Common.{map, refl, ap, arith}
 use Rattle.std.proofs.lemmas.List.{drop_all}
 use Rattle.pddl_task.specs.Settings.{symbol_of}
 use Rattle.pddl_types.specs.KnownNames.{signature_in}
-use Rattle.pddl_faults.proofs.ListPasses.{views_drop}
+use Rattle.pddl_faults.proofs.ListTurns.{views_drop}
 use Rattle.pddl_types.proofs.Lookups.{is_symbol}
 use Rattle.pddl_types.proofs.SignatureTables.{held_more, held_all, signature_is}
 use Rattle.pddl_types.proofs.known.signatures.Goals as goal

@@ -7,7 +7,8 @@ use Rattle.pddl_types.specs.TypeTables.{Row, StandsAt, IsTableOf}
 use Rattle.pddl_types.proofs.SharedTypes.{of_next}
 use Rattle.pddl_types.proofs.TypePlaces.{put, stands_on}
 use Rattle.pddl_types.proofs.TypeTables.{again, root_alone, put_under}
-use Rattle.pddl_types.proofs.Views.{seen_entry, seen_next}
+use Rattle.pddl_faults.proofs.ListTurns.{seen_more}
+use Rattle.pddl_types.proofs.Views.{seen_entry}
 use Rattle.pddl_types.proofs.type_table.put_types.Goals.{then-not-shares+in_ok-over, else-not-shares}
 use Rattle.pddl_types.proofs.type_table.put_types.Goals as goal
 
@@ -42,7 +43,7 @@ loop-number-preserved g c =
     let over = c.if-not-shares.over in
     let child = c.as_bytes-in-loop-number.result in
     record {
-      table = subst (λ ds. IsTableOf (types_of ds) ds after) (sym (seen_next type_view [] xs l.number x low at))
+      table = subst (λ ds. IsTableOf (types_of ds) ds after) (sym (seen_more type_view [] xs l.number x low at))
           (put_under rows after child over c.in_ok-insert-2.ensures.entries c.in_ok-insert-2.ensures.unique told (type_view x) ready.0 (sym c.as_bytes-in-loop-number.ensures.value) ready.1);
       last = λ j y next found.
           let same : Some (type_view x) ≡ Some y = sym here ∙ ap (slice_get (map type_view xs)) (omega (arith, next)) ∙ found in

@@ -2,7 +2,7 @@ use Rattle.std.proofs.Common.{map, ap, subst, ◌∙◌}
 use Rattle.std.proofs.lemmas.List.{append-nil, map_push, take_all}
 use Rattle.pddl_types.specs.ToldTops.{AreToldAt}
 use Rattle.pddl_types.proofs.NumberedTops.{slots_next}
-use Rattle.pddl_types.proofs.Views.{seen_next}
+use Rattle.pddl_faults.proofs.ListTurns.{seen_more}
 use Rattle.pddl_types.proofs.slot_tops.SlotTops.add.Goals as goal
 
 pub loop-each-init : goal.loop-each-init
@@ -14,7 +14,7 @@ loop-each-preserved g c = λ before are.
     let signature = g.D.Declares.signature in
     let x = c.each-item.result in
     let numbers = c.in_ok-numbers.numbers in
-    slots_next t _ _ _ _ (signature x) numbers.items (c.loop-each.invariant before are) (seen_next signature before c.args.declared.now c.loop-each.each-index x c.loop-each-test.true c.each-item.is)
+    slots_next t _ _ _ _ (signature x) numbers.items (c.loop-each.invariant before are) (seen_more signature before c.args.declared.now c.loop-each.each-index x c.loop-each-test.true c.each-item.is)
     c.tell_all.ensures.kept (subst (λ ps. AreToldAt t c.tell_all.new.self ps numbers.items) c.parameters.ensures c.in_ok-numbers.ensures.numbers)
     (ap (map (λ ns. ns.items)) c.in_ok-push.ensures.items ∙ map_push (λ ns. ns.items) c.loop-each.self-inside.numbers.items numbers)
 
