@@ -5,9 +5,9 @@
 # files that link, beside those of `format`, which reads and prints them, and of the same work in plain Rust; of `plan` on valid
 # plans, beside those of the same work in plain Rust; and of `plan` alone on actions that quantify over very many variables, and of
 # `serial` beside `plan`. Among those that link are files with an `either` of all of many types, and a variable of it that is
-# spoken of often; types below one with a long name; slots and variables before an `either` of many types; types above
-# themselves, on a long chain or in pairs, are refused. Each figure is that of the best of five runs. Wants GNU time, Python 3 and
-# rustc.
+# spoken of often; variables that hide one another; types below one with a long name; slots and variables before an `either` of
+# many types; types above themselves, on a long chain or in pairs, are refused. Each figure is that of the best of five runs.
+# Wants GNU time, Python 3 and rustc.
 here=$(cd "$(dirname "$0")" && pwd) || exit 1
 "$here/../pddlcheck" --help >/dev/null || exit 1
 program=$here/../crates/pddlcheck/out/pddlcheck
@@ -100,6 +100,13 @@ for count in 60000 240000; do
     make parameters 1 domain
     make variables "$count" problem
     linked "problem, $count variables" "$(seconds "$program" format problem "$problem")" problem "$domain" "$problem"
+done
+for count in 225000 900000; do
+    make parameters 1 domain
+    for case in hidden outermost; do
+        make "$case" "$count" problem
+        linked "problem, $case $count" "$(seconds "$program" format problem "$problem")" problem "$domain" "$problem"
+    done
 done
 for count in 5000 20000; do
     make eithers "$count" domain

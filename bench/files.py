@@ -5,11 +5,12 @@ A plan has steps with three objects each: plain, timed, or with a comment before
 actions; a problem has many objects and a long `:init`.
 
 Usage: files.py plain|timed|comments|domain|problem MIB
-       files.py actions|items|parameters|variables|eithers|facts|spoken|crossed|crossed-goal|above|above-goal|seen|ring|rings|below|slots|named|named-facts|named-constants|named-objects|short|long N
+       files.py actions|items|parameters|variables|hidden|outermost|eithers|facts|spoken|crossed|crossed-goal|above|above-goal|seen|ring|rings|below|slots|named|named-facts|named-constants|named-objects|short|long N
 
 The second form makes a domain with so many actions, or a problem of it with so many items in `:init` and two objects for each five of them: these link.
 So do a domain with an action of so many parameters, and a problem of it whose goal quantifies over so many variables of a type with one object, beside
-twice as many others; each variable is spoken of once. So do a domain of so many types with a slot and a parameter of an `either` of them all, a problem of it with an object
+twice as many others; each variable is spoken of once. So do problems of it whose goals have 118 quantifiers, one in the other, of which all but the first bind one name: the innermost variable is spoken of so many times, or the
+outermost. So do a domain of so many types with a slot and a parameter of an `either` of them all, a problem of it with an object
 of each and three facts for each, one whose goal speaks thirty times as often of a variable of that `either`, and a valid plan of a step for each. So do so many types with as many predicates of a slot of an `either` of them all, and a problem
 of it whose goal has each of these of each of as many variables of such an `either`. So do so many types below a chain of as many others, each of which is the type of a predicate's slot, and a problem
 of it whose goal has each predicate of one variable of an `either` of half of the types below. So do so many types below one whose name has five letters for each of them, and
@@ -130,6 +131,14 @@ def many_variables(count):
             f"  (:goal (forall ({numbered('?v#', count)} - lone) (and {numbered('(seen ?v#)', count)}))))\n")
 
 
+def deep_goal(variable):
+    def made(count):
+        inner = "(exists (?v - lone) " * 117
+        return (f"(define (problem many-2)\n  (:domain many)\n  (:objects one - lone)\n  (:init (seen one))\n"
+                f"  (:goal (exists (?w - lone) {inner}\n    (and {f'(seen ?{variable}) ' * count}){')' * 118}))\n")
+    return made
+
+
 def many_types(count):
     either = f"(either {numbered('t#', count)})"
     return (f"(define (domain eithers)\n  (:types {numbered('t#', count)})\n  (:predicates (open ?x - {either}) (near ?x ?y - {either}))\n  (:action see\n    :parameters (?x - {either})\n"
@@ -226,6 +235,8 @@ COUNTED = {
     "items": linked_problem,
     "parameters": many_parameters,
     "variables": many_variables,
+    "hidden": deep_goal("v"),
+    "outermost": deep_goal("w"),
     "eithers": many_types,
     "facts": many_facts,
     "spoken": much_spoken,
