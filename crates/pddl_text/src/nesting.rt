@@ -12,7 +12,7 @@ ghost use Rattle.pddl_text.specs.Inner.Nesting.{nest_of, next_nest, IsRefused};
 use pddl_items::Item;
 use pddl_scan::TextFault;
 use pddl_token::{Span, Token, TokenKind};
-use std::alloc::Allocator;
+use std::alloc::{AllocError, Allocator};
 use std::mem;
 
 /// A list whose end has not come: the items before its innermost opening, and that opening's place.
@@ -25,22 +25,40 @@ pub struct OpenList<'t, A: Allocator> {
 /// The deepest level of a list; an outermost list has level 1. Own.
 pub const DEEPEST: usize = 128;
 
+/// What a buffer has, in memory for as much, which leaves the buffer empty.
+fn moved_out<'a, T: Drop, B: Allocator>(
+    alloc: &'a B,
+    buffer: &mut Vec<T, &'a B>,
+) -> Result<Vec<T, &'a B>, AllocError>
+    ensures moved { IfOk result (λ list. list.items ≡ buffer.old.items) }
+    ensures emptied { OnOk result (buffer.new.items ≡ []) }
+{
+    let mut list = Vec::with_capacity(alloc, buffer.len())?;
+    list.append(buffer)?;
+    Ok(list)
+}
+
+/// Opens a list, whose items go into the spare buffer.
 fn open_list<'t, 'a, B: Allocator>(
     alloc: &'a B,
     opened: &mut Vec<OpenList<'t, &'a B>, &'a B>,
     items: &mut Vec<Item<'t, &'a B>, &'a B>,
+    spare: &mut Vec<Item<'t, &'a B>, &'a B>,
     token: &Token<'t>,
 ) -> Result<(), TextFault>
-    requires { token.now.kind ≡ TokenKind.Open }
+    requires open { token.now.kind ≡ TokenKind.Open }
+    requires spare { spare.old.items ≡ [] }
     ensures next { OnOk result (next_nest (view token.now) (nest_of opened.old.items items.old.items) ≡ Some (nest_of opened.new.items items.new.items)) }
     ensures refused { IfErr result (λ fault. IsRefused fault (view token.now) (nest_of opened.old.items items.old.items)) }
+    ensures spare { spare.new.items ≡ [] }
 {
     if opened.len() >= DEEPEST {
         return Err(TextFault::TooDeep {
             at: token.span.start,
         });
     }
-    let before = mem::replace(items, Vec::new(alloc));
+    let empty = mem::replace(spare, Vec::new(alloc));
+    let before = mem::replace(items, empty);
     opened.push(OpenList {
         items: before,
         start: token.span.start,
@@ -48,21 +66,26 @@ fn open_list<'t, 'a, B: Allocator>(
     Ok(())
 }
 
+/// Closes a list. Its items leave their buffer, which is spare then.
 fn close_list<'t, 'a, B: Allocator>(
+    alloc: &'a B,
     opened: &mut Vec<OpenList<'t, &'a B>, &'a B>,
     items: &mut Vec<Item<'t, &'a B>, &'a B>,
+    spare: &mut Vec<Item<'t, &'a B>, &'a B>,
     token: &Token<'t>,
 ) -> Result<(), TextFault>
     requires { token.now.kind ≡ TokenKind.Close }
     ensures next { OnOk result (next_nest (view token.now) (nest_of opened.old.items items.old.items) ≡ Some (nest_of opened.new.items items.new.items)) }
     ensures refused { IfErr result (λ fault. IsRefused fault (view token.now) (nest_of opened.old.items items.old.items)) }
+    ensures spare { OnOk result (spare.new.items ≡ []) }
 {
     let Some(list) = opened.pop() else {
         return Err(TextFault::Unopened {
             at: token.span.start,
         });
     };
-    let inner = mem::replace(items, list.items);
+    let _ = mem::replace(spare, mem::replace(items, list.items));
+    let inner = moved_out(alloc, spare)?;
     items.push(Item::List(
         inner,
         Span {
@@ -88,14 +111,17 @@ fn add_token<'t, 'a, B: Allocator>(
     alloc: &'a B,
     opened: &mut Vec<OpenList<'t, &'a B>, &'a B>,
     items: &mut Vec<Item<'t, &'a B>, &'a B>,
+    spare: &mut Vec<Item<'t, &'a B>, &'a B>,
     token: &Token<'t>,
 ) -> Result<(), TextFault>
+    requires { spare.old.items ≡ [] }
     ensures next { OnOk result (next_nest (view token.now) (nest_of opened.old.items items.old.items) ≡ Some (nest_of opened.new.items items.new.items)) }
     ensures refused { IfErr result (λ fault. IsRefused fault (view token.now) (nest_of opened.old.items items.old.items)) }
+    ensures spare { OnOk result (spare.new.items ≡ []) }
 {
     match token.kind {
-        TokenKind::Open => open_list(alloc, opened, items, token),
-        TokenKind::Close => close_list(opened, items, token),
+        TokenKind::Open => open_list(alloc, opened, items, spare, token),
+        TokenKind::Close => close_list(alloc, opened, items, spare, token),
         _ => add_word(items, token),
     }
 }
@@ -123,8 +149,9 @@ pub fn lists<'t, 'a, B: Allocator>(
 {
     let mut opened: Vec<OpenList<'t, &'a B>, &'a B> = Vec::new(alloc);
     let mut items: Vec<Item<'t, &'a B>, &'a B> = Vec::new(alloc);
+    let mut spare: Vec<Item<'t, &'a B>, &'a B> = Vec::new(alloc);
     for token in tokens {
-        add_token(alloc, &mut opened, &mut items, token)?;
+        add_token(alloc, &mut opened, &mut items, &mut spare, token)?;
     }
     match opened.first() {
         None => Ok(items),
