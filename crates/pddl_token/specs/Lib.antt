@@ -4,5 +4,6 @@ pub mod Spelling
 pub mod Number
 pub mod NumberText
 pub mod Names
+pub mod NameTexts
 pub mod Trees
 pub mod TreeWords

@@ -1,11 +1,19 @@
 //! Names, folded to lower case.
 
-ghost use Rattle.std.specs.Prelude.{◌≡◌, List, ℕ, IfOk, IsTrue};
+ghost use Rattle.std.specs.Prelude.{◌≡◌, ◌≤◌, List, ℕ, length, take, IfOk, IsTrue};
 ghost use Rattle.std.specs.List.{list_all};
-ghost use Rattle.pddl_token.specs.Names.{name_of, is_name, is_first_byte, is_later_byte};
+ghost use Rattle.pddl_token.specs.Names.{folded, name_of, is_name, is_first_byte, is_later_byte};
 
 use std::alloc::{AllocError, Allocator};
 use std::marker::Model;
+
+/// The bytes of a name: in the value itself where they are few, as those of most names are, and else in an allocation.
+#[derive(Drop)]
+enum NameText<A: Allocator> {
+    /// So many of the bytes; zeros are behind them.
+    Few(u8, [u8; 31]),
+    Many(Vec<u8, A>),
+}
 
 /// A name: an ASCII letter, then letters, digits, `-` and `_`, its letters in lower case
 /// (Kovacs, BNF definition of PDDL 3.1, `<name>`; that case does not count is PDDL's rule).
@@ -13,32 +21,60 @@ use std::marker::Model;
 /// Contracts see it as its bytes.
 #[derive(Drop)]
 pub struct Name<A: Allocator> {
-    text: Vec<u8, A>,
+    text: NameText<A>,
 }
 
 impl<A: Allocator> Model for Name<A> {
     ghost use Rattle.std.specs.Prelude.{List, ℕ, IsTrue};
     ghost use Rattle.pddl_token.specs.Names.{is_name};
+    ghost use Rattle.pddl_token.specs.NameTexts.{letters_of, HasRoom};
 
     ghost Value = { List ℕ };
 
-    ghost view = { λ n. n.text.items };
+    ghost view = { λ n. letters_of n.text };
 
-    ghost invariant = { λ n. IsTrue (is_name n.text.items) };
+    ghost invariant = { λ n. HasRoom n.text × IsTrue (is_name (letters_of n.text)) };
+}
+
+/// A short text folded to lower case, with zeros behind it.
+fn folded(text: &[u8]) -> [u8; 31]
+    requires { length text.now ≤ 31 }
+    ensures letters { take (length text.now) result ≡ folded text.now }
+    ensures room { length result ≡ 31 }
+{
+    let mut bytes = [0; 31];
+    let few = &mut bytes[..text.len()];
+    few.copy_from_slice(text);
+    few.make_ascii_lowercase();
+    bytes
 }
 
 impl<A: Allocator> Name<A> {
     /// The name that a text spells, in any case of its letters, or `None` for what is no name.
     ///
-    /// Fails where memory for the name's bytes is refused.
+    /// Fails where memory for the name's bytes is refused, of which up to 31 take none.
     pub fn new(alloc: A, text: &[u8]) -> Result<Option<Name<A>>, AllocError>
         ensures { IfOk result (λ name. name ≡ name_of text.now) }
     {
-        let folded = text.to_ascii_lowercase(alloc)?;
-        if is_name(&folded) {
-            Ok(Some(Name { text: folded }))
+        let len = text.len();
+        if len <= 31 {
+            let bytes = folded(text);
+            if is_name(&bytes[..len]) {
+                Ok(Some(Name {
+                    text: NameText::Few(len as u8, bytes),
+                }))
+            } else {
+                Ok(None)
+            }
         } else {
-            Ok(None)
+            let folded = text.to_ascii_lowercase(alloc)?;
+            if is_name(&folded) {
+                Ok(Some(Name {
+                    text: NameText::Many(folded),
+                }))
+            } else {
+                Ok(None)
+            }
         }
     }
 
@@ -47,7 +83,10 @@ impl<A: Allocator> Name<A> {
         ensures value { result.now ≡ self.now }
         ensures name { IsTrue (is_name self.now) }
     {
-        &self.text
+        match &self.text {
+            NameText::Few(len, bytes) => &bytes[..*len as usize],
+            NameText::Many(bytes) => bytes.as_slice(),
+        }
     }
 }
 
