@@ -4,8 +4,6 @@ ghost use Rattle.std.specs.Prelude.{◌≡◌, ◌++◌};
 ghost use Rattle.std.proofs.Common.{ap};
 ghost use Rattle.std.specs.Cmp.{partial_equiv_from_equiv};
 ghost use Rattle.std.specs.Hash as fed;
-ghost use Rattle.std.specs.List.{fold};
-ghost use Rattle.pddl_task.specs.Names.{same_names};
 ghost use Rattle.pddl_task.specs.Faults.{same_ground};
 ghost use Rattle.pddl_search.specs.Grounds.{ground_equiv, ground_is};
 
@@ -38,38 +36,13 @@ impl<'d, A: Allocator> Ground<'d, A> {
     }
 }
 
-/// Whether two lists have the same names in the same order.
-fn same_names<A: Allocator>(first: &[Name<A>], second: &[Name<A>]) -> bool
-    ensures { result ≡ same_names first.now second.now }
-{
-    if first.len() != second.len() {
-        return false;
-    }
-    for i in 0..first.len() {
-        if first[i].as_bytes() != second[i].as_bytes() {
-            return false;
-        }
-    }
-    true
-}
-
-/// Feeds names to a hasher.
-fn hash_names<A: Allocator, H: Hasher>(names: &[Name<A>], state: &mut H)
-    ensures { state.new ≡ fold H.write state.old (fed.slice (fed.slice fed.u8) names.now) }
-{
-    state.write_usize(names.len());
-    for name in names {
-        name.as_bytes().hash(state);
-    }
-}
-
 impl<'d, A: Allocator> PartialEq for Ground<'d, A> {
     ghost eq = { same_ground };
 
     ghost laws = { partial_equiv_from_equiv ground_equiv };
 
     fn eq(&self, other: &Ground<'d, A>) -> bool {
-        self.name == other.name && same_names(self.objects, other.objects)
+        self.name == other.name && self.objects == other.objects
     }
 }
 
@@ -84,6 +57,6 @@ impl<'d, A: Allocator> Hash for Ground<'d, A> {
 
     fn hash<H: Hasher>(&self, state: &mut H) {
         self.name.hash(state);
-        hash_names(self.objects, state);
+        self.objects.hash(state);
     }
 }

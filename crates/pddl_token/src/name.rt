@@ -1,17 +1,25 @@
 //! Names, folded to lower case.
 
-ghost use Rattle.std.specs.Prelude.{◌≡◌, ◌≤◌, List, ℕ, length, take, IfOk, IsTrue};
+ghost use Rattle.std.proofs.Common.{ap};
+ghost use Rattle.std.specs.Prelude.{◌≡◌, ◌≤◌, List, ℕ, length, take, bytes_eq, IfOk, IsTrue};
+ghost use Rattle.std.specs.Cmp.{partial_equiv_from_equiv};
+ghost use Rattle.std.specs.Cmp.Lexicographic.{bytes_decides, nat_list_eq_equiv};
+ghost use Rattle.std.specs.Hash as fed;
 ghost use Rattle.std.specs.List.{list_all};
 ghost use Rattle.pddl_token.specs.Names.{folded, name_of, is_name, is_first_byte, is_later_byte};
 
 use std::alloc::{AllocError, Allocator};
+use std::hash::{Hash, Hasher};
 use std::marker::Model;
+
+/// The most bytes of a name that lie in the value itself.
+const FEW: usize = 31;
 
 /// The bytes of a name: in the value itself where they are few, as those of most names are, and else in an allocation.
 #[derive(Drop)]
 enum NameText<A: Allocator> {
     /// So many of the bytes; zeros are behind them.
-    Few(u8, [u8; 31]),
+    Few(u8, [u8; FEW]),
     Many(Vec<u8, A>),
 }
 
@@ -37,12 +45,12 @@ impl<A: Allocator> Model for Name<A> {
 }
 
 /// A short text folded to lower case, with zeros behind it.
-fn folded(text: &[u8]) -> [u8; 31]
-    requires { length text.now ≤ 31 }
+fn folded(text: &[u8]) -> [u8; FEW]
+    requires { length text.now ≤ FEW }
     ensures letters { take (length text.now) result ≡ folded text.now }
-    ensures room { length result ≡ 31 }
+    ensures room { length result ≡ FEW }
 {
-    let mut bytes = [0; 31];
+    let mut bytes = [0; FEW];
     let few = &mut bytes[..text.len()];
     few.copy_from_slice(text);
     few.make_ascii_lowercase();
@@ -52,12 +60,12 @@ fn folded(text: &[u8]) -> [u8; 31]
 impl<A: Allocator> Name<A> {
     /// The name that a text spells, in any case of its letters, or `None` for what is no name.
     ///
-    /// Fails where memory for the name's bytes is refused, of which up to 31 take none.
+    /// Fails where memory for the name's bytes is refused; of a name of up to 31 bytes none is asked for.
     pub fn new(alloc: A, text: &[u8]) -> Result<Option<Name<A>>, AllocError>
         ensures { IfOk result (λ name. name ≡ name_of text.now) }
     {
         let len = text.len();
-        if len <= 31 {
+        if len <= FEW {
             let bytes = folded(text);
             if is_name(&bytes[..len]) {
                 Ok(Some(Name {
@@ -87,6 +95,31 @@ impl<A: Allocator> Name<A> {
             NameText::Few(len, bytes) => &bytes[..*len as usize],
             NameText::Many(bytes) => bytes.as_slice(),
         }
+    }
+}
+
+/// Names are equal where their bytes are.
+impl<A: Allocator> PartialEq for Name<A> {
+    ghost eq = { bytes_eq };
+
+    ghost laws = { partial_equiv_from_equiv nat_list_eq_equiv };
+
+    fn eq(&self, other: &Name<A>) -> bool {
+        self.as_bytes() == other.as_bytes()
+    }
+}
+
+impl<A: Allocator> Eq for Name<A> {
+    ghost laws = { nat_list_eq_equiv };
+}
+
+impl<A: Allocator> Hash for Name<A> {
+    ghost hash_input = { fed.slice fed.u8 };
+
+    ghost respects_eq = { λ m n same. ap (fed.slice fed.u8) ((bytes_decides m n).0 same) };
+
+    fn hash<H: Hasher>(&self, state: &mut H) {
+        self.as_bytes().hash(state);
     }
 }
 
