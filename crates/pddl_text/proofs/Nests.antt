@@ -1,6 +1,6 @@
 -- Reading words with a stack, against the items that they form.
 use Rattle.std.proofs.Common.{◌≡◌, ℕ, zero, suc, ◌+◌, ◌-◌, ◌≤◌, ◌<◌, true, false, ltb, List, [], ◌∷◌, ◌++◌, length, refl, sym, ap, subst, ◌∙◌, arith, inl, inr}
-use Rattle.std.specs.Prelude.{◌⊎◌, ◌≢◌, Option, Some, None}
+use Rattle.std.specs.Prelude.{◌⊎◌, ◌≢◌, Option, Some, None, Result, Ok, Err, IfOk, IfErr, MatchResult}
 use Rattle.std.proofs.lemmas.Bool.{cond_both, cases_lt, ltb-true}
 use Rattle.std.proofs.lemmas.Bool.Decides.{nat_tests}
 use Rattle.std.proofs.lemmas.List.{append_assoc, append-nil, length-append}
@@ -11,7 +11,7 @@ use Rattle.pddl_token.specs.Trees.{Placed, placed_leaf, placed_node, placed_of}
 use Rattle.pddl_text.specs.Lists.{span_over, AreItems, none, plain, nested, LeaveOpen, none_open, one_more, IsUnopened, IsTooDeep, IsMisplaced, IsFirstMisplaced, IsUnclosed, ListStands}
 use Rattle.pddl_scan.specs.declared.fault.TextFault.{TextFault}
 use Rattle.pddl_scan.specs.declared.fault.TextFault.TheVariants as faults
-use Rattle.pddl_text.specs.Inner.Nesting.{Opened, Nest, empty, closed, next_by, next_nest, IsRefused}
+use Rattle.pddl_text.specs.Inner.Nesting.{Opened, Nest, empty, closed, next_by, next_nest, IsRefused, IsLeftOpen}
 
 -- ---- a run over words
 
@@ -430,3 +430,15 @@ unclosed words nest outer list stands opened_are =
           let stopped : run words empty ≡ None = ap (λ (t : List PlacedWord). run t empty) split ∙ misplaced_stops front other misplaced back in
           absurd (cc (stopped, stands.run_is));
     }
+
+-- the last answer: words that form items are answered so
+pub ends_only : {V : Type 0} (answer : Result V TextFault) (items_of : V → List Placed) (words : List PlacedWord) (nest : Nest) (items : List Placed) → StandsAt words nest
+    → IfOk answer (λ v. nest ≡ record { opened = []; items = items_of v }) → IfErr answer (λ fault. IsLeftOpen fault nest)
+    → AreItems 128 words items → MatchResult answer (λ v. items_of v ≡ items) (λ fault. fault ≡ faults.Memory)
+ends_only (Ok v) items_of words nest items stands nest_is left_open form = sym (ap (λ (n : Nest). n.items) nest_is) ∙ closed_only words nest items stands form
+ends_only (Err fault) items_of words nest items stands nest_is (inner, outermost, opened_are, fault_is) form = absurd (open_only words nest inner outermost items stands opened_are form)
+
+-- and its fault stands in the words
+pub ends_fault : {V : Type 0} (answer : Result V TextFault) (words : List PlacedWord) (nest : Nest) → StandsAt words nest → IfErr answer (λ fault. IsLeftOpen fault nest) → IfErr answer (λ fault. ListStands fault words)
+ends_fault (Ok v) words nest stands left_open = tt
+ends_fault (Err fault) words nest stands (inner, outermost, opened_are, fault_is) = subst (λ f. ListStands f words) (sym fault_is) (unclosed words nest inner outermost stands opened_are)
