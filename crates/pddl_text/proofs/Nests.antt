@@ -351,16 +351,12 @@ refused_only faults.AlreadyFailed before w after words nest items stands words_a
 
 -- ---- the end
 
--- with no list open the words form the items
-pub closed_items : (words : List PlacedWord) (nest : Nest) → StandsAt words nest → nest.opened ≡ [] → AreItems 128 words nest.items
-closed_items words nest stands is_empty = subst (λ (o : List Opened). Leaves o nest.items words) is_empty stands.is_nest.leaves
-
--- and no others
-pub closed_only : (words : List PlacedWord) (nest : Nest) (items : List Placed) → StandsAt words nest → AreItems 128 words items → nest.items ≡ items
+-- items that the words form are those of the nest
+closed_only : (words : List PlacedWord) (nest : Nest) (items : List Placed) → StandsAt words nest → AreItems 128 words items → nest.items ≡ items
 closed_only words nest items stands form = ap items_in (sym stands.run_is ∙ whole_run form)
 
 -- with a list open they form none
-pub open_only : (words : List PlacedWord) (nest : Nest) (outer : List Opened) (list : Opened) (items : List Placed) → StandsAt words nest → nest.opened ≡ outer ++ list ∷ [] → AreItems 128 words items → ⊥
+open_only : (words : List PlacedWord) (nest : Nest) (outer : List Opened) (list : Opened) (items : List Placed) → StandsAt words nest → nest.opened ≡ outer ++ list ∷ [] → AreItems 128 words items → ⊥
 open_only words nest outer list items stands opened_are form =
     let none_left : outer ++ list ∷ [] ≡ [] = sym opened_are ∙ ap opened_in (sym stands.run_is ∙ whole_run form) in
     absurd (omega (arith, ap (λ (t : List Opened). length t) none_left, length-append outer (list ∷ [])))
@@ -411,7 +407,7 @@ bottom (top ∷ opened) list items words room (before, opening, inner, outer, is
     }
 
 -- the lowest open list is the leftmost opening without a partner
-pub unclosed : (words : List PlacedWord) (nest : Nest) (outer : List Opened) (list : Opened) → StandsAt words nest → nest.opened ≡ outer ++ list ∷ [] → IsUnclosed words list.start
+unclosed : (words : List PlacedWord) (nest : Nest) (outer : List Opened) (list : Opened) → StandsAt words nest → nest.opened ≡ outer ++ list ∷ [] → IsUnclosed words list.start
 unclosed words nest outer list stands opened_are =
     let in_range : length outer < 128 = omega (arith, stands.is_nest.in_range, ap (λ (t : List Opened). length t) opened_are, length-append outer (list ∷ [])) in
     let low = bottom outer list nest.items words in_range (subst (λ (o : List Opened). Leaves o nest.items words) opened_are stands.is_nest.leaves) in

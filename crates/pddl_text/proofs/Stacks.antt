@@ -50,11 +50,6 @@ pub begin_more : (lists : List OpenList) (len more : ℕ) → BeginWithin lists 
 begin_more [] len more within le = tt
 begin_more (list ∷ outer) len more within le = (omega (arith, within.0, le), within.1)
 
--- a pushed list begins within the items
-pub begin_pushed : (opened lists : List OpenList) (list : OpenList) (len : ℕ) → BeginWithin (reverse opened) len → lists ≡ opened ++ list ∷ [] → list.begins ≡ len → BeginWithin (reverse lists) len
-begin_pushed opened lists list len within lists_are begins_is =
-    rw (lists_are, pushed_first opened list) (omega (arith, begins_is), subst (BeginWithin (reverse opened)) (sym begins_is) within)
-
 -- of a popped list, where it begins, and so the outer lists
 pub begin_popped : (opened lists : List OpenList) (list : OpenList) (len : ℕ) → BeginWithin (reverse opened) len → opened ≡ lists ++ list ∷ [] → (list.begins ≤ len) × BeginWithin (reverse lists) list.begins
 begin_popped opened lists list len within opened_are = subst (λ t. BeginWithin t len) (ap reverse opened_are ∙ pushed_first lists list) within
@@ -64,7 +59,7 @@ pub item_view_word : (A : Type 0) (token : Token) → item_view {A = A} (Leaf to
 item_view_word A token = ap item_view (sym (rolls-Word token)) ∙ fold-roll-Item _ Placed item_step (Item-F.Word token)
 
 -- a list of items as a tree
-pub item_view_list : {A : Type 0} (inner : Vec (Item A) A) (span : Span) → item_view (Group inner span) ≡ placed_node span (placed_of (items_view inner.items))
+item_view_list : {A : Type 0} (inner : Vec (Item A) A) (span : Span) → item_view (Group inner span) ≡ placed_node span (placed_of (items_view inner.items))
 item_view_list inner span = ap item_view (sym (rolls-List inner span)) ∙ fold-roll-Item _ Placed item_step (Item-F.List inner span)
 
 -- an opening's list is pushed
@@ -114,11 +109,6 @@ pub view_all : (tokens : List Token) (i : ℕ) → length tokens ≤ i → map v
 view_all tokens i le = ap (map view) (take_all i tokens le)
 
 -- ---- the end of the tokens
-
--- no open lists
-pub none_opened : {A : Type 0} (opened : List OpenList) (items : List (Item A)) → length opened ≤ 0 → nest_of opened items ≡ record { opened = []; items = items_view items }
-none_opened [] items le = refl
-none_opened (list ∷ opened) items le = absurd (omega (arith, le))
 
 -- the last list of a stack
 left_open : {A : Type 0} (lists : List OpenList) (list : OpenList) (items : List (Item A)) → (inner : List Opened) × (outermost : Opened) × (stack_of (lists ++ list ∷ []) items ≡ inner ++ outermost ∷ []) × (list.start ≡ outermost.start)

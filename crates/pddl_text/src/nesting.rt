@@ -24,8 +24,8 @@ pub struct OpenList {
 /// What words form: the open lists, the innermost last, and in one buffer the items outside and of them all.
 #[derive(Drop)]
 pub struct OpenLists<'t, A: Allocator> {
-    pub opened: Vec<OpenList, A>,
-    pub items: Vec<Item<'t, A>, A>,
+    opened: Vec<OpenList, A>,
+    items: Vec<Item<'t, A>, A>,
     ghost begin_within: { BeginWithin (reverse opened.items) (length items.items) } by { BeginWithin-prop (reverse opened.items) (length items.items) },
 }
 
