@@ -1,6 +1,6 @@
 -- Reading words with a stack, against the items that they form.
 use Rattle.std.proofs.Common.{◌≡◌, ℕ, zero, suc, ◌+◌, ◌-◌, ◌≤◌, ◌<◌, true, false, ltb, List, [], ◌∷◌, ◌++◌, length, refl, sym, ap, subst, ◌∙◌, arith, inl, inr}
-use Rattle.std.specs.Prelude.{◌⊎◌, ◌≢◌, Option, Some, None}
+use Rattle.std.specs.Prelude.{◌⊎◌, ◌≢◌, Option, Some, None, Result, Ok, Err, IfOk, IfErr, MatchResult}
 use Rattle.std.proofs.lemmas.Bool.{cond_both, cases_lt, ltb-true}
 use Rattle.std.proofs.lemmas.Bool.Decides.{nat_tests}
 use Rattle.std.proofs.lemmas.List.{append_assoc, append-nil, length-append}
@@ -11,7 +11,7 @@ use Rattle.pddl_token.specs.Trees.{Placed, placed_leaf, placed_node, placed_of}
 use Rattle.pddl_text.specs.Lists.{span_over, AreItems, none, plain, nested, LeaveOpen, none_open, one_more, IsUnopened, IsTooDeep, IsMisplaced, IsFirstMisplaced, IsUnclosed, ListStands}
 use Rattle.pddl_scan.specs.declared.fault.TextFault.{TextFault}
 use Rattle.pddl_scan.specs.declared.fault.TextFault.TheVariants as faults
-use Rattle.pddl_text.specs.Inner.Nesting.{Opened, Nest, empty, closed, next_by, next_nest, IsRefused}
+use Rattle.pddl_text.specs.Inner.Nesting.{Opened, Nest, empty, closed, next_by, next_nest, IsRefused, IsLeftOpen}
 
 -- ---- a run over words
 
@@ -351,16 +351,12 @@ refused_only faults.AlreadyFailed before w after words nest items stands words_a
 
 -- ---- the end
 
--- with no list open the words form the items
-pub closed_items : (words : List PlacedWord) (nest : Nest) → StandsAt words nest → nest.opened ≡ [] → AreItems 128 words nest.items
-closed_items words nest stands is_empty = subst (λ (o : List Opened). Leaves o nest.items words) is_empty stands.is_nest.leaves
-
--- and no others
-pub closed_only : (words : List PlacedWord) (nest : Nest) (items : List Placed) → StandsAt words nest → AreItems 128 words items → nest.items ≡ items
+-- items that the words form are those of the nest
+closed_only : (words : List PlacedWord) (nest : Nest) (items : List Placed) → StandsAt words nest → AreItems 128 words items → nest.items ≡ items
 closed_only words nest items stands form = ap items_in (sym stands.run_is ∙ whole_run form)
 
 -- with a list open they form none
-pub open_only : (words : List PlacedWord) (nest : Nest) (outer : List Opened) (list : Opened) (items : List Placed) → StandsAt words nest → nest.opened ≡ outer ++ list ∷ [] → AreItems 128 words items → ⊥
+open_only : (words : List PlacedWord) (nest : Nest) (outer : List Opened) (list : Opened) (items : List Placed) → StandsAt words nest → nest.opened ≡ outer ++ list ∷ [] → AreItems 128 words items → ⊥
 open_only words nest outer list items stands opened_are form =
     let none_left : outer ++ list ∷ [] ≡ [] = sym opened_are ∙ ap opened_in (sym stands.run_is ∙ whole_run form) in
     absurd (omega (arith, ap (λ (t : List Opened). length t) none_left, length-append outer (list ∷ [])))
@@ -411,7 +407,7 @@ bottom (top ∷ opened) list items words room (before, opening, inner, outer, is
     }
 
 -- the lowest open list is the leftmost opening without a partner
-pub unclosed : (words : List PlacedWord) (nest : Nest) (outer : List Opened) (list : Opened) → StandsAt words nest → nest.opened ≡ outer ++ list ∷ [] → IsUnclosed words list.start
+unclosed : (words : List PlacedWord) (nest : Nest) (outer : List Opened) (list : Opened) → StandsAt words nest → nest.opened ≡ outer ++ list ∷ [] → IsUnclosed words list.start
 unclosed words nest outer list stands opened_are =
     let in_range : length outer < 128 = omega (arith, stands.is_nest.in_range, ap (λ (t : List Opened). length t) opened_are, length-append outer (list ∷ [])) in
     let low = bottom outer list nest.items words in_range (subst (λ (o : List Opened). Leaves o nest.items words) opened_are stands.is_nest.leaves) in
@@ -430,3 +426,15 @@ unclosed words nest outer list stands opened_are =
           let stopped : run words empty ≡ None = ap (λ (t : List PlacedWord). run t empty) split ∙ misplaced_stops front other misplaced back in
           absurd (cc (stopped, stands.run_is));
     }
+
+-- the last answer: words that form items are answered so
+pub ends_only : {V : Type 0} (answer : Result V TextFault) (items_of : V → List Placed) (words : List PlacedWord) (nest : Nest) (items : List Placed) → StandsAt words nest
+    → IfOk answer (λ v. nest ≡ record { opened = []; items = items_of v }) → IfErr answer (λ fault. IsLeftOpen fault nest)
+    → AreItems 128 words items → MatchResult answer (λ v. items_of v ≡ items) (λ fault. fault ≡ faults.Memory)
+ends_only (Ok v) items_of words nest items stands nest_is left_open form = sym (ap (λ (n : Nest). n.items) nest_is) ∙ closed_only words nest items stands form
+ends_only (Err fault) items_of words nest items stands nest_is (inner, outermost, opened_are, fault_is) form = absurd (open_only words nest inner outermost items stands opened_are form)
+
+-- and its fault stands in the words
+pub ends_fault : {V : Type 0} (answer : Result V TextFault) (words : List PlacedWord) (nest : Nest) → StandsAt words nest → IfErr answer (λ fault. IsLeftOpen fault nest) → IfErr answer (λ fault. ListStands fault words)
+ends_fault (Ok v) words nest stands left_open = tt
+ends_fault (Err fault) words nest stands (inner, outermost, opened_are, fault_is) = subst (λ f. ListStands f words) (sym fault_is) (unclosed words nest inner outermost stands opened_are)

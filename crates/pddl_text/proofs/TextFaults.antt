@@ -1,19 +1,19 @@
 -- A text has at most one fault, and none where it has items.
-use Rattle.std.proofs.Common.{◌≡◌, ℕ, ◌<◌, List, length, take, drop, refl, sym, subst, ◌∙◌, arith, inl, inr}
-use Rattle.std.specs.Prelude.{◌⊎◌, ◌≢◌}
+use Rattle.std.proofs.Common.{◌≡◌, ℕ, ◌<◌, ◌≤◌, List, length, take, drop, refl, sym, subst, ◌∙◌, arith, inl, inr}
+use Rattle.std.specs.Prelude.{◌⊎◌, ◌≢◌, Result, Ok, Err, IfOk, IfErr, MatchResult}
 use Rattle.std.proofs.lemmas.Bool.{cases_lt}
 use Rattle.std.proofs.lemmas.List.{take-append-drop}
 use Rattle.pddl_token.specs.declared.token.TokenKind.TheVariants.{Number}
 use Rattle.pddl_scan.specs.declared.fault.TextFault.{TextFault}
 use Rattle.pddl_scan.specs.declared.fault.TextFault.TheVariants as faults
 use Rattle.pddl_token.specs.Spelling.{PlacedWord, Spells}
-use Rattle.pddl_scan.specs.Faults.{IsStray, IsLongestNumber, IsGlued, IsOutOfRange, IsFaulty, IsLeftmost, HasFaultAt, AreValued}
+use Rattle.pddl_scan.specs.Faults.{IsStray, IsLongestNumber, IsGlued, IsOutOfRange, IsFaulty, IsLeftmost, HasFaultAt, AreValued, Stands}
 use Rattle.pddl_token.specs.Trees.{Placed}
 use Rattle.pddl_text.specs.Lists.{ListStands}
 use Rattle.pddl_text.specs.Texts.{HasItems, HasListFault, TextStands}
 use Rattle.pddl_scan.proofs.Lexed.{one_spelling, no_other}
 use Rattle.pddl_text.proofs.ListFaults.{same_split, one_list_fault, no_list_fault}
-use Rattle.pddl_text.proofs.TextItems.{items_form}
+use Rattle.pddl_text.proofs.TextItems.{items_form, one_items}
 
 -- ---- one fault at a place
 
@@ -127,6 +127,18 @@ no_words_fault fault text words p spells valued =
     let first = p.stands.leftmost in
     no_other first.reached.0 words text (take p.at text) (drop p.at text) (sym (take-append-drop p.at text)) first.reached.1 (is_faulty p.wrong (drop p.at text) first.fault) spells valued
 
+-- valued words that spell a text within the limit leave no fault but want of memory
+pub no_fault_in_words : (text : List ℕ) (fault : TextFault) (words : List PlacedWord) → Stands fault text → Spells words text → AreValued words → length text ≤ 16777216 → fault ≡ faults.Memory
+no_fault_in_words text faults.Memory words stands spells valued short = refl
+no_fault_in_words text faults.TooLong words stands spells valued short = absurd (omega (arith, stands, short))
+no_fault_in_words text (faults.Stray at) words stands spells valued short = absurd (no_words_fault (faults.Stray at) text words (record { wrong = stray; at = at; stands = stands; fault_is = refl }) spells valued)
+no_fault_in_words text (faults.Glued at) words stands spells valued short = absurd (no_words_fault (faults.Glued at) text words (record { wrong = glued; at = at; stands = stands; fault_is = refl }) spells valued)
+no_fault_in_words text (faults.NumberRange at) words stands spells valued short = absurd (no_words_fault (faults.NumberRange at) text words (record { wrong = out_of_range; at = at; stands = stands; fault_is = refl }) spells valued)
+no_fault_in_words text (faults.Unopened at) words stands spells valued short = absurd stands
+no_fault_in_words text (faults.TooDeep at) words stands spells valued short = absurd stands
+no_fault_in_words text (faults.Unclosed at) words stands spells valued short = absurd stands
+no_fault_in_words text faults.AlreadyFailed words stands spells valued short = absurd stands
+
 -- two faults of a text's lists are one
 one_lists_fault : (fault other : TextFault) (text : List ℕ) → HasListFault fault text → HasListFault other text → fault ≢ faults.Memory → other ≢ faults.Memory → fault ≡ other
 one_lists_fault fault other text p q some_fault other_fault =
@@ -160,3 +172,9 @@ no_fault_in_items text fault items stands has = by_reason (reason fault text sta
     by_reason (inl (inr p)) = absurd (omega (arith, p.beyond, has.within))
     by_reason (inr (inl p)) = absurd (no_words_fault fault text has.words p has.spells has.valued)
     by_reason (inr (inr p)) = no_list_fault fault p.words items p.stands (items_form text p.words items p.spells has)
+
+-- so where each answer is right, a text that has items is answered so
+pub items_only : {V : Type 0} (answer : Result V TextFault) (items_of : V → List Placed) (text : List ℕ) (items : List Placed) → IfOk answer (λ v. HasItems text (items_of v)) → IfErr answer (λ fault. TextStands fault text)
+    → HasItems text items → MatchResult answer (λ v. items_of v ≡ items) (λ fault. fault ≡ faults.Memory)
+items_only (Ok v) items_of text items right first has = one_items text (items_of v) items right has
+items_only (Err fault) items_of text items right first has = no_fault_in_items text fault items first has

@@ -1,14 +1,51 @@
 //! The words of a text.
 
-ghost use Rattle.std.specs.Prelude.{◌≡◌, ◌<◌, ◌≤◌, ◌↔◌, ℕ, List, length, map, All, AllPairs, IfOk, IfErr, MatchResult, Err};
+ghost use Rattle.std.specs.Prelude.{◌≡◌, ◌≢◌, ◌<◌, ◌≤◌, ◌↔◌, ◌++◌, ◌∷◌, [], ℕ, List, length, map, All, AllPairs, IfOk, IfErr, IfSome, MatchOption, MatchResult, Err};
 ghost use Rattle.pddl_scan.specs.declared.fault.TextFault.TheVariants.{Memory, TooLong};
 ghost use Rattle.pddl_token.specs.Spelling.{PlacedWord, Spells, view};
 ghost use Rattle.pddl_text.specs.Spans.{IsSlice, EndsBefore};
 ghost use Rattle.pddl_scan.specs.Faults.{AreValued, Stands};
+ghost use Rattle.pddl_scan.specs.Scanning.{LexedTo};
 
 use pddl_scan::{LONGEST, Next, TextFault, next_part};
 use pddl_token::{Span, Token};
 use std::alloc::Allocator;
+
+/// The next word of a text whose words up to a place are read, or `None` where the text has no more.
+///
+/// Its errors are those of [`lex`] behind the place.
+pub fn next_token<'a>(text: &'a [u8], from: usize) -> Result<Option<Token<'a>>, TextFault>
+    requires short { length text.now ≤ LONGEST }
+    ensures next { (words : List PlacedWord) → LexedTo text.now words from → MatchResult result
+        (λ found. MatchOption found (Spells words text.now) (λ token. LexedTo text.now (words ++ view token ∷ []) token.span.end))
+        (λ fault. Stands fault text.now) }
+    ensures further { IfOk result (λ found. IfSome found (λ token. from < token.span.end)) }
+    ensures no_memory { IfErr result (λ fault. fault ≢ Memory) }
+{
+    let mut at = from;
+    while at < text.len() {
+        let rest = text.split_at(at).1;
+        match next_part(rest) {
+            Next::Gap { len } => at += len,
+            Next::Word { kind, len } => {
+                let span = Span {
+                    start: at as u32,
+                    end: (at + len) as u32,
+                };
+                return Ok(Some(Token {
+                    kind,
+                    text: rest.split_at(len).0,
+                    span,
+                }));
+            }
+            Next::OpenComment => return Ok(None),
+            Next::Stray => return Err(TextFault::Stray { at: at as u32 }),
+            Next::Glued => return Err(TextFault::Glued { at: at as u32 }),
+            Next::OutOfRange => return Err(TextFault::NumberRange { at: at as u32 }),
+        }
+    }
+    Ok(None)
+}
 
 /// The words of a text, in order.
 ///
@@ -41,28 +78,9 @@ pub fn lex<'a, A: Allocator>(alloc: A, text: &'a [u8]) -> Result<Vec<Token<'a>, 
     }
     let mut tokens = Vec::new(alloc);
     let mut at = 0;
-    while at < text.len() {
-        let rest = text.split_at(at).1;
-        match next_part(rest) {
-            Next::Gap { len } => at += len,
-            Next::Word { kind, len } => {
-                let span = Span {
-                    start: at as u32,
-                    end: (at + len) as u32,
-                };
-                let token = Token {
-                    kind,
-                    text: rest.split_at(len).0,
-                    span,
-                };
-                tokens.push(token)?;
-                at += len;
-            }
-            Next::OpenComment => return Ok(tokens),
-            Next::Stray => return Err(TextFault::Stray { at: at as u32 }),
-            Next::Glued => return Err(TextFault::Glued { at: at as u32 }),
-            Next::OutOfRange => return Err(TextFault::NumberRange { at: at as u32 }),
-        }
+    while let Some(token) = next_token(text, at)? {
+        tokens.push(token)?;
+        at = token.span.end as usize;
     }
     Ok(tokens)
 }

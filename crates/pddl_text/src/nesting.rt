@@ -1,128 +1,120 @@
 //! The lists of a text.
 
-ghost use Rattle.std.specs.Prelude.{◌≡◌, List, [], ◌∷◌, ◌++◌, Some, map, IfOk, IfErr, OnOk, MatchResult};
+ghost use Rattle.std.specs.Prelude.{◌≡◌, List, [], ◌++◌, length, reverse, Some, map, IfOk, IfErr, OnOk, MatchResult};
 ghost use Rattle.pddl_scan.specs.declared.fault.TextFault.{TextFault};
 ghost use Rattle.pddl_scan.specs.declared.fault.TextFault.TheVariants.{Memory};
 ghost use Rattle.pddl_token.specs.Spelling.{PlacedWord, view};
 ghost use Rattle.pddl_token.specs.Trees.{Placed, placed_leaf};
 ghost use Rattle.pddl_items.specs.Items.{items_view};
 ghost use Rattle.pddl_text.specs.Lists.{AreItems, deepest, ListStands};
-ghost use Rattle.pddl_text.specs.Inner.Nesting.{nest_of, next_nest, IsRefused};
+ghost use Rattle.pddl_text.specs.Inner.Nesting.{BeginWithin, BeginWithin-prop, nest_of, empty, with_item, next_nest, IsRefused, IsLeftOpen};
 
 use pddl_items::Item;
 use pddl_scan::TextFault;
 use pddl_token::{Span, Token, TokenKind};
-use std::alloc::{AllocError, Allocator};
-use std::mem;
+use std::alloc::Allocator;
 
-/// A list whose end has not come: the items before its innermost opening, and that opening's place.
-#[derive(Drop)]
-pub struct OpenList<'t, A: Allocator> {
-    pub items: Vec<Item<'t, A>, A>,
+/// A list whose end has not come: where its items begin in the buffer, and the place of its `(`.
+#[derive(Clone, Copy)]
+pub struct OpenList {
+    pub begins: usize,
     pub start: u32,
+}
+
+/// What words form: the open lists, the innermost last, and in one buffer the items outside and of them all.
+#[derive(Drop)]
+pub struct OpenLists<'t, A: Allocator> {
+    opened: Vec<OpenList, A>,
+    items: Vec<Item<'t, A>, A>,
+    ghost begin_within: { BeginWithin (reverse opened.items) (length items.items) } by { BeginWithin-prop (reverse opened.items) (length items.items) },
 }
 
 /// The deepest level of a list; an outermost list has level 1. Own.
 pub const DEEPEST: usize = 128;
 
-/// What a buffer has, in memory for as much, which leaves the buffer empty.
-fn moved_out<'a, T: Drop, B: Allocator>(
-    alloc: &'a B,
-    buffer: &mut Vec<T, &'a B>,
-) -> Result<Vec<T, &'a B>, AllocError>
-    ensures moved { IfOk result (λ list. list.items ≡ buffer.old.items) }
-    ensures emptied { OnOk result (buffer.new.items ≡ []) }
-{
-    let mut list = Vec::with_capacity(alloc, buffer.len())?;
-    list.append(buffer)?;
-    Ok(list)
-}
-
-/// Opens a list, whose items go into the spare buffer.
-fn open_list<'t, 'a, B: Allocator>(
-    alloc: &'a B,
-    opened: &mut Vec<OpenList<'t, &'a B>, &'a B>,
-    items: &mut Vec<Item<'t, &'a B>, &'a B>,
-    spare: &mut Vec<Item<'t, &'a B>, &'a B>,
-    token: &Token<'t>,
-) -> Result<(), TextFault>
-    requires open { token.now.kind ≡ TokenKind.Open }
-    requires spare { spare.old.items ≡ [] }
-    ensures next { OnOk result (next_nest (view token.now) (nest_of opened.old.items items.old.items) ≡ Some (nest_of opened.new.items items.new.items)) }
-    ensures refused { IfErr result (λ fault. IsRefused fault (view token.now) (nest_of opened.old.items items.old.items)) }
-    ensures spare { spare.new.items ≡ [] }
-{
-    if opened.len() >= DEEPEST {
-        return Err(TextFault::TooDeep {
-            at: token.span.start,
-        });
+impl<'t, 'a, B: Allocator> OpenLists<'t, &'a B> {
+    /// No words. It takes no memory.
+    pub fn new(alloc: &'a B) -> OpenLists<'t, &'a B>
+        ensures { nest_of result.opened.items result.items.items ≡ empty }
+    {
+        OpenLists {
+            opened: Vec::new(alloc),
+            items: Vec::new(alloc),
+        }
     }
-    let empty = mem::replace(spare, Vec::new(alloc));
-    let before = mem::replace(items, empty);
-    opened.push(OpenList {
-        items: before,
-        start: token.span.start,
-    })?;
-    Ok(())
-}
 
-/// Closes a list. Its items leave their buffer, which is spare then.
-fn close_list<'t, 'a, B: Allocator>(
-    alloc: &'a B,
-    opened: &mut Vec<OpenList<'t, &'a B>, &'a B>,
-    items: &mut Vec<Item<'t, &'a B>, &'a B>,
-    spare: &mut Vec<Item<'t, &'a B>, &'a B>,
-    token: &Token<'t>,
-) -> Result<(), TextFault>
-    requires { token.now.kind ≡ TokenKind.Close }
-    ensures next { OnOk result (next_nest (view token.now) (nest_of opened.old.items items.old.items) ≡ Some (nest_of opened.new.items items.new.items)) }
-    ensures refused { IfErr result (λ fault. IsRefused fault (view token.now) (nest_of opened.old.items items.old.items)) }
-    ensures spare { OnOk result (spare.new.items ≡ []) }
-{
-    let Some(list) = opened.pop() else {
-        return Err(TextFault::Unopened {
-            at: token.span.start,
-        });
-    };
-    let _ = mem::replace(spare, mem::replace(items, list.items));
-    let inner = moved_out(alloc, spare)?;
-    items.push(Item::List(
-        inner,
-        Span {
-            start: list.start,
-            end: token.span.end,
-        },
-    ))?;
-    Ok(())
-}
+    fn open(&mut self, token: &Token<'t>) -> Result<(), TextFault>
+        requires { token.now.kind ≡ TokenKind.Open }
+        ensures next { OnOk result (next_nest (view token.now) (nest_of self.old.opened.items self.old.items.items) ≡ Some (nest_of self.new.opened.items self.new.items.items)) }
+        ensures refused { IfErr result (λ fault. IsRefused fault (view token.now) (nest_of self.old.opened.items self.old.items.items)) }
+    {
+        if self.opened.len() >= DEEPEST {
+            return Err(TextFault::TooDeep {
+                at: token.span.start,
+            });
+        }
+        self.opened.push(OpenList {
+            begins: self.items.len(),
+            start: token.span.start,
+        })?;
+        Ok(())
+    }
 
-fn add_word<'t, 'a, B: Allocator>(
-    items: &mut Vec<Item<'t, &'a B>, &'a B>,
-    token: &Token<'t>,
-) -> Result<(), TextFault>
-    ensures added { OnOk result (items_view items.new.items ≡ items_view items.old.items ++ placed_leaf (view token.now) ∷ []) }
-    ensures memory { IfErr result (λ fault. fault ≡ Memory) }
-{
-    items.push(Item::Word(*token))?;
-    Ok(())
-}
+    /// Closes a list, whose items leave the buffer into memory for as much.
+    fn close(&mut self, token: &Token<'t>) -> Result<(), TextFault>
+        requires { token.now.kind ≡ TokenKind.Close }
+        ensures next { OnOk result (next_nest (view token.now) (nest_of self.old.opened.items self.old.items.items) ≡ Some (nest_of self.new.opened.items self.new.items.items)) }
+        ensures refused { IfErr result (λ fault. IsRefused fault (view token.now) (nest_of self.old.opened.items self.old.items.items)) }
+    {
+        let Some(list) = self.opened.pop() else {
+            return Err(TextFault::Unopened {
+                at: token.span.start,
+            });
+        };
+        let inner = self.items.split_off(list.begins)?;
+        self.items.push(Item::List(
+            inner,
+            Span {
+                start: list.start,
+                end: token.span.end,
+            },
+        ))?;
+        Ok(())
+    }
 
-fn add_token<'t, 'a, B: Allocator>(
-    alloc: &'a B,
-    opened: &mut Vec<OpenList<'t, &'a B>, &'a B>,
-    items: &mut Vec<Item<'t, &'a B>, &'a B>,
-    spare: &mut Vec<Item<'t, &'a B>, &'a B>,
-    token: &Token<'t>,
-) -> Result<(), TextFault>
-    requires { spare.old.items ≡ [] }
-    ensures next { OnOk result (next_nest (view token.now) (nest_of opened.old.items items.old.items) ≡ Some (nest_of opened.new.items items.new.items)) }
-    ensures refused { IfErr result (λ fault. IsRefused fault (view token.now) (nest_of opened.old.items items.old.items)) }
-    ensures spare { OnOk result (spare.new.items ≡ []) }
-{
-    match token.kind {
-        TokenKind::Open => open_list(alloc, opened, items, spare, token),
-        TokenKind::Close => close_list(alloc, opened, items, spare, token),
-        _ => add_word(items, token),
+    fn add_word(&mut self, token: &Token<'t>) -> Result<(), TextFault>
+        ensures added { OnOk result (nest_of self.new.opened.items self.new.items.items ≡ with_item (nest_of self.old.opened.items self.old.items.items) (placed_leaf (view token.now))) }
+        ensures memory { IfErr result (λ fault. fault ≡ Memory) }
+    {
+        self.items.push(Item::Word(*token))?;
+        Ok(())
+    }
+
+    /// Adds one more word.
+    pub fn add(&mut self, token: &Token<'t>) -> Result<(), TextFault>
+        ensures next { OnOk result (next_nest (view token.now) (nest_of self.old.opened.items self.old.items.items) ≡ Some (nest_of self.new.opened.items self.new.items.items)) }
+        ensures refused { IfErr result (λ fault. IsRefused fault (view token.now) (nest_of self.old.opened.items self.old.items.items)) }
+    {
+        match token.kind {
+            TokenKind::Open => self.open(token),
+            TokenKind::Close => self.close(token),
+            _ => self.add_word(token),
+        }
+    }
+
+    /// The items, where no list is open. They keep no more memory than they need.
+    pub fn into_items(self) -> Result<Vec<Item<'t, &'a B>, &'a B>, TextFault>
+        ensures items { IfOk result (λ items. nest_of self.entry.opened.items self.entry.items.items ≡ record { opened = []; items = items_view items.items }) }
+        ensures unclosed { IfErr result (λ fault. IsLeftOpen fault (nest_of self.entry.opened.items self.entry.items.items)) }
+    {
+        match self.opened.first() {
+            None => {
+                let mut items = self.items;
+                items.shrink_to_fit();
+                Ok(items)
+            }
+            Some(list) => Err(TextFault::Unclosed { at: list.start }),
+        }
     }
 }
 
@@ -147,16 +139,11 @@ pub fn lists<'t, 'a, B: Allocator>(
     // What is wrong is the first fault.
     ensures fault { IfErr result (λ fault. ListStands fault (map view tokens.now)) }
 {
-    let mut opened: Vec<OpenList<'t, &'a B>, &'a B> = Vec::new(alloc);
-    let mut items: Vec<Item<'t, &'a B>, &'a B> = Vec::new(alloc);
-    let mut spare: Vec<Item<'t, &'a B>, &'a B> = Vec::new(alloc);
+    let mut open = OpenLists::new(alloc);
     for token in tokens {
-        add_token(alloc, &mut opened, &mut items, &mut spare, token)?;
+        open.add(token)?;
     }
-    match opened.first() {
-        None => Ok(items),
-        Some(list) => Err(TextFault::Unclosed { at: list.start }),
-    }
+    open.into_items()
 }
 
 /// Words form at most one list of items.

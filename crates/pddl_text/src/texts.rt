@@ -7,11 +7,42 @@ ghost use Rattle.pddl_token.specs.Trees.{Tree, Placed};
 ghost use Rattle.pddl_items.specs.Items.{items_view};
 ghost use Rattle.pddl_text.specs.Texts.{HasItems, ReadsAs, TextStands};
 
-use crate::lexer::lex;
-use crate::nesting::lists;
+use crate::lexer::{lex, next_token};
+use crate::nesting::{OpenLists, lists};
 use pddl_items::Item;
-use pddl_scan::TextFault;
+use pddl_scan::{LONGEST, TextFault};
 use std::alloc::Allocator;
+
+/// The items of a text, in one pass over it. What it answers of a text that has none need not be the first fault.
+fn read_items<'t, 'a, B: Allocator>(
+    alloc: &'a B,
+    text: &'t [u8],
+) -> Result<Vec<Item<'t, &'a B>, &'a B>, TextFault>
+    ensures { IfOk result (λ items. HasItems text.now (items_view items.items)) }
+{
+    if text.len() > LONGEST {
+        return Err(TextFault::TooLong);
+    }
+    let mut open = OpenLists::new(alloc);
+    let mut at = 0;
+    while let Some(token) = next_token(text, at)? {
+        open.add(&token)?;
+        at = token.span.end as usize;
+    }
+    open.into_items()
+}
+
+/// The same in two passes, which answers the first fault: one of its words before one of its lists.
+fn reread_items<'t, 'a, B: Allocator>(
+    alloc: &'a B,
+    text: &'t [u8],
+) -> Result<Vec<Item<'t, &'a B>, &'a B>, TextFault>
+    ensures items { IfOk result (λ items. HasItems text.now (items_view items.items)) }
+    ensures fault { IfErr result (λ fault. TextStands fault text.now) }
+{
+    let tokens = lex(alloc, text)?;
+    lists(alloc, &tokens)
+}
 
 /// The items of a text: its words, and the lists that they form.
 ///
@@ -30,8 +61,11 @@ pub fn items_of<'t, 'a, B: Allocator>(
     // What is wrong stands in the text.
     ensures fault { IfErr result (λ fault. TextStands fault text.now) }
 {
-    let tokens = lex(alloc, text)?;
-    lists(alloc, &tokens)
+    match read_items(alloc, text) {
+        Ok(items) => Ok(items),
+        Err(TextFault::Memory) => Err(TextFault::Memory),
+        Err(_) => reread_items(alloc, text),
+    }
 }
 
 /// A text has at most one list of items.

@@ -1,5 +1,6 @@
 -- Reading words with a stack of open lists. No public contract names these.
-use Rattle.std.specs.Prelude.{◌≡◌, ◌≤◌, ℕ, List, [], ◌∷◌, ◌++◌, length, Option, Some, None, nat_lt, if◌then◌else◌}
+use Rattle.std.specs.Prelude.{◌≡◌, ◌≤◌, ℕ, List, [], ◌∷◌, ◌++◌, length, take, drop, reverse, ⊤, Option, Some, None, nat_lt, if◌then◌else◌}
+use Rattle.std.specs.Coded.{×_prop, Unit-prop, le_prop}
 use Rattle.pddl_token.specs.declared.token.TokenKind.{TokenKind}
 use Rattle.pddl_token.specs.declared.token.TokenKind.TheVariants.{Open, Close}
 use Rattle.pddl_scan.specs.declared.fault.TextFault.{TextFault}
@@ -25,6 +26,10 @@ pub record Nest : Type 0 where
 abbrev pub empty : Nest
 empty = record { opened = []; items = [] }
 
+-- one more item behind the innermost opening
+abbrev pub with_item : Nest → Placed → Nest
+with_item nest item = record { opened = nest.opened; items = nest.items ++ item ∷ [] }
+
 -- a closing ends the innermost open list
 abbrev pub closed : List Opened → List Placed → PlacedWord → Option Nest
 closed [] items w = None
@@ -34,24 +39,35 @@ closed (list ∷ opened) items w = Some (record { opened = opened; items = list.
 abbrev pub next_by : TokenKind → PlacedWord → Nest → Option Nest
 next_by Open w nest = if nat_lt (length nest.opened) deepest then Some (record { opened = record { items = nest.items; start = w.span.start } ∷ nest.opened; items = [] }) else None
 next_by Close w nest = closed nest.opened nest.items w
-next_by _ w nest = Some (record { opened = nest.opened; items = nest.items ++ placed_leaf w ∷ [] })
+next_by _ w nest = Some (with_item nest (placed_leaf w))
 
 -- one more word
 abbrev pub next_nest : PlacedWord → Nest → Option Nest
 next_nest w nest = next_by w.kind w nest
 
--- the code's open list
-abbrev pub opened_view : {A : _} → OpenList A → Opened
-opened_view list = record { items = items_view list.items.items; start = list.start }
+-- The code's open lists begin within so many items, each within those before the next inner one. The innermost comes first.
+abbrev pub BeginWithin : List OpenList → ℕ → Type 0
+BeginWithin [] len = ⊤
+BeginWithin (list ∷ outer) len = (list.begins ≤ len) × BeginWithin outer list.begins
 
--- the code's open lists, of which the innermost is the last
-abbrev pub stack_of : {A : _} → List (OpenList A) → List Opened
-stack_of [] = []
-stack_of (list ∷ lists) = stack_of lists ++ opened_view list ∷ []
+-- in one way at most
+pub BeginWithin-prop : (lists : List OpenList) (len : ℕ) → IsProp (BeginWithin lists len)
+BeginWithin-prop [] len = Unit-prop
+BeginWithin-prop (list ∷ outer) len = ×_prop le_prop (BeginWithin-prop outer list.begins)
 
--- the code's two lists
-abbrev pub nest_of : {A : _} → List (OpenList A) → List (Item A) → Nest
-nest_of opened items = record { opened = stack_of opened; items = items_view items }
+-- of all items, those behind the innermost opening
+abbrev pub inner_items : {A : _} → List OpenList → List (Item A) → List Placed
+inner_items [] items = items_view items
+inner_items (list ∷ outer) items = items_view (drop list.begins items)
+
+-- the code's open lists, each with the items before it
+abbrev pub stack_of : {A : _} → List OpenList → List (Item A) → List Opened
+stack_of [] items = []
+stack_of (list ∷ outer) items = record { items = inner_items outer (take list.begins items); start = list.start } ∷ stack_of outer (take list.begins items)
+
+-- the code's open lists, of which the innermost comes last, and the items of all
+abbrev pub nest_of : {A : _} → List OpenList → List (Item A) → Nest
+nest_of opened items = record { opened = stack_of (reverse opened) items; items = inner_items (reverse opened) items }
 
 -- why a word is refused
 abbrev pub IsRefused : TextFault → PlacedWord → Nest → Type 0
@@ -64,3 +80,7 @@ IsRefused (faults.Stray at) w nest = ⊥
 IsRefused (faults.Glued at) w nest = ⊥
 IsRefused (faults.NumberRange at) w nest = ⊥
 IsRefused faults.AlreadyFailed w nest = ⊥
+
+-- why the end of the words is refused: the outermost list is open
+abbrev pub IsLeftOpen : TextFault → Nest → Type 0
+IsLeftOpen fault nest = (inner : List Opened) × (outermost : Opened) × (nest.opened ≡ inner ++ outermost ∷ []) × (fault ≡ faults.Unclosed outermost.start)

@@ -1,15 +1,16 @@
-use Rattle.std.proofs.Common.{map, sym, ap, subst}
-use Rattle.std.proofs.lemmas.Result.{err_from_is_err_and}
-use Rattle.pddl_token.specs.Spelling.{view}
-use Rattle.pddl_text.specs.Lists.{AreItems}
-use Rattle.pddl_text.proofs.TextItems.{items_form}
+use Rattle.pddl_items.specs.Items.{items_view}
+use Rattle.pddl_text.proofs.TextItems as texts
+use Rattle.pddl_text.proofs.TextFaults.{items_only}
 use Rattle.pddl_text.proofs.texts.items_of.Goals as goal
 
-pub returns-in_err-tokens-clause-only : goal.returns-in_err-tokens-clause-only
-returns-in_err-tokens-clause-only g c = λ items has.
-    let p = err_from_is_err_and c.from_residual.result c.from_residual.ensures.1 in
-    rw (p.1, p.2) (c.in_err-tokens.ensures.only has.words has.spells has.valued has.within)
+pub returns-in-Ok-clause-only : goal.returns-in-Ok-clause-only
+returns-in-Ok-clause-only g c = λ items has. texts.one_items c.args.text.now _ items c.in-Ok.ensures has
 
-pub returns-clause-only : goal.returns-clause-only
-returns-clause-only g c = λ items has.
-    c.lists.ensures.only items (subst (λ words. AreItems 128 words items) (sym (ap (map view) c.deref.ensures.value)) (items_form c.args.text.now _ items c.in_ok-tokens.ensures.words has))
+pub returns-in-Err : goal.returns-in-Err
+returns-in-Err g c =
+    let answer = c.reread_items in
+    record {
+      items = answer.ensures.items;
+      only = λ items has. items_only answer.result (λ found. items_view found.items) c.args.text.now items answer.ensures.items answer.ensures.fault has;
+      fault = answer.ensures.fault;
+    }
