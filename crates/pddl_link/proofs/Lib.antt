@@ -1,4 +1,2 @@
 pub mod NamedWell
-pub mod Settings
 pub mod Stages
-pub mod Turned

@@ -4,11 +4,9 @@
 //! types and names, and what is used. Of what a stage finds the lowest is answered. What links is a `Task`.
 #![tactic(auto)]
 
-mod check;
 mod linked;
 
-pub use check::check_domain;
-pub use linked::link;
+pub use linked::{check_domain, link};
 pub use pddl_faults::LinkFault;
 pub use pddl_linked_task::{Task, let_go_task};
 pub use pddl_sizes::{FittingCount, action_ground_size, effect_ground_size, ground_size};

@@ -1,13 +1,14 @@
 -- What is found in parts of faults.
-use Rattle.std.proofs.Common.{◌≡◌, ℕ, List, [], ◌∷◌, ◌++◌, Result, Ok, Err, subst}
-use Rattle.std.specs.Prelude.{OnOk, IsOk}
+use Rattle.std.proofs.Common.{◌≡◌, ℕ, List, [], ◌∷◌, ◌++◌, Result, Ok, Err, subst, inl, inr}
+use Rattle.std.specs.Prelude.{Contains, OnOk, IsOk}
+use Rattle.std.proofs.lemmas.List.Elements.{Contains-append_left, Contains-append_right, Contains-append_cases}
 use Rattle.std.proofs.lemmas.List.Concat.{flat_map-append}
 use Rattle.pddl_task.specs.Names.{Name}
 use Rattle.pddl_task.proofs.Lists.{append-none}
 use Rattle.pddl_faults.specs.declared.fault.LinkFault.{LinkFault}
 use Rattle.pddl_faults.specs.Passes.{Passes}
 use Rattle.pddl_faults.specs.Found.{IsFound, numbered}
-use Rattle.pddl_faults.proofs.FoundFaults.{found_same, passed_found}
+use Rattle.pddl_faults.proofs.FoundFaults.{found_as, found_same, passed_found}
 use Rattle.pddl_names.specs.FaultParts.{FaultParts, joined}
 
 -- one part alone
@@ -26,6 +27,13 @@ pub found_parts : {T : Type 0} (us vs : FaultParts) (first : Result (Unit {0}) L
     → ((xs ys : List (ℕ × Name)) → IsFound xs first → IsFound ys second → IsFound (xs ++ ys) both) → IsFound (joined us) first → IsFound (joined vs) second → IsFound (joined (us ++ vs)) both
 found_parts us vs first second both lower h k =
     found_same (joined us ++ joined vs) (joined (us ++ vs)) both (flat_map-append (λ (part : List (ℕ × Name)). part) us vs) (lower (joined us) (joined vs) h k)
+
+-- parts in their other order
+swapped : (xs ys : List (ℕ × Name)) (f : ℕ × Name) → Contains (xs ++ ys) f → Contains (ys ++ xs) f
+swapped xs ys f c = elim (Contains-append_cases xs ys f c) as (λ _. Contains (ys ++ xs) f) [ inl l ↦ Contains-append_right ys xs f l | inr r ↦ Contains-append_left ys xs f r ]
+
+pub found_swapped : {T : Type 0} (xs ys : List (ℕ × Name)) (r : Result T LinkFault) → IsFound (xs ++ ys) r → IsFound (ys ++ xs) r
+found_swapped xs ys r = found_as (xs ++ ys) (ys ++ xs) r (swapped xs ys) (swapped ys xs)
 
 -- ---- values
 

@@ -12,14 +12,14 @@ use Rattle.pddl_problem.specs.Problems.{ProblemValue}
 use Rattle.pddl_task.specs.Names.{Name, is_in, word_if, repeated}
 use Rattle.pddl_task.specs.Places.{Place, action_places, domain_places, problem_places}
 use Rattle.pddl_task.specs.Settings.{symbol_of, parameters_of, function_signatures, Setting, in_domain, in_problem}
-use Rattle.pddl_task.specs.Faults.{domain_names, types_twice, retyped, variables_at, repeated_at, repeated_in_actions, type_cycles, object_types, unknown_at, arity_at, misfit_at, fraction_at, contradictions, cost_values, object_fluents, other_metrics, large_goals}
-use Rattle.pddl_task.specs.Linked.{domain_fault, fault_in}
+use Rattle.pddl_task.specs.Faults.{retyped, variables_at, repeated_at, repeated_in_actions, object_types, unknown_at, arity_at, misfit_at, fraction_at, contradictions, cost_values, object_fluents, other_metrics, large_goals}
+use Rattle.pddl_task.specs.Linked.{fault_in}
 use Rattle.pddl_task.proofs.Lists.{has_none, and_left, and_right}
 use Rattle.pddl_task.proofs.LinkedTasks.{in_flat}
 use Rattle.pddl_types.proofs.TypeParents.{in_has}
 use Rattle.pddl_faults.specs.Found.{numbered}
 use Rattle.pddl_faults.proofs.FoundFaults.{standing}
-use Rattle.pddl_names.specs.FaultParts.{joined, action_faults, domain_parts, problem_parts, domain_uses, problem_uses, first_rules, name_rules, use_rules}
+use Rattle.pddl_names.specs.FaultParts.{joined, action_faults, domain_parts, problem_parts, domain_uses, problem_uses, name_rules, use_rules}
 use Rattle.pddl_names.specs.Uses.{unknown_among, binding_faults, use_faults}
 use Rattle.pddl_names.proofs.UnknownTypes.{unknown-domain, unknown-problem}
 
@@ -158,14 +158,6 @@ use_same s (pl ∷ pls) =
 
 -- ---- the rules, in the parts of a domain and a problem
 
--- those that are looked at first
-pub first_stand : (d : DomainValue) (p : ProblemValue) → Same (numbered 20 (domain_names d p) ++ numbered 21 (types_twice d)) (standing (map (fault_in d p) (take 2 first_rules)))
-first_stand d p = simp map-append (same_found (domain_names d p ∷ types_twice d ∷ []) (alone 20 0 ⊕ alone 21 1) (alone 20 0 ⊕ (alone 21 1 ⊕ none) ⊕ none) refl refl)
-
--- that which is found when types are made
-pub cycle_stands : (d : DomainValue) (p : ProblemValue) → Same (numbered 22 (type_cycles d)) (standing (map (fault_in d p) (drop 2 first_rules)))
-cycle_stands d p = simp map-append (same_found (type_cycles d ∷ []) (alone 22 0) ((alone 22 0 ⊕ none) ⊕ none) refl refl)
-
 -- words of names of a domain
 abbrev names_of : DomainValue → List (List Name)
 names_of d =
@@ -176,15 +168,6 @@ names_of d =
 abbrev names_before : Joint → Joint
 names_before s = alone 23 1 ⊕ alone 23 2 ⊕ alone 23 3 ⊕ alone 24 5 ⊕ alone 24 6 ⊕ (alone 23 4 ⊕ alone 24 7) ⊕ alone 25 8 ⊕ s
 
--- names of a domain
-pub domain_names_stand : (d : DomainValue) → Same (joined (numbered 24 (retyped [] d.constants) ∷ domain_parts d.types d)) (standing (map (domain_fault d) name_rules))
-domain_names_stand d =
-    let parts = numbered 24 (retyped [] d.constants) ∷ domain_parts d.types d in
-    rw (unknown-domain d.types d)
-    (same_then (same_behind (take 6 parts) (same_both (action_same d.types [] d.actions) (same_self (joined (drop 7 parts)))))
-    (simp map-append (same_found (names_of d) (alone 24 0 ⊕ names_before none)
-    ((alone 23 1 ⊕ alone 23 2 ⊕ alone 23 3 ⊕ alone 23 4) ⊕ (((alone 24 0 ⊕ alone 24 5) ⊕ alone 24 6) ⊕ alone 24 7) ⊕ alone 25 8 ⊕ none) refl refl)))
-
 -- names of a domain and a problem
 pub names_stand : (d : DomainValue) (p : ProblemValue) → Same (joined (domain_parts d.types d ++ (numbered 24 (retyped [] d.constants ++ retyped d.constants p.objects) ∷ problem_parts d.types p))) (standing (map (fault_in d p) name_rules))
 names_stand d p =
@@ -194,13 +177,6 @@ names_stand d p =
     (simp map-append (same_found (names_of d ++ (retyped d.constants p.objects ∷ unknown_among d.types p.objects ∷ unknown_in d.types (problem_places p) ∷ flat_map repeated_at (problem_places p) ∷ object_types p.objects ∷ []))
     (names_before ((alone 24 0 ⊕ alone 24 9) ⊕ alone 23 10 ⊕ (alone 23 11 ⊕ alone 24 12) ⊕ alone 25 13 ⊕ none))
     (((alone 23 1 ⊕ alone 23 2 ⊕ alone 23 3 ⊕ alone 23 4) ⊕ (alone 23 10 ⊕ alone 23 11)) ⊕ ((((alone 24 0 ⊕ alone 24 5) ⊕ alone 24 6) ⊕ alone 24 7) ⊕ (alone 24 9 ⊕ alone 24 12)) ⊕ (alone 25 8 ⊕ alone 25 13) ⊕ none) refl refl)))
-
--- what a domain uses
-pub domain_uses_stand : (d : DomainValue) → Same (joined (domain_uses d)) (standing (map (domain_fault d) use_rules))
-domain_uses_stand d =
-    same_then (same_both (use_same (in_domain d) (domain_places d)) (same_self (joined (drop 1 (domain_uses d)))))
-    (same_found (uses_at (in_domain d) (domain_places d) ++ (object_fluents d ∷ [])) (uses_from 0 ⊕ alone 32 4 ⊕ none)
-    (alone 26 1 ⊕ alone 27 2 ⊕ alone 28 3 ⊕ none ⊕ alone 30 0 ⊕ none ⊕ alone 32 4 ⊕ none ⊕ none ⊕ none) refl refl)
 
 -- what a domain and a problem use
 pub uses_stand : (d : DomainValue) (p : ProblemValue) → Same (joined (domain_uses d ++ problem_uses d p)) (standing (map (fault_in d p) use_rules))

@@ -67,10 +67,6 @@ problem_uses d p =
 
 -- ---- the rules of linking, in the order in which they are looked at
 
--- those that are looked at before there are types, 20 to 22
-abbrev pub first_rules : List FaultRule
-first_rules = take 3 rules
-
 -- those of names, 23 to 25
 abbrev pub name_rules : List FaultRule
 name_rules = take 3 (drop 3 rules)

@@ -2,3 +2,4 @@ pub mod ObjectTables
 pub mod MetTypes
 pub mod Uses
 pub mod FaultParts
+pub mod Files

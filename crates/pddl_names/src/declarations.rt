@@ -3,21 +3,20 @@
 ghost use Rattle.std.specs.Prelude.{◌≡◌, [], map};
 ghost use Rattle.std.specs.List.{flat_map};
 ghost use Rattle.pddl_domain.specs.Actions.{action_view};
-ghost use Rattle.pddl_domain.specs.Domains.{domain_view};
-ghost use Rattle.pddl_problem.specs.Problems.{problem_view};
 ghost use Rattle.pddl_task.specs.Settings.{parameters_of};
 ghost use Rattle.pddl_faults.specs.Passes.{Passes};
 ghost use Rattle.pddl_faults.specs.Found.{IsFound};
+ghost use Rattle.pddl_names.specs.Files.{domain_of, problem_of};
 ghost use Rattle.pddl_names.specs.Uses.{unknown_among};
 ghost use Rattle.pddl_names.specs.FaultParts.{joined, used_types, action_faults, domain_parts, problem_parts};
 
 use crate::bindings::Bindings;
+use crate::files::Files;
 use crate::repeats::{name_twice, once};
 use indexmap::IndexSet;
-use pddl_domain::{Action, Domain};
+use pddl_domain::Action;
 use pddl_faults::{LinkFault, lower};
 use pddl_hash::Hashed;
-use pddl_problem::Problem;
 use pddl_search::{Scope, object_types, search_action, search_problem};
 use pddl_types::{Declares, Types};
 use std::alloc::Allocator;
@@ -33,19 +32,6 @@ fn parameters_known<'m, 'a, 'd, A: Allocator + 'd, B: Allocator, D: Declares<A>>
         types.known(each.parameters())?;
     }
     Ok(())
-}
-
-/// Types that are not known in a domain's declarations.
-fn look_at_types<'m, 'a, A: Allocator, B: Allocator>(
-    types: &Types<'m, 'a, A, B>,
-    domain: &'m Domain<A>,
-) -> Result<(), LinkFault<'m>>
-    ensures { IsFound (joined (used_types types.now.declared (domain_view domain.now))) result }
-{
-    let constants = types.known(&domain.constants);
-    let predicates = parameters_known(types, &domain.predicates);
-    let functions = parameters_known(types, &domain.functions);
-    lower(constants, lower(predicates, functions))
 }
 
 /// The lowest fault of actions: names that stand twice, and what is bound in them. Their names are put into an empty set.
@@ -69,48 +55,64 @@ fn look_at_each<'m, 'a, A: Allocator, B: Allocator>(
     found
 }
 
-/// The lowest fault of actions.
-fn look_at_actions<'m, 'a, A: Allocator, B: Allocator>(
-    alloc: &'a B,
-    types: &Types<'m, 'a, A, B>,
-    actions: &'m [Action<A>],
-) -> Result<(), LinkFault<'m>>
-    ensures { IsFound (action_faults types.now.declared [] (map action_view actions.now)) result }
-{
-    let mut seen = IndexSet::with_hasher(alloc, types.hashed());
-    let mut scope = Scope::new(alloc, types.hashed());
-    look_at_each(alloc, types, &mut seen, &mut scope, actions)
-}
+impl<'t, 'm, 'a, A: Allocator, B: Allocator> Files<'t, 'm, 'a, A, B> {
+    /// Types that are not known in the domain's declarations.
+    fn look_at_types(&self) -> Result<(), LinkFault<'m>>
+        ensures { IsFound (joined (used_types self.now.types.now.declared (domain_of self.now))) result }
+    {
+        let domain = self.domain;
+        let constants = self.types.known(&domain.constants);
+        let predicates = parameters_known(self.types, &domain.predicates);
+        let functions = parameters_known(self.types, &domain.functions);
+        lower(constants, lower(predicates, functions))
+    }
 
-/// The lowest fault of types and names in a domain, but for constants with two types.
-pub fn look_at_domain<'m, 'a, A: Allocator, B: Allocator>(
-    alloc: &'a B,
-    types: &Types<'m, 'a, A, B>,
-    domain: &'m Domain<A>,
-) -> Result<(), LinkFault<'m>>
-    ensures { IsFound (joined (domain_parts types.now.declared (domain_view domain.now))) result }
-{
-    let used = look_at_types(types, domain);
-    let predicates = name_twice(alloc, types.hashed(), &domain.predicates);
-    let functions = name_twice(alloc, types.hashed(), &domain.functions);
-    let actions = look_at_actions(alloc, types, &domain.actions);
-    let single = object_types(&domain.constants);
-    lower(
-        used,
-        lower(predicates, lower(functions, lower(actions, single))),
-    )
-}
+    /// The lowest fault of actions.
+    fn look_at_actions(&self) -> Result<(), LinkFault<'m>>
+        ensures { IsFound (action_faults self.now.types.now.declared [] (domain_of self.now).actions) result }
+    {
+        let domain = self.domain;
+        let mut seen = IndexSet::with_hasher(self.alloc, self.types.hashed());
+        let mut scope = Scope::new(self.alloc, self.types.hashed());
+        look_at_each(
+            self.alloc,
+            self.types,
+            &mut seen,
+            &mut scope,
+            &domain.actions,
+        )
+    }
 
-/// The lowest fault of types and names in a problem, but for objects with two types.
-pub fn look_at_problem<'m, 'a, A: Allocator, B: Allocator>(
-    alloc: &'a B,
-    types: &Types<'m, 'a, A, B>,
-    problem: &'m Problem<A>,
-) -> Result<(), LinkFault<'m>>
-    ensures { IsFound (joined (problem_parts types.now.declared (problem_view problem.now))) result }
-{
-    let used = types.known(&problem.objects);
-    let mut scope = Scope::new(alloc, types.hashed());
-    let bound = search_problem(&mut Bindings { alloc, types }, &mut scope, problem);
-    lower(used, lower(bound, object_types(&problem.objects)))
+    /// The lowest fault of types and names in the domain, but for constants with two types.
+    pub fn look_at_domain(&self) -> Result<(), LinkFault<'m>>
+        ensures { IsFound (joined (domain_parts self.now.types.now.declared (domain_of self.now))) result }
+    {
+        let domain = self.domain;
+        let hashed = self.types.hashed();
+        let used = self.look_at_types();
+        let predicates = name_twice(self.alloc, hashed, &domain.predicates);
+        let functions = name_twice(self.alloc, hashed, &domain.functions);
+        let actions = self.look_at_actions();
+        let single = object_types(&domain.constants);
+        lower(
+            used,
+            lower(predicates, lower(functions, lower(actions, single))),
+        )
+    }
+
+    /// The lowest fault of types and names in the problem, but for objects with two types.
+    pub fn look_at_problem(&self) -> Result<(), LinkFault<'m>>
+        ensures { IsFound (joined (problem_parts self.now.types.now.declared (problem_of self.now))) result }
+    {
+        let (alloc, types) = (self.alloc, self.types);
+        match self.problem {
+            Some(problem) => {
+                let used = types.known(&problem.objects);
+                let mut scope = Scope::new(alloc, types.hashed());
+                let bound = search_problem(&mut Bindings { alloc, types }, &mut scope, problem);
+                lower(used, lower(bound, object_types(&problem.objects)))
+            }
+            None => Ok(()),
+        }
+    }
 }

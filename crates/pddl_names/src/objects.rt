@@ -1,23 +1,21 @@
 //! Constants and objects with their types, each at its first place.
 
-ghost use Rattle.std.specs.Prelude.{◌≡◌, [], ◌++◌, List, IsTrue, false, true, map, IfOk, OnOk};
+ghost use Rattle.std.specs.Prelude.{◌≡◌, [], ◌++◌, ℕ, List, IsTrue, false, true, map, IfOk, OnOk};
 ghost use Rattle.pddl_formula.specs.TypedLists.{TypedValue, typed_view};
-ghost use Rattle.pddl_domain.specs.Domains.{domain_view};
-ghost use Rattle.pddl_problem.specs.Problems.{problem_view};
-ghost use Rattle.pddl_task.specs.Names.{firsts};
 ghost use Rattle.pddl_task.specs.Faults.{has_other_type, retyped};
 ghost use Rattle.pddl_types.specs.KnownNames.{object_in};
-ghost use Rattle.pddl_types.specs.TypeSpans.{TypesValue, IsOnlySpan, IsEmpty, AreListed};
+ghost use Rattle.pddl_types.specs.TypeSpans.{TypesValue, IsOnlySpan, IsEmpty};
 ghost use Rattle.pddl_names.specs.MetTypes.{IsMetAt, AreMet};
 ghost use Rattle.pddl_names.specs.ObjectTables.{IsPut, AreFirsts, AreTyped, AreAllListed};
+ghost use Rattle.pddl_names.specs.Files.{domain_of, problem_of};
 ghost use Rattle.pddl_faults.specs.Passes.{Passes};
+ghost use Rattle.pddl_faults.specs.Found.{IsFound, numbered};
 
+use crate::files::Files;
 use crate::met_types::{Group, MetTypes, let_go};
-use pddl_domain::Domain;
-use pddl_faults::LinkFault;
+use pddl_faults::{LinkFault, lower};
 use pddl_forest::Span;
 use pddl_formula::{Typed, TypedList};
-use pddl_problem::Problem;
 use pddl_types::{Listed, Types};
 use std::alloc::{AllocError, Allocator};
 
@@ -77,44 +75,43 @@ fn add_objects<'m, 'a, A: Allocator, B: Allocator>(
     Ok(())
 }
 
-/// Adds a domain's constants to no objects, where no name has two types.
-pub fn list_constants<'m, 'a, A: Allocator, B: Allocator>(
-    alloc: &'a B,
-    types: &Types<'m, 'a, A, B>,
-    listed: &mut Listed<'m, 'a, A, B>,
-    domain: &'m Domain<A>,
-) -> Result<(), LinkFault<'m>>
-    requires { IsEmpty listed.old }
-    ensures passes { Passes 24 (retyped [] (domain_view domain.now).constants) result }
-    ensures constants { OnOk result (map object_in listed.new.objects.entries ≡ firsts (domain_view domain.now).constants) }
-    ensures spans { OnOk result (AreListed types.now listed.new) }
-{
-    let mut met = MetTypes::new(alloc, types.hashed());
-    let added = add_objects(types, listed, &mut met, &domain.constants);
-    let_go(met);
-    added
-}
-
-/// Adds a domain's constants and then a problem's objects to no objects, where no name has two types.
-pub fn list_all<'m, 'a, A: Allocator, B: Allocator>(
-    alloc: &'a B,
-    types: &Types<'m, 'a, A, B>,
-    listed: &mut Listed<'m, 'a, A, B>,
-    domain: &'m Domain<A>,
-    problem: &'m Problem<A>,
-) -> Result<(), LinkFault<'m>>
-    requires { IsEmpty listed.old }
-    ensures passes { Passes 24 (retyped [] (domain_view domain.now).constants ++ retyped (domain_view domain.now).constants (problem_view problem.now).objects) result }
-    ensures listed { OnOk result (AreAllListed (domain_view domain.now) (problem_view problem.now) types.now listed.new) }
-{
-    let mut met = MetTypes::new(alloc, types.hashed());
-    let added = match add_objects(types, listed, &mut met, &domain.constants) {
-        Ok(()) => {
-            listed.constants = listed.objects.len();
-            add_objects(types, listed, &mut met, &problem.objects)
+impl<'t, 'm, 'a, A: Allocator, B: Allocator> Files<'t, 'm, 'a, A, B> {
+    /// Adds the objects of the problem behind the domain's constants, where no name has two types.
+    fn list_objects(
+        &self,
+        listed: &mut Listed<'m, 'a, A, B>,
+        met: &mut MetTypes<'m, 'a, A, B>,
+    ) -> Result<(), LinkFault<'m>>
+        requires constants { AreFirsts (domain_of self.now).constants (map object_in listed.old.objects.entries) }
+        requires typed { AreTyped self.now.types.now listed.old met.old }
+        ensures passes { Passes 24 (retyped (domain_of self.now).constants (problem_of self.now).objects) result }
+        ensures listed { OnOk result (AreAllListed (domain_of self.now) (problem_of self.now) self.now.types.now listed.new) }
+    {
+        listed.constants = listed.objects.len();
+        match self.problem {
+            Some(problem) => add_objects(self.types, listed, met, &problem.objects),
+            None => Ok(()),
         }
-        Err(fault) => Err(fault),
-    };
-    let_go(met);
-    added
+    }
+
+    /// Adds constants and then objects to none, where no name has two types: the lowest fault of this and of what was found of what else is declared. Of two
+    /// with one number that of a constant comes before what was found, and that of an object behind it.
+    pub fn list_all(
+        &self,
+        listed: &mut Listed<'m, 'a, A, B>,
+        declared: Result<(), LinkFault<'m>>,
+    ) -> Result<(), LinkFault<'m>>
+        requires { IsEmpty listed.old }
+        ensures found { (xs : List (ℕ × List ℕ)) → IsFound xs declared.entry → IsFound (xs ++ numbered 24 (retyped [] (domain_of self.now).constants ++ retyped (domain_of self.now).constants (problem_of self.now).objects)) result }
+        ensures listed { OnOk result (AreAllListed (domain_of self.now) (problem_of self.now) self.now.types.now listed.new) }
+    {
+        let domain = self.domain;
+        let mut met = MetTypes::new(self.alloc, self.types.hashed());
+        let found = match add_objects(self.types, listed, &mut met, &domain.constants) {
+            Ok(()) => lower(declared, self.list_objects(listed, &mut met)),
+            Err(fault) => lower(Err(fault), declared),
+        };
+        let_go(met);
+        found
+    }
 }
