@@ -66,6 +66,24 @@ module _ {ps order left : List ℕ} {turn many : ℕ} (h : AreCounted ps order t
         λ there. is (child_gone ps order turn i c (is_there order turn c there)),
       )
 
+-- one place more is counted with its parent
+module _ {ps left : List ℕ} {place : ℕ} (h : AreCounted ps [] 0 place left) (low : parent_of ps place < length ps) where
+  abbrev over : ℕ
+  over = parent_of ps place
+
+  abbrev pub raised : List ℕ
+  raised = slice_set left over (number_at left over + 1)
+
+  pub counted_more : AreCounted ps [] 0 (place + 1) raised
+  counted_more = record {
+    long = length-set left over (number_at left over + 1) ∙ h.long;
+    each = λ i i_low. let next : suc place ≡ place + 1 = omega arith in subst (λ m. number_at raised i ≡ total (child_left ps [] 0 i) m) next (elim (cases_eq over i) as (λ _. number_at raised i ≡ total (child_left ps [] 0 i) (suc place)) [
+      | inl is ↦ subst (λ k. number_at raised k ≡ total (child_left ps [] 0 k) (suc place)) is
+          (omega (arith, get_or-set_same left over (number_at left over + 1) 0 (omega (arith, low, h.long)), h.each over low, child_still ps [] 0 over place refl refl))
+      | inr other ↦ omega (arith, get_or-set_other left over i (number_at left over + 1) 0 (λ e. other (sym e)), h.each i i_low, no_child ps [] 0 i place other)
+    ]);
+  }
+
 -- ---- leaves
 
 pub first_peeled : {ps left order : List ℕ} → AreCounted ps [] 0 (length ps) left → AreWithoutChildren left (length left) order → ArePeeled ps left order 0

@@ -5,12 +5,13 @@ use Rattle.pddl_forest.specs.Forests.{parent_of, up, IsUnder, number_at}
 use Rattle.pddl_forest.specs.Spans.{span_at, AreSpans}
 use Rattle.pddl_forest.specs.declared.spans.Span.{Span}
 use Rattle.pddl_forest.specs.Inner.Orders.{IsOrder}
-use Rattle.pddl_forest.specs.Inner.Sizes.{IsFrom, AreSized, AreNumbered, AreSpansOf}
+use Rattle.pddl_forest.specs.Inner.Sizes.{IsFrom, AreSized, first_of, AreNumbered}
 use Rattle.pddl_forest.proofs.ApartSpans.{held}
+use Rattle.pddl_forest.proofs.HeldRuns.{first_at, last_at}
 
-module _ {ps order sizes offsets first : List ℕ} (o : IsOrder ps order) (s : AreSized ps order sizes offsets 1) (f : AreNumbered ps order sizes offsets first (length order)) where
+module _ {ps order sizes offsets : List ℕ} {spans : List Span} (o : IsOrder ps order) (s : AreSized ps order sizes offsets 1) (f : AreNumbered ps order sizes offsets spans (length order)) where
   abbrev at : ℕ → ℕ
-  at i = number_at first i
+  at = first_of spans
 
   -- the number behind those of what is under a place
   abbrev end : ℕ → ℕ
@@ -108,15 +109,22 @@ module _ {ps order sizes offsets first : List ℕ} (o : IsOrder ps order) (s : A
             ]
       ]
 
-  pub are_spans : {spans : List Span} → AreSpansOf ps sizes first spans → AreSpans ps spans
-  are_spans {spans} l = record {
-    many = l.many;
-    some = λ i low. omega (arith, l.first_is i low, l.last_is i low, s.some i low);
-    low = λ i low. omega (arith, l.last_is i low, f.fits i (o.all i low));
+  -- the spans as they are read elsewhere
+  first_is : (i : ℕ) → i < length ps → (span_at spans i).first ≡ at i
+  first_is i low = first_at spans i (record { first = 0; last = 0 }) (omega (arith, low, f.long))
+
+  last_is : (i : ℕ) → i < length ps → (span_at spans i).last + 1 ≡ end i
+  last_is i low = omega (arith, last_at spans i (record { first = 0; last = 0 }) (omega (arith, low, f.long)), f.last i (o.all i low))
+
+  pub are_spans : AreSpans ps spans
+  are_spans = record {
+    many = f.long;
+    some = λ i low. omega (arith, first_is i low, last_is i low, s.some i low);
+    low = λ i low. omega (arith, last_is i low, f.fits i (o.all i low));
     under = λ i g low also.
-        let a = l.first_is i low in
-        let b = l.first_is g also in
-        let c = l.last_is g also in (
+        let a = first_is i low in
+        let b = first_is g also in
+        let c = last_is g also in (
           λ on.
               let (from, to) = and_parts (leb (span_at spans g).first (span_at spans i).first) (leb (span_at spans i).first (span_at spans g).last) on in
               let from = leb-true (span_at spans g).first (span_at spans i).first from in

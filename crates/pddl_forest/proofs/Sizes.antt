@@ -1,10 +1,12 @@
 -- How many places are under each, found in an order in which each comes behind its parent.
 use Rattle.std.proofs.Common.{◌≡◌, ◌≢◌, ℕ, suc, ◌+◌, ◌<◌, ◌≤◌, List, length, replicate, slice_set, refl, sym, ap, ◌∙◌, subst, arith, inl, inr, ◌⊎◌}
 use Rattle.std.proofs.lemmas.Bool.{cases_eq}
-use Rattle.std.proofs.lemmas.List.{get_or-set_same, get_or-set_other, get_or-replicate, length-set, length-replicate}
+use Rattle.std.proofs.lemmas.List.{get_or_default, get_or-set_same, get_or-set_other, get_or-replicate, length-set, length-replicate}
 use Rattle.pddl_forest.specs.Forests.{parent_of, number_at}
 use Rattle.pddl_forest.specs.Inner.Orders.{IsUpTo, IsOrder}
-use Rattle.pddl_forest.specs.Inner.Sizes.{IsFrom, AreSized, AreNumbered}
+use Rattle.pddl_forest.specs.Inner.Sizes.{IsFrom, AreSized, first_of, AreNumbered}
+use Rattle.pddl_forest.specs.declared.spans.Span.{Span}
+use Rattle.std.specs.List.{slice_index_or}
 use Rattle.pddl_forest.proofs.Lists.{few_places, one_turn}
 use Rattle.pddl_forest.proofs.Totals.{total_changed, total_low, total_few}
 
@@ -23,6 +25,10 @@ none_sized {ps} {order} o offsets long = record {
   apart = λ i k (u, past, low, is). absurd (omega (arith, past, low));
 }
 
+-- what stands for a span where there is none
+abbrev none : Span
+none = record { first = 0; last = 0 }
+
 -- the place of a turn, and its parent
 module _ {ps order : List ℕ} (o : IsOrder ps order) (turn : ℕ) (low : turn < length order) (later : turn ≢ 0) where
   abbrev place : ℕ
@@ -38,10 +44,10 @@ module _ {ps order : List ℕ} (o : IsOrder ps order) (turn : ℕ) (low : turn <
   over_low : over.0 < length order
   over_low = omega (arith, over.1, low)
 
-  place_low : place < length ps
+  pub place_low : place < length ps
   place_low = o.places.in_range turn low
 
-  parent_low : parent < length ps
+  pub parent_low : parent < length ps
   parent_low = o.within place place_low
 
   place_other : place ≢ 0
@@ -140,37 +146,69 @@ module _ {ps order : List ℕ} (o : IsOrder ps order) (turn : ℕ) (low : turn <
             ];
       }
 
-  -- ---- first numbers, from the beginning of the order
+  -- ---- spans, from the beginning of the order
 
-  module _ {sizes offsets first : List ℕ} (s : AreSized ps order sizes offsets 1) (h : AreNumbered ps order sizes offsets first turn) where
+  module _ {sizes offsets : List ℕ} {spans : List Span} (s : AreSized ps order sizes offsets 1) (h : AreNumbered ps order sizes offsets spans turn) where
     -- what is under the place has numbers within those of what is under its parent
-    pub number_fits : number_at first parent + number_at offsets place + number_at sizes place ≤ length ps
+    pub number_fits : first_of spans parent + number_at offsets place + number_at sizes place ≤ length ps
     number_fits =
         omega (arith, h.fits parent over, s.inside place (turn, omega (arith, later), low, refl))
 
-    module _ (number : ℕ) (number_is : number ≡ number_at first parent + number_at offsets place) where
-      abbrev first_of : ℕ → ℕ
-      first_of = number_at (slice_set first place number)
+    pub first_read : (read : Span) → read ≡ slice_index_or spans parent read → read.first ≡ first_of spans parent
+    first_read read is = ap (λ t. t.first) (is ∙ get_or_default spans parent read none (omega (arith, parent_low, h.long)))
 
-      set_here : first_of place ≡ number
-      set_here = get_or-set_same first place number 0 (omega (arith, h.long, place_low))
+    module _ (span : Span) (first_is : span.first ≡ first_of spans parent + number_at offsets place) (last_is : span.last + 1 ≡ span.first + number_at sizes place) where
+      abbrev next : List Span
+      next = slice_set spans place span
 
-      set_before : (i : ℕ) → IsUpTo order turn i → first_of i ≡ number_at first i
-      set_before i before = get_or-set_other first place i number 0 (before_place i before)
+      here : slice_index_or next place none ≡ span
+      here = get_or-set_same spans place span none (omega (arith, h.long, place_low))
 
-      pub numbered : AreNumbered ps order sizes offsets (slice_set first place number) (turn + 1)
+      before : (i : ℕ) → i ≢ place → slice_index_or next i none ≡ slice_index_or spans i none
+      before i other = get_or-set_other spans place i span none other
+
+      first_before : (i : ℕ) → IsUpTo order turn i → first_of next i ≡ first_of spans i
+      first_before i up_to = ap (λ t. t.first) (before i (before_place i up_to))
+
+      pub numbered : AreNumbered ps order sizes offsets next (turn + 1)
       numbered = record {
-        long = length-set first place number ∙ h.long;
-        start = get_or-set_other first place 0 number 0 (λ e. place_other (sym e)) ∙ h.start;
-        next = λ i up_to other. elim (here_or_before i up_to) as (λ _. first_of i ≡ first_of (parent_of ps i) + number_at offsets i) [
-          | inl is ↦ subst (λ k. first_of k ≡ first_of (parent_of ps k) + number_at offsets k) is (omega (arith, set_here, set_before parent over, number_is))
-          | inr before ↦
-              let v = o.behind before.0 (omega (arith, before.1, low)) (λ e. other (sym before.2 ∙ ap (number_at order) e ∙ o.start)) in
-              let over = set_before (parent_of ps i) (v.0, omega (arith, before.1, v.1), v.2 ∙ ap (parent_of ps) before.2) in
-              omega (arith, set_before i before, over, h.next i before other)
+        long = length-set spans place span ∙ h.long;
+        start = ap (λ t. t.first) (before 0 (λ e. place_other (sym e))) ∙ h.start;
+        next = λ i up_to other. elim (here_or_before i up_to) as (λ _. first_of next i ≡ first_of next (parent_of ps i) + number_at offsets i) [
+          | inl is ↦ subst (λ k. first_of next k ≡ first_of next (parent_of ps k) + number_at offsets k) is (omega (arith, ap (λ t. t.first) here, first_before parent over, first_is))
+          | inr earlier ↦
+              let v = o.behind earlier.0 (omega (arith, earlier.1, low)) (λ e. other (sym earlier.2 ∙ ap (number_at order) e ∙ o.start)) in
+              let above = first_before (parent_of ps i) (v.0, omega (arith, earlier.1, v.1), v.2 ∙ ap (parent_of ps) earlier.2) in
+              omega (arith, first_before i earlier, above, h.next i earlier other)
         ];
-        fits = λ i up_to. elim (here_or_before i up_to) as (λ _. first_of i + number_at sizes i ≤ length ps) [
-          | inl is ↦ subst (λ k. first_of k + number_at sizes k ≤ length ps) is (omega (arith, set_here, number_fits, number_is))
-          | inr before ↦ omega (arith, set_before i before, h.fits i before)
+        fits = λ i up_to. elim (here_or_before i up_to) as (λ _. first_of next i + number_at sizes i ≤ length ps) [
+          | inl is ↦ subst (λ k. first_of next k + number_at sizes k ≤ length ps) is (omega (arith, ap (λ t. t.first) here, number_fits, first_is))
+          | inr earlier ↦ omega (arith, first_before i earlier, h.fits i earlier)
+        ];
+        last = λ i up_to. elim (here_or_before i up_to) as (λ _. (slice_index_or next i none).last + 1 ≡ first_of next i + number_at sizes i) [
+          | inl is ↦ subst (λ k. (slice_index_or next k none).last + 1 ≡ first_of next k + number_at sizes k) is (omega (arith, ap (λ t. t.first) here, ap (λ t. t.last) here, last_is))
+          | inr earlier ↦ omega (arith, first_before i earlier, ap (λ t. t.last) (before i (before_place i earlier)), h.last i earlier)
         ];
       }
+
+-- place 0 alone
+pub top_numbered : {ps order sizes offsets : List ℕ} → IsOrder ps order → AreSized ps order sizes offsets 1 → (top : Span) → top.first ≡ 0 → top.last + 1 ≡ number_at sizes 0 → AreNumbered ps order sizes offsets (replicate (length ps) top) 1
+top_numbered {ps} {order} {sizes} o s top first_is last_is = record {
+  long = length-replicate (length ps) top;
+  start = ap (λ t. t.first) (is 0 first) ∙ first_is;
+  next = λ i up_to other. absurd (other (zeroth i up_to));
+  fits = λ i up_to. omega (arith, ap (λ t. t.first) (is i (low i up_to)), first_is, s.whole, ap (number_at sizes) (zeroth i up_to), ap (number_at sizes) o.start);
+  last = λ i up_to. omega (arith, ap (λ t. t.first) (is i (low i up_to)), ap (λ t. t.last) (is i (low i up_to)), first_is, last_is, ap (number_at sizes) (zeroth i up_to));
+}
+  where
+    is : (i : ℕ) → i < length ps → slice_index_or (replicate (length ps) top) i none ≡ top
+    is i low = get_or-replicate (length ps) i top none low
+
+    first : 0 < length ps
+    first = subst (λ i. i < length ps) o.start (o.places.in_range 0 o.some)
+
+    zeroth : (i : ℕ) → IsUpTo order 1 i → i ≡ 0
+    zeroth i (u, low, at) = let turn : u ≡ 0 = omega (arith, low) in sym at ∙ ap (number_at order) turn ∙ o.start
+
+    low : (i : ℕ) → IsUpTo order 1 i → i < length ps
+    low i up_to = subst (λ k. k < length ps) (sym (zeroth i up_to)) first

@@ -1,11 +1,11 @@
 //! Numbers for the places of a forest: each place behind its parent, and what is below a place directly behind it. So each place has a span.
 
-ghost use Rattle.std.specs.Prelude.{◌≡◌, ◌+◌, ◌≤◌, ◌<◌, ℕ, length, IfOk, IfSome};
-ghost use Rattle.pddl_forest.specs.Forests.{parent_of, number_at};
+ghost use Rattle.std.specs.Prelude.{◌≡◌, ◌<◌, ℕ, length, IfOk, IfSome};
+ghost use Rattle.pddl_forest.specs.Forests.{parent_of};
 ghost use Rattle.pddl_forest.specs.Spans.{AreSpans};
 ghost use Rattle.pddl_forest.specs.Rounds.{HasRound};
 ghost use Rattle.pddl_forest.specs.Inner.Orders.{IsOrder};
-ghost use Rattle.pddl_forest.specs.Inner.Sizes.{AreSized, AreNumbered, AreSpansOf};
+ghost use Rattle.pddl_forest.specs.Inner.Sizes.{AreSized, AreNumbered};
 
 use crate::ordering::ordered;
 use crate::places::{number_at, parent_of, put};
@@ -38,47 +38,30 @@ fn sizes_of<'a, B: Allocator>(
     Ok(sizes)
 }
 
-/// The number of each place.
-///
-/// Fails where memory for them is refused.
-fn first_numbers<'a, B: Allocator>(
-    alloc: &'a B,
-    parents: &[usize],
-    order: &[usize],
-    sizes: &[usize],
-    offsets: &[usize],
-) -> Result<Vec<usize, &'a B>, AllocError>
-    requires order { IsOrder parents.now order.now }
-    requires sizes { AreSized parents.now order.now sizes.now offsets.now 1 }
-    ensures { IfOk result (λ first. AreNumbered parents.now order.now sizes.now offsets.now first.items (length order.now)) }
-{
-    let mut first = vec![in alloc; 0; parents.len()]?;
-    for turn in 1..order.len() {
-        let place = order[turn];
-        let number = number_at(&first, parent_of(parents, place)) + number_at(offsets, place);
-        put(&mut first, place, number);
-    }
-    Ok(first)
-}
-
 /// The span of each place: from its number to the last of those of the places under it.
 ///
 /// Fails where memory for them is refused.
 fn spans_of<'a, B: Allocator>(
     alloc: &'a B,
     parents: &[usize],
+    order: &[usize],
     sizes: &[usize],
-    first: &[usize],
+    offsets: &[usize],
 ) -> Result<Vec<Span, &'a B>, AllocError>
-    requires some { (i : ℕ) → i < length parents.now → 0 < number_at sizes.now i }
-    requires fits { (i : ℕ) → i < length parents.now → number_at first.now i + number_at sizes.now i ≤ length parents.now }
-    ensures { IfOk result (λ spans. AreSpansOf parents.now sizes.now first.now spans.items) }
+    requires order { IsOrder parents.now order.now }
+    requires sizes { AreSized parents.now order.now sizes.now offsets.now 1 }
+    ensures { IfOk result (λ spans. AreNumbered parents.now order.now sizes.now offsets.now spans.items (length order.now)) }
 {
-    let mut spans = Vec::with_capacity(alloc, parents.len())?;
-    for place in 0..parents.len() {
-        let first = number_at(first, place);
+    let top = Span {
+        first: 0,
+        last: number_at(sizes, 0) - 1,
+    };
+    let mut spans = vec![in alloc; top; parents.len()]?;
+    for turn in 1..order.len() {
+        let place = order[turn];
+        let first = spans[parent_of(parents, place)].first + number_at(offsets, place);
         let last = first + number_at(sizes, place) - 1;
-        spans.push(Span { first, last })?;
+        spans[place] = Span { first, last };
     }
     Ok(spans)
 }
@@ -96,8 +79,7 @@ fn numbered<'a, B: Allocator>(
 {
     let mut offsets = vec![in alloc; 0; parents.len()]?;
     let sizes = sizes_of(alloc, parents, order, &mut offsets)?;
-    let first = first_numbers(alloc, parents, order, &sizes, &offsets)?;
-    spans_of(alloc, parents, &sizes, &first)
+    spans_of(alloc, parents, order, &sizes, &offsets)
 }
 
 /// The spans of the places whose parents stand at these places, or `None` where a way from parent to parent goes round, other than from place 0 to itself.

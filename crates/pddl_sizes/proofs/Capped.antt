@@ -1,5 +1,5 @@
 -- Sums and products of sizes can be capped part by part.
-use Rattle.std.proofs.Common.{◌≡◌, ℕ, zero, suc, ◌*◌, ◌≤◌, List, [], ◌∷◌, ap, arith, inl, inr}
+use Rattle.std.proofs.Common.{◌≡◌, ℕ, zero, suc, ◌*◌, List, [], ◌∷◌, ap, arith, inl, inr}
 use Rattle.std.proofs.lemmas.Bool.{cases_eq}
 use Rattle.pddl_formula.specs.TypedLists.{TypedValue}
 use Rattle.pddl_task.specs.Names.{Name}
@@ -13,7 +13,3 @@ capped_product (suc n) a b same =
 pub quantified : (count : List Name → ℕ) (xs : List TypedValue) (b n : ℕ) → b ≡ capped n → capped (quantifier_size count xs b) ≡ capped (quantifier_size count xs n)
 quantified count [] b n is = omega (arith, is)
 quantified count (x ∷ xs) b n is = let part = capped_product (count x.of) _ _ (quantified count xs b n is) in omega (arith, part)
-
--- a capped size is within the limit
-pub within : (r n : ℕ) → r ≡ capped n → r ≤ 1000001
-within r n is = omega (arith, is)

@@ -1,3 +1,4 @@
 pub mod Capped
 pub mod ListSums
 pub mod ObjectSums
+pub mod SharedTypes

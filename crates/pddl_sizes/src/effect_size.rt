@@ -12,7 +12,7 @@ use std::alloc::Allocator;
 
 /// The ground size of an effect, or 1,000,001 where it is more than 1,000,000.
 #[cycle(sizes)]
-#[tactic(auto, using(crate::proofs::Capped::within, pddl_effect::specs::declared::effect::Effect::TheFolds::the_lemmas))]
+#[tactic(auto, using(pddl_effect::specs::declared::effect::Effect::TheFolds::the_lemmas))]
 pub fn effect_ground_size<A: Allocator, C: FittingCount<A>>(counts: &C, effect: &Effect<A>) -> u32
     ensures { result ≡ capped (effect_size (C.count counts.now) (effect_view effect.now)) }
 {
@@ -32,7 +32,7 @@ pub fn effect_ground_size<A: Allocator, C: FittingCount<A>>(counts: &C, effect: 
 
 /// The ground sizes of effects, added up, or 1,000,001 where that is more than 1,000,000.
 #[cycle(sizes)]
-#[tactic(auto, using(crate::proofs::Capped::within, pddl_effect::specs::declared::effect::Effect::TheFolds::the_lemmas))]
+#[tactic(auto, using(pddl_effect::specs::declared::effect::Effect::TheFolds::the_lemmas))]
 fn effect_ground_sizes<A: Allocator, C: FittingCount<A>>(counts: &C, effects: &[Effect<A>]) -> u32
     ensures { result ≡ capped (effects_size (C.count counts.now) (effects_of (map effect_view effects.now))) }
 {

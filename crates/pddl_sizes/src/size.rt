@@ -1,7 +1,7 @@
 //! Ground sizes, without writing any quantifier out.
 
-ghost use Rattle.std.specs.Prelude.{◌≡◌, ◌<◌, ◌≤◌, ◌+◌, ◌*◌, List, ℕ, map, length, slice_get, Some};
-ghost use Rattle.pddl_formula.specs.TypedLists.{TypedValue, typed_view};
+ghost use Rattle.std.specs.Prelude.{◌≡◌, ◌+◌, ◌*◌, List, ℕ, map};
+ghost use Rattle.pddl_formula.specs.TypedLists.{typed_view};
 ghost use Rattle.pddl_formula.specs.Formulas.{formula_view, formulas_of};
 ghost use Rattle.pddl_task.specs.GroundSize.{capped, quantifier_size, formula_size, formulas_size};
 
@@ -21,54 +21,33 @@ pub trait FittingCount<A: Allocator> {
 
 /// The sum of two sizes.
 pub fn sum(a: u32, b: u32) -> u32
-    requires first { a ≤ 1000001 }
-    requires second { b ≤ 1000001 }
     ensures { result ≡ capped (a + b) }
 {
-    (a + b).min(1_000_001)
+    a.saturating_add(b).min(1_000_001)
 }
 
 /// A size, so many times.
 fn product(n: usize, size: u32) -> u32
-    requires { size ≤ 1000001 }
     ensures { result ≡ capped (n * size) }
 {
     let n = n.min(1_000_001) as u64;
     (n * size as u64).min(1_000_001) as u32
 }
 
-/// How many objects fit the type of a variable, where so many fit that of the one behind it, which may share its type.
-fn count_of<A: Allocator, C: FittingCount<A>>(
-    counts: &C,
-    variables: &TypedList<A>,
-    place: usize,
-    behind: usize,
-) -> usize
-    requires within { place < length variables.now.items }
-    requires behind { (y : TypedValue) → slice_get (map typed_view variables.now.items) (place + 1) ≡ Some y → behind ≡ C.count counts.now y.of }
-    ensures { (x : TypedValue) → slice_get (map typed_view variables.now.items) place ≡ Some x → result ≡ C.count counts.now x.of }
-{
-    if variables.shares(place + 1) {
-        behind
-    } else {
-        counts.fitting_count(&variables[place].types)
-    }
-}
-
 /// The size of a quantifier over variables, where what is quantified has a size. How many objects fit is counted once for each group of variables.
-#[tactic(auto, using(crate::proofs::Capped::within))]
 pub fn quantifier_size<A: Allocator, C: FittingCount<A>>(
     counts: &C,
     variables: &TypedList<A>,
     body: u32,
 ) -> u32
-    requires { body ≤ 1000001 }
     ensures { result ≡ capped (quantifier_size (C.count counts.now) (map typed_view variables.now.items) body) }
 {
     let mut size = sum(1, body);
     let mut count = 0;
     for i in (0..variables.len()).rev() {
-        count = count_of(counts, variables, i, count);
+        if !variables.shares(i + 1) {
+            count = counts.fitting_count(&variables[i].types);
+        }
         size = sum(1, product(count, size));
     }
     size
@@ -76,7 +55,6 @@ pub fn quantifier_size<A: Allocator, C: FittingCount<A>>(
 
 /// The ground size of a formula, or 1,000,001 where it is more than 1,000,000.
 #[cycle(sizes)]
-#[tactic(auto, using(crate::proofs::Capped::within, pddl_formula::specs::declared::formula::Formula::TheFolds::the_lemmas))]
 pub fn ground_size<A: Allocator, C: FittingCount<A>>(counts: &C, formula: &Formula<A>) -> u32
     ensures { result ≡ capped (formula_size (C.count counts.now) (formula_view formula.now)) }
 {
@@ -97,7 +75,6 @@ pub fn ground_size<A: Allocator, C: FittingCount<A>>(counts: &C, formula: &Formu
 
 /// The ground sizes of formulas, added up, or 1,000,001 where that is more than 1,000,000.
 #[cycle(sizes)]
-#[tactic(auto, using(crate::proofs::Capped::within, pddl_formula::specs::declared::formula::Formula::TheFolds::the_lemmas))]
 fn ground_sizes<A: Allocator, C: FittingCount<A>>(counts: &C, formulas: &[Formula<A>]) -> u32
     ensures { result ≡ capped (formulas_size (C.count counts.now) (formulas_of (map formula_view formulas.now))) }
 {

@@ -1,9 +1,10 @@
 -- Tops of types that are told by number.
-use Rattle.std.proofs.Common.{◌≡◌, ℕ, ◌+◌, ◌-◌, ◌<◌, ◌≤◌, List, [], ◌∷◌, ◌++◌, length, take, refl, sym, ap, ◌∙◌, subst, arith}
+use Rattle.std.proofs.Common.{◌≡◌, ℕ, zero, suc, ◌+◌, ◌-◌, ◌<◌, ◌≤◌, List, [], ◌∷◌, ◌++◌, length, take, refl, sym, ap, ◌∙◌, subst, arith}
 use Rattle.std.specs.Prelude.{Some, slice_get}
 use Rattle.std.specs.List.{slice_index_or}
 use Rattle.std.proofs.lemmas.List.{length-append, take_all, get_or_append_left, get_or_push}
 use Rattle.std.proofs.lemmas.Option.{slice_get_within, get_or_from_slice_get}
+use Rattle.pddl_forest.specs.Spans.{AreApart}
 use Rattle.pddl_forest.specs.declared.spans.Span.{Span}
 use Rattle.pddl_formula.specs.TypedLists.{TypedValue}
 use Rattle.pddl_formula.specs.Groups.{HaveOneType}
@@ -11,7 +12,7 @@ use Rattle.pddl_domain.specs.Declarations.{Signature}
 use Rattle.pddl_task.specs.Names.{Name}
 use Rattle.pddl_task.proofs.Lists.{some_at}
 use Rattle.pddl_types.specs.TypeSpans.{TypesValue, IsTold}
-use Rattle.pddl_types.specs.ToldTops.{IsToldAt, AreToldAt, AreKept, SlotsValue, AreSlotTops}
+use Rattle.pddl_types.specs.ToldTops.{IsToldAt, AreToldAt, AreAllApart, AreKept, SlotsValue, AreSlotTops}
 use Rattle.pddl_types.proofs.HeldEach.{both_more, each_none, each_next, each_still}
 use Rattle.pddl_types.proofs.SharedTypes.{of_next}
 
@@ -38,6 +39,12 @@ kept_all t before after items numbers kept told = each_still (IsToldAt t before)
 
 pub kept_more : (told : List (List Span)) (tops : List Span) → AreKept told (told ++ tops ∷ [])
 kept_more told tops k low = (omega (arith, length-append told (tops ∷ []), low), get_or_append_left told (tops ∷ []) [] k low)
+
+pub apart_more : (told : List (List Span)) (tops : List Span) → AreAllApart told → AreApart tops → AreAllApart (told ++ tops ∷ [])
+apart_more [] tops all own zero = own
+apart_more [] tops all own (suc k) = all 0
+apart_more (t ∷ told) tops all own zero = all 0
+apart_more (t ∷ told) tops all own (suc k) = apart_more told tops (λ j. all (suc j)) own k
 
 pub told_last : (t : TypesValue) (told : List (List Span)) (names : List Name) (tops : List Span) (number : ℕ) → number ≡ length told → IsTold t names tops → IsToldAt t (told ++ tops ∷ []) names number
 told_last t told names tops number is tell = (omega (arith, is, length-append told (tops ∷ [])), subst (IsTold t names) (sym (get_or_push told tops [] number (sym is))) tell)

@@ -37,9 +37,9 @@ fn slots_of<'m, 'a, A: Allocator, B: Allocator>(
     ensures { IfOk result (AreSlotTops types.now ((domain_view domain.now).predicates ++ function_signatures (domain_view domain.now))) }
 {
     let mut slots = SlotTops::new(alloc);
-    slots.add(types, &domain.predicates)?;
-    slots.add(types, &domain.functions)?;
-    Ok(slots)
+    let predicates = slots.add(types, &domain.predicates);
+    let functions = slots.add(types, &domain.functions);
+    predicates.and(functions).and(Ok(slots))
 }
 
 impl<'m, 'a, A: Allocator, B: Allocator> Declared<'m, 'a, A, B> {

@@ -49,7 +49,6 @@ impl<'t, 'm, 'a, A: Allocator, B: Allocator> Fitting<'t, 'm, 'a, A, B> {
     ) -> Result<Vec<usize, &'b C>, AllocError>
         ensures { IfOk result (λ numbers. numbers.items ≡ places_from 0 (λ o. fits (pairs self.now.types.now.declared) o.of slot.now) (map object_in self.now.listed.now.objects.entries)) }
     {
-        self.types.tops_tell();
         let tops = self.types.tops(alloc, slot)?;
         self.order.objects_under(alloc, &self.listed.spans, &tops)
     }
@@ -66,7 +65,6 @@ impl<'t, 'm, 'a, A: Allocator, B: Allocator, N: Allocator> FittingCount<N>
     ghost count = { λ fitting slot. fitting_count (pairs fitting.types.now.declared) (map object_in fitting.listed.now.objects.entries) slot };
 
     fn fitting_count(&self, types: &TypeNames<N>) -> usize {
-        self.types.tops_tell();
         match self.types.tops(*self.listed.spans.allocator(), types) {
             Ok(tops) => self.order.count(&self.listed.spans, &tops),
             Err(_) => self.count_each(types),

@@ -1,6 +1,6 @@
 //! The tops of types, told one after another.
 
-ghost use Rattle.std.specs.Prelude.{◌≡◌, [], map, IfOk};
+ghost use Rattle.std.specs.Prelude.{◌≡◌, [], map, IfOk, OnOk};
 ghost use Rattle.std.specs.List.{slice_index_or};
 ghost use Rattle.pddl_formula.specs.TypedLists.{typed_view};
 ghost use Rattle.pddl_forest.specs.Spans.{AreApart};
@@ -59,6 +59,29 @@ impl<'a, B: Allocator> ToldTops<'a, B> {
         Ok(number)
     }
 
+    /// Tells the types of a list's items, each once for a group, and puts their numbers into an empty list.
+    ///
+    /// Fails where memory for them is refused.
+    fn tell_each<'m, 't, 'c, A: Allocator, C: Allocator, N: Allocator, D: Allocator>(
+        &mut self,
+        types: &Types<'m, 't, A, C>,
+        list: &TypedList<N>,
+        numbers: &mut Vec<usize, &'c D>,
+    ) -> Result<(), AllocError>
+        requires { numbers.old.items ≡ [] }
+        ensures kept { AreKept self.old self.new }
+        ensures numbers { OnOk result (AreToldAt types.now self.new (map typed_view list.now.items) numbers.new.items) }
+    {
+        let mut number = 0;
+        for place in 0..list.len() {
+            if !list.shares(place) {
+                number = self.tell(types, &list[place].types)?;
+            }
+            numbers.push(number)?;
+        }
+        Ok(())
+    }
+
     /// The numbers of the types of a list's items, each told once for a group.
     ///
     /// Fails where memory for them is refused.
@@ -72,14 +95,7 @@ impl<'a, B: Allocator> ToldTops<'a, B> {
         ensures numbers { IfOk result (λ numbers. AreToldAt types.now self.new (map typed_view list.now.items) numbers.items) }
     {
         let mut numbers = Vec::with_capacity(alloc, list.len())?;
-        let mut number = 0;
-        for place in 0..list.len() {
-            if !list.shares(place) {
-                number = self.tell(types, &list[place].types)?;
-            }
-            numbers.push(number)?;
-        }
-        Ok(numbers)
+        self.tell_each(types, list, &mut numbers).and(Ok(numbers))
     }
 
     /// The tops of the type of a number, or none where no type has it.

@@ -1,6 +1,6 @@
 //! The types of a domain with their parents, looked up by name.
 
-ghost use Rattle.std.specs.Prelude.{◌≡◌, ◌<◌, ◌⊎◌, ℕ, List, suc, [], IsTrue, map, not, filter, length, slice_get, Some, IfOk};
+ghost use Rattle.std.specs.Prelude.{◌≡◌, ◌<◌, ◌⊎◌, ℕ, List, suc, [], IsTrue, map, not, filter, length, slice_get, Some, IfOk, OnOk};
 ghost use Rattle.std.specs.List.{flat_map, list_any};
 ghost use Rattle.pddl_formula.specs.TypedLists.{TypedValue, typed_view};
 ghost use Rattle.pddl_domain.specs.Declarations.{type_view};
@@ -14,6 +14,7 @@ ghost use Rattle.pddl_types.specs.TypeSpans.{span_of, IsTold, DoTell, are_types,
 
 use crate::type_table::{parent_table, spans_of};
 use indexmap::IndexMap;
+use pddl_build::both_made;
 use pddl_domain::{DeclaredType, DeclaredTypes};
 use pddl_faults::LinkFault;
 use pddl_forest::{Span, hold_all, keep_tops};
@@ -63,7 +64,8 @@ impl<'m, 'a, A: Allocator, B: Allocator> Types<'m, 'a, A, B> {
         ensures cycle { Passes 22 (cycle_in (map type_view declared.now.items)) result }
     {
         let parents = parent_table(alloc, hashed, declared)?;
-        let spans = spans_of(alloc, &parents, declared)?;
+        let spans = spans_of(alloc, &parents, declared);
+        let (parents, spans) = both_made(Ok(parents), spans)?;
         Ok(Types {
             declared: declared.as_slice(),
             parents,
@@ -112,13 +114,6 @@ impl<'m, 'a, A: Allocator, B: Allocator> Types<'m, 'a, A, B> {
         self.contains(sub) && self.contains(over) && self.span(over).holds(self.span(sub).first)
     }
 
-    /// Law: tops of a slot tell what is under some of its primitives.
-    pub fn tops_tell(&self)
-        ensures { DoTell self.now }
-    {
-        let _ = &self.spans;
-    }
-
     /// Whether a term of a type of which the first spans are told fits a slot of which the second are. One of the two types has known primitives.
     pub fn fits(&self, told: &[Span], tops: &[Span]) -> bool
         requires tops { AreApart tops.now }
@@ -143,7 +138,8 @@ impl<'m, 'a, A: Allocator, B: Allocator> Types<'m, 'a, A, B> {
         false
     }
 
-    /// The tops of a type's primitives: their spans but for those that begin within another, in the order of their numbers.
+    /// The tops of a type's primitives: their spans but for those that begin within another, in the order of their numbers. Tops tell what is under some
+    /// primitive.
     ///
     /// Fails where memory for them is refused.
     pub fn tops<'c, N: Allocator, C: Allocator>(
@@ -151,7 +147,8 @@ impl<'m, 'a, A: Allocator, B: Allocator> Types<'m, 'a, A, B> {
         alloc: &'c C,
         types: &TypeNames<N>,
     ) -> Result<Vec<Span, &'c C>, AllocError>
-        ensures { IfOk result (λ tops. IsTold self.now types.now tops.items) }
+        ensures told { IfOk result (λ tops. IsTold self.now types.now tops.items) }
+        ensures tell { OnOk result (DoTell self.now) }
     {
         let _ = &self.spans;
         let primitives = types.as_slice();
@@ -180,28 +177,14 @@ impl<'m, 'a, A: Allocator, B: Allocator> Types<'m, 'a, A, B> {
         Ok(())
     }
 
-    /// The primitives of the type of an item are types, where those of the item before it are, whose type it may share.
-    fn known_item<'d, T: Allocator>(
-        &self,
-        typed: &'d TypedList<T>,
-        place: usize,
-    ) -> Result<(), LinkFault<'d>>
-        requires within { place < length typed.now.items }
-        requires before { (j : ℕ) (x : TypedValue) → suc j ≡ place → slice_get (map typed_view typed.now.items) j ≡ Some x → filter (λ t. not (is_in (types_of self.now.declared) t)) x.of ≡ [] }
-        ensures { (x : TypedValue) → slice_get (map typed_view typed.now.items) place ≡ Some x → Passes 23 (filter (λ t. not (is_in (types_of self.now.declared) t)) x.of) result }
-    {
-        if typed.shares(place) {
-            return Ok(());
-        }
-        self.known_primitives(&typed[place].types)
-    }
-
     /// The primitive types of what is typed are types, which is looked at once for each group.
     pub fn known<'d, T: Allocator>(&self, typed: &'d TypedList<T>) -> Result<(), LinkFault<'d>>
         ensures { Passes 23 (filter (λ t. not (is_in (types_of self.now.declared) t)) (flat_map primitives_of (map typed_view typed.now.items))) result }
     {
         for place in 0..typed.len() {
-            self.known_item(typed, place)?;
+            if !typed.shares(place) {
+                self.known_primitives(&typed[place].types)?;
+            }
         }
         Ok(())
     }

@@ -1,7 +1,7 @@
 -- How many places are under each, and by how much its number is above that of its parent, as far as they are found. No public contract names these.
 use Rattle.std.specs.Prelude.{◌≡◌, ◌≢◌, ◌+◌, ◌≤◌, ◌<◌, ℕ, List, length}
+use Rattle.std.specs.List.{slice_index_or}
 use Rattle.pddl_forest.specs.Forests.{parent_of, number_at}
-use Rattle.pddl_forest.specs.Spans.{span_at}
 use Rattle.pddl_forest.specs.declared.spans.Span.{Span}
 use Rattle.pddl_forest.specs.Inner.Orders.{IsUpTo, total}
 
@@ -20,15 +20,14 @@ pub record AreSized (ps order sizes offsets : List ℕ) (turn : ℕ) : Type 0 wh
   pub inside : (i : ℕ) → IsFrom order turn i → number_at offsets i + number_at sizes i ≤ number_at sizes (parent_of ps i)
   pub apart : (i k : ℕ) (u : IsFrom order turn i) (w : IsFrom order turn k) → u.0 < w.0 → parent_of ps k ≡ parent_of ps i → number_at offsets k + number_at sizes k ≤ number_at offsets i
 
--- The number of each place before a turn is so much above that of its parent, and what is under it has smaller numbers than there are places.
-pub record AreNumbered (ps order sizes offsets first : List ℕ) (turn : ℕ) : Type 0 where
-  pub long : length first ≡ length ps
-  pub start : number_at first 0 ≡ 0
-  pub next : (i : ℕ) → IsUpTo order turn i → i ≢ 0 → number_at first i ≡ number_at first (parent_of ps i) + number_at offsets i
-  pub fits : (i : ℕ) → IsUpTo order turn i → number_at first i + number_at sizes i ≤ length ps
+-- the number of a place, by its span
+abbrev pub first_of : List Span → ℕ → ℕ
+first_of spans i = (slice_index_or spans i (record { first = 0; last = 0 })).first
 
--- the span of each place: as many numbers as places are under it, from its own
-pub record AreSpansOf (ps sizes first : List ℕ) (spans : List Span) : Type 0 where
-  pub many : length spans ≡ length ps
-  pub first_is : (i : ℕ) → i < length ps → (span_at spans i).first ≡ number_at first i
-  pub last_is : (i : ℕ) → i < length ps → (span_at spans i).last + 1 ≡ number_at first i + number_at sizes i
+-- Each place before a turn has as many numbers as places are under it, from its own, which is so much above that of its parent, and all are below the number of places.
+pub record AreNumbered (ps order sizes offsets : List ℕ) (spans : List Span) (turn : ℕ) : Type 0 where
+  pub long : length spans ≡ length ps
+  pub start : first_of spans 0 ≡ 0
+  pub next : (i : ℕ) → IsUpTo order turn i → i ≢ 0 → first_of spans i ≡ first_of spans (parent_of ps i) + number_at offsets i
+  pub fits : (i : ℕ) → IsUpTo order turn i → first_of spans i + number_at sizes i ≤ length ps
+  pub last : (i : ℕ) → IsUpTo order turn i → (slice_index_or spans i (record { first = 0; last = 0 })).last + 1 ≡ first_of spans i + number_at sizes i

@@ -1,6 +1,7 @@
-use Rattle.std.proofs.Common.{arith}
+use Rattle.std.proofs.Common.{length, arith}
+use Rattle.std.proofs.lemmas.List.{get_or-replicate, length-replicate}
 use Rattle.pddl_forest.specs.Forests.{parent_of}
-use Rattle.pddl_forest.proofs.Peels.{few_children}
+use Rattle.pddl_forest.proofs.Peels.{few_children, counted_more}
 use Rattle.pddl_forest.proofs.peeling.children_of.Goals as goal
 
 pub overflow_add-more : goal.overflow_add-more
@@ -10,3 +11,13 @@ overflow_add-more g c =
     let few = few_children c.loop-place.invariant (parent_of parents place) (c.requires place c.loop-place-test.true) in
     let is = rw (c.deref.ensures.value, c.parent_of-parent.ensures) at c.number_at-more.ensures in
     omega (arith, is, few, c.loop-place-test.true)
+
+pub loop-place-init : goal.loop-place-init
+loop-place-init g c =
+    let many = length c.args.parents.now in
+    rw (c.in_ok-left.ensures.items_if_clones_equal (λ _ same. same)) record { long = length-replicate many 0; each = λ i low. get_or-replicate many i 0 0 low }
+
+pub loop-place-preserved : goal.loop-place-preserved
+loop-place-preserved g c =
+    let is = rw (c.deref.ensures.value, c.parent_of-parent.ensures) at c.number_at-more.ensures in
+    rw (c.put.ensures, c.parent_of-parent.ensures, is) (counted_more c.loop-place.invariant (c.requires c.loop-place.place c.loop-place-test.true))

@@ -4,7 +4,7 @@ use Rattle.pddl_sizes.proofs.Capped.{quantified}
 use Rattle.pddl_faults.proofs.ViewTurns.{formulas-drop}
 use Rattle.pddl_formula.proofs.formula.Formula.TheLaws.{the_size}
 use Rattle.pddl_formula.proofs.Views.{view_atom, view_equal, view_not, view_imply, view_and, view_or, view_exists, view_forall}
-use Rattle.pddl_formula.proofs.Depths.{under_and, under_or}
+use Rattle.pddl_formula.proofs.Depths.{among, under_not, under_imply, under_and, under_or, under_exists, under_forall}
 use denote.Param.Weighed.{most}
 use Rattle.pddl_sizes.proofs.size.+sizes.Goals as goal
 
@@ -51,3 +51,31 @@ ground_size-ground_sizes-requires g t c κs within =
       | inr is ↦ under_or g.row.A g.A.Allocator g.A.laws f parts _ is c.deref-in-And.ensures.value
     ] in
     (omega (arith, less, c.decreases), within)
+
+pub ground_size-ground_size-requires : goal.ground_size-ground_size-requires
+ground_size-ground_size-requires g t c κs within =
+    (omega (arith, under_not g.row.A g.A.Allocator g.A.laws c.args.formula.now c.deref.result.now _ c.in-Not.is c.deref.ensures, c.decreases), within)
+
+pub ground_size-ground_size-first-requires : goal.ground_size-ground_size-first-requires
+ground_size-ground_size-first-requires g t c κs within =
+    let less = under_imply g.row.A g.A.Allocator g.A.laws c.args.formula.now c.deref-in-Imply.result.now c.in-Imply.second.value _ _ c.in-Imply.is c.deref-in-Imply.ensures refl in
+    (omega (arith, less.0, c.decreases), within)
+
+pub ground_size-ground_size-second-requires : goal.ground_size-ground_size-second-requires
+ground_size-ground_size-second-requires g t c κs within =
+    let less = under_imply g.row.A g.A.Allocator g.A.laws c.args.formula.now c.in-Imply.first.value c.deref-in-Imply-2.result.now _ _ c.in-Imply.is refl c.deref-in-Imply-2.ensures in
+    (omega (arith, less.1, c.decreases), within)
+
+pub ground_size-ground_size-requires-in-Exists : goal.ground_size-ground_size-requires-in-Exists
+ground_size-ground_size-requires-in-Exists g t c κs within =
+    let f = c.args.formula.now in
+    let inner = c.deref-in-Exists.result.now in
+    let less : the_size g.row.A g.A.Allocator g.A.laws inner < the_size g.row.A g.A.Allocator g.A.laws f = elim c.in-Exists.is [
+      | inl is ↦ under_exists g.row.A g.A.Allocator g.A.laws f inner _ _ is c.deref-in-Exists.ensures
+      | inr is ↦ under_forall g.row.A g.A.Allocator g.A.laws f inner _ _ is c.deref-in-Exists.ensures
+    ] in
+    (omega (arith, less, c.decreases), within)
+
+pub ground_sizes-ground_size-requires : goal.ground_sizes-ground_size-requires
+ground_sizes-ground_size-requires g t c κs within =
+    (omega (arith, among (the_size g.row.A g.A.Allocator g.A.laws) c.args.formulas.now c.loop-formula.formula-index c.formula-item.result c.loop-formula-test.true c.formula-item.is, c.decreases), within)

@@ -1,9 +1,11 @@
-use Rattle.std.proofs.Common.{◌∷◌, ◌≡◌, suc, drop, drop-cons, ◌<◌, ◌≤◌, ◌-◌, ◌∙◌, [], get_or, map, length, sym, ap, arith}
+use Rattle.std.proofs.Common.{◌∷◌, ◌≡◌, suc, drop, drop-cons, ◌<◌, ◌≤◌, ◌-◌, ◌∙◌, [], get_or, slice_get, Some, map, length, sym, ap, arith}
 use Rattle.std.proofs.lemmas.List.{drop_all, length-map}
 use Rattle.std.proofs.lemmas.Option.{slice_get_past, slice_get-get_or}
 use Rattle.pddl_formula.specs.TypedLists.{TypedValue, typed_view}
 use Rattle.pddl_task.specs.GroundSize.{capped, quantifier_size}
 use Rattle.pddl_sizes.proofs.Capped.{capped_product}
+use Rattle.pddl_sizes.proofs.SharedTypes.{type_at}
+use Rattle.pddl_sizes.proofs.size.quantifier_size.Goals.{then-not-shares, else-not-shares}
 use Rattle.pddl_sizes.proofs.size.quantifier_size.Goals as goal
 
 pub loop-i-init : goal.loop-i-init
@@ -13,19 +15,29 @@ loop-i-init g c =
     let past : length all ≤ c.len-i.result = omega (arith, length-map items typed_view, c.len-i.ensures) in
     record {
       so_far = c.sum-size.ensures ∙ ap (λ ys. capped (quantifier_size (g.C.FittingCount.count c.args.counts.now) ys c.args.body)) (sym (drop_all c.len-i.result all past));
-      last = λ x at. let none = slice_get_past all c.len-i.result past in absurd (cc);
+      last = λ x at. let none = slice_get_past all c.len-i.result past in cc;
     }
 
 pub loop-i-preserved : goal.loop-i-preserved
 loop-i-preserved g c =
     let l = c.loop-i in
-    let all = map typed_view c.args.variables.now.items in
+    let items = c.args.variables.now.items in
+    let all = map typed_view items in
     let count = g.C.FittingCount.count c.args.counts.now in
+    let low : l.i - 1 < length items = omega (arith, c.loop-i-test.true, l.auto.i, c.len-i.ensures) in
+    let next : suc (l.i - 1) ≡ l.i = omega (arith, c.loop-i-test.true) in
+    let told : (x : TypedValue) → slice_get all (l.i - 1) ≡ Some x → c.if-not-shares.count ≡ count x.of = elim c.if-not-shares.branch [
+      | then-not-shares w ↦ λ x at. w.count-is ∙ w.fitting_count-count.ensures ∙ ap count (type_at items w.deref.result.now (l.i - 1) w.index-deref-i.result x w.deref.ensures.value low w.index-deref-i.is at)
+      | else-not-shares w ↦ λ x at.
+          let one = c.shares.ensures.same w.if-not-shares.false in
+          let same : Some one.0 ≡ Some x = sym one.2 ∙ ap (slice_get all) (omega arith) ∙ at in
+          let is : one.0 ≡ x = cc in
+          w.count-is ∙ l.invariant.last one.1 (ap (slice_get all) (omega (arith, c.loop-i-test.true)) ∙ one.3) ∙ ap count (sym one.4 ∙ ap (λ (z : TypedValue). z.of) is)
+    ] in
     let none : TypedValue = record { item = []; of = [] } in
     let x = get_or all (l.i - 1) none in
-    let low : l.i - 1 < length all = omega (arith, length-map c.args.variables.now.items typed_view, c.loop-i-test.true, l.auto.i) in
-    let next : suc (l.i - 1) ≡ l.i = omega (arith, c.loop-i-test.true) in
-    let front : drop (l.i - 1) all ≡ x ∷ drop l.i all = drop-cons all (l.i - 1) none low ∙ ap (λ n. x ∷ drop n all) next in
+    let inside : l.i - 1 < length all = omega (arith, length-map items typed_view, low) in
+    let front : drop (l.i - 1) all ≡ x ∷ drop l.i all = drop-cons all (l.i - 1) none inside ∙ ap (λ n. x ∷ drop n all) next in
     let part = capped_product (count x.of) l.size (quantifier_size count (drop l.i all) c.args.body) (omega (arith, l.invariant.so_far)) in
-    let product = rw (c.count_of-count.ensures x (slice_get-get_or all (l.i - 1) _ low)) at c.product.ensures in
-    record { so_far = rw front (omega (arith, part, product, c.sum-size-in-loop-i.ensures)); last = c.count_of-count.ensures }
+    let product = rw (told x (slice_get-get_or all (l.i - 1) _ inside)) at c.product.ensures in
+    record { so_far = rw front (omega (arith, part, product, c.sum-size-in-loop-i.ensures)); last = told }

@@ -7,4 +7,4 @@ pub returns-in-Ok : goal.returns-in-Ok
 returns-in-Ok g c =
     let f = c.args.self.now in
     c.count.ensures
-    ∙ fitting_many c.args.types.now c.tops_tell.ensures f.single f.objects.spans c.deref.ensures.value (subst (IsTold f.types.now c.args.types.now) (sym c.deref-in-Ok.ensures.value) c.in-Ok.ensures)
+    ∙ fitting_many c.args.types.now c.in-Ok.ensures.tell f.single f.objects.spans c.deref.ensures.value (subst (IsTold f.types.now c.args.types.now) (sym c.deref-in-Ok.ensures.value) c.in-Ok.ensures.told)

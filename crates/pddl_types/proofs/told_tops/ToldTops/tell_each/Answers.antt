@@ -4,11 +4,11 @@ use Rattle.pddl_formula.specs.TypedLists.{TypedValue, typed_view}
 use Rattle.pddl_types.specs.ToldTops.{IsToldAt, AreKept}
 use Rattle.pddl_types.proofs.NumberedTops.{kept_self, kept_then, told_none, told_shared, told_next, told_all}
 use Rattle.pddl_types.proofs.SharedTypes.{type_at}
-use Rattle.pddl_types.proofs.told_tops.ToldTops.tell_all.Goals as goal
-use Rattle.pddl_types.proofs.told_tops.ToldTops.tell_all.Goals.{then-not-shares+in_ok-number, else-not-shares}
+use Rattle.pddl_types.proofs.told_tops.ToldTops.tell_each.Goals as goal
+use Rattle.pddl_types.proofs.told_tops.ToldTops.tell_each.Goals.{then-not-shares+in_ok-number, else-not-shares}
 
 pub loop-place-init : goal.loop-place-init
-loop-place-init g c = rw c.in_ok-numbers.ensures.items (record { kept = kept_self c.args.self.now; told = told_none })
+loop-place-init g c = rw c.requires (record { kept = kept_self c.args.self.now; told = told_none })
 
 pub returns-in_err-number-clause-kept : goal.returns-in_err-number-clause-kept
 returns-in_err-number-clause-kept g c = kept_then c.args.self.now c.loop-place.self c.tell.new.self c.loop-place.invariant.kept c.tell.ensures.kept

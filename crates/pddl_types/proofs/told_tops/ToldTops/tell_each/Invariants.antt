@@ -2,7 +2,7 @@ use Rattle.std.proofs.Common.{map}
 use Rattle.pddl_formula.specs.TypedLists.{typed_view}
 use Rattle.pddl_types.specs.ToldTops.{AreKept}
 use Rattle.pddl_types.proofs.NumberedTops.{AreToldUpTo}
-use Rattle.pddl_types.proofs.told_tops.ToldTops.tell_all.Given as goal
+use Rattle.pddl_types.proofs.told_tops.ToldTops.tell_each.Given as goal
 
 -- what was told is kept, and the types of the items so far are told
 abbrev pub invariant-loop-place : goal.invariant-loop-place
