@@ -13,7 +13,7 @@ use pddl_items::Item;
 use pddl_scan::{LONGEST, TextFault};
 use std::alloc::Allocator;
 
-/// The items of a text, in one pass over it. What it answers of a text that has none need not be the first fault.
+/// The items of a text, in one pass over it. Of a text that has none, what it answers need not be the first fault.
 fn read_items<'t, 'a, B: Allocator>(
     alloc: &'a B,
     text: &'t [u8],
@@ -32,7 +32,7 @@ fn read_items<'t, 'a, B: Allocator>(
     open.into_items()
 }
 
-/// The same in two passes, which answers the first fault: one of its words before one of its lists.
+/// The same in two passes, words before lists, which answers the first fault.
 fn reread_items<'t, 'a, B: Allocator>(
     alloc: &'a B,
     text: &'t [u8],

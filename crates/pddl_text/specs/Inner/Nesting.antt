@@ -45,27 +45,27 @@ next_by _ w nest = Some (with_item nest (placed_leaf w))
 abbrev pub next_nest : PlacedWord → Nest → Option Nest
 next_nest w nest = next_by w.kind w nest
 
--- The code's open lists begin within so many items, each within those before the next inner one. The innermost comes first.
+-- The code's open lists, the innermost first, begin within so many items: the innermost anywhere, each other one no later than the one in it.
 abbrev pub BeginWithin : List OpenList → ℕ → Type 0
 BeginWithin [] len = ⊤
 BeginWithin (list ∷ outer) len = (list.begins ≤ len) × BeginWithin outer list.begins
 
--- in one way at most
+-- there is one proof of that at most
 pub BeginWithin-prop : (lists : List OpenList) (len : ℕ) → IsProp (BeginWithin lists len)
 BeginWithin-prop [] len = Unit-prop
 BeginWithin-prop (list ∷ outer) len = ×_prop le_prop (BeginWithin-prop outer list.begins)
 
--- of all items, those behind the innermost opening
+-- of the items of all open lists, the innermost first, those behind its opening
 abbrev pub inner_items : {A : _} → List OpenList → List (Item A) → List Placed
 inner_items [] items = items_view items
 inner_items (list ∷ outer) items = items_view (drop list.begins items)
 
--- the code's open lists, each with the items before it
+-- the same lists, each with the items before its opening
 abbrev pub stack_of : {A : _} → List OpenList → List (Item A) → List Opened
 stack_of [] items = []
 stack_of (list ∷ outer) items = record { items = inner_items outer (take list.begins items); start = list.start } ∷ stack_of outer (take list.begins items)
 
--- the code's open lists, of which the innermost comes last, and the items of all
+-- the code's open lists, of which the innermost is the last, and the items of all
 abbrev pub nest_of : {A : _} → List OpenList → List (Item A) → Nest
 nest_of opened items = record { opened = stack_of (reverse opened) items; items = inner_items (reverse opened) items }
 
