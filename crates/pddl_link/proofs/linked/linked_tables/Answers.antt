@@ -6,7 +6,7 @@ use Rattle.pddl_task.specs.Linked.{fault, fault_in, rules}
 use Rattle.pddl_task.proofs.Lists.{append-none}
 use Rattle.pddl_faults.proofs.PassedParts.{pass_front}
 use Rattle.pddl_faults.proofs.Verdicts.{found_at, decided_after}
-use Rattle.pddl_names.specs.Files.{problem_in}
+use Rattle.pddl_names.specs.FaultParts.{problem_in}
 use Rattle.pddl_link.proofs.linked.linked_tables.Goals as goal
 
 pub returns-in_err-type_twice-clause-verdict : goal.returns-in_err-type_twice-clause-verdict
