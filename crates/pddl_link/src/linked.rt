@@ -122,12 +122,19 @@ fn linked_tables<'m, 'a, A: Allocator, B: Allocator>(
         domain,
         problem,
     };
-    let tables = tables_behind_types(&files, &mut listed)?;
-    Ok(Linked {
-        types,
-        listed,
-        tables,
-    })
+    match tables_behind_types(&files, &mut listed) {
+        Ok(tables) => Ok(Linked {
+            types,
+            listed,
+            tables,
+        }),
+        Err(fault) => {
+            drop(types);
+            drop(listed.objects);
+            drop(listed.spans);
+            Err(fault)
+        }
+    }
 }
 
 /// Checks a domain: the faults 21 to 32 that it shows by itself.
