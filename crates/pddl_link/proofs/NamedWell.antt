@@ -8,7 +8,7 @@ use Rattle.std.proofs.lemmas.Option.{slice_get-get_or}
 use Rattle.pddl_forest.specs.declared.spans.Span.{Span}
 use Rattle.pddl_formula.specs.TypedLists.{TypedValue}
 use Rattle.pddl_domain.specs.Declarations.{TypeValue}
-use Rattle.pddl_domain.specs.Domains.{DomainValue}
+use Rattle.pddl_domain.specs.Domains.{DomainValue, domain_view}
 use Rattle.pddl_problem.specs.Problems.{ProblemValue}
 use Rattle.pddl_task.specs.Names.{Name, is_in, repeated}
 use Rattle.pddl_task.specs.Types.{types_of}
@@ -21,13 +21,14 @@ use Rattle.pddl_task.proofs.DistinctNames.{firsts_have}
 use Rattle.pddl_task.proofs.LinkedTasks.{at_most_one, in_flat, type_known}
 use Rattle.pddl_faults.specs.declared.fault.LinkFault.{LinkFault}
 use Rattle.pddl_faults.specs.Passes.{Verdict}
-use Rattle.pddl_names.specs.FaultParts.{name_rules}
+use Rattle.pddl_names.specs.FaultParts.{problem_in, name_rules}
+use Rattle.pddl_names.specs.declared.files.Files.{Files}
 use Rattle.pddl_names.specs.ObjectTables.{AreAllListed}
 use Rattle.pddl_types.specs.KnownNames.{object_in}
 use Rattle.pddl_types.specs.declared.listed.Listed.{Listed}
 use Rattle.pddl_types.specs.TypeSpans.{TypesValue, are_types, HaveTypes, is_single, AreSingle, HaveEach, IsOnlySpan}
 use Rattle.pddl_linked_task.proofs.OnceNamed.{no_repeats}
-use Rattle.pddl_link.specs.Stages.{AreNamed}
+use Rattle.pddl_link.specs.Stages.{faults_of, AreNamed}
 
 -- a type of some primitives, of at most one, which is known
 one_type : (declared : List TypeValue) (types : List Name) → 0 < length types → length types ≤ 1 → are_types declared types ≡ true → is_single declared types ≡ true
@@ -86,8 +87,11 @@ module _ (d : DomainValue) (p : ProblemValue) (named : NoneStands (map (fault_in
       ])
 
 -- where none stands, so it is
-pub named_well : {A B : Type 0} (d : DomainValue) (p : ProblemValue) (t : TypesValue) (listed : Listed A B) (r : Result (Unit {0}) LinkFault) → t.declared ≡ d.types
-    → Verdict (map (fault_in d p) name_rules) r → OnOk r (AreAllListed d p t listed) → OnOk r (AreNamed d p t listed)
-named_well d p t listed (Ok u) types none all =
-    record { none_stands = none; are_listed = all; single = single_objects d p none t (map object_in listed.objects.entries) listed.spans.items types all.objects all.spans.spans }
-named_well d p t listed (Err e) types verdict all = tt
+pub named_well : {A B : Type 0} (files : Files A B) (listed : Listed A B) (r : Result (Unit {0}) LinkFault) → Verdict (faults_of files name_rules) r
+    → OnOk r (AreAllListed (domain_view files.domain.now) (problem_in files.problem) files.types.now listed) → OnOk r (AreNamed files listed)
+named_well files listed (Ok u) none all = record {
+  none_stands = none;
+  are_listed = all;
+  single = single_objects (domain_view files.domain.now) (problem_in files.problem) none files.types.now (map object_in listed.objects.entries) listed.spans.items files.typed all.objects all.spans.spans;
+}
+named_well files listed (Err e) verdict all = tt

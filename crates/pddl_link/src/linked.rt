@@ -6,14 +6,14 @@ ghost use Rattle.pddl_problem.specs.Problems.{problem_view};
 ghost use Rattle.pddl_task.specs.Linked.{fault_in, domain_faults, faults, rules};
 ghost use Rattle.pddl_faults.specs.Passes.{Verdict};
 ghost use Rattle.pddl_types.specs.TypeSpans.{IsEmpty};
-ghost use Rattle.pddl_names.specs.Files.{problem_in, domain_of, problem_of, faults_of};
-ghost use Rattle.pddl_names.specs.FaultParts.{name_rules, use_rules};
+ghost use Rattle.pddl_names.specs.FaultParts.{problem_in, name_rules, use_rules};
 ghost use Rattle.pddl_linked_task.specs.TaskTables.{HoldBehindTypes};
 ghost use Rattle.pddl_linked_task.specs.LinkedTasks.{files};
-ghost use Rattle.pddl_link.specs.Stages.{AreNamed, AreKnown};
+ghost use Rattle.pddl_link.specs.Stages.{faults_of, AreNamed, AreKnown};
 
 use pddl_domain::Domain;
 use pddl_faults::{LinkFault, lower};
+use pddl_hash::Hashed;
 use pddl_linked_task::{Tables, Task};
 use pddl_names::{Files, type_twice};
 use pddl_problem::Problem;
@@ -36,7 +36,7 @@ fn look_at_names<'t, 'm, 'a, A: Allocator, B: Allocator>(
     listed: &mut Listed<'m, 'a, A, B>,
 ) -> Result<(), LinkFault<'m>>
     requires { IsEmpty listed.old }
-    ensures listed { OnOk result (AreNamed (domain_of files.now) (problem_of files.now) files.now.types.now listed.new) }
+    ensures listed { OnOk result (AreNamed files.now listed.new) }
     ensures verdict { Verdict (faults_of files.now name_rules) result }
 {
     let found = files.list_all(listed, files.look_at_domain());
@@ -50,8 +50,8 @@ fn tables_of<'t, 'm, 'a, A: Allocator, B: Allocator>(
     files: &Files<'t, 'm, 'a, A, B>,
     listed: &Listed<'m, 'a, A, B>,
 ) -> Result<Tables<'m, 'a, A, B>, AllocError>
-    requires { AreNamed (domain_of files.now) (problem_of files.now) files.now.types.now listed.now }
-    ensures { IfOk result (AreKnown (domain_of files.now) files.now.types.now listed.now) }
+    requires { AreNamed files.now listed.now }
+    ensures { IfOk result (AreKnown files.now listed.now) }
 {
     let order = ObjectOrder::of(files.alloc, &listed.spans)?;
     let mut parameters = SlotTops::new(files.alloc);
@@ -70,8 +70,8 @@ fn look_at_uses<'f, 't, 'm, 'a, A: Allocator, B: Allocator>(
     listed: &'t Listed<'m, 'a, A, B>,
     tables: &'t Tables<'m, 'a, A, B>,
 ) -> Result<(), LinkFault<'m>>
-    requires listed { AreNamed (domain_of files.now) (problem_of files.now) files.now.types.now listed.now }
-    requires tables { AreKnown (domain_of files.now) files.now.types.now listed.now tables.now }
+    requires listed { AreNamed files.now listed.now }
+    requires tables { AreKnown files.now listed.now tables.now }
     ensures { Verdict (faults_of files.now use_rules) result }
 {
     let types = files.types;
@@ -93,7 +93,7 @@ fn tables_behind_types<'t, 'm, 'a, A: Allocator, B: Allocator>(
     listed: &mut Listed<'m, 'a, A, B>,
 ) -> Result<Tables<'m, 'a, A, B>, LinkFault<'m>>
     requires { IsEmpty listed.old }
-    ensures tables { IfOk result (HoldBehindTypes (domain_of files.now) (problem_of files.now) files.now.types.now listed.new) }
+    ensures tables { IfOk result (HoldBehindTypes (domain_view files.now.domain.now) (problem_in files.now.problem) files.now.types.now listed.new) }
     ensures verdict { Verdict (faults_of files.now (drop 3 rules)) result }
 {
     look_at_names(files, listed)?;
@@ -107,16 +107,13 @@ fn linked_tables<'m, 'a, A: Allocator, B: Allocator>(
     alloc: &'a B,
     domain: &'m Domain<A>,
     problem: Option<&'m Problem<A>>,
+    hashed: Hashed,
 ) -> Result<Linked<'m, 'a, A, B>, LinkFault<'m>>
     ensures types { IfOk result (λ l. l.types.declared ≡ (domain_view domain.now).types) }
     ensures tables { IfOk result (λ l. HoldBehindTypes (domain_view domain.now) (problem_in problem.entry) l.types l.listed l.tables) }
     ensures verdict { Verdict (map (fault_in (domain_view domain.now) (problem_in problem.entry)) (drop 1 rules)) result }
 {
     type_twice(alloc, domain)?;
-    let hashed = match problem {
-        Some(problem) => domain.hashed.with(problem.hashed),
-        None => domain.hashed,
-    };
     let types = Types::of(alloc, hashed, &domain.types)?;
     let mut listed = Listed::new(alloc, types.hashed());
     let files = Files {
@@ -125,12 +122,19 @@ fn linked_tables<'m, 'a, A: Allocator, B: Allocator>(
         domain,
         problem,
     };
-    let tables = tables_behind_types(&files, &mut listed)?;
-    Ok(Linked {
-        types,
-        listed,
-        tables,
-    })
+    match tables_behind_types(&files, &mut listed) {
+        Ok(tables) => Ok(Linked {
+            types,
+            listed,
+            tables,
+        }),
+        Err(fault) => {
+            drop(types);
+            drop(listed.objects);
+            drop(listed.spans);
+            Err(fault)
+        }
+    }
 }
 
 /// Checks a domain: the faults 21 to 32 that it shows by itself.
@@ -146,7 +150,7 @@ pub fn check_domain<'d, 'a, A: Allocator, B: Allocator>(
 ) -> Result<(), LinkFault<'d>>
     ensures { Verdict (domain_faults (domain_view domain.now)) result }
 {
-    let alone = linked_tables(alloc, domain, None)?;
+    let alone = linked_tables(alloc, domain, None, domain.hashed)?;
     drop(alone);
     Ok(())
 }
@@ -167,6 +171,7 @@ pub fn link<'m, 'a, A: Allocator, B: Allocator>(
     ensures verdict { Verdict (faults (domain_view domain.now) (problem_view problem.now)) result }
 {
     domain_name(domain, problem)?;
-    let both = linked_tables(alloc, domain, Some(problem))?;
+    let hashed = domain.hashed.with(problem.hashed);
+    let both = linked_tables(alloc, domain, Some(problem), hashed)?;
     Ok(Task::of(domain, problem, both.types, both.listed, both.tables))
 }

@@ -164,10 +164,6 @@ names_of d =
     retyped [] d.constants ∷ unknown_among d.types d.constants ∷ unknown_among d.types (flat_map parameters_of d.predicates) ∷ unknown_among d.types (flat_map parameters_of (function_signatures d))
     ∷ unknown_in d.types (domain_places d) ∷ repeated [] (map symbol_of d.predicates) ∷ repeated [] (map symbol_of (function_signatures d)) ∷ repeated_in_actions [] d.actions ∷ object_types d.constants ∷ []
 
--- these, as they are looked for, before others
-abbrev names_before : Joint → Joint
-names_before s = alone 23 1 ⊕ alone 23 2 ⊕ alone 23 3 ⊕ alone 24 5 ⊕ alone 24 6 ⊕ (alone 23 4 ⊕ alone 24 7) ⊕ alone 25 8 ⊕ s
-
 -- names of a domain and a problem
 pub names_stand : (d : DomainValue) (p : ProblemValue) → Same (joined (domain_parts d.types d ++ (numbered 24 (retyped [] d.constants ++ retyped d.constants p.objects) ∷ problem_parts d.types p))) (standing (map (fault_in d p) name_rules))
 names_stand d p =
@@ -175,7 +171,7 @@ names_stand d p =
     rw (unknown-domain d.types d, unknown-problem d.types p)
     (same_then (same_behind (take 5 parts) (same_both (action_same d.types [] d.actions) (same_behind (take 3 (drop 6 parts)) (same_both (binding_same d.types (problem_places p)) (same_self (joined (drop 10 parts)))))))
     (simp map-append (same_found (names_of d ++ (retyped d.constants p.objects ∷ unknown_among d.types p.objects ∷ unknown_in d.types (problem_places p) ∷ flat_map repeated_at (problem_places p) ∷ object_types p.objects ∷ []))
-    (names_before ((alone 24 0 ⊕ alone 24 9) ⊕ alone 23 10 ⊕ (alone 23 11 ⊕ alone 24 12) ⊕ alone 25 13 ⊕ none))
+    (alone 23 1 ⊕ alone 23 2 ⊕ alone 23 3 ⊕ alone 24 5 ⊕ alone 24 6 ⊕ (alone 23 4 ⊕ alone 24 7) ⊕ alone 25 8 ⊕ (alone 24 0 ⊕ alone 24 9) ⊕ alone 23 10 ⊕ (alone 23 11 ⊕ alone 24 12) ⊕ alone 25 13 ⊕ none)
     (((alone 23 1 ⊕ alone 23 2 ⊕ alone 23 3 ⊕ alone 23 4) ⊕ (alone 23 10 ⊕ alone 23 11)) ⊕ ((((alone 24 0 ⊕ alone 24 5) ⊕ alone 24 6) ⊕ alone 24 7) ⊕ (alone 24 9 ⊕ alone 24 12)) ⊕ (alone 25 8 ⊕ alone 25 13) ⊕ none) refl refl)))
 
 -- what a domain and a problem use

@@ -1,10 +1,14 @@
 -- The faults of a domain and of a problem in the parts in which they are looked for (own). Their order says nothing.
-use Rattle.std.specs.Prelude.{ℕ, List, [], ◌∷◌, ◌++◌, map, take, drop}
+use Rattle.std.specs.Prelude.{ℕ, List, [], ◌∷◌, ◌++◌, Option, None, map, take, drop}
+use Rattle.std.specs.Borrow.{Bor}
 use Rattle.std.specs.List.{flat_map}
+use Rattle.std.specs.Option.{option_map_or}
+use Rattle.pddl_formula.specs.Formulas.{conjunction, no_formulas}
 use Rattle.pddl_domain.specs.Declarations.{TypeValue}
 use Rattle.pddl_domain.specs.Actions.{ActionValue}
 use Rattle.pddl_domain.specs.Domains.{DomainValue}
-use Rattle.pddl_problem.specs.Problems.{ProblemValue}
+use Rattle.pddl_problem.specs.declared.problem.Problem.{Problem}
+use Rattle.pddl_problem.specs.Problems.{ProblemValue, problem_view}
 use Rattle.pddl_task.specs.Names.{Name, is_in, word_if, repeated}
 use Rattle.pddl_task.specs.Places.{action_places, domain_places, problem_places}
 use Rattle.pddl_task.specs.Settings.{symbol_of, parameters_of, function_signatures, in_domain, in_problem}
@@ -20,6 +24,16 @@ FaultParts = List (List (ℕ × Name))
 -- all of them
 abbrev pub joined : FaultParts → List (ℕ × Name)
 joined parts = flat_map (λ part. part) parts
+
+-- ---- files
+
+-- a problem that says nothing: it adds no fault to those of a domain
+abbrev pub no_problem : ProblemValue
+no_problem = record { name = []; domain = []; requirements = []; objects = []; init = []; goal = conjunction no_formulas; metric = None }
+
+-- the problem that a domain is looked at with; alone, with one that says nothing
+abbrev pub problem_in : {A : _} → Option (Bor (Problem A)) → ProblemValue
+problem_in problem = option_map_or (λ p. problem_view p.now) problem no_problem
 
 -- ---- of types and names, 23 to 25
 

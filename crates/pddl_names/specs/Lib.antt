@@ -2,4 +2,3 @@ pub mod ObjectTables
 pub mod MetTypes
 pub mod Uses
 pub mod FaultParts
-pub mod Files

@@ -3,12 +3,12 @@
 ghost use Rattle.std.specs.Prelude.{◌≡◌, [], map};
 ghost use Rattle.std.specs.List.{flat_map};
 ghost use Rattle.pddl_domain.specs.Actions.{action_view};
+ghost use Rattle.pddl_domain.specs.Domains.{domain_view};
 ghost use Rattle.pddl_task.specs.Settings.{parameters_of};
 ghost use Rattle.pddl_faults.specs.Passes.{Passes};
 ghost use Rattle.pddl_faults.specs.Found.{IsFound};
-ghost use Rattle.pddl_names.specs.Files.{domain_of, problem_of};
 ghost use Rattle.pddl_names.specs.Uses.{unknown_among};
-ghost use Rattle.pddl_names.specs.FaultParts.{joined, used_types, action_faults, domain_parts, problem_parts};
+ghost use Rattle.pddl_names.specs.FaultParts.{problem_in, joined, used_types, action_faults, domain_parts, problem_parts};
 
 use crate::bindings::Bindings;
 use crate::files::Files;
@@ -58,7 +58,7 @@ fn look_at_each<'m, 'a, A: Allocator, B: Allocator>(
 impl<'t, 'm, 'a, A: Allocator, B: Allocator> Files<'t, 'm, 'a, A, B> {
     /// Types that are not known in the domain's declarations.
     fn look_at_types(&self) -> Result<(), LinkFault<'m>>
-        ensures { IsFound (joined (used_types self.now.types.now.declared (domain_of self.now))) result }
+        ensures { IsFound (joined (used_types self.now.types.now.declared (domain_view self.now.domain.now))) result }
     {
         let domain = self.domain;
         let constants = self.types.known(&domain.constants);
@@ -69,7 +69,7 @@ impl<'t, 'm, 'a, A: Allocator, B: Allocator> Files<'t, 'm, 'a, A, B> {
 
     /// The lowest fault of actions.
     fn look_at_actions(&self) -> Result<(), LinkFault<'m>>
-        ensures { IsFound (action_faults self.now.types.now.declared [] (domain_of self.now).actions) result }
+        ensures { IsFound (action_faults self.now.types.now.declared [] (domain_view self.now.domain.now).actions) result }
     {
         let domain = self.domain;
         let mut seen = IndexSet::with_hasher(self.alloc, self.types.hashed());
@@ -85,7 +85,7 @@ impl<'t, 'm, 'a, A: Allocator, B: Allocator> Files<'t, 'm, 'a, A, B> {
 
     /// The lowest fault of types and names in the domain, but for constants with two types.
     pub fn look_at_domain(&self) -> Result<(), LinkFault<'m>>
-        ensures { IsFound (joined (domain_parts self.now.types.now.declared (domain_of self.now))) result }
+        ensures { IsFound (joined (domain_parts self.now.types.now.declared (domain_view self.now.domain.now))) result }
     {
         let domain = self.domain;
         let hashed = self.types.hashed();
@@ -102,7 +102,7 @@ impl<'t, 'm, 'a, A: Allocator, B: Allocator> Files<'t, 'm, 'a, A, B> {
 
     /// The lowest fault of types and names in the problem, but for objects with two types.
     pub fn look_at_problem(&self) -> Result<(), LinkFault<'m>>
-        ensures { IsFound (joined (problem_parts self.now.types.now.declared (problem_of self.now))) result }
+        ensures { IsFound (joined (problem_parts self.now.types.now.declared (problem_in self.now.problem))) result }
     {
         let (alloc, types) = (self.alloc, self.types);
         match self.problem {

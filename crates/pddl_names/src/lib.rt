@@ -7,10 +7,7 @@ mod files;
 mod met_types;
 mod objects;
 mod repeats;
-mod used;
 mod uses;
 
-pub use bindings::Bindings;
 pub use files::Files;
 pub use repeats::type_twice;
-pub use uses::Uses;

@@ -72,6 +72,3 @@ impl<'m, 'a, A: Allocator, B: Allocator> MetTypes<'m, 'a, A, B> {
         Ok(Group { span, number })
     }
 }
-
-/// Lets types go that were met. How they are taken apart is proved here once. (A call of `drop` with them has no proof today.)
-pub(crate) fn let_go<'m, 'a, A: Allocator, B: Allocator>(_met: MetTypes<'m, 'a, A, B>) {}

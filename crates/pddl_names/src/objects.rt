@@ -2,17 +2,18 @@
 
 ghost use Rattle.std.specs.Prelude.{◌≡◌, [], ◌++◌, ℕ, List, IsTrue, false, true, map, IfOk, OnOk};
 ghost use Rattle.pddl_formula.specs.TypedLists.{TypedValue, typed_view};
+ghost use Rattle.pddl_domain.specs.Domains.{domain_view};
 ghost use Rattle.pddl_task.specs.Faults.{has_other_type, retyped};
 ghost use Rattle.pddl_types.specs.KnownNames.{object_in};
 ghost use Rattle.pddl_types.specs.TypeSpans.{TypesValue, IsOnlySpan, IsEmpty};
 ghost use Rattle.pddl_names.specs.MetTypes.{IsMetAt, AreMet};
 ghost use Rattle.pddl_names.specs.ObjectTables.{IsPut, AreFirsts, AreTyped, AreAllListed};
-ghost use Rattle.pddl_names.specs.Files.{domain_of, problem_of};
+ghost use Rattle.pddl_names.specs.FaultParts.{problem_in};
 ghost use Rattle.pddl_faults.specs.Passes.{Passes};
 ghost use Rattle.pddl_faults.specs.Found.{IsFound, numbered};
 
 use crate::files::Files;
-use crate::met_types::{Group, MetTypes, let_go};
+use crate::met_types::{Group, MetTypes};
 use pddl_faults::{LinkFault, lower};
 use pddl_forest::Span;
 use pddl_formula::{Typed, TypedList};
@@ -82,10 +83,10 @@ impl<'t, 'm, 'a, A: Allocator, B: Allocator> Files<'t, 'm, 'a, A, B> {
         listed: &mut Listed<'m, 'a, A, B>,
         met: &mut MetTypes<'m, 'a, A, B>,
     ) -> Result<(), LinkFault<'m>>
-        requires constants { AreFirsts (domain_of self.now).constants (map object_in listed.old.objects.entries) }
+        requires constants { AreFirsts (domain_view self.now.domain.now).constants (map object_in listed.old.objects.entries) }
         requires typed { AreTyped self.now.types.now listed.old met.old }
-        ensures passes { Passes 24 (retyped (domain_of self.now).constants (problem_of self.now).objects) result }
-        ensures listed { OnOk result (AreAllListed (domain_of self.now) (problem_of self.now) self.now.types.now listed.new) }
+        ensures passes { Passes 24 (retyped (domain_view self.now.domain.now).constants (problem_in self.now.problem).objects) result }
+        ensures listed { OnOk result (AreAllListed (domain_view self.now.domain.now) (problem_in self.now.problem) self.now.types.now listed.new) }
     {
         listed.constants = listed.objects.len();
         match self.problem {
@@ -102,16 +103,14 @@ impl<'t, 'm, 'a, A: Allocator, B: Allocator> Files<'t, 'm, 'a, A, B> {
         declared: Result<(), LinkFault<'m>>,
     ) -> Result<(), LinkFault<'m>>
         requires { IsEmpty listed.old }
-        ensures found { (xs : List (ℕ × List ℕ)) → IsFound xs declared.entry → IsFound (xs ++ numbered 24 (retyped [] (domain_of self.now).constants ++ retyped (domain_of self.now).constants (problem_of self.now).objects)) result }
-        ensures listed { OnOk result (AreAllListed (domain_of self.now) (problem_of self.now) self.now.types.now listed.new) }
+        ensures found { (xs : List (ℕ × List ℕ)) → IsFound xs declared.entry → IsFound (xs ++ numbered 24 (retyped [] (domain_view self.now.domain.now).constants ++ retyped (domain_view self.now.domain.now).constants (problem_in self.now.problem).objects)) result }
+        ensures listed { OnOk result (AreAllListed (domain_view self.now.domain.now) (problem_in self.now.problem) self.now.types.now listed.new) }
     {
         let domain = self.domain;
         let mut met = MetTypes::new(self.alloc, self.types.hashed());
-        let found = match add_objects(self.types, listed, &mut met, &domain.constants) {
+        match add_objects(self.types, listed, &mut met, &domain.constants) {
             Ok(()) => lower(declared, self.list_objects(listed, &mut met)),
             Err(fault) => lower(Err(fault), declared),
-        };
-        let_go(met);
-        found
+        }
     }
 }

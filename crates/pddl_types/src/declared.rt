@@ -89,10 +89,3 @@ impl<'m, 'a, A: Allocator, B: Allocator> Declared<'m, 'a, A, B> {
         }
     }
 }
-
-/// Lets go what a domain declares, table by table. (A call of `drop` with the whole has no proof today.)
-pub fn let_go_declared<'m, 'a, A: Allocator, B: Allocator>(declared: Declared<'m, 'a, A, B>) {
-    drop(declared.predicates);
-    drop(declared.functions);
-    drop(declared.slots);
-}

@@ -14,11 +14,11 @@ mod told_tops;
 mod type_table;
 mod types;
 
-pub use declared::{Declared, let_go_declared};
+pub use declared::Declared;
 pub use declares::Declares;
 pub use fitting::Fitting;
 pub use known::{Known, Signatures};
-pub use listed::{Listed, Objects, let_go_objects};
+pub use listed::{Listed, Objects};
 pub use slot_tops::SlotTops;
 pub use told_tops::ToldTops;
 pub use types::Types;

@@ -85,9 +85,3 @@ impl<'m, 'a, A: Allocator, B: Allocator> Listed<'m, 'a, A, B> {
         }
     }
 }
-
-/// Lets go objects. (A call of `drop` with the whole has no proof today.)
-pub fn let_go_objects<'m, 'a, A: Allocator, B: Allocator>(listed: Listed<'m, 'a, A, B>) {
-    drop(listed.objects);
-    drop(listed.spans);
-}

@@ -6,7 +6,7 @@ use Rattle.pddl_task.specs.Linked.{FaultRule, fault, domain_fault, fault_in, rul
 use Rattle.pddl_task.proofs.Lists.{append-none}
 use Rattle.pddl_faults.specs.Passes.{Verdict}
 use Rattle.pddl_faults.proofs.Verdicts.{decided_after}
-use Rattle.pddl_names.specs.Files.{no_problem}
+use Rattle.pddl_names.specs.FaultParts.{no_problem}
 use Rattle.pddl_link.proofs.linked.check_domain.Goals as goal
 
 -- a problem that breaks none of some rules adds no fault to a domain's

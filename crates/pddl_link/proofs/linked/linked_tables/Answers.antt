@@ -6,7 +6,7 @@ use Rattle.pddl_task.specs.Linked.{fault, fault_in, rules}
 use Rattle.pddl_task.proofs.Lists.{append-none}
 use Rattle.pddl_faults.proofs.PassedParts.{pass_front}
 use Rattle.pddl_faults.proofs.Verdicts.{found_at, decided_after}
-use Rattle.pddl_names.specs.Files.{problem_in}
+use Rattle.pddl_names.specs.FaultParts.{problem_in}
 use Rattle.pddl_link.proofs.linked.linked_tables.Goals as goal
 
 pub returns-in_err-type_twice-clause-verdict : goal.returns-in_err-type_twice-clause-verdict
@@ -23,9 +23,8 @@ returns-in_err-types-clause-verdict g c =
     rw (p.1, p.2) (found_at (fault 21 (twice ++ []) ∷ []) 22 (cyclic ++ []) _ c.in_err-types.field-0.0 (append-none twice ∙ c.in_ok-type_twice.ensures, tt) refl
     (pass_front 22 cyclic [] (cyclic ++ []) _ refl c.in_err-types.ensures.cycle))
 
-pub returns-in_err-tables-clause-verdict : goal.returns-in_err-tables-clause-verdict
-returns-in_err-tables-clause-verdict g c =
+pub returns-in-Err-clause-verdict : goal.returns-in-Err-clause-verdict
+returns-in-Err-clause-verdict g c =
     let d = domain_view c.args.domain.now in
-    let p = err_from_is_err_and c.from_residual-in_err-tables.result c.from_residual-in_err-tables.ensures.1 in
-    rw (p.1, p.2) (decided_after {T = Unit {0}} (fault 21 (types_twice d ++ []) ∷ fault 22 (type_cycles d ++ []) ∷ []) (map (fault_in d (problem_in c.args.problem)) (drop 3 rules)) (Err c.in_err-tables.field-0.0)
-    (append-none (types_twice d) ∙ c.in_ok-type_twice.ensures, (append-none (type_cycles d) ∙ c.in_ok-types.ensures.cycle, tt)) c.in_err-tables.ensures.verdict)
+    decided_after {T = Unit {0}} (fault 21 (types_twice d ++ []) ∷ fault 22 (type_cycles d ++ []) ∷ []) (map (fault_in d (problem_in c.args.problem)) (drop 3 rules)) (Err c.in-Err.fault)
+    (append-none (types_twice d) ∙ c.in_ok-type_twice.ensures, (append-none (type_cycles d) ∙ c.in_ok-types.ensures.cycle, tt)) c.in-Err.ensures.verdict

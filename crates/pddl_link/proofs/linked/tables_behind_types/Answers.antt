@@ -1,8 +1,8 @@
 use Rattle.std.proofs.Common.{Err, refl}
 use Rattle.std.proofs.lemmas.Result.{err_from_is_err_and}
 use Rattle.pddl_faults.proofs.Verdicts.{decided_after}
-use Rattle.pddl_names.specs.Files.{faults_of}
 use Rattle.pddl_names.specs.FaultParts.{name_rules, use_rules}
+use Rattle.pddl_link.specs.Stages.{faults_of}
 use Rattle.pddl_link.proofs.Stages.{stage_first}
 use Rattle.pddl_link.proofs.linked.tables_behind_types.Goals as goal
 

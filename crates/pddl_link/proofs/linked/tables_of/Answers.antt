@@ -6,15 +6,15 @@ use Rattle.pddl_types.specs.ToldTops.{AreSlotTops}
 use Rattle.pddl_types.proofs.NumberedTops.{slots_none}
 use Rattle.pddl_types.proofs.Views.{seen_of}
 use Rattle.pddl_sizes.specs.ObjectOrders.{IsOrderOf}
-use Rattle.pddl_names.specs.Files.{problem_of}
+use Rattle.pddl_names.specs.FaultParts.{problem_in}
 use Rattle.pddl_link.proofs.NamedWell.{names_once, slot_types}
 use Rattle.pddl_link.proofs.linked.tables_of.Goals as goal
 
 pub of-requires-2-clause-predicates : goal.of-requires-2-clause-predicates
-of-requires-2-clause-predicates g c = (names_once (domain_view c.args.files.now.domain.now) (problem_of c.args.files.now) c.requires.none_stands).0
+of-requires-2-clause-predicates g c = (names_once (domain_view c.args.files.now.domain.now) (problem_in c.args.files.now.problem) c.requires.none_stands).0
 
 pub of-requires-2-clause-functions : goal.of-requires-2-clause-functions
-of-requires-2-clause-functions g c = (names_once (domain_view c.args.files.now.domain.now) (problem_of c.args.files.now) c.requires.none_stands).1
+of-requires-2-clause-functions g c = (names_once (domain_view c.args.files.now.domain.now) (problem_in c.args.files.now.problem) c.requires.none_stands).1
 
 pub returns : goal.returns
 returns g c =
@@ -29,5 +29,5 @@ returns g c =
         ordered = subst (λ spans. ∥ IsOrderOf spans c.in_ok-order.order ∥₁) c.deref.ensures.value c.in_ok-order.ensures;
       };
       slot_tops = rw (declared.predicates, declared.functions) declared.slots;
-      slot_types = rw (f.typed, declared.predicates, declared.functions) (slot_types (domain_view f.domain.now) (problem_of f) c.requires.none_stands);
+      slot_types = rw (f.typed, declared.predicates, declared.functions) (slot_types (domain_view f.domain.now) (problem_in f.problem) c.requires.none_stands);
     }

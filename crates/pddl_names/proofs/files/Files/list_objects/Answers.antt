@@ -4,7 +4,7 @@ use Rattle.std.proofs.lemmas.List.{length-map}
 use Rattle.pddl_domain.specs.Domains.{domain_view}
 use Rattle.pddl_problem.specs.Problems.{problem_view}
 use Rattle.pddl_types.specs.KnownNames.{object_in}
-use Rattle.pddl_names.specs.Files.{problem_in}
+use Rattle.pddl_names.specs.FaultParts.{problem_in}
 use Rattle.pddl_names.specs.ObjectTables.{AreAllListed}
 use Rattle.pddl_names.proofs.FoundParts.{both_kept}
 use Rattle.pddl_names.proofs.ObjectTables.{firsts_begin}

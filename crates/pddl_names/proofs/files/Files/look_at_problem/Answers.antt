@@ -3,8 +3,7 @@ use Rattle.pddl_formula.specs.TypedLists.{typed_view}
 use Rattle.pddl_task.specs.Faults.{object_types}
 use Rattle.pddl_faults.specs.Found.{IsFound}
 use Rattle.pddl_faults.proofs.FoundFaults.{passed_found}
-use Rattle.pddl_names.specs.Files.{problem_in}
-use Rattle.pddl_names.specs.FaultParts.{joined, problem_parts}
+use Rattle.pddl_names.specs.FaultParts.{problem_in, joined, problem_parts}
 use Rattle.pddl_names.proofs.FoundParts.{passed_part}
 use Rattle.pddl_names.proofs.files.Files.look_at_problem.Goals as goal
 

@@ -8,8 +8,7 @@ use Rattle.pddl_task.specs.Settings.{Setting, in_problem}
 use Rattle.pddl_task.specs.Faults.{clashing, contradicts, wrong_values}
 use Rattle.pddl_faults.specs.Found.{IsFound}
 use Rattle.pddl_faults.proofs.FoundFaults.{passed_found}
-use Rattle.pddl_names.specs.Files.{problem_in}
-use Rattle.pddl_names.specs.FaultParts.{joined, problem_uses}
+use Rattle.pddl_names.specs.FaultParts.{problem_in, joined, problem_uses}
 use Rattle.pddl_names.specs.Uses.{use_faults}
 use Rattle.pddl_names.proofs.FoundParts.{passed_as, passed_part}
 use Rattle.pddl_names.proofs.ToldUses.{nothing_bound}

@@ -7,7 +7,7 @@ use Rattle.pddl_task.specs.Types.{pairs}
 use Rattle.pddl_task.specs.GroundSize.{capped, fitting_count, formula_size}
 use Rattle.pddl_types.specs.KnownNames.{object_in}
 use Rattle.pddl_names.proofs.GoalSizes.{too_large}
-use Rattle.pddl_names.proofs.used.goal_size.Goals as goal
+use Rattle.pddl_names.proofs.files.goal_size.Goals as goal
 
 pub returns-then-ground_size-gt1000000 : goal.returns-then-ground_size-gt1000000
 returns-then-ground_size-gt1000000 g c =
