@@ -115,7 +115,7 @@ module _ {ps left order : List ℕ} {turn : ℕ} (h : ArePeeled ps left order tu
   parent_low : parent < length ps
   parent_low = within place place_low
 
-  parent_inside : parent < length left
+  pub parent_inside : parent < length left
   parent_inside = let inside = parent_low in let long = h.counted.long in omega (arith, inside, long)
 
   new : is_up_to order turn place ≡ false

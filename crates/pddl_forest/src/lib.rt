@@ -10,6 +10,6 @@ mod spans;
 mod tops;
 
 pub use numbering::forest_spans;
-pub use rounds::{is_on_round, round_numbers};
+pub use rounds::is_on_round;
 pub use spans::{Span, hold_all};
 pub use tops::keep_tops;

@@ -1,9 +1,9 @@
 //! Numbers for the places of a forest: each place behind its parent, and what is below a place directly behind it. So each place has a span.
 
-ghost use Rattle.std.specs.Prelude.{◌≡◌, ◌<◌, ℕ, length, IfOk, IfSome};
+ghost use Rattle.std.specs.Prelude.{◌≡◌, ◌<◌, ℕ, length, IfOk, IfErr};
 ghost use Rattle.pddl_forest.specs.Forests.{parent_of};
 ghost use Rattle.pddl_forest.specs.Spans.{AreSpans};
-ghost use Rattle.pddl_forest.specs.Rounds.{HasRound};
+ghost use Rattle.pddl_forest.specs.Rounds.{HasRound, AreRounds};
 ghost use Rattle.pddl_forest.specs.Inner.Orders.{IsOrder};
 ghost use Rattle.pddl_forest.specs.Inner.Sizes.{AreSized, AreNumbered};
 
@@ -82,21 +82,22 @@ fn numbered<'a, B: Allocator>(
     spans_of(alloc, parents, order, &sizes, &offsets)
 }
 
-/// The spans of the places whose parents stand at these places, or `None` where a way from parent to parent goes round, other than from place 0 to itself.
+/// The spans of the places whose parents stand at these places. Where a way from parent to parent goes round, other than from place 0 to itself, numbers
+/// for the places: 0 for those that no way leads back to, and other than 0 for the others.
 ///
 /// Fails where memory for them is refused.
 pub fn forest_spans<'a, B: Allocator>(
     alloc: &'a B,
     parents: &[usize],
-) -> Result<Option<Vec<Span, &'a B>>, AllocError>
+) -> Result<Result<Vec<Span, &'a B>, Vec<usize, &'a B>>, AllocError>
     requires some { 0 < length parents.now }
     requires within { (i : ℕ) → i < length parents.now → parent_of parents.now i < length parents.now }
-    ensures spans { IfOk result (λ found. IfSome found (λ spans. AreSpans parents.now spans.items)) }
-    ensures none { IfOk result (λ found. IfSome found (λ spans. HasRound parents.now → ⊥)) }
-    ensures round { IfOk result (λ found. found ≡ None → HasRound parents.now) }
+    ensures spans { IfOk result (λ found. IfOk found (λ spans. AreSpans parents.now spans.items)) }
+    ensures none { IfOk result (λ found. IfOk found (λ spans. HasRound parents.now → ⊥)) }
+    ensures round { IfOk result (λ found. IfErr found (λ numbers. HasRound parents.now × AreRounds parents.now numbers.items)) }
 {
     match ordered(alloc, parents)? {
-        Some(order) => Ok(Some(numbered(alloc, parents, &order)?)),
-        None => Ok(None),
+        Ok(order) => Ok(Ok(numbered(alloc, parents, &order)?)),
+        Err(numbers) => Ok(Err(numbers)),
     }
 }

@@ -31,10 +31,7 @@ impl<'a, B: Allocator> ObjectOrder<'a, B> {
     pub fn of(alloc: &'a B, spans: &[Span]) -> Result<ObjectOrder<'a, B>, AllocError>
         ensures { IfOk result (λ order. ∥ IsOrderOf spans.now order ∥₁) }
     {
-        let mut objects = Vec::with_capacity(alloc, spans.len())?;
-        for object in 0..spans.len() {
-            objects.push(object)?;
-        }
+        let mut objects: Vec<usize, &'a B> = (0..spans.len()).collect(alloc)?;
         objects.sort_unstable_by_key(|object| type_number(spans, *object));
         Ok(ObjectOrder { objects })
     }

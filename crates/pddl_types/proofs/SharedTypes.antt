@@ -1,11 +1,9 @@
 -- Types of items of a list, and of neighbours that share one.
-use Rattle.std.proofs.Common.{◌≡◌, ◌+◌, ◌<◌, ℕ, Bool, List, ◌++◌, map, length, filter, get_or, drop, slice_get, option_map, Some, refl, sym, ap, ◌∙◌, subst}
+use Rattle.std.proofs.Common.{◌≡◌, ◌+◌, ℕ, Bool, List, ◌++◌, filter, drop, slice_get, Some, sym, ap, ◌∙◌}
 use Rattle.std.specs.List.{flat_map}
 use Rattle.std.proofs.lemmas.List.Elements.{filter-append}
-use Rattle.std.proofs.lemmas.Option.{slice_get-map, slice_get_read, slice_get_within, get_or_from_slice_get}
-use Rattle.pddl_formula.specs.TypedLists.{WithType, TypedValue, typed_view}
-use Rattle.pddl_formula.specs.Groups.{HaveOneType}
-use Rattle.pddl_formula.specs.declared.type_names.Typed.{Typed}
+use Rattle.std.proofs.lemmas.Option.{slice_get_within, get_or_from_slice_get}
+use Rattle.pddl_formula.specs.TypedLists.{TypedValue}
 use Rattle.pddl_task.specs.Names.{Name}
 use Rattle.pddl_task.specs.Faults.{primitives_of}
 use Rattle.pddl_faults.proofs.ListTurns.{rest_is}

@@ -1,18 +1,18 @@
 //! The first type that is above itself, where the places of a table go round.
 
-ghost use Rattle.std.specs.Prelude.{◌≡◌, map, IfOk, Contains};
+ghost use Rattle.std.specs.Prelude.{◌≡◌, map, Contains};
 ghost use Rattle.pddl_domain.specs.Declarations.{type_view};
 ghost use Rattle.pddl_forest.specs.Rounds.{HasRound, AreRounds};
 ghost use Rattle.pddl_types.specs.TypeTables.{parents_in, IsTypeTable, cycle_in};
 
 use indexmap::IndexMap;
 use pddl_domain::DeclaredType;
-use pddl_forest::{is_on_round, round_numbers};
+use pddl_forest::is_on_round;
 use pddl_hash::Hashed;
-use std::alloc::{AllocError, Allocator};
+use std::alloc::Allocator;
 
-/// The first declared type through whose place a way goes round, where one goes round.
-fn first_on_round<'m, 'a, A: Allocator, B: Allocator>(
+/// The first declared type that is above itself: through whose place a way goes round from parent to parent, where one goes round.
+pub(crate) fn first_cycle<'m, 'a, A: Allocator, B: Allocator>(
     table: &IndexMap<&'m [u8], usize, Hashed, &'a B>,
     parents: &[usize],
     numbers: &[usize],
@@ -34,22 +34,4 @@ fn first_on_round<'m, 'a, A: Allocator, B: Allocator>(
         }
     }
     unreachable!()
-}
-
-/// The first declared type that is above itself, where a way goes round from parent to parent.
-///
-/// Fails where memory for the work is refused.
-pub(crate) fn first_cycle<'m, 'a, A: Allocator, B: Allocator>(
-    alloc: &'a B,
-    table: &IndexMap<&'m [u8], usize, Hashed, &'a B>,
-    parents: &[usize],
-    declared: &'m [DeclaredType<A>],
-) -> Result<&'m [u8], AllocError>
-    requires table { IsTypeTable (map type_view declared.now) table.now.entries }
-    requires parents { parents.now ≡ parents_in table.now.entries }
-    requires round { HasRound parents.now }
-    ensures { IfOk result (λ name. Contains (cycle_in (map type_view declared.now)) name.now) }
-{
-    let numbers = round_numbers(alloc, parents)?;
-    Ok(first_on_round(table, parents, &numbers, declared))
 }

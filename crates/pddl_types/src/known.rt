@@ -1,6 +1,6 @@
 //! What may be named where something stands, looked up by name.
 
-ghost use Rattle.std.specs.Prelude.{◌≡◌, [], ◌++◌, map, IfOk};
+ghost use Rattle.std.specs.Prelude.{◌≡◌, [], ◌++◌, map, IfOk, OnOk};
 ghost use Rattle.pddl_task.specs.Names.{repeated};
 ghost use Rattle.pddl_task.specs.Settings.{symbol_of};
 ghost use Rattle.pddl_types.specs.KnownNames.{signature_in, object_in};
@@ -35,6 +35,23 @@ pub struct Known<'t, 'm, 'a, A: Allocator, B: Allocator> {
     pub ghost single: { AreSingle types.now.declared (map object_in listed.now.objects.entries) },
 }
 
+/// Puts what is declared into an empty table, each name once.
+///
+/// Fails where memory for it is refused.
+fn put_signatures<'m, 'a, A: Allocator, B: Allocator, D: Declares<A>>(
+    table: &mut Signatures<'m, 'a, A, B>,
+    declared: &'m [D],
+) -> Result<(), AllocError>
+    requires empty { table.old.entries ≡ [] }
+    requires once { repeated [] (map symbol_of (map D.signature declared.now)) ≡ [] }
+    ensures { OnOk result (map signature_in table.new.entries ≡ map D.signature declared.now) }
+{
+    for each in declared {
+        table.insert(each.name(), each.parameters().as_slice())?;
+    }
+    Ok(())
+}
+
 /// What is declared by its name, each name once.
 ///
 /// Fails where memory for the table is refused.
@@ -47,8 +64,5 @@ pub(crate) fn signatures<'m, 'a, A: Allocator, B: Allocator, D: Declares<A>>(
     ensures { IfOk result (λ table. map signature_in table.entries ≡ map D.signature declared.now) }
 {
     let mut table = IndexMap::with_capacity_and_hasher(alloc, declared.len(), hashed)?;
-    for each in declared {
-        table.insert(each.name(), each.parameters().as_slice())?;
-    }
-    Ok(table)
+    put_signatures(&mut table, declared).and(Ok(table))
 }

@@ -94,7 +94,7 @@ pub(crate) fn spans_of<'m, 'a, A: Allocator, B: Allocator>(
 {
     let parents = parent_places(alloc, table)?;
     match forest_spans(alloc, &parents)? {
-        Some(spans) => Ok(spans),
-        None => Err(LinkFault::TypeCycle(first_cycle(alloc, table, &parents, declared)?)),
+        Ok(spans) => Ok(spans),
+        Err(numbers) => Err(LinkFault::TypeCycle(first_cycle(table, &parents, &numbers, declared))),
     }
 }

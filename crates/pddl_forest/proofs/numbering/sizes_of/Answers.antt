@@ -1,6 +1,6 @@
 use Rattle.std.proofs.Common.{◌≡◌, ◌+◌, ◌-◌, suc, length, ap, subst, arith}
 use Rattle.pddl_forest.specs.Inner.Sizes.{AreSized}
-use Rattle.pddl_forest.proofs.Sizes.{none_sized, sizes_fit, sized}
+use Rattle.pddl_forest.proofs.Sizes.{place_low, parent_low, none_sized, sizes_fit, sized}
 use Rattle.pddl_forest.proofs.numbering.sizes_of.Goals as goal
 
 pub loop-turn-init : goal.loop-turn-init
@@ -39,3 +39,13 @@ pub returns : goal.returns
 returns g c =
     let is : c.loop-turn.turn ≡ 1 = omega (arith, c.loop-turn-test.false, c.loop-turn.invariant.from) in
     subst (AreSized c.args.parents.now c.args.order.now c.loop-turn.sizes.items c.loop-turn.offsets.items) is c.loop-turn.invariant.sized
+
+pub put-requires : goal.put-requires
+put-requires g c =
+    let low = place_low c.requires.order (c.loop-turn.turn - 1) (omega (arith, c.loop-turn-test.true, c.loop-turn.auto.turn)) (omega (arith, c.loop-turn-test.true)) in
+    omega (arith, low, c.loop-turn.invariant.sized.offsets_long)
+
+pub put-requires-in-loop-turn : goal.put-requires-in-loop-turn
+put-requires-in-loop-turn g c =
+    let low = parent_low c.requires.order (c.loop-turn.turn - 1) (omega (arith, c.loop-turn-test.true, c.loop-turn.auto.turn)) (omega (arith, c.loop-turn-test.true)) in
+    omega (arith, c.parent_of-parent.ensures, low, c.loop-turn.invariant.sized.long)

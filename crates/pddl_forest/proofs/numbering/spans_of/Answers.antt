@@ -47,3 +47,13 @@ pub returns : goal.returns
 returns g c =
     let is : c.loop-turn.turn ≡ length c.args.order.now = omega (arith, c.loop-turn-test.false, c.loop-turn.auto.turn-end, c.requires.order.some) in
     subst (AreNumbered c.args.parents.now c.args.order.now c.args.sizes.now c.args.offsets.now c.loop-turn.spans.items) is c.loop-turn.invariant
+
+pub overflow_sub-last : goal.overflow_sub-last
+overflow_sub-last g c =
+    let low = place_low c.requires.order c.loop-turn.turn c.loop-turn-test.true (omega (arith, c.loop-turn.auto.turn)) in
+    omega (arith, c.number_at-in-loop-turn-2.ensures, c.requires.sizes.some _ low)
+
+pub overflow_sub-top : goal.overflow_sub-top
+overflow_sub-top g c =
+    let some : 0 < length c.args.parents.now = omega (arith, c.requires.order.places.in_range 0 c.requires.order.some) in
+    omega (arith, c.number_at.ensures, c.requires.sizes.some 0 some)

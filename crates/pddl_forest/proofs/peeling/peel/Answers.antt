@@ -2,7 +2,7 @@ use Rattle.std.proofs.Common.{◌≡◌, ◌<◌, ◌+◌, ◌-◌, length, ap, 
 use Rattle.std.proofs.lemmas.List.{length_push}
 use Rattle.pddl_forest.specs.Forests.{parent_of, number_at}
 use Rattle.pddl_forest.specs.Inner.Orders.{ArePeeled}
-use Rattle.pddl_forest.proofs.Peels.{some_children, peeled, peeled_more}
+use Rattle.pddl_forest.proofs.Peels.{parent_inside, some_children, peeled, peeled_more}
 use Rattle.pddl_forest.proofs.Lists.{few_places}
 use Rattle.pddl_forest.proofs.peeling.peel.Goals.{then-fewer-eq0+in_ok-push, else-fewer-eq0}
 use Rattle.pddl_forest.proofs.peeling.peel.Goals as goal
@@ -44,3 +44,10 @@ returns g c =
     let few = few_places h.without_children.places in
     let is : l.turn ≡ length l.order.items = omega (arith, few, c.loop-turn-test.false, l.invariant.listed) in
     subst (ArePeeled c.args.parents.now l.left.items l.order.items) is h
+
+pub put-requires : goal.put-requires
+put-requires g c =
+    let l = c.loop-turn in
+    let place = rw c.deref.ensures.value at c.number_at.ensures in
+    let low = parent_inside l.invariant.peeled (omega (arith, c.if-turn-len.false, c.len.ensures, l.invariant.listed)) c.requires.within in
+    rw (c.parent_of-parent.ensures, place) low

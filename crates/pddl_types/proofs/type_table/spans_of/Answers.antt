@@ -1,5 +1,5 @@
 use Rattle.std.proofs.Common.{map, length, ap, sym, subst, ◌∙◌, arith}
-use Rattle.pddl_forest.specs.Rounds.{HasRound}
+use Rattle.pddl_forest.specs.Rounds.{HasRound, AreRounds}
 use Rattle.pddl_forest.specs.Spans.{AreSpans}
 use Rattle.pddl_domain.specs.Declarations.{type_view}
 use Rattle.pddl_task.specs.Types.{root}
@@ -16,16 +16,23 @@ forest_spans-requires g c =
       some = omega (arith, ap length same, below c.args.table.now.entries 0 root c.requires.1.first);
     }
 
-pub returns-in-Some : goal.returns-in-Some
-returns-in-Some g c =
+pub returns-in-Ok : goal.returns-in-Ok
+returns-in-Ok g c =
     let same = c.deref.ensures.value ∙ c.in_ok-parents.ensures in
-    let none = rw c.in-Some.is at c.in_ok-spans.ensures.none in
-    let spans = rw c.in-Some.is at c.in_ok-spans.ensures.spans in
+    let none = rw c.in-Ok.is at c.in_ok-spans.ensures.none in
+    let spans = rw c.in-Ok.is at c.in_ok-spans.ensures.spans in
     record {
-      spans = subst (λ ps. AreSpans ps c.in-Some.spans.items) same spans;
+      spans = subst (λ ps. AreSpans ps c.in-Ok.spans.items) same spans;
       cycle = no_cycle (map type_view c.args.declared.now) c.args.table.now.entries c.requires (subst (λ ps. HasRound ps → ⊥) same none);
     }
 
 pub first_cycle-requires : goal.first_cycle-requires
 first_cycle-requires g c =
-    record { table = c.requires; parents = c.deref-in-None.ensures.value ∙ c.in_ok-parents.ensures; round = subst HasRound (c.deref.ensures.value ∙ sym c.deref-in-None.ensures.value) (c.in_ok-spans.ensures.round c.in-None.is) }
+    let (round, numbers) = rw c.in-Err.is at c.in_ok-spans.ensures.round in
+    let same = c.deref.ensures.value ∙ sym c.deref-in-Err.ensures.value in
+    record {
+      table = c.requires;
+      parents = c.deref-in-Err.ensures.value ∙ c.in_ok-parents.ensures;
+      numbers = subst (λ ps. AreRounds ps c.deref-in-Err-2.result.now) same (rw (← c.deref-in-Err-2.ensures.value) at numbers);
+      round = subst HasRound same round;
+    }
