@@ -77,13 +77,12 @@ pub fn put_type<A: Allocator, W: Sink>(out: &mut W, failed: &mut bool, types: &T
     ensures good { IsTrue (is_type types.now) }
 {
     let names = types.as_slice();
-    match names {
-        [name] => put(out, failed, name.as_bytes()),
-        _ => {
-            put(out, failed, b"(either");
-            put_type_names(out, failed, names);
-            put(out, failed, b")");
-        }
+    if names.len() == 1 {
+        put(out, failed, names[0].as_bytes());
+    } else {
+        put(out, failed, b"(either");
+        put_type_names(out, failed, names);
+        put(out, failed, b")");
     }
 }
 
