@@ -32,7 +32,7 @@ fn domains(rt: HostRuntime) -> Result<(), Fail> {
 
 #[test]
 fn format_domains(rt: HostRuntime) -> Result<(), Fail> {
-    all_hold(&rt, rows::FORMAT_DOMAINS, 44)
+    all_hold(&rt, rows::FORMAT_DOMAINS, 45)
 }
 
 #[test]
@@ -97,7 +97,7 @@ fn terms(rt: HostRuntime) -> Result<(), Fail> {
 
 #[test]
 fn twice(rt: HostRuntime) -> Result<(), Fail> {
-    all_hold(&rt, rows::TWICE, 39)
+    all_hold(&rt, rows::TWICE, 42)
 }
 
 #[test]

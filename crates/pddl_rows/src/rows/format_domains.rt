@@ -289,4 +289,12 @@ copy lamps
 file
 copy lamps
 good format domain
+
+row names of 31 letters, of 32 and of many, whose growths are refused
+growths 5
+file (define (domain ABCDEFGHIJKLMNOPQRSTUVWXYZABCDE) (:predicates (ABCDEFGHIJKLMNOPQRSTUVWXYZABCDEF) (abcdefghijklmnopqrstuvwxyzabcde) (Abcdefghijklmnopqrstuvwxyz-abcdefghijklmnopqrstuvwxyz_0123456789)))
+| (define (domain abcdefghijklmnopqrstuvwxyzabcde)
+|   (:predicates (abcdefghijklmnopqrstuvwxyzabcdef) (abcdefghijklmnopqrstuvwxyzabcde) (abcdefghijklmnopqrstuvwxyz-abcdefghijklmnopqrstuvwxyz_0123456789))
+| )
+good format domain
 ";

@@ -176,4 +176,18 @@ file (define (domain d) (:types a b) (:predicates (p) (p)))
 file (define (problem x) (:domain d) (:objects o - a o - b) (:init) (:goal (and)))
 | link: fault 24 NameTwice p
 refused problem
+
+row long names that begin alike
+file (define (domain d) (:predicates (abcdefghijklmnopqrstuvwxyzabcde) (abcdefghijklmnopqrstuvwxyzabcdef) (abcdefghijklmnopqrstuvwxyzabcdeg) (abcdefghijklmnopqrstuvwxyzabcdefg)))
+| good: domain d
+good domain
+
+row a long name that stands twice
+file (define (domain d) (:predicates (abcdefghijklmnopqrstuvwxyzabcdef) (abcdefghijklmnopqrstuvwxyzabcdeg) (ABCDEFGHIJKLMNOPQRSTUVWXYZABCDEF)))
+| link: fault 24 NameTwice abcdefghijklmnopqrstuvwxyzabcdef
+refused domain
+copy bare
+file
+| link: fault 24 NameTwice abcdefghijklmnopqrstuvwxyzabcdef
+refused problem
 ";
