@@ -117,7 +117,7 @@ fn unknown(rt: HostRuntime) -> Result<(), Fail> {
 
 #[test]
 fn values(rt: HostRuntime) -> Result<(), Fail> {
-    all_hold(&rt, rows::VALUES.as_bytes(), 18)
+    all_hold(&rt, rows::VALUES.as_bytes(), 20)
 }
 
 #[test]

@@ -162,9 +162,19 @@ file
 | none
 good list names
 
-row a name whose growth is refused
+row a name of 31 letters, which takes no memory of its own
+file ABCDEFGHIJKLMNOPQRSTUVWXYZABCDE
+| abcdefghijklmnopqrstuvwxyzabcde
+good list names
+
+row a name of 32 letters, whose growth is refused
 growths 1
-file light
-| light
+file ABCDEFGHIJKLMNOPQRSTUVWXYZABCDEF
+| abcdefghijklmnopqrstuvwxyzabcdef
+good list names
+
+row a text of 32 bytes that is no name
+file abcdefghijklmnopqrstuvwxyzabcde?
+| none
 good list names
 ";
