@@ -1,50 +1,62 @@
--- What is under a place has the numbers from its own on, as many as places are under it.
-use Rattle.std.proofs.Common.{◌≡◌, ◌≢◌, ℕ, zero, suc, ◌+◌, ◌<◌, ◌≤◌, leb, List, length, refl, sym, ap, ◌∙◌, subst, arith, inl, inr, ◌⊎◌}
-use Rattle.std.proofs.lemmas.Bool.{and_parts, cases_eq, cases_lt, leb-true}
+-- What is under a place has the numbers from its own on, and no other has one of these.
+use Rattle.std.proofs.Common.{◌≡◌, ◌≢◌, ℕ, zero, suc, ◌+◌, ◌<◌, ◌≤◌, leb, true, List, length, refl, sym, ap, ◌∙◌, subst, arith, inl, inr, ◌⊎◌}
+use Rattle.std.proofs.lemmas.Bool.{and_from, and_parts, cases_eq, cases_lt, cases_order, le-leb, leb-true}
+use Rattle.std.proofs.lemmas.List.{get_or_default}
+use Rattle.std.specs.List.{slice_index_or}
 use Rattle.pddl_forest.specs.Forests.{parent_of, up, IsUnder, number_at}
 use Rattle.pddl_forest.specs.Spans.{span_at, AreSpans}
 use Rattle.pddl_forest.specs.declared.spans.Span.{Span}
-use Rattle.pddl_forest.specs.Inner.Orders.{IsOrder}
-use Rattle.pddl_forest.specs.Inner.Sizes.{IsFrom, AreSized, first_of, AreNumbered}
-use Rattle.pddl_forest.proofs.ApartSpans.{held}
-use Rattle.pddl_forest.proofs.HeldRuns.{first_at, last_at}
+use Rattle.pddl_forest.specs.Inner.Orders.{is_in, IsOrder}
+use Rattle.pddl_forest.specs.Inner.Relative.{first_of, last_of, AreRelative, AreMoved}
+use Rattle.pddl_forest.proofs.Peels.{among}
+use Rattle.pddl_forest.proofs.Moved.{top_first, top_low}
 
-module _ {ps order sizes offsets : List ℕ} {spans : List Span} (o : IsOrder ps order) (s : AreSized ps order sizes offsets 1) (f : AreNumbered ps order sizes offsets spans (length order)) where
+module _ {ps order : List ℕ} {old spans : List Span} (o : IsOrder ps order) (r : AreRelative ps order old) (f : AreMoved ps order old spans 0) where
   abbrev at : ℕ → ℕ
   at = first_of spans
 
   -- the number behind those of what is under a place
   abbrev end : ℕ → ℕ
-  end i = at i + number_at sizes i
+  end i = last_of spans i + 1
 
-  -- a place other than 0 has a turn from 1 on
-  some_turn : (i : ℕ) → i < length ps → i ≢ 0 → IsFrom order 1 i
-  some_turn i low other =
-      let turn = o.all i low in
-      let later : turn.0 ≢ 0 = λ e. other (sym turn.2 ∙ ap (number_at order) e ∙ o.start) in
-      (turn.0, omega (arith, later), turn.1, turn.2)
+  -- a place other than 0 has been moved by the number of its parent
+  module _ (i : ℕ) (low : i < length ps) (other : i ≢ 0) where
+    pub is_done : is_in order i ≡ true
+    is_done = let (u, inside, is) = o.all i low other in subst (λ k. is_in order k ≡ true) is (among order u inside)
 
-  behind : (i : ℕ) → i < length ps → i ≢ 0 → at (parent_of ps i) < at i
-  behind i low other = omega (arith, f.next i (o.all i low) other, s.behind i (some_turn i low other))
+    pub first_moved : at i ≡ first_of old i + at (parent_of ps i)
+    first_moved = let (u, inside, is) = o.all i low other in subst (λ k. at k ≡ first_of old k + at (parent_of ps k)) is (f.first u (omega arith) inside)
+
+    behind : at (parent_of ps i) < at i
+    behind = omega (arith, first_moved, r.behind i is_done)
+
+  last_moved : (i : ℕ) → i < length ps → last_of spans i ≡ last_of old i + at i
+  last_moved i low = elim (cases_eq i 0) as (λ _. last_of spans i ≡ last_of old i + at i) [
+    | inl is ↦ subst (λ k. last_of spans k ≡ last_of old k + at k) (sym is) (omega (arith, ap (λ s. s.first) f.top, ap (λ s. s.last) f.top, top_first o r))
+    | inr other ↦ let (u, inside, is) = o.all i low other in subst (λ k. last_of spans k ≡ last_of old k + at k) is (f.last u (omega arith) inside)
+  ]
 
   inside : (i : ℕ) → i < length ps → i ≢ 0 → end i ≤ end (parent_of ps i)
-  inside i low other = omega (arith, f.next i (o.all i low) other, s.inside i (some_turn i low other))
+  inside i low other = omega (arith, first_moved i low other, last_moved i low, r.inside i (is_done i low other), last_moved (parent_of ps i) (o.within i low))
 
   -- of two places with one parent the second comes behind all that is under the first
   apart : (i k : ℕ) → i < length ps → k < length ps → i ≢ 0 → k ≢ 0 → k ≢ i → parent_of ps k ≡ parent_of ps i → at k ≤ at i → end k ≤ at i
-  apart i k low also other some differ same before =
-      let next = f.next i (o.all i low) other in
-      let next' = f.next k (o.all k also) some in
+  apart i k low also other other' differ same before =
+      let moved = first_moved i low other in
+      let moved' = first_moved k also other' in
+      let (u, inside, is) = o.all i low other in
+      let (w, inside', is') = o.all k also other' in
       let e = ap at same in
-      let u = some_turn i low other in
-      let w = some_turn k also some in
-      elim (cases_lt u.0 w.0) as (λ _. end k ≤ at i) [
-        | inl later ↦ omega (arith, next, next', e, s.apart i k u w later same)
-        | inr not ↦
-            let apart_turns : u.0 ≢ w.0 = λ is. differ (sym w.3 ∙ ap (number_at order) (sym is) ∙ u.3) in
-            let apart = s.apart k i w u (omega (arith, not, apart_turns)) (sym same) in
-            let own = s.some i low in
-            absurd (omega (arith, next, next', e, apart, own, before))
+      elim (cases_order u w) as (λ _. end k ≤ at i) [
+        | inl one ↦ absurd (differ (sym is' ∙ ap (number_at order) (sym one) ∙ is))
+        | inr two ↦ elim two as (λ _. end k ≤ at i) [
+          | inl later ↦
+              let gone = r.apart u w later inside' (ap (parent_of ps) is' ∙ same ∙ ap (parent_of ps) (sym is)) in
+              absurd (omega (arith, moved, moved', e, gone, ap (first_of old) is, ap (first_of old) is', before))
+          | inr earlier ↦
+              let gone = r.apart w u earlier inside (ap (parent_of ps) is ∙ sym same ∙ ap (parent_of ps) (sym is')) in
+              omega (arith, moved, moved', last_moved k also, e, gone, ap (first_of old) is', ap (last_of old) is', ap (first_of old) is)
+        ]
       ]
 
   -- what is under a place comes behind it, and not behind what is below it
@@ -88,7 +100,7 @@ module _ {ps order sizes offsets : List ℕ} {spans : List Span} (o : IsOrder ps
   under_by (suc b) i g low also less from to =
       elim (cases_eq i 0) as (λ _. IsUnder ps i g) [
         | inl zeroth ↦
-            let none = ap at zeroth ∙ f.start in
+            let none : at i ≡ 0 = ap at zeroth ∙ ap (λ s. s.first) f.top ∙ top_first o r in
             elim (cases_eq g 0) as (λ _. IsUnder ps i g) [ inl is ↦ (0, zeroth ∙ sym is) | inr other ↦ absurd (omega (arith, none, behind g also other, from)) ]
         | inr other ↦
             let p = parent_of ps i in
@@ -96,7 +108,7 @@ module _ {ps order sizes offsets : List ℕ} {spans : List Span} (o : IsOrder ps
             elim (cases_lt (at p) (at g)) as (λ _. IsUnder ps i g) [
               | inr here ↦ let rest = under_by b p g (o.within i low) also (omega (arith, up_one, less)) here (omega (arith, up_one, to)) in (suc rest.0, rest.1)
               | inl between ↦
-                  let above = under_by b g p also (o.within i low) (omega (arith, up_one, less)) (omega (arith, between)) (omega (arith, from, s.some i low, inside i low other)) in
+                  let above = under_by b g p also (o.within i low) (omega (arith, up_one, less)) (omega (arith, between)) (omega (arith, from, last_moved i low, inside i low other)) in
                   elim (by_child above.0 g p also above.1) as (λ _. IsUnder ps i g) [
                     | inl is ↦ absurd (omega (arith, ap at is, between))
                     | inr (k, in_range, some, is_child, under) ↦ elim (cases_eq k i) as (λ _. IsUnder ps i g) [
@@ -110,28 +122,24 @@ module _ {ps order sizes offsets : List ℕ} {spans : List Span} (o : IsOrder ps
       ]
 
   -- the spans as they are read elsewhere
-  first_is : (i : ℕ) → i < length ps → (span_at spans i).first ≡ at i
-  first_is i low = first_at spans i (record { first = 0; last = 0 }) (omega (arith, low, f.long))
+  read : (i : ℕ) → i < length ps → span_at spans i ≡ slice_index_or spans i (record { first = 0; last = 0 })
+  read i low = get_or_default spans i _ _ (omega (arith, low, f.long))
 
-  last_is : (i : ℕ) → i < length ps → (span_at spans i).last + 1 ≡ end i
-  last_is i low = omega (arith, last_at spans i (record { first = 0; last = 0 }) (omega (arith, low, f.long)), f.last i (o.all i low))
+  low_last : (i : ℕ) → i < length ps → last_of spans i < length ps
+  low_last i low = elim (cases_eq i 0) as (λ _. last_of spans i < length ps) [
+    | inl is ↦ omega (arith, ap (last_of spans) is, ap (λ s. s.last) f.top, top_low o r)
+    | inr other ↦ let (u, inside, is) = o.all i low other in omega (arith, ap (last_of spans) is, f.low u (omega arith) inside)
+  ]
 
   pub are_spans : AreSpans ps spans
   are_spans = record {
     many = f.long;
-    some = λ i low. omega (arith, first_is i low, last_is i low, s.some i low);
-    low = λ i low. omega (arith, last_is i low, f.fits i (o.all i low));
-    under = λ i g low also.
-        let a = first_is i low in
-        let b = first_is g also in
-        let c = last_is g also in (
-          λ on.
-              let (from, to) = and_parts (leb (span_at spans g).first (span_at spans i).first) (leb (span_at spans i).first (span_at spans g).last) on in
-              let from = leb-true (span_at spans g).first (span_at spans i).first from in
-              let to = leb-true (span_at spans i).first (span_at spans g).last to in
-              under_by (at i + at g + 1) i g low also (omega arith) (omega (arith, from, a, b)) (omega (arith, to, a, c)),
-          λ (n, is).
-              let (from, to) = nested n i g low is in
-              held (span_at spans g) (span_at spans i).first (omega (arith, from, a, b)) (omega (arith, to, s.some i low, a, c)),
-        );
+    some = λ i low. rw (read i low) (omega (arith, last_moved i low));
+    low = λ i low. rw (read i low) (low_last i low);
+    under = λ i g low also. rw (read i low, read g also) (
+      λ on.
+          let (from, to) = and_parts (leb (at g) (at i)) (leb (at i) (last_of spans g)) on in
+          under_by (at i + at g + 1) i g low also (omega arith) (leb-true (at g) (at i) from) (omega (arith, leb-true (at i) (last_of spans g) to)),
+      λ (n, is). let (from, to) = nested n i g low is in and_from (leb (at g) (at i)) (leb (at i) (last_of spans g)) (le-leb (at g) (at i) from) (le-leb (at i) (last_of spans g) (omega (arith, to, last_moved i low))),
+    );
   }

@@ -1,10 +1,15 @@
 -- Places on ways that go round: those of which children are left where no more can be peeled off.
-use Rattle.std.proofs.Common.{◌≡◌, ◌≢◌, ℕ, zero, suc, ◌+◌, ◌-◌, ◌<◌, List, length, refl, sym, ap, ◌∙◌, subst, arith}
+use Rattle.std.proofs.Common.{◌≡◌, ◌≢◌, ◌↔◌, ℕ, zero, suc, ◌+◌, ◌-◌, ◌<◌, ◌==◌, not, Bool, true≢false, List, length, slice_set, refl, sym, ap, ◌∙◌, subst, arith, inl, inr}
+use Rattle.std.proofs.lemmas.Bool.{cases_eq, eq-eqb, ne_eqb}
+use Rattle.std.proofs.lemmas.List.Folds.{list_any_at, Any-from_list_any}
+use Rattle.std.proofs.lemmas.List.{get_or_default, get_or-set_same, get_or-set_other, length-set}
+use Rattle.std.specs.Prelude.{IsTrue}
+use Rattle.std.specs.List.{list_any}
 use Rattle.pddl_forest.specs.Forests.{parent_of, up, number_at}
-use Rattle.pddl_forest.specs.Rounds.{GoesRound, AreRounds}
-use Rattle.pddl_forest.specs.Inner.Orders.{ArePeeled}
+use Rattle.pddl_forest.specs.Rounds.{GoesRound, IsOnRound, HasRound, AreRounds}
+use Rattle.pddl_forest.specs.Inner.Orders.{ArePeeled, GoRound}
 use Rattle.pddl_forest.proofs.Lists.{has_two}
-use Rattle.pddl_forest.proofs.Peels.{some_left}
+use Rattle.pddl_forest.proofs.Peels.{is_there, some_left}
 
 -- so many steps, and so many more
 up_more : (ps : List ℕ) (m n i : ℕ) → up ps m (up ps n i) ≡ up ps (n + m) i
@@ -42,7 +47,7 @@ module _ (ps : List ℕ) (within : (i : ℕ) → i < length ps → parent_of ps 
     down i low some (suc n) =
         let (k, k_low, k_some, is) = down i low some n in
         let (c, c_low, child, out) = some_left h.counted k k_low k_some in
-        (c, c_low, λ none. out (h.without_children.all c c_low none), ap (up ps n) child ∙ is)
+        (c, c_low, λ none. out (is_there order (length order) c (omega arith) (h.without_children.all c c_low none)), ap (up ps n) child ∙ is)
 
     on_round : (i : ℕ) → i < length ps → number_at left i ≢ 0 → GoesRound ps i
     on_round i low some =
@@ -60,8 +65,35 @@ module _ (ps : List ℕ) (within : (i : ℕ) → i < length ps → parent_of ps 
         off_round b v (up ps n i) (omega (arith, before, less)) (omega (arith, before, low)) is
         (n, up_more ps (suc n) n i ∙ ap (λ k. up ps k i) e ∙ sym (up_more ps n (suc n) i) ∙ ap (up ps n) round)
 
-    pub are_rounds : AreRounds ps left
-    are_rounds = record {
-      off = λ i low none. let (u, inside, at) = h.without_children.all i low none in off_round (u + 1) u i (omega arith) inside at;
-      on = on_round;
+    pub go_round : GoRound ps left
+    go_round = record {
+      many = h.counted.long;
+      each = λ i low. (on_round i low, λ round none. let (u, inside, at) = h.without_children.all i low none in off_round (u + 1) u i (omega arith) inside at round);
     }
+
+-- with the number 0 for place 0 where it is its own parent
+module _ {ps numbers : List ℕ} (h : GoRound ps numbers) where
+  pub with_top : parent_of ps 0 ≢ 0 → AreRounds ps numbers
+  with_top other = record { many = h.many; each = λ i low. (λ some. ((h.each i low).0 some, λ _. other), λ round. (h.each i low).1 round.0) }
+
+  pub without_top : 0 < length ps → parent_of ps 0 ≡ 0 → AreRounds ps (slice_set numbers 0 0)
+  without_top first own = record {
+    many = length-set numbers 0 0 ∙ h.many;
+    each = λ i low. elim (cases_eq i 0) as (λ _. (number_at (slice_set numbers 0 0) i ≢ 0) ↔ IsOnRound ps i) [
+      | inl is ↦ (λ some. absurd (some (ap (number_at (slice_set numbers 0 0)) is ∙ get_or-set_same numbers 0 0 0 (omega (arith, first, h.many)))), λ round. absurd (round.1 is own))
+      | inr other ↦
+          let same = get_or-set_other numbers 0 i 0 0 other in
+          (λ some. ((h.each i low).0 (λ none. some (same ∙ none)), λ is. absurd (other is)), λ round none. (h.each i low).1 round.0 (sym same ∙ none))
+    ];
+  }
+
+-- some number is other than 0 where some way goes round
+pub told_round : {ps numbers : List ℕ} {told : Bool} → AreRounds ps numbers → told ≡ list_any (λ n. not (n == 0)) numbers → IsTrue told ↔ HasRound ps
+told_round {ps} {numbers} {told} h is = (
+  λ some.
+      let (k, n, inside, at, on) = Any-from_list_any (λ n. not (n == 0)) numbers (sym is ∙ some) in
+      let low : k < length ps = omega (arith, inside, h.many) in
+      let other : number_at numbers k ≢ 0 = λ none. true≢false (sym on ∙ ap not (eq-eqb n 0 (sym at ∙ get_or_default numbers k n 0 inside ∙ none))) in
+      (k, low, (h.each k low).0 other),
+  λ (i, low, round). is ∙ list_any_at (λ n. not (n == 0)) numbers i 0 (omega (arith, low, h.many)) (ap not (ne_eqb (number_at numbers i) 0 ((h.each i low).1 round))),
+)

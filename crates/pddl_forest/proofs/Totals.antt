@@ -39,3 +39,7 @@ total_some f (suc m) some =
       | inl none ↦ let (u, low, is) = total_some f m (λ e. some (omega (arith, none, e))) in (u, omega (arith, low), is)
       | inr is ↦ (m, omega arith, is)
     ]
+
+pub total_none : (f : ℕ → ℕ) (m : ℕ) → ((u : ℕ) → u < m → f u ≡ 0) → total f m ≡ 0
+total_none f zero none = refl
+total_none f (suc m) none = omega (arith, total_none f m (λ u low. none u (omega (arith, low))), none m (omega arith))

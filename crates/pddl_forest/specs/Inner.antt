@@ -1,3 +1,3 @@
 -- What the code and the proofs go by: second forms of what stands beside this folder, and how values are held.
 pub mod Orders
-pub mod Sizes
+pub mod Relative

@@ -1,5 +1,5 @@
 -- Ways from parent to parent that go round. Own.
-use Rattle.std.specs.Prelude.{◌≡◌, ◌≢◌, ◌<◌, ℕ, suc, List, length}
+use Rattle.std.specs.Prelude.{◌≡◌, ◌≢◌, ◌<◌, ◌↔◌, ℕ, suc, List, length}
 use Rattle.pddl_forest.specs.Forests.{up, parent_of, number_at}
 
 -- a place is come to again from its parent
@@ -14,7 +14,7 @@ IsOnRound ps i = GoesRound ps i × (i ≡ 0 → parent_of ps 0 ≢ 0)
 abbrev pub HasRound : List ℕ → Type 0
 HasRound ps = (i : ℕ) × (i < length ps) × IsOnRound ps i
 
--- places have the number 0 where they are not come to again from their parents, and only there
+-- each place has a number, which is other than 0 where it is so, and only there
 pub record AreRounds (ps numbers : List ℕ) : Type 0 where
-  pub off : (i : ℕ) → i < length ps → number_at numbers i ≡ 0 → GoesRound ps i → ⊥
-  pub on : (i : ℕ) → i < length ps → number_at numbers i ≢ 0 → GoesRound ps i
+  pub many : length numbers ≡ length ps
+  pub each : (i : ℕ) → i < length ps → (number_at numbers i ≢ 0) ↔ IsOnRound ps i

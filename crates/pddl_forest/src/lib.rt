@@ -2,14 +2,11 @@
 #![tactic(auto)]
 
 mod numbering;
-mod ordering;
 mod peeling;
-mod places;
 mod rounds;
 mod spans;
 mod tops;
 
 pub use numbering::forest_spans;
-pub use rounds::is_on_round;
 pub use spans::{Span, hold_all};
 pub use tops::keep_tops;

@@ -1,29 +1,22 @@
 //! Places that are peeled off in turn, each once no child of it is left. What is left lies on ways from parent to parent that go round.
 
-ghost use Rattle.std.specs.Prelude.{◌≡◌, ◌<◌, ℕ, [], length, IfOk, OnOk};
+ghost use Rattle.std.specs.Prelude.{◌≡◌, ◌+◌, ◌<◌, ◌≤◌, ℕ, [], length, replicate, IfOk, OnOk};
 ghost use Rattle.pddl_forest.specs.Forests.{parent_of};
 ghost use Rattle.pddl_forest.specs.Inner.Orders.{AreCounted, AreWithoutChildren, ArePeeled};
+ghost use Rattle.pddl_forest.specs.Inner.Relative.{last_of, put_under, AreRelative};
 
-use crate::places::{number_at, parent_of, put};
+use crate::spans::Span;
 use std::alloc::{AllocError, Allocator};
 
-/// How many children each place has.
-///
-/// Fails where memory for the numbers is refused.
-fn children_of<'a, B: Allocator>(
-    alloc: &'a B,
-    parents: &[usize],
-) -> Result<Vec<usize, &'a B>, AllocError>
-    requires { (i : ℕ) → i < length parents.now → parent_of parents.now i < length parents.now }
-    ensures { IfOk result (λ left. AreCounted parents.now [] 0 (length parents.now) left.items) }
+/// Counts the children of each place.
+fn count_children(parents: &[usize], left: &mut [usize])
+    requires within { (i : ℕ) → i < length parents.now → parent_of parents.now i < length parents.now }
+    requires none { left.old ≡ replicate (length parents.now) 0 }
+    ensures { AreCounted parents.now [] (length parents.now) left.new }
 {
-    let mut left = vec![in alloc; 0; parents.len()]?;
     for place in 0..parents.len() {
-        let parent = parent_of(parents, place);
-        let more = number_at(&left, parent) + 1;
-        put(&mut left, parent, more);
+        left[parents[place]] += 1;
     }
-    Ok(left)
 }
 
 /// Puts the places without children into an empty list.
@@ -37,11 +30,24 @@ fn list_leaves<'a, B: Allocator>(
     ensures { OnOk result (AreWithoutChildren left.now (length left.now) order.new.items) }
 {
     for place in 0..left.len() {
-        if number_at(left, place) == 0 {
+        if left[place] == 0 {
             order.push(place)?;
         }
     }
     Ok(())
+}
+
+/// Puts what is under a place behind what is under its parent so far. Each span's first number is from the number of the parent on, and its last from its own.
+fn put_under(spans: &mut [Span], place: usize, parent: usize)
+    requires place { place < length spans.old }
+    requires parent { parent < length spans.old }
+    requires fits { last_of spans.old parent + 1 + last_of spans.old place ≤ length spans.old }
+    ensures { spans.new ≡ put_under spans.old place parent }
+{
+    let first = spans[parent].last + 1;
+    let last = spans[place].last;
+    spans[parent].last = first + last;
+    spans[place] = Span { first, last };
 }
 
 /// Peels off the places of a list in turn, and adds each parent of which no child is left by that.
@@ -49,21 +55,26 @@ fn list_leaves<'a, B: Allocator>(
 /// Fails where memory for them is refused.
 fn peel<'a, B: Allocator>(
     parents: &[usize],
-    left: &mut Vec<usize, &'a B>,
+    left: &mut [usize],
     order: &mut Vec<usize, &'a B>,
+    spans: &mut [Span],
 ) -> Result<(), AllocError>
     requires within { (i : ℕ) → i < length parents.now → parent_of parents.now i < length parents.now }
-    requires leaves { ArePeeled parents.now left.old.items order.old.items 0 }
-    ensures { OnOk result (ArePeeled parents.now left.new.items order.new.items (length order.new.items)) }
+    requires leaves { ArePeeled parents.now left.old order.old.items 0 }
+    requires spans { AreRelative parents.now [] spans.old }
+    ensures peeled { OnOk result (ArePeeled parents.now left.new order.new.items (length order.new.items)) }
+    ensures spans { OnOk result (AreRelative parents.now order.new.items spans.new) }
 {
     for turn in 0..parents.len() {
         if turn == order.len() {
             return Ok(());
         }
-        let parent = parent_of(parents, number_at(order, turn));
-        let fewer = number_at(left, parent) - 1;
-        put(left, parent, fewer);
-        if fewer == 0 {
+        let place = order[turn];
+        let parent = parents[place];
+        put_under(spans, place, parent);
+        let fewer = &mut left[parent];
+        *fewer -= 1;
+        if *fewer == 0 {
             order.push(parent)?;
         }
     }
@@ -77,13 +88,17 @@ pub fn children_left<'a, B: Allocator>(
     alloc: &'a B,
     parents: &[usize],
     order: &mut Vec<usize, &'a B>,
+    spans: &mut [Span],
 ) -> Result<Vec<usize, &'a B>, AllocError>
     requires within { (i : ℕ) → i < length parents.now → parent_of parents.now i < length parents.now }
     requires clear { order.old.items ≡ [] }
-    ensures { IfOk result (λ left. ArePeeled parents.now left.items order.new.items (length order.new.items)) }
+    requires spans { AreRelative parents.now [] spans.old }
+    ensures left { IfOk result (λ left. ArePeeled parents.now left.items order.new.items (length order.new.items)) }
+    ensures spans { OnOk result (AreRelative parents.now order.new.items spans.new) }
 {
-    let mut left = children_of(alloc, parents)?;
+    let mut left = vec![in alloc; 0; parents.len()]?;
+    count_children(parents, &mut left);
     list_leaves(&left, order)?;
-    peel(parents, &mut left, order)?;
+    peel(parents, &mut left, order, spans)?;
     Ok(left)
 }

@@ -1,10 +1,10 @@
 -- Declared types that are above themselves, and ways that go round in their table.
 use Rattle.std.proofs.Common.{◌≡◌, ◌≢◌, ℕ, zero, suc, ◌+◌, ◌<◌, Bool, true, false, not, cond, List, [], ◌∷◌, map, filter, length, get_or, drop, refl, sym, ap, ◌∙◌, subst, arith, bytes_eq}
-use Rattle.std.specs.Prelude.{◌↔◌, IsTrue, Contains, Some, None, slice_get}
+use Rattle.std.specs.Prelude.{◌↔◌, Contains, Some, None, slice_get}
 use Rattle.std.specs.Borrow.{Bor}
-use Rattle.std.specs.Cmp.{both_ways}
 use Rattle.std.specs.List.{position}
 use Rattle.std.specs.Map.{keys_of}
+use Rattle.std.proofs.lemmas.Bool.{false_from_ne_true}
 use Rattle.std.proofs.lemmas.List.{length-map}
 use Rattle.std.proofs.lemmas.List.Elements.{Contains-append_left}
 use Rattle.std.proofs.lemmas.Option.{slice_get_read, slice_get_within, get_or_from_slice_get}
@@ -93,9 +93,6 @@ module _ (declared : List TypeValue) (rows : List Row) (h : IsTypeTable declared
         )
       ] refl
 
-  told_cyclic : (d : TypeValue) (i : ℕ) (told : Bool) → Contains declared d → StandsAt rows i d.item → IsTrue told ↔ IsOnRound ps i → is_cyclic (pairs declared) d.item ≡ told
-  told_cyclic d i told has at tells = both_ways (is_cyclic (pairs declared) d.item) told (λ cyclic. tells.1 (cyclic_round d.item i at cyclic)) (λ yes. round_cyclic d i has at (tells.0 yes))
-
   -- ---- on each way round lies a declared type
 
   abbrev HasCyclic : Type 0
@@ -152,12 +149,16 @@ module _ {X : Type 0} (view : X → TypeValue) (xs : List X) {rows : List Row} (
       cc
 
   -- and is above itself where its place lies on a way round: it is the first of those that are left, or these are left behind it
-  pub told_at : {qs : List ℕ} {place : ℕ} {told : Bool} → qs ≡ parents_in rows → Some place ≡ position (λ k. bytes_eq q.now k.now) (keys_of rows) → IsTrue told ↔ IsOnRound qs place
-      → filter cyclic (drop i names) ≡ filter cyclic names → (told ≡ true → Contains (cycle_in (map view xs)) q.now) × (told ≡ false → filter cyclic (drop (i + 1) names) ≡ filter cyclic names)
-  told_at {qs} {place} {told} same at tells left =
-      let tested : cyclic q.now ≡ told = ap cyclic named ∙ told_cyclic (map view xs) rows h (view x) place told declares (subst (StandsAt rows place) named (found_place rows q.now place (sym at))) (subst (λ rs. IsTrue told ↔ IsOnRound rs place) same tells) in
+  pub told_at : {place number : ℕ} → Some place ≡ position (λ k. bytes_eq q.now k.now) (keys_of rows) → (number ≢ 0) ↔ IsOnRound (parents_in rows) place
+      → filter cyclic (drop i names) ≡ filter cyclic names → (number ≢ 0 → Contains (cycle_in (map view xs)) q.now) × (number ≡ 0 → filter cyclic (drop (i + 1) names) ≡ filter cyclic names)
+  told_at {place} {number} at tells left =
+      let stands_at = subst (StandsAt rows place) named (found_place rows q.now place (sym at)) in
       let within = slice_get_within names i q.now listed in
       let here = sym (get_or_from_slice_get names i q.now q.now listed) in (
-        λ on. subst (λ ns. Contains (first_alone ns) q.now) (rw (rest_is names i q.now within here, tested ∙ on) at left) (0, omega arith, refl),
-        λ off. rw (rest_is names i q.now within here, tested ∙ off) at left,
+        λ on.
+            let tested : cyclic q.now ≡ true = ap cyclic named ∙ round_cyclic (map view xs) rows h (view x) place declares stands_at (tells.0 on) in
+            subst (λ ns. Contains (first_alone ns) q.now) (rw (rest_is names i q.now within here, tested) at left) (0, omega arith, refl),
+        λ off.
+            let tested : cyclic q.now ≡ false = ap cyclic named ∙ false_from_ne_true (cyclic (view x).item) (λ yes. tells.1 (cyclic_round (map view xs) rows h (view x).item place stands_at yes) off) in
+            rw (rest_is names i q.now within here, tested) at left,
       )

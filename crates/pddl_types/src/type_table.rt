@@ -95,6 +95,6 @@ pub(crate) fn spans_of<'m, 'a, A: Allocator, B: Allocator>(
     let parents = parent_places(alloc, table)?;
     match forest_spans(alloc, &parents)? {
         Ok(spans) => Ok(spans),
-        Err(numbers) => Err(LinkFault::TypeCycle(first_cycle(table, &parents, &numbers, declared))),
+        Err(numbers) => Err(LinkFault::TypeCycle(first_cycle(table, &numbers, declared))),
     }
 }

@@ -1,10 +1,39 @@
+use Rattle.std.proofs.Common.{◌≡◌, length, sym, subst, ◌∙◌, true≢false, arith}
+use Rattle.pddl_forest.specs.Rounds.{AreRounds}
+use Rattle.pddl_forest.specs.Spans.{AreSpans}
+use Rattle.pddl_forest.proofs.Lists.{in_place}
+use Rattle.pddl_forest.proofs.Orders.{in_order}
+use Rattle.pddl_forest.proofs.Relative.{none_done}
+use Rattle.pddl_forest.proofs.RoundWays.{go_round}
 use Rattle.pddl_forest.proofs.numbering.forest_spans.Goals as goal
 
-pub numbered-requires : goal.numbered-requires
-numbered-requires g c = rw c.deref.ensures.value (rw c.in-Ok.is at c.in_ok-order.ensures.order)
+pub children_left-requires-clause-spans : goal.children_left-requires-clause-spans
+children_left-requires-clause-spans g c = rw (c.deref_mut.ensures.value, c.in_ok-spans.ensures.items_if_clones_equal (λ _ same. same)) (none_done c.args.parents.now)
 
-pub returns-in_ok-numbered-in-Ok : goal.returns-in_ok-numbered-in-Ok
-returns-in_ok-numbered-in-Ok g c = record { spans = c.in_ok-numbered-in-Ok.ensures; none = rw c.in-Ok.is at c.in_ok-order.ensures.none; round = tt }
+pub has_round-requires-clause-round : goal.has_round-requires-clause-round
+has_round-requires-clause-round g c = rw c.deref_mut-2.ensures.value (go_round c.args.parents.now c.requires.within c.in_ok-left.ensures.left)
 
-pub returns-in-Err : goal.returns-in-Err
-returns-in-Err g c = record { spans = tt; none = tt; round = rw c.in-Err.is at c.in_ok-order.ensures.round }
+pub number_from_top-requires-clause-order : goal.number_from_top-requires-clause-order
+number_from_top-requires-clause-order g c =
+    rw c.deref.ensures.value (in_order c.in_ok-left.ensures.left c.requires.within c.requires.some (λ round. true≢false (sym (c.has_round.ensures.round.1 round) ∙ c.if-has_round.false)))
+
+pub number_from_top-requires-clause-spans : goal.number_from_top-requires-clause-spans
+number_from_top-requires-clause-spans g c =
+    let spans = c.children_left.new.spans in
+    let is : c.deref_mut-3.result.now ≡ spans = c.deref_mut-3.ensures.value ∙ in_place spans _ c.in_ok-spans.spans.len (omega (arith, c.in_ok-spans.ensures.len, c.in_ok-left.ensures.spans.long)) in
+    rw (c.deref.ensures.value, is) c.in_ok-left.ensures.spans
+
+pub returns : goal.returns
+returns g c =
+    let spans = c.number_from_top.new.spans in
+    record {
+      spans = subst (AreSpans c.args.parents.now) (sym (in_place spans _ c.in_ok-spans.spans.len (omega (arith, c.in_ok-spans.ensures.len, c.number_from_top.ensures.many)))) c.number_from_top.ensures;
+      none = λ round. true≢false (sym (c.has_round.ensures.round.1 round) ∙ c.if-has_round.false);
+      round = tt;
+    }
+
+pub returns-then-has_round : goal.returns-then-has_round
+returns-then-has_round g c =
+    let h = c.has_round.ensures in
+    let long : c.in_ok-left.left.len ≡ length c.has_round.new.numbers = omega (arith, c.in_ok-left.ensures.left.counted.long, h.numbers.many) in
+    record { spans = tt; none = tt; round = (h.round.0 c.if-has_round.true, subst (AreRounds c.args.parents.now) (sym (in_place c.has_round.new.numbers _ c.in_ok-left.left.len long)) h.numbers) }

@@ -1,11 +1,22 @@
-use Rattle.std.proofs.Common.{sym, ◌∙◌, true≢false, arith}
-use Rattle.pddl_forest.specs.Rounds.{IsOnRound}
-use borrow.Author.Count.{below_more}
+use Rattle.std.proofs.Common.{◌==◌, not, sym, ◌∙◌, rules, tests}
+use Rattle.std.proofs.lemmas.Iterator.{YieldsList-from_slice}
+use Rattle.std.proofs.lemmas.Iterator.Search.{any_from_yields_List}
+use Rattle.pddl_forest.specs.Rounds.{AreRounds}
+use Rattle.pddl_forest.proofs.Peels.{parent_is}
+use Rattle.pddl_forest.proofs.RoundWays.{with_top, without_top, told_round}
+use Rattle.pddl_forest.proofs.rounds.has_round.Goals.{then-parents-eq0, else-parents-eq0}
 use Rattle.pddl_forest.proofs.rounds.has_round.Goals as goal
 
-pub loop-place-preserved : goal.loop-place-preserved
-loop-place-preserved c =
-    below_more (λ i. IsOnRound c.args.parents.now i → ⊥) c.loop-place.place c.loop-place.invariant (λ on. true≢false (sym (c.is_on_round.ensures.1 on) ∙ c.if-is_on_round.false))
+rounds : (c : goal.After-any) → AreRounds c.args.parents.now c.if-parents-eq0.numbers
+rounds c =
+    let own = parent_is c.args.parents.now 0 c.requires.some in
+    elim c.if-parents-eq0.branch [
+      | then-parents-eq0 w ↦ rw w.numbers-is (without_top c.requires.round c.requires.some (sym own ∙ w.if-parents-eq0.true))
+      | else-parents-eq0 w ↦ rw w.numbers-is (with_top c.requires.round (λ is. w.if-parents-eq0.false (own ∙ is)))
+    ]
 
 pub returns : goal.returns
-returns c = (λ never. absurd (true≢false (sym never)), λ (i, low, on). absurd (c.loop-place.invariant i (omega (arith, low, c.loop-place-test.false)) on))
+returns c = record {
+  numbers = rounds c;
+  round = told_round (rounds c) (any_from_yields_List (λ n. not (n == 0)) _ _ _ c.any.ensures.ran (YieldsList-from_slice c.if-parents-eq0.numbers c.iter.ensures.rest) (λ x b q k. search (rules, tests)));
+}

@@ -29,10 +29,9 @@ returns-in-Ok g c =
 pub first_cycle-requires : goal.first_cycle-requires
 first_cycle-requires g c =
     let (round, numbers) = rw c.in-Err.is at c.in_ok-spans.ensures.round in
-    let same = c.deref.ensures.value ∙ sym c.deref-in-Err.ensures.value in
+    let same = c.deref.ensures.value ∙ c.in_ok-parents.ensures in
     record {
       table = c.requires;
-      parents = c.deref-in-Err.ensures.value ∙ c.in_ok-parents.ensures;
-      numbers = subst (λ ps. AreRounds ps c.deref-in-Err-2.result.now) same (rw (← c.deref-in-Err-2.ensures.value) at numbers);
+      numbers = subst (λ ps. AreRounds ps c.deref-in-Err.result.now) same (rw (← c.deref-in-Err.ensures.value) at numbers);
       round = subst HasRound same round;
     }
