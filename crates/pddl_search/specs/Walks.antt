@@ -1,26 +1,14 @@
--- The faults that a search finds part by part: all those of a part's places.
-use Rattle.std.specs.Prelude.{List, [], ◌∷◌}
+-- What a search of some places answers, by what is bound where they stand.
+use Rattle.std.specs.Prelude.{ℕ, List, Result}
 use Rattle.std.specs.List.{flat_map}
 use Rattle.pddl_formula.specs.TypedLists.{TypedValue}
-use Rattle.pddl_formula.specs.Formulas.{FormulaValue, FormulaValues}
-use Rattle.pddl_effect.specs.Effects.{AmountValue, EffectValue, EffectValues}
-use Rattle.pddl_task.specs.Places.{Place, at, calls, bare, total_cost, amount_part, places_in, places_in_all, effect_places, effects_places}
+use Rattle.pddl_task.specs.Names.{Name}
+use Rattle.pddl_task.specs.Places.{Place}
+use Rattle.pddl_faults.specs.declared.fault.LinkFault.{LinkFault}
+use Rattle.pddl_faults.specs.Found.{IsFound}
+use Rattle.pddl_search.specs.Scopes.{IsKept}
 
-module _ {F : Type 0} (found : Place → List F) where
-  -- those of a formula, and of formulas in turn
-  abbrev pub faults_in : FormulaValue → List TypedValue → List F
-  faults_in f b = flat_map found (places_in f b)
-
-  abbrev pub faults_in_all : FormulaValues → List TypedValue → List F
-  faults_in_all fs b = flat_map found (places_in_all fs b)
-
-  -- those of an increase
-  abbrev pub increase_faults : AmountValue → List TypedValue → List F
-  increase_faults a b = flat_map found (at b (calls (bare total_cost)) ∷ at b (amount_part a) ∷ [])
-
-  -- those of an effect, and of effects in turn
-  abbrev pub effect_faults : EffectValue → List TypedValue → List F
-  effect_faults e b = flat_map found (effect_places e b)
-
-  abbrev pub effects_faults : EffectValues → List TypedValue → List F
-  effects_faults es b = flat_map found (effects_places es b)
+-- what is bound stays, and the lowest of the faults that are looked for there is found
+pub record IsSearched (before after : List TypedValue → Type 0) (sought now : Place → List (ℕ × Name)) (places : List TypedValue → List Place) (r : Result (Unit {0}) LinkFault) : Type 0 where
+  pub kept : IsKept before after sought now
+  pub found : (b : List TypedValue) → before b → IsFound (flat_map sought (places b)) r

@@ -1,10 +1,13 @@
 //! What stands at a place, as a search looks at it.
 
 ghost use Rattle.std.specs.Prelude.{◌≡◌, ◌<◌, length, get_or};
-ghost use Rattle.pddl_formula.specs.Terms.{term_view};
-ghost use Rattle.pddl_search.specs.Parts.{term_in, term_name, terms_in};
+ghost use Rattle.pddl_formula.specs.Terms.{term_view, atom_view};
+ghost use Rattle.pddl_effect.specs.Effects.{amount_view};
+ghost use Rattle.pddl_task.specs.Places.{says, calls, bare, total_cost, amount_part};
+ghost use Rattle.pddl_search.specs.Parts.{part_in, term_in, term_name, terms_in};
 
-use pddl_formula::{Term, TypedList};
+use pddl_effect::Amount;
+use pddl_formula::{Atom, Term, TypedList};
 use pddl_token::{Fixed, Name};
 use std::alloc::Allocator;
 
@@ -34,6 +37,34 @@ pub enum Part<'d, A: Allocator> {
     Binds(&'d TypedList<A>),
     /// A number for a function.
     Counts(&'d [u8], Fixed),
+}
+
+impl<'d, A: Allocator> Part<'d, A> {
+    /// What an atom says.
+    pub fn of_atom(atom: &'d Atom<A>) -> Part<'d, A>
+        ensures { part_in result ≡ says (atom_view atom.now) }
+    {
+        Part::Says(atom.predicate.as_bytes(), Terms::Any(&atom.terms))
+    }
+
+    /// The total cost, a function without terms.
+    pub fn total_cost() -> Part<'d, A>
+        ensures { part_in result ≡ calls (bare total_cost) }
+    {
+        Part::Calls(b"total-cost".as_slice(), Terms::Any(&[]))
+    }
+
+    /// What an increase adds to the total cost.
+    pub fn of_amount(amount: &'d Amount<A>) -> Part<'d, A>
+        ensures { part_in result ≡ amount_part (amount_view amount.now) }
+    {
+        match amount {
+            Amount::Number(number) => Part::Counts(b"total-cost".as_slice(), *number),
+            Amount::Function(call) => {
+                Part::Calls(call.function.as_bytes(), Terms::Any(&call.terms))
+            }
+        }
+    }
 }
 
 impl<'d> LentTerm<'d> {

@@ -2,24 +2,23 @@
 //!
 //! Each function answers the lowest of the faults that stand in its part.
 
-ghost use Rattle.std.specs.Prelude.{◌≡◌, [], ◌++◌, List, map};
+ghost use Rattle.std.specs.Prelude.{[], ◌∷◌, map};
 ghost use Rattle.std.specs.List.{flat_map};
-ghost use Rattle.pddl_formula.specs.Terms.{term_view, atom_view};
-ghost use Rattle.pddl_formula.specs.TypedLists.{TypedValue, typed_view};
 ghost use Rattle.pddl_formula.specs.Formulas.{formula_view, formulas_of};
-ghost use Rattle.pddl_effect.specs.Effects.{amount_view, effect_view, effects_of};
+ghost use Rattle.pddl_effect.specs.Effects.{effect_view, effects_of};
 ghost use Rattle.pddl_domain.specs.Actions.{action_view};
-ghost use Rattle.pddl_task.specs.Places.{at, says, calls, binds, binding, action_places};
+ghost use Rattle.pddl_task.specs.Places.{at, places_in, places_in_all, effect_places, effects_places, action_places};
 ghost use Rattle.pddl_faults.specs.Found.{IsFound};
+ghost use Rattle.pddl_search.specs.Parts.{part_in};
 ghost use Rattle.pddl_search.specs.Scopes.{IsKept};
-ghost use Rattle.pddl_search.specs.Walks.{faults_in, faults_in_all, effect_faults, effects_faults, increase_faults};
+ghost use Rattle.pddl_search.specs.Walks.{IsSearched};
 
-use crate::part::{Part, Terms};
+use crate::part::Part;
 use crate::scope::Scope;
 use pddl_domain::Action;
 use pddl_effect::{Amount, Effect};
 use pddl_faults::{LinkFault, lower};
-use pddl_formula::{Atom, Formula, Term, TypedList};
+use pddl_formula::{Formula, TypedList};
 use std::alloc::{AllocError, Allocator};
 
 /// A search for faults, place by place, which is told what is bound. The table of what is in scope takes its memory from `B`.
@@ -59,31 +58,17 @@ pub trait Search<A: Allocator, B: Allocator> {
         ensures found { (b : List TypedValue) → is_bound self.old scope.now b → IsFound (found self.old (at b (part_in part.now))) result };
 }
 
-/// Searches an atom.
-fn search_atom<'d, 'a, A: Allocator, B: Allocator, S: Search<A, B>>(
+/// Looks at two places, one after the other.
+pub fn search_both<'d, A: Allocator, B: Allocator, S: Search<A, B>>(
     search: &mut S,
-    scope: &mut Scope<'d, 'a, A, B>,
-    atom: &'d Atom<A>,
+    scope: &Scope<A, B>,
+    first: &Part<'d, A>,
+    second: &Part<'d, A>,
 ) -> Result<(), LinkFault<'d>>
-    ensures kept { IsKept (S.is_bound search.old scope.old) (S.is_bound search.new scope.new) (S.found search.old) (S.found search.new) }
-    ensures found { (b : List TypedValue) → S.is_bound search.old scope.old b → IsFound (S.found search.old (at b (says (atom_view atom.now)))) result }
+    ensures { IsSearched (S.is_bound search.old scope.now) (S.is_bound search.new scope.now) (S.found search.old) (S.found search.new) (λ b. at b (part_in first.now) ∷ at b (part_in second.now) ∷ []) result }
 {
-    let part = Part::Says(atom.predicate.as_bytes(), Terms::Any(&atom.terms));
-    search.look(&*scope, &part)
-}
-
-/// Searches a function of terms.
-fn search_call<'d, 'a, A: Allocator, B: Allocator, S: Search<A, B>>(
-    search: &mut S,
-    scope: &mut Scope<'d, 'a, A, B>,
-    function: &'d [u8],
-    terms: &'d [Term<A>],
-) -> Result<(), LinkFault<'d>>
-    ensures kept { IsKept (S.is_bound search.old scope.old) (S.is_bound search.new scope.new) (S.found search.old) (S.found search.new) }
-    ensures found { (b : List TypedValue) → S.is_bound search.old scope.old b → IsFound (S.found search.old (at b (calls (record { function = function.now; terms = map term_view terms.now })))) result }
-{
-    let part = Part::Calls(function, Terms::Any(terms));
-    search.look(&*scope, &part)
+    let found = search.look(scope, first);
+    lower(found, search.look(scope, second))
 }
 
 /// Searches a formula.
@@ -93,41 +78,24 @@ pub fn search_formula<'d, 'a, A: Allocator, B: Allocator, S: Search<A, B>>(
     scope: &mut Scope<'d, 'a, A, B>,
     formula: &'d Formula<A>,
 ) -> Result<(), LinkFault<'d>>
-    ensures kept { IsKept (S.is_bound search.old scope.old) (S.is_bound search.new scope.new) (S.found search.old) (S.found search.new) }
-    ensures found { (b : List TypedValue) → S.is_bound search.old scope.old b → IsFound (faults_in (S.found search.old) (formula_view formula.now) b) result }
+    ensures { IsSearched (S.is_bound search.old scope.old) (S.is_bound search.new scope.new) (S.found search.old) (S.found search.new) (places_in (formula_view formula.now)) result }
 {
     match formula {
-        Formula::Atom(atom) => search_atom(search, scope, atom),
+        Formula::Atom(atom) => search.look(&*scope, &Part::of_atom(atom)),
         Formula::Equal(first, second) => search.look(&*scope, &Part::Equates(first, second)),
         Formula::Not(inner) => search_formula(search, scope, inner),
         Formula::Imply(first, second) => {
             let first = search_formula(search, scope, first);
             lower(first, search_formula(search, scope, second))
         }
-        Formula::And(parts) => search_formulas(search, scope, parts),
-        Formula::Or(parts) => search_formulas(search, scope, parts),
-        Formula::Exists(variables, inner) => { search_quantified(search, scope, variables, inner) }
-        Formula::Forall(variables, inner) => { search_quantified(search, scope, variables, inner) }
+        Formula::And(parts) | Formula::Or(parts) => search_formulas(search, scope, parts),
+        Formula::Exists(variables, inner) | Formula::Forall(variables, inner) => {
+            search.enter(scope, variables)?;
+            let found = search_formula(search, scope, inner);
+            search.leave(scope, variables);
+            lower(search.look(&*scope, &Part::Binds(variables)), found)
+        }
     }
-}
-
-/// Searches the variables of a quantifier, and what is quantified.
-#[cycle(formulas)]
-fn search_quantified<'d, 'a, A: Allocator, B: Allocator, S: Search<A, B>>(
-    search: &mut S,
-    scope: &mut Scope<'d, 'a, A, B>,
-    variables: &'d TypedList<A>,
-    inner: &'d Box<Formula<A>, A>,
-) -> Result<(), LinkFault<'d>>
-    ensures kept { IsKept (S.is_bound search.old scope.old) (S.is_bound search.new scope.new) (S.found search.old) (S.found search.new) }
-    ensures found { (b : List TypedValue) → S.is_bound search.old scope.old b → IsFound (S.found search.old (at b (binds (map typed_view variables.now.items)))
-        ++ faults_in (S.found search.old) (formula_view inner.now.value) (binding (map typed_view variables.now.items) b)) result }
-{
-    let own = search.look(&*scope, &Part::Binds(variables));
-    search.enter(scope, variables)?;
-    let found = search_formula(search, scope, inner);
-    search.leave(scope, variables);
-    lower(own, found)
 }
 
 /// Searches formulas in turn.
@@ -137,36 +105,13 @@ fn search_formulas<'d, 'a, A: Allocator, B: Allocator, S: Search<A, B>>(
     scope: &mut Scope<'d, 'a, A, B>,
     formulas: &'d Vec<Formula<A>, A>,
 ) -> Result<(), LinkFault<'d>>
-    ensures kept { IsKept (S.is_bound search.old scope.old) (S.is_bound search.new scope.new) (S.found search.old) (S.found search.new) }
-    ensures found { (b : List TypedValue) → S.is_bound search.old scope.old b → IsFound (faults_in_all (S.found search.old) (formulas_of (map formula_view formulas.now.items)) b) result }
+    ensures { IsSearched (S.is_bound search.old scope.old) (S.is_bound search.new scope.new) (S.found search.old) (S.found search.new) (places_in_all (formulas_of (map formula_view formulas.now.items))) result }
 {
     let mut found = Ok(());
     for formula in formulas {
         found = lower(found, search_formula(search, scope, formula));
     }
     found
-}
-
-/// Searches what an increase adds, the total cost first.
-fn search_increase<'d, 'a, A: Allocator, B: Allocator, S: Search<A, B>>(
-    search: &mut S,
-    scope: &mut Scope<'d, 'a, A, B>,
-    amount: &'d Amount<A>,
-) -> Result<(), LinkFault<'d>>
-    ensures kept { IsKept (S.is_bound search.old scope.old) (S.is_bound search.new scope.new) (S.found search.old) (S.found search.new) }
-    ensures found { (b : List TypedValue) → S.is_bound search.old scope.old b → IsFound (increase_faults (S.found search.old) (amount_view amount.now) b) result }
-{
-    let total = search_call(search, scope, b"total-cost".as_slice(), &[]);
-    match amount {
-        Amount::Number(number) => {
-            let part = Part::Counts(b"total-cost".as_slice(), *number);
-            lower(total, search.look(&*scope, &part))
-        }
-        Amount::Function(call) => {
-            let added = search_call(search, scope, call.function.as_bytes(), &call.terms);
-            lower(total, added)
-        }
-    }
 }
 
 /// Searches an effect.
@@ -176,39 +121,30 @@ pub fn search_effect<'d, 'a, A: Allocator, B: Allocator, S: Search<A, B>>(
     scope: &mut Scope<'d, 'a, A, B>,
     effect: &'d Effect<A>,
 ) -> Result<(), LinkFault<'d>>
-    ensures kept { IsKept (S.is_bound search.old scope.old) (S.is_bound search.new scope.new) (S.found search.old) (S.found search.new) }
-    ensures found { (b : List TypedValue) → S.is_bound search.old scope.old b → IsFound (effect_faults (S.found search.old) (effect_view effect.now) b) result }
+    ensures { IsSearched (S.is_bound search.old scope.old) (S.is_bound search.new scope.new) (S.found search.old) (S.found search.new) (effect_places (effect_view effect.now)) result }
 {
     match effect {
         Effect::And(parts) => search_effects(search, scope, parts),
-        Effect::Forall(variables, inner) => search_each(search, scope, variables, inner),
+        Effect::Forall(variables, inner) => {
+            search.enter(scope, variables)?;
+            let found = search_effect(search, scope, inner);
+            search.leave(scope, variables);
+            lower(search.look(&*scope, &Part::Binds(variables)), found)
+        }
         Effect::When(condition, inner) => {
             let condition = search_formula(search, scope, condition);
             lower(condition, search_effect(search, scope, inner))
         }
-        Effect::Add(atom) => search_atom(search, scope, atom),
-        Effect::Del(atom) => search_atom(search, scope, atom),
-        Effect::Increase(amount) => search_increase(search, scope, amount),
+        Effect::Add(atom) | Effect::Del(atom) => search.look(&*scope, &Part::of_atom(atom)),
+        Effect::Increase(amount) => {
+            search_both(
+                search,
+                &*scope,
+                &Part::total_cost(),
+                &Part::of_amount(amount),
+            )
+        }
     }
-}
-
-/// Searches the variables of an effect for all objects, and the effect.
-#[cycle(effects)]
-fn search_each<'d, 'a, A: Allocator, B: Allocator, S: Search<A, B>>(
-    search: &mut S,
-    scope: &mut Scope<'d, 'a, A, B>,
-    variables: &'d TypedList<A>,
-    inner: &'d Box<Effect<A>, A>,
-) -> Result<(), LinkFault<'d>>
-    ensures kept { IsKept (S.is_bound search.old scope.old) (S.is_bound search.new scope.new) (S.found search.old) (S.found search.new) }
-    ensures found { (b : List TypedValue) → S.is_bound search.old scope.old b → IsFound (S.found search.old (at b (binds (map typed_view variables.now.items)))
-        ++ effect_faults (S.found search.old) (effect_view inner.now.value) (binding (map typed_view variables.now.items) b)) result }
-{
-    let own = search.look(&*scope, &Part::Binds(variables));
-    search.enter(scope, variables)?;
-    let found = search_effect(search, scope, inner);
-    search.leave(scope, variables);
-    lower(own, found)
 }
 
 /// Searches effects in turn.
@@ -218,8 +154,7 @@ fn search_effects<'d, 'a, A: Allocator, B: Allocator, S: Search<A, B>>(
     scope: &mut Scope<'d, 'a, A, B>,
     effects: &'d Vec<Effect<A>, A>,
 ) -> Result<(), LinkFault<'d>>
-    ensures kept { IsKept (S.is_bound search.old scope.old) (S.is_bound search.new scope.new) (S.found search.old) (S.found search.new) }
-    ensures found { (b : List TypedValue) → S.is_bound search.old scope.old b → IsFound (effects_faults (S.found search.old) (effects_of (map effect_view effects.now.items)) b) result }
+    ensures { IsSearched (S.is_bound search.old scope.old) (S.is_bound search.new scope.new) (S.found search.old) (S.found search.new) (effects_places (effects_of (map effect_view effects.now.items))) result }
 {
     let mut found = Ok(());
     for effect in effects {
@@ -237,10 +172,10 @@ pub fn search_action<'d, 'a, A: Allocator, B: Allocator, S: Search<A, B>>(
     ensures kept { IsKept (S.is_bound search.old scope.old) (S.is_bound search.new scope.new) (S.found search.old) (S.found search.new) }
     ensures found { S.is_bound search.old scope.old [] → IsFound (flat_map (S.found search.old) (action_places (action_view action.now))) result }
 {
-    let own = search.look(&*scope, &Part::Binds(&action.parameters));
     search.enter(scope, &action.parameters)?;
     let precondition = search_formula(search, scope, &action.precondition);
     let effect = search_effect(search, scope, &action.effect);
     search.leave(scope, &action.parameters);
+    let own = search.look(&*scope, &Part::Binds(&action.parameters));
     lower(own, lower(precondition, effect))
 }

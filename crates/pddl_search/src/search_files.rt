@@ -1,6 +1,6 @@
 //! One search over all places of a domain, or of a problem.
 
-ghost use Rattle.std.specs.Prelude.{[], map, option_map};
+ghost use Rattle.std.specs.Prelude.{[], option_map};
 ghost use Rattle.std.specs.List.{flat_map};
 ghost use Rattle.pddl_domain.specs.Domains.{domain_view};
 ghost use Rattle.pddl_problem.specs.Inits.{init_view, metric_view};
@@ -12,7 +12,7 @@ ghost use Rattle.pddl_search.specs.Scopes.{IsKept};
 use crate::part::{Part, Terms};
 use crate::passes::is_taken;
 use crate::scope::Scope;
-use crate::search::{Search, search_action, search_formula};
+use crate::search::{Search, search_action, search_both, search_formula};
 use pddl_domain::Domain;
 use pddl_faults::{LinkFault, lower};
 use pddl_problem::{InitItem, Metric, Problem};
@@ -35,66 +35,39 @@ pub fn search_domain<'d, 'a, A: Allocator, B: Allocator, S: Search<A, B>>(
 }
 
 /// Searches an item of `:init`; a literal that fails is looked at like one that holds.
-fn search_item<'d, 'a, A: Allocator, B: Allocator, S: Search<A, B>>(
+fn search_item<'d, A: Allocator, B: Allocator, S: Search<A, B>>(
     search: &mut S,
-    scope: &mut Scope<'d, 'a, A, B>,
+    scope: &Scope<A, B>,
     item: &'d InitItem<A>,
 ) -> Result<(), LinkFault<'d>>
-    ensures kept { IsKept (S.is_bound search.old scope.old) (S.is_bound search.new scope.new) (S.found search.old) (S.found search.new) }
-    ensures found { S.is_bound search.old scope.old [] → IsFound (flat_map (S.found search.old) (init_places (init_view item.now))) result }
+    ensures kept { IsKept (S.is_bound search.old scope.now) (S.is_bound search.new scope.now) (S.found search.old) (S.found search.new) }
+    ensures found { S.is_bound search.old scope.now [] → IsFound (flat_map (S.found search.old) (init_places (init_view item.now))) result }
 {
     match item {
         InitItem::Holds(fact) | InitItem::Fails(fact) => {
             let says = Part::Says(fact.predicate.as_bytes(), Terms::Objects(&fact.objects));
-            search.look(&*scope, &says)
+            search.look(scope, &says)
         }
         InitItem::Value(call, amount) => {
             let function = call.function.as_bytes();
             let calls = Part::Calls(function, Terms::Objects(&call.objects));
-            let called = search.look(&*scope, &calls);
-            lower(
-                called,
-                search.look(&*scope, &Part::Counts(function, *amount)),
-            )
+            search_both(search, scope, &calls, &Part::Counts(function, *amount))
         }
     }
-}
-
-/// Searches items of `:init` in turn.
-fn search_init<'d, 'a, A: Allocator, B: Allocator, S: Search<A, B>>(
-    search: &mut S,
-    scope: &mut Scope<'d, 'a, A, B>,
-    init: &'d [InitItem<A>],
-) -> Result<(), LinkFault<'d>>
-    ensures kept { IsKept (S.is_bound search.old scope.old) (S.is_bound search.new scope.new) (S.found search.old) (S.found search.new) }
-    ensures found { S.is_bound search.old scope.old [] → IsFound (flat_map (S.found search.old) (flat_map init_places (map init_view init.now))) result }
-{
-    let mut found = Ok(());
-    for item in init {
-        found = lower(found, search_item(search, scope, item));
-    }
-    found
 }
 
 /// Searches a metric; nothing is looked for in one that is not taken.
-fn search_metric<'d, 'a, A: Allocator, B: Allocator, S: Search<A, B>>(
+fn search_metric<'d, A: Allocator, B: Allocator, S: Search<A, B>>(
     search: &mut S,
-    scope: &mut Scope<'d, 'a, A, B>,
+    scope: &Scope<A, B>,
     metric: &'d Option<Metric<A>>,
 ) -> Result<(), LinkFault<'d>>
-    ensures kept { IsKept (S.is_bound search.old scope.old) (S.is_bound search.new scope.new) (S.found search.old) (S.found search.new) }
-    ensures found { S.is_bound search.old scope.old [] → IsFound (flat_map (S.found search.old) (metric_places (option_map metric_view metric.now))) result }
+    ensures kept { IsKept (S.is_bound search.old scope.now) (S.is_bound search.new scope.now) (S.found search.old) (S.found search.new) }
+    ensures found { S.is_bound search.old scope.now [] → IsFound (flat_map (S.found search.old) (metric_places (option_map metric_view metric.now))) result }
 {
     match metric {
-        None => Ok(()),
-        Some(metric) => {
-            if is_taken(metric) {
-                let calls = Part::Calls(b"total-cost".as_slice(), Terms::Any(&[]));
-                search.look(&*scope, &calls)
-            } else {
-                Ok(())
-            }
-        }
+        Some(metric) if is_taken(metric) => search.look(scope, &Part::total_cost()),
+        _ => Ok(()),
     }
 }
 
@@ -107,8 +80,11 @@ pub fn search_problem<'d, 'a, A: Allocator, B: Allocator, S: Search<A, B>>(
     ensures kept { IsKept (S.is_bound search.old scope.old) (S.is_bound search.new scope.new) (S.found search.old) (S.found search.new) }
     ensures found { S.is_bound search.old scope.old [] → IsFound (flat_map (S.found search.old) (problem_places (problem_view problem.now))) result }
 {
-    let init = search_init(search, scope, &problem.init);
+    let mut init = Ok(());
+    for item in &problem.init {
+        init = lower(init, search_item(search, &*scope, item));
+    }
     let goal = search_formula(search, scope, &problem.goal);
-    let metric = search_metric(search, scope, &problem.metric);
+    let metric = search_metric(search, &*scope, &problem.metric);
     lower(init, lower(goal, metric))
 }

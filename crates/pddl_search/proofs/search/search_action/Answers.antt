@@ -1,12 +1,10 @@
-use Rattle.std.proofs.Common.{[]}
-use Rattle.std.proofs.lemmas.List.{append_assoc}
-use Rattle.std.proofs.lemmas.List.Concat.{flat_map-append}
+use Rattle.std.proofs.Common.{[], map}
+use Rattle.pddl_formula.specs.TypedLists.{typed_view}
+use Rattle.pddl_search.proofs.Walks.{in_turn, within}
 use Rattle.pddl_search.proofs.search.search_action.Goals as goal
 
-pub returns-clause-found : goal.returns-clause-found
-returns-clause-found g c = λ is.
-    let entered = c.in_ok-enter.ensures.bound [] (c.look-own.ensures.kept.0 [] is) in
-    rw (flat_map-append, append_assoc)
-    (c.lower-2.ensures.found _ _ (c.look-own.ensures.found [] is) (c.lower.ensures.found _ _
-    (rw (c.enter.ensures.found, c.look-own.ensures.kept.1) at c.search_formula-precondition.ensures.found _ entered)
-    (rw (c.search_formula-precondition.ensures.kept.1, c.enter.ensures.found, c.look-own.ensures.kept.1) at c.search_effect-effect.ensures.found _ (c.search_formula-precondition.ensures.kept.0 _ entered))))
+pub returns : goal.returns
+returns g c =
+    let inside = in_turn c.search_formula-precondition.ensures c.search_effect-effect.ensures c.lower.ensures.found in
+    let whole = within (map typed_view c.args.action.now.parameters.items) c.look-own.result c.in_ok-enter.ensures.bound c.enter.ensures.found inside c.leave.ensures.bound c.leave.ensures.found c.look-own.ensures.kept c.look-own.ensures.found c.lower-2.ensures.found in
+    record { kept = whole.kept; found = whole.found [] }
