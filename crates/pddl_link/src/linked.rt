@@ -1,33 +1,36 @@
 //! Links a domain with a problem, or looks at a domain alone.
 
-ghost use Rattle.std.specs.Prelude.{◌≡◌, map, take, drop, IfOk, OnOk};
+ghost use Rattle.std.specs.Prelude.{◌≡◌, map, drop, IfOk, OnOk};
 ghost use Rattle.pddl_domain.specs.Domains.{domain_view};
 ghost use Rattle.pddl_problem.specs.Problems.{problem_view};
 ghost use Rattle.pddl_task.specs.Linked.{fault_in, domain_faults, faults, rules};
 ghost use Rattle.pddl_faults.specs.Passes.{Verdict};
+ghost use Rattle.pddl_sizes.specs.ObjectOrders.{IsOrderOf};
 ghost use Rattle.pddl_types.specs.TypeSpans.{IsEmpty};
+ghost use Rattle.pddl_types.specs.Signatures.{IsNothing, AreDeclared};
 ghost use Rattle.pddl_names.specs.FaultParts.{problem_in, name_rules, use_rules};
 ghost use Rattle.pddl_linked_task.specs.TaskTables.{HoldBehindTypes};
 ghost use Rattle.pddl_linked_task.specs.LinkedTasks.{files};
-ghost use Rattle.pddl_link.specs.Stages.{faults_of, AreNamed, AreKnown};
+ghost use Rattle.pddl_link.specs.Stages.{faults_of, AreNamed};
 
 use pddl_domain::Domain;
 use pddl_faults::{LinkFault, lower};
 use pddl_hash::Hashed;
-use pddl_linked_task::{Tables, Task};
+use pddl_linked_task::Task;
 use pddl_names::{Files, type_twice};
 use pddl_problem::Problem;
 use pddl_search::domain_name;
 use pddl_sizes::ObjectOrder;
-use pddl_types::{Declared, Fitting, Listed, SlotTops, Types};
-use std::alloc::{AllocError, Allocator};
+use pddl_types::{Declared, Fitting, Known, Listed, Types};
+use std::alloc::Allocator;
 
-/// Types, objects and tables of what a domain and a problem declare, or a domain alone.
+/// What a domain and a problem, or a domain alone, declare.
 #[derive(Drop)]
 struct Linked<'m, 'a, A: Allocator, B: Allocator> {
     types: Types<'m, 'a, A, B>,
     listed: Listed<'m, 'a, A, B>,
-    tables: Tables<'m, 'a, A, B>,
+    declared: Declared<'m, 'a, A, B>,
+    order: ObjectOrder<'a, B>,
 }
 
 /// The lowest fault of names, where objects are added to none.
@@ -36,48 +39,38 @@ fn look_at_names<'t, 'm, 'a, A: Allocator, B: Allocator>(
     listed: &mut Listed<'m, 'a, A, B>,
 ) -> Result<(), LinkFault<'m>>
     requires { IsEmpty listed.old }
-    ensures listed { OnOk result (AreNamed files.now listed.new) }
+    ensures named { OnOk result (AreNamed files.now listed.new) }
     ensures verdict { Verdict (faults_of files.now name_rules) result }
 {
     let found = files.list_all(listed, files.look_at_domain());
     lower(found, files.look_at_problem())
 }
 
-/// The tables of files in which none of the faults of names stands.
-///
-/// Fails where memory for them is refused.
-fn tables_of<'t, 'm, 'a, A: Allocator, B: Allocator>(
-    files: &Files<'t, 'm, 'a, A, B>,
-    listed: &Listed<'m, 'a, A, B>,
-) -> Result<Tables<'m, 'a, A, B>, AllocError>
-    requires { AreNamed files.now listed.now }
-    ensures { IfOk result (AreKnown files.now listed.now) }
-{
-    let order = ObjectOrder::of(files.alloc, &listed.spans)?;
-    let mut parameters = SlotTops::new(files.alloc);
-    parameters.add(files.types, &files.domain.actions)?;
-    let declared = Declared::of(files.alloc, files.types, files.domain)?;
-    Ok(Tables {
-        declared,
-        parameters,
-        order,
-    })
-}
-
 /// The lowest fault of what is used, where none of names stands.
 fn look_at_uses<'f, 't, 'm, 'a, A: Allocator, B: Allocator>(
     files: &Files<'f, 'm, 'a, A, B>,
     listed: &'t Listed<'m, 'a, A, B>,
-    tables: &'t Tables<'m, 'a, A, B>,
+    declared: &'t Declared<'m, 'a, A, B>,
+    order: &'t ObjectOrder<'a, B>,
 ) -> Result<(), LinkFault<'m>>
-    requires listed { AreNamed files.now listed.now }
-    requires tables { AreKnown files.now listed.now tables.now }
+    requires named { AreNamed files.now listed.now }
+    requires declared { AreDeclared files.now.types.now (domain_view files.now.domain.now) declared.now }
+    requires ordered { ∥ IsOrderOf listed.now.spans.items order.now ∥₁ }
     ensures { Verdict (faults_of files.now use_rules) result }
 {
     let types = files.types;
-    let inner = tables.declared.known(types, listed, listed.constants);
-    let outer = tables.declared.known(types, listed, listed.objects.len());
-    let order = &tables.order;
+    let inner = Known {
+        types,
+        declared,
+        listed,
+        limit: listed.constants,
+    };
+    let outer = Known {
+        types,
+        declared,
+        listed,
+        limit: listed.objects.len(),
+    };
     let fitting = Fitting {
         types,
         listed,
@@ -87,53 +80,52 @@ fn look_at_uses<'f, 't, 'm, 'a, A: Allocator, B: Allocator>(
     lower(used, files.look_at_problem_uses(&outer, &fitting))
 }
 
-/// The tables of files behind their types, where no fault from 23 on stands. Objects are added to none.
-fn tables_behind_types<'t, 'm, 'a, A: Allocator, B: Allocator>(
+/// The order of the types of objects, where no fault from 23 on stands. Objects are added to none, and what is declared to nothing.
+fn order_behind_types<'t, 'm, 'a, A: Allocator, B: Allocator>(
     files: &Files<'t, 'm, 'a, A, B>,
     listed: &mut Listed<'m, 'a, A, B>,
-) -> Result<Tables<'m, 'a, A, B>, LinkFault<'m>>
-    requires { IsEmpty listed.old }
-    ensures tables { IfOk result (HoldBehindTypes (domain_view files.now.domain.now) (problem_in files.now.problem) files.now.types.now listed.new) }
+    declared: &mut Declared<'m, 'a, A, B>,
+) -> Result<ObjectOrder<'a, B>, LinkFault<'m>>
+    requires listed { IsEmpty listed.old }
+    requires declared { IsNothing declared.old }
+    ensures held { IfOk result (HoldBehindTypes (domain_view files.now.domain.now) (problem_in files.now.problem) files.now.types.now listed.new declared.new) }
     ensures verdict { Verdict (faults_of files.now (drop 3 rules)) result }
 {
     look_at_names(files, listed)?;
-    let tables = tables_of(files, listed)?;
-    look_at_uses(files, listed, &tables)?;
-    Ok(tables)
+    let added = declared.add(files.types, files.domain);
+    let order = added.and(ObjectOrder::of(files.alloc, &listed.spans))?;
+    look_at_uses(files, listed, declared, &order).and(Ok(order))
 }
 
 /// What a domain and a problem, or a domain alone, declare, where no fault from 21 on stands.
-fn linked_tables<'m, 'a, A: Allocator, B: Allocator>(
+fn link_files<'m, 'a, A: Allocator, B: Allocator>(
     alloc: &'a B,
     domain: &'m Domain<A>,
     problem: Option<&'m Problem<A>>,
     hashed: Hashed,
 ) -> Result<Linked<'m, 'a, A, B>, LinkFault<'m>>
     ensures types { IfOk result (λ l. l.types.declared ≡ (domain_view domain.now).types) }
-    ensures tables { IfOk result (λ l. HoldBehindTypes (domain_view domain.now) (problem_in problem.entry) l.types l.listed l.tables) }
+    ensures held { IfOk result (λ l. HoldBehindTypes (domain_view domain.now) (problem_in problem.entry) l.types l.listed l.declared l.order) }
     ensures verdict { Verdict (map (fault_in (domain_view domain.now) (problem_in problem.entry)) (drop 1 rules)) result }
 {
     type_twice(alloc, domain)?;
     let types = Types::of(alloc, hashed, &domain.types)?;
-    let mut listed = Listed::new(alloc, types.hashed());
+    let mut listed = Listed::new(alloc, hashed);
+    let mut declared = Declared::new(alloc, hashed);
     let files = Files {
         alloc,
         types: &types,
         domain,
         problem,
     };
-    match tables_behind_types(&files, &mut listed) {
-        Ok(tables) => Ok(Linked {
+    match order_behind_types(&files, &mut listed, &mut declared) {
+        Ok(order) => Ok(Linked {
             types,
             listed,
-            tables,
+            declared,
+            order,
         }),
-        Err(fault) => {
-            drop(types);
-            drop(listed.objects);
-            drop(listed.spans);
-            Err(fault)
-        }
+        Err(fault) => Err(fault),
     }
 }
 
@@ -150,7 +142,7 @@ pub fn check_domain<'d, 'a, A: Allocator, B: Allocator>(
 ) -> Result<(), LinkFault<'d>>
     ensures { Verdict (domain_faults (domain_view domain.now)) result }
 {
-    let alone = linked_tables(alloc, domain, None, domain.hashed)?;
+    let alone = link_files(alloc, domain, None, domain.hashed)?;
     drop(alone);
     Ok(())
 }
@@ -172,6 +164,13 @@ pub fn link<'m, 'a, A: Allocator, B: Allocator>(
 {
     domain_name(domain, problem)?;
     let hashed = domain.hashed.with(problem.hashed);
-    let both = linked_tables(alloc, domain, Some(problem), hashed)?;
-    Ok(Task::of(domain, problem, both.types, both.listed, both.tables))
+    let both = link_files(alloc, domain, Some(problem), hashed)?;
+    Ok(Task::of(
+        domain,
+        problem,
+        both.types,
+        both.listed,
+        both.declared,
+        both.order,
+    ))
 }

@@ -1,3 +1,2 @@
 pub mod CostValues
 pub mod OnceNamed
-pub mod ParameterTops

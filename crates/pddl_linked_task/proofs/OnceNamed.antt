@@ -1,17 +1,29 @@
--- Predicates and functions have each a name of their own, where nothing is declared twice.
-use Rattle.std.proofs.Common.{◌≡◌, [], ◌++◌, map}
+-- Predicates, functions and actions have each a name of their own, where nothing stands twice.
+use Rattle.std.proofs.Common.{◌≡◌, List, [], ◌∷◌, ◌++◌, map, refl, ap, ◌∙◌}
+use Rattle.std.specs.List.{flat_map}
+use Rattle.pddl_domain.specs.Actions.{ActionValue}
 use Rattle.pddl_domain.specs.Domains.{DomainValue}
-use Rattle.pddl_task.specs.Names.{repeated}
+use Rattle.pddl_task.specs.Names.{Name, is_in, word_if, repeated}
+use Rattle.pddl_task.specs.Places.{action_places}
 use Rattle.pddl_task.specs.Settings.{symbol_of, function_signatures}
-use Rattle.pddl_task.specs.Faults.{retyped, repeated_in_actions, domain_repeats}
+use Rattle.pddl_task.specs.Faults.{retyped, repeated_at, repeated_in_actions, domain_repeats}
 use Rattle.pddl_task.proofs.Lists.{nil_parts}
+use Rattle.pddl_types.specs.KnownNames.{action_signature}
+use Rattle.pddl_types.specs.Signatures.{IsDeclaredOnce}
 
--- where nothing stands twice in a domain, no predicate and no function does
-pub no_repeats : (d : DomainValue) → domain_repeats d ≡ [] → (repeated [] (map symbol_of d.predicates) ≡ []) × (repeated [] (map symbol_of (function_signatures d)) ≡ [])
-no_repeats d none =
+none_twice : (seen : List Name) (rest : List ActionValue) → repeated_in_actions seen rest ≡ [] → repeated seen (map symbol_of (map action_signature rest)) ≡ []
+none_twice seen [] none = refl
+none_twice seen (a ∷ rest) none =
+    let parts = nil_parts (word_if (is_in seen a.name) a.name ++ flat_map repeated_at (action_places a)) (repeated_in_actions (seen ++ a.name ∷ []) rest) none in
+    let first = nil_parts (word_if (is_in seen a.name) a.name) (flat_map repeated_at (action_places a)) parts.0 in
+    ap (λ ws. ws ++ repeated (seen ++ a.name ∷ []) (map symbol_of (map action_signature rest))) first.0 ∙ none_twice (seen ++ a.name ∷ []) rest parts.1
+
+-- where nothing stands twice in a domain, nothing is declared twice
+pub once_declared : (d : DomainValue) → domain_repeats d ≡ [] → IsDeclaredOnce d
+once_declared d none =
     let constants = retyped [] d.constants in
     let predicates = repeated [] (map symbol_of d.predicates) in
     let functions = repeated [] (map symbol_of (function_signatures d)) in
     let all = nil_parts (constants ++ predicates ++ functions) (repeated_in_actions [] d.actions) none in
     let named = nil_parts (constants ++ predicates) functions all.0 in
-    ((nil_parts constants predicates named.0).1, named.1)
+    record { predicates = (nil_parts constants predicates named.0).1; functions = named.1; actions = none_twice [] d.actions all.1 }

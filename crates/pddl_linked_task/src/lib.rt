@@ -5,4 +5,4 @@
 
 mod task;
 
-pub use task::{Tables, Task, let_go_task};
+pub use task::{Task, let_go_task};

@@ -24,17 +24,9 @@ use pddl_hash::Hashed;
 use pddl_problem::{GroundFunction, InitItem, Problem};
 use pddl_sizes::{ObjectOrder, action_ground_size, ground_size};
 use pddl_token::Name;
-use pddl_types::{Declared, Fitting, Listed, SlotTops, Types};
+use pddl_types::{Declared, Fitting, Listed, Types};
 use std::alloc::{AllocError, Allocator};
 use std::marker::Model;
-
-/// What a domain declares by name, the tops of the parameters of its actions, and the order of the types of objects, in tables that borrow from the files.
-#[derive(Drop)]
-pub struct Tables<'m, 'a, A: Allocator, B: Allocator> {
-    pub declared: Declared<'m, 'a, A, B>,
-    pub parameters: SlotTops<'a, B>,
-    pub order: ObjectOrder<'a, B>,
-}
 
 /// What a domain and a problem that link say together.
 ///
@@ -46,7 +38,8 @@ pub struct Task<'m, 'a, A: Allocator, B: Allocator> {
     problem: &'m Problem<A>,
     types: Types<'m, 'a, A, B>,
     listed: Listed<'m, 'a, A, B>,
-    tables: Tables<'m, 'a, A, B>,
+    declared: Declared<'m, 'a, A, B>,
+    order: ObjectOrder<'a, B>,
 }
 
 impl<'m, 'a, A: Allocator, B: Allocator> Model for Task<'m, 'a, A, B> {
@@ -63,7 +56,7 @@ impl<'m, 'a, A: Allocator, B: Allocator> Model for Task<'m, 'a, A, B> {
 
     ghost view = { λ t. files (domain_view t.domain.now) (problem_view t.problem.now) };
 
-    ghost invariant = { λ t. AreTablesOf (domain_view t.domain.now) (problem_view t.problem.now) t.types t.listed t.tables };
+    ghost invariant = { λ t. AreTablesOf (domain_view t.domain.now) (problem_view t.problem.now) t.types t.listed t.declared t.order };
 }
 
 /// Whether objects that are asked for have these names, in their order.
@@ -89,15 +82,16 @@ fn is_asked<A: Allocator>(function: &[u8], objects: &[&[u8]], call: &GroundFunct
 }
 
 impl<'m, 'a, A: Allocator, B: Allocator> Task<'m, 'a, A, B> {
-    /// The task of a domain and a problem that link, by tables that hold what they declare.
+    /// The task of a domain and a problem that link, by what holds what they declare.
     pub fn of(
         domain: &'m Domain<A>,
         problem: &'m Problem<A>,
         types: Types<'m, 'a, A, B>,
         listed: Listed<'m, 'a, A, B>,
-        tables: Tables<'m, 'a, A, B>,
+        declared: Declared<'m, 'a, A, B>,
+        order: ObjectOrder<'a, B>,
     ) -> Task<'m, 'a, A, B>
-        requires { AreTablesOf (domain_view domain.now) (problem_view problem.now) types listed tables }
+        requires { AreTablesOf (domain_view domain.now) (problem_view problem.now) types listed declared order }
         ensures { result ≡ files (domain_view domain.now) (problem_view problem.now) }
     {
         Task {
@@ -105,7 +99,8 @@ impl<'m, 'a, A: Allocator, B: Allocator> Task<'m, 'a, A, B> {
             problem,
             types,
             listed,
-            tables,
+            declared,
+            order,
         }
     }
 
@@ -165,14 +160,14 @@ impl<'m, 'a, A: Allocator, B: Allocator> Task<'m, 'a, A, B> {
     pub fn predicate_count(&self) -> usize
         ensures { result ≡ length (task_of_files self.now).predicates }
     {
-        self.tables.declared.predicates.len()
+        self.declared.predicates.len()
     }
 
     /// How many functions there are.
     pub fn function_count(&self) -> usize
         ensures { result ≡ length (task_of_files self.now).functions }
     {
-        self.tables.declared.functions.len()
+        self.declared.functions.len()
     }
 
     /// Whether a type is a subtype of another, or that type itself; a name that is no type of the task is neither.
@@ -189,7 +184,7 @@ impl<'m, 'a, A: Allocator, B: Allocator> Task<'m, 'a, A, B> {
         ensures { (a : ActionValue) (x : TypedValue) → slice_get (task_of_files self.now).actions action ≡ Some a → slice_get a.parameters parameter ≡ Some x
             → result ≡ option_map_or (λ o. fits (pairs (task_of_files self.now).types) o.of x.of) (slice_get (task_of_files self.now).objects object) false }
     {
-        let tops = self.tables.parameters.at(action, parameter);
+        let tops = self.declared.parameter_tops(action, parameter);
         self.listed.fits_by(&self.types, object, tops)
     }
 
@@ -209,7 +204,7 @@ impl<'m, 'a, A: Allocator, B: Allocator> Task<'m, 'a, A, B> {
         Fitting {
             types: &self.types,
             listed: &self.listed,
-            order: &self.tables.order,
+            order: &self.order,
         }
     }
 
@@ -287,14 +282,14 @@ impl<'m, 'a, A: Allocator, B: Allocator> Task<'m, 'a, A, B> {
     pub fn predicate_number(&self, name: &[u8]) -> Option<usize>
         ensures { result ≡ position (bytes_eq name.now) (predicate_names (task_of_files self.now)) }
     {
-        self.tables.declared.predicates.get_index_of(name)
+        self.declared.predicates.get_index_of(name)
     }
 
     /// The number of the function of a name, or `None` where there is none.
     pub fn function_number(&self, name: &[u8]) -> Option<usize>
         ensures { result ≡ position (bytes_eq name.now) (function_names (task_of_files self.now)) }
     {
-        self.tables.declared.functions.get_index_of(name)
+        self.declared.functions.get_index_of(name)
     }
 }
 

@@ -1,4 +1,3 @@
-pub mod DeclaredSlots
 pub mod FittingTables
 pub mod FoundParts
 pub mod GoalSizes

@@ -1,5 +1,5 @@
 -- What is told of the types of terms and of slots.
-use Rattle.std.proofs.Common.{◌≡◌, ◌<◌, ◌⊎◌, ℕ, zero, suc, Bool, true, false, true≢false, cond, List, [], ◌∷◌, length, drop, refl, ap, sym, ◌∙◌, subst, arith, inr}
+use Rattle.std.proofs.Common.{◌≡◌, ◌<◌, ◌⊎◌, ℕ, zero, suc, Bool, true, false, true≢false, cond, List, [], ◌∷◌, map, length, drop, refl, ap, sym, ◌∙◌, subst, arith, inr}
 use Rattle.std.specs.Prelude.{IsTrue, Option, Some, None, is_some, option_map, find, slice_get}
 use Rattle.std.specs.Borrow.{Bor}
 use Rattle.std.specs.List.{slice_index_or}
@@ -9,7 +9,7 @@ use Rattle.std.proofs.lemmas.List.Elements.{All-nil, All-weaker, All-drop, All-c
 use Rattle.std.proofs.lemmas.List.Folds.{find_at}
 use Rattle.std.proofs.lemmas.Option.{same_Some, slice_get_within, slice_get_past, slice_get_read}
 use Rattle.pddl_forest.specs.declared.spans.Span.{Span}
-use Rattle.pddl_formula.specs.TypedLists.{TypedValue}
+use Rattle.pddl_formula.specs.TypedLists.{TypedValue, typed_view}
 use Rattle.pddl_domain.specs.Declarations.{TypeValue}
 use Rattle.pddl_task.specs.Names.{Name, is_named}
 use Rattle.pddl_task.specs.Types.{pairs, fits}
@@ -18,7 +18,9 @@ use Rattle.pddl_search.specs.Scopes.{bound_in, entered}
 use Rattle.pddl_types.specs.TypeSpans.{TypesValue, IsTold, IsToldOf, are_types}
 use Rattle.pddl_types.specs.ToldTops.{IsToldAt, AreToldAt, AreKept}
 use Rattle.pddl_types.proofs.NumberedTops.{kept_told}
-use Rattle.pddl_names.specs.Uses.{UsesValue, AreSlots, IsSlotAt, TellsFit, AreToldIn, fit_of}
+use Rattle.pddl_types.specs.Signatures.{AreKnownSlots}
+use Rattle.pddl_types.specs.declared.signatures.Slots.{Slots}
+use Rattle.pddl_names.specs.Uses.{IsSlotAt, TellsFit, AreToldIn, fit_of}
 
 -- ---- a variable
 
@@ -70,16 +72,18 @@ number_read : (numbers : List ℕ) (i : ℕ) (read : Option (Bor ℕ)) → IsIte
 number_read numbers i None item = slice_get_past numbers i item.3
 number_read numbers i (Some n) item = slice_get_read numbers (length numbers) i n.now refl item.3.0 item.1
 
--- where there is one, its type is told at the number that is read for it
-pub slot_read : (u : UsesValue) (slots : List TypedValue) (numbers : List ℕ) (i : ℕ) (read : Option (Bor ℕ)) (slot : Option ℕ) → AreSlots u slots numbers → IsItemAt numbers i read → slot ≡ option_copied read
-    → IsSlotAt u.types u.slots.told (slice_get slots i) slot
-slot_read u slots numbers i read slot are item copied = here (slice_get slots i) slot refl (number_read numbers i read item ∙ sym copied)
-  where
-    here : (x : Option TypedValue) (n : Option ℕ) → slice_get slots i ≡ x → slice_get numbers i ≡ n → IsSlotAt u.types u.slots.told x n
-    here None None at is = tt
-    here (Some x) (Some n) at is = (are.told.each i n x at is, are.types x (at_place slots i x at))
-    here (Some x) None at is = cc (is, (some_at numbers i (omega (arith, slice_get_within slots i x at, are.told.many))).1)
-    here None (Some n) at is = cc (at, (some_at slots i (omega (arith, slice_get_within numbers i n is, are.told.many))).1)
+module _ {A B : Type 0} (t : TypesValue) (told : List (List Span)) (slots : Slots A B) (are : AreKnownSlots t told slots) (i : ℕ) where
+  slot_is : (x : Option TypedValue) (n : Option ℕ) → slice_get (map typed_view slots.parameters.now) i ≡ x → slice_get slots.numbers.items i ≡ n → IsSlotAt t told x n
+  slot_is None None at is = tt
+  slot_is (Some x) (Some n) at is = (are.tops.each i n x at is, are.types x (at_place (map typed_view slots.parameters.now) i x at))
+  slot_is (Some x) None at is = cc (is, (some_at slots.numbers.items i (omega (arith, slice_get_within (map typed_view slots.parameters.now) i x at, are.tops.many))).1)
+  slot_is None (Some n) at is = cc (at, (some_at (map typed_view slots.parameters.now) i (omega (arith, slice_get_within slots.numbers.items i n is, are.tops.many))).1)
+
+  -- where there is one, its type is told at the number that is read for it
+  pub slot_read : (numbers : List ℕ) (read : Option (Bor ℕ)) (slot : Option ℕ) → numbers ≡ slots.numbers.items → IsItemAt numbers i read → slot ≡ option_copied read
+      → IsSlotAt t told (slice_get (map typed_view slots.parameters.now) i) slot
+  slot_read numbers read slot all item copied =
+      slot_is (slice_get (map typed_view slots.parameters.now) i) slot refl (ap (λ ns. slice_get ns i) (sym all) ∙ number_read numbers i read item ∙ sym copied)
 
 -- ---- whether a type fits a slot
 

@@ -1,26 +1,29 @@
 -- The faults of a predicate or a function with its terms.
 use Rattle.std.proofs.Common.{◌≡◌, ◌≤◌, ℕ, Bool, true, not, List, [], ◌++◌, map, length, ◌==◌, Option, Some, None, Result, Err, ap, sym, ◌∙◌, subst, bytes_eq, arith, inl, inr}
 use Rattle.std.specs.Prelude.{Contains, is_some, option_map}
-use Rattle.std.specs.Borrow.{Bor}
 use Rattle.std.specs.List.{flat_map}
+use Rattle.std.specs.Borrow.{Bor}
 use Rattle.std.specs.Map.{lookup}
 use Rattle.std.proofs.lemmas.Option.{same_Some}
 use Rattle.std.proofs.lemmas.List.{map-append}
-use Rattle.std.proofs.lemmas.List.Elements.{Contains-append_cases, Contains-append_left}
+use Rattle.std.proofs.lemmas.List.Elements.{All-contains, Contains-append_cases, Contains-append_left}
+use Rattle.pddl_forest.specs.declared.spans.Span.{Span}
 use Rattle.pddl_formula.specs.Terms.{TermValue}
 use Rattle.pddl_formula.specs.TypedLists.{TypedValue, typed_view}
-use Rattle.pddl_formula.specs.declared.type_names.Typed.{Typed}
 use Rattle.pddl_domain.specs.Declarations.{Signature}
 use Rattle.pddl_task.specs.Names.{Name, word_if}
 use Rattle.pddl_task.specs.Settings.{Setting}
 use Rattle.pddl_task.specs.Faults.{Use, is_declared, signature_of, unknown_term, takes_others, some_misfit, has_misfit}
-use Rattle.pddl_task.proofs.Lists.{mapped_is, append-none, has_first}
+use Rattle.pddl_task.proofs.Lists.{at_place, mapped_is, append-none, has_first}
 use Rattle.pddl_faults.specs.declared.fault.LinkFault.{LinkFault}
 use Rattle.pddl_faults.specs.Passes.{Passes}
 use Rattle.pddl_faults.specs.Found.{IsFound, numbered}
 use Rattle.pddl_faults.proofs.FoundFaults.{AreBelow, passed_found, found_first, found_rest}
 use Rattle.pddl_types.specs.KnownNames.{signature_in}
-use Rattle.pddl_types.proofs.Lookups.{is_symbol, signature_found}
+use Rattle.pddl_types.specs.Signatures.{Rows, AreKnownSlots, AreSlotsKnown}
+use Rattle.pddl_types.specs.declared.signatures.Slots.{Slots}
+use Rattle.pddl_types.specs.TypeSpans.{TypesValue}
+use Rattle.pddl_types.proofs.Lookups.{is_symbol, signature_found, entry_at}
 use Rattle.pddl_names.specs.Uses.{faults_of_use, faults_of_terms}
 
 -- ---- three faults in turn
@@ -69,7 +72,7 @@ shape_is : (s : Setting) (b : List TypedValue) (ts : List TermValue) (g : Option
 shape_is s b ts None xs none = absurd (cc)
 shape_is s b ts (Some g) xs same = let is = same_Some g.parameters xs same in (ap (λ ys. not (length ts == length ys)) is, ap (some_misfit s b ts) is)
 
-module _ {A : Type 0} (s : Setting) (b : List TypedValue) (ts : List TermValue) (es : List (Bor (List ℕ) × Bor (List (Typed A)))) (n : Name) where
+module _ {A B : Type 0} (s : Setting) (b : List TypedValue) (ts : List TermValue) (es : Rows A B) (n : Name) where
   abbrev used : Use
   used = record { name = n; terms = ts; declared = map signature_in es }
 
@@ -83,15 +86,21 @@ module _ {A : Type 0} (s : Setting) (b : List TypedValue) (ts : List TermValue) 
       (told (first ++ rest) (Contains-append_left first rest n (has_word (not (is_declared used)) n (ap not (sym (is_symbol es n) ∙ ap is_some (sym at))))))
 
   -- the faults of a name that is found are those of its terms
-  pub declared_is : (slots : Bor (List (Typed A))) → Some slots ≡ lookup (λ k. bytes_eq n k.now) es → faults_of_use s b used ≡ faults_of_terms s b n ts (map typed_view slots.now)
+  pub declared_is : (slots : Slots A B) → Some slots ≡ lookup (λ k. bytes_eq n k.now) es → faults_of_use s b used ≡ faults_of_terms s b n ts (map typed_view slots.parameters.now)
   declared_is slots at =
-      let xs = map typed_view slots.now in
+      let xs = map typed_view slots.parameters.now in
       let words = flat_map (unknown_term s b) ts in
       let on : is_declared used ≡ true = sym (is_symbol es n) ∙ ap is_some (sym at) in
-      let shape = shape_is s b ts (signature_of used) xs (signature_found es n ∙ ap (option_map (λ (ys : Bor (List (Typed A))). map typed_view ys.now)) (sym at)) in
+      let shape = shape_is s b ts (signature_of used) xs (signature_found es n ∙ ap (option_map (λ (v : Slots A B). map typed_view v.parameters.now)) (sym at)) in
       ap (λ c. in_turn (word_if (not c) n ++ words) (word_if (takes_others (signature_of used) ts) n) (word_if (has_misfit s b ts (signature_of used)) n)) on
       ∙ ap (λ c. in_turn words (word_if c n) (word_if (has_misfit s b ts (signature_of used)) n)) shape.0
       ∙ ap (λ c. in_turn words (word_if (not (length ts == length xs)) n) (word_if c n)) shape.1
+
+  -- and its slots are known, where those of all names are
+  pub declared_slots : (t : TypesValue) (told : List (List Span)) (slots : Slots A B) → Some slots ≡ lookup (λ k. bytes_eq n k.now) es → AreSlotsKnown t told es → AreKnownSlots t told slots
+  declared_slots t told slots at known =
+      let (k, there, named) = entry_at es n slots (sym at) in
+      All-contains (λ (e : Bor (List ℕ) × Slots A B). AreKnownSlots t told e.1) es (k, slots) known (at_place es _ (k, slots) there)
 
 -- ---- at a place
 

@@ -1,5 +1,5 @@
 -- The faults that are looked for together at each place, each told by its number and its word.
-use Rattle.std.specs.Prelude.{◌≡◌, ◌<◌, ◌⊎◌, ⊤, Bool, true, IsTrue, not, ◌==◌, ◌&&◌, ℕ, List, ◌++◌, filter, length, Option, Some, None, Contains}
+use Rattle.std.specs.Prelude.{◌≡◌, ◌<◌, ◌⊎◌, ⊤, Bool, true, IsTrue, not, ◌==◌, ◌&&◌, ℕ, List, ◌++◌, filter, length, Option, Some, None}
 use Rattle.std.specs.List.{All, flat_map}
 use Rattle.std.specs.Map.{lookup}
 use Rattle.pddl_formula.specs.Terms.{TermValue}
@@ -13,7 +13,7 @@ use Rattle.pddl_task.specs.Settings.{Setting}
 use Rattle.pddl_task.specs.Faults.{Use, primitives_of, variables_at, repeated_at, is_declared, signature_of, unknown_term, takes_others, some_misfit, has_misfit, unknown_at, arity_at, misfit_at, fraction_at}
 use Rattle.pddl_faults.specs.Found.{numbered}
 use Rattle.pddl_types.specs.TypeSpans.{TypesValue, are_types}
-use Rattle.pddl_types.specs.ToldTops.{SlotsValue, IsToldAt, AreToldAt}
+use Rattle.pddl_types.specs.ToldTops.{IsToldAt}
 
 -- ---- what is bound
 
@@ -51,13 +51,13 @@ fit_of ps (Some x) (Some slot) = Some (fits ps x.of slot.of)
 
 -- ---- what fits
 
--- what is known where names are used, with the tops of slots, those of predicates first, and of the types of variables
+-- what is known where names are used, with the tops of the types of slots and of variables
 pub record UsesValue : Type 0 where
   pub types : TypesValue
   pub predicates : List Signature
   pub functions : List Signature
   pub objects : List TypedValue
-  pub slots : SlotsValue
+  pub slots : List (List Span)
   pub told : List (List Span)
 
 -- without the tops
@@ -67,11 +67,6 @@ setting_in u = record { pairs = pairs u.types.declared; predicates = u.predicate
 -- the tops of the types of all that is in scope are told at their numbers
 abbrev pub AreToldIn : TypesValue → List (List Span) → List (TypedValue × ℕ) → Type 0
 AreToldIn t told scope = All (λ e. IsToldAt t told e.0.of e.1) scope
-
--- the tops of these slots are told at these numbers, and their types are known
-pub record AreSlots (u : UsesValue) (slots : List TypedValue) (numbers : List ℕ) : Type 0 where
-  pub told : AreToldAt u.types u.slots.told slots numbers
-  pub types : (x : TypedValue) → Contains slots x → IsTrue (are_types u.types.declared x.of)
 
 -- a slot, where there is one, has known types, whose tops are told at this number
 abbrev pub IsSlotAt : TypesValue → List (List Span) → Option TypedValue → Option ℕ → Type 0

@@ -1,11 +1,10 @@
 //! The search for names that are not known, other numbers of terms than declared, terms that do not fit their slots, and numbers that are not
 //! whole, with one look-up of each name.
 
-ghost use Rattle.std.specs.Prelude.{◌≡◌, ◌<◌, ◌≤◌, ◌+◌, ◌-◌, ℕ, [], not, map, take, length, slice_get, find, Option, Some, IfOk, IfSome};
-ghost use Rattle.std.specs.List.{flat_map, slice_index_or};
+ghost use Rattle.std.specs.Prelude.{◌≡◌, not, map, take, find, Option, IfOk};
+ghost use Rattle.std.specs.List.{flat_map};
 ghost use Rattle.pddl_formula.specs.Terms.{term_view};
 ghost use Rattle.pddl_formula.specs.TypedLists.{TypedValue, typed_view};
-ghost use Rattle.pddl_domain.specs.Declarations.{Signature};
 ghost use Rattle.pddl_task.specs.Names.{is_named, word_if};
 ghost use Rattle.pddl_task.specs.Types.{pairs};
 ghost use Rattle.pddl_task.specs.Places.{counts};
@@ -16,15 +15,16 @@ ghost use Rattle.pddl_search.specs.Parts.{term_in, term_name, terms_in};
 ghost use Rattle.pddl_search.specs.Scopes.{bound_in};
 ghost use Rattle.pddl_types.specs.KnownNames.{signature_in, object_in};
 ghost use Rattle.pddl_types.specs.Settings.{setting_of};
-ghost use Rattle.pddl_names.specs.Uses.{setting_in, AreSlots, IsSlotAt, TellsFit, AreToldIn, fit_of, faults_of_use, faults_of_terms};
+ghost use Rattle.pddl_types.specs.Signatures.{AreKnownSlots, AreSlotsKnown};
+ghost use Rattle.pddl_names.specs.Uses.{setting_in, IsSlotAt, TellsFit, AreToldIn, fit_of, faults_of_use, faults_of_terms};
 
 use indexmap::IndexMap;
 use pddl_faults::{LinkFault, lower};
-use pddl_formula::{Term, Typed, TypedList};
+use pddl_formula::{Term, TypedList};
 use pddl_hash::Hashed;
 use pddl_search::{LentTerm, Part, Scope, Search, Terms};
 use pddl_token::Fixed;
-use pddl_types::{Known, Signatures, ToldTops};
+use pddl_types::{Known, Signatures, Slots, ToldTops};
 use std::alloc::{AllocError, Allocator};
 use std::marker::Model;
 
@@ -49,14 +49,14 @@ impl<'k, 't, 'm, 'a, A: Allocator, B: Allocator> Model for Uses<'k, 't, 'm, 'a, 
 
     ghost view = { λ u. record {
       types = u.known.now.types.now;
-      predicates = map signature_in u.known.now.predicates.now.entries;
-      functions = map signature_in u.known.now.functions.now.entries;
+      predicates = map signature_in u.known.now.declared.now.predicates.entries;
+      functions = map signature_in u.known.now.declared.now.functions.entries;
       objects = take u.known.now.limit (map object_in u.known.now.listed.now.objects.entries);
-      slots = u.known.now.slots.now;
+      slots = u.known.now.declared.now.told;
       told = u.told;
     } };
 
-    ghost invariant = { λ u. AreFitting u.known.now.types.now u.told u.known.now.slots.now.told u.fitting.entries };
+    ghost invariant = { λ u. AreFitting u.known.now.types.now u.told u.known.now.declared.now.told u.fitting.entries };
 }
 
 impl<'k, 't, 'm, 'a, A: Allocator, B: Allocator> Uses<'k, 't, 'm, 'a, A, B> {
@@ -77,11 +77,11 @@ impl<'k, 't, 'm, 'a, A: Allocator, B: Allocator> Uses<'k, 't, 'm, 'a, A, B> {
     /// Fails where memory for that is refused.
     fn variable_fits(&mut self, variable: usize, slot: usize) -> Result<bool, AllocError>
         ensures kept { self.new ≡ self.old }
-        ensures fits { IfOk result (TellsFit self.old.types self.old.told self.old.slots.told (variable, slot)) }
+        ensures fits { IfOk result (TellsFit self.old.types self.old.told self.old.slots (variable, slot)) }
     {
         let known = self.known;
         let told = self.told.at(variable);
-        let tops = known.slots.tops(slot);
+        let tops = known.declared.told.at(slot);
         if told.len() < 8 {
             return Ok(known.types.fits(told, tops));
         }
@@ -100,13 +100,13 @@ fn object_fits<'t, 'm, 'a, A: Allocator, B: Allocator>(
     object: &[u8],
     slot: Option<usize>,
 ) -> Option<bool>
-    ensures { (x : Option TypedValue) → IsSlotAt known.now.types.now known.now.slots.now.told x slot
+    ensures { (x : Option TypedValue) → IsSlotAt known.now.types.now known.now.declared.now.told x slot
         → result ≡ fit_of (pairs known.now.types.now.declared) (find (is_named object.now) (take known.now.limit (map object_in known.now.listed.now.objects.entries))) x }
 {
     let told = known.listed.told_of(object, known.limit)?;
     match slot {
         None => Some(true),
-        Some(slot) => Some(known.types.fits(told, known.slots.tops(slot))),
+        Some(slot) => Some(known.types.fits(told, known.declared.told.at(slot))),
     }
 }
 
@@ -120,7 +120,7 @@ fn term_fits<'k, 't, 'm, 'a, A: Allocator, B: Allocator>(
     slot: Option<usize>,
 ) -> Result<Option<bool>, AllocError>
     ensures kept { uses.new ≡ uses.old }
-    ensures fits { AreToldIn uses.old.types uses.old.told scope.now → IfOk result (λ fit. (x : Option TypedValue) → IsSlotAt uses.old.types uses.old.slots.told x slot → fit ≡ fit_of (pairs uses.old.types.declared) (typed_term (setting_in uses.old) (bound_in scope.now) (term_in term.now)) x) }
+    ensures fits { AreToldIn uses.old.types uses.old.told scope.now → IfOk result (λ fit. (x : Option TypedValue) → IsSlotAt uses.old.types uses.old.slots x slot → fit ≡ fit_of (pairs uses.old.types.declared) (typed_term (setting_in uses.old) (bound_in scope.now) (term_in term.now)) x) }
 {
     match term {
         LentTerm::Object(object) => Ok(object_fits(uses.known, *object, slot)),
@@ -134,25 +134,24 @@ fn term_fits<'k, 't, 'm, 'a, A: Allocator, B: Allocator>(
     }
 }
 
-/// Whether each term fits its slot, which are told by the numbers of their tops; a term without a slot, or a slot without a term, is another fault.
+/// Whether each term fits its slot; a term without a slot, or a slot without a term, is another fault.
 ///
 /// Fails where a term is not known, or memory is refused.
 fn terms_fit<'k, 't, 'm, 'a, 'd, A: Allocator, B: Allocator>(
     uses: &mut Uses<'k, 't, 'm, 'a, A, B>,
     terms: &Terms<'d, A>,
-    slots: &[Typed<A>],
-    numbers: &[usize],
+    slots: &Slots<'m, 'a, A, B>,
     scope: &Scope<A, B>,
 ) -> Result<bool, LinkFault<'d>>
-    requires { AreSlots uses.old (map typed_view slots.now) numbers.now }
+    requires { AreKnownSlots uses.old.types uses.old.slots slots.now }
     ensures kept { uses.new ≡ uses.old }
     ensures passes { AreToldIn uses.old.types uses.old.told scope.now → Passes 26 (flat_map (unknown_term (setting_in uses.old) (bound_in scope.now)) (terms_in terms.now)) result }
-    ensures fits { AreToldIn uses.old.types uses.old.told scope.now → IfOk result (λ fits. some_misfit (setting_in uses.old) (bound_in scope.now) (terms_in terms.now) (map typed_view slots.now) ≡ not fits) }
+    ensures fits { AreToldIn uses.old.types uses.old.told scope.now → IfOk result (λ fits. some_misfit (setting_in uses.old) (bound_in scope.now) (terms_in terms.now) (map typed_view slots.now.parameters.now) ≡ not fits) }
 {
     let mut all_fit = true;
     for i in 0..terms.len() {
         let term = terms.at(i);
-        match term_fits(uses, &term, scope, numbers.get(i).copied())? {
+        match term_fits(uses, &term, scope, slots.numbers.get(i).copied())? {
             None => return Err(LinkFault::UnknownName(term.name())),
             Some(fits) => all_fit = all_fit && fits,
         }
@@ -165,16 +164,15 @@ fn look_at_terms<'k, 't, 'm, 'a, 'd, A: Allocator, B: Allocator>(
     uses: &mut Uses<'k, 't, 'm, 'a, A, B>,
     symbol: &'d [u8],
     terms: &Terms<'d, A>,
-    slots: &[Typed<A>],
-    numbers: &[usize],
+    slots: &Slots<'m, 'a, A, B>,
     scope: &Scope<A, B>,
 ) -> Result<(), LinkFault<'d>>
-    requires { AreSlots uses.old (map typed_view slots.now) numbers.now }
+    requires { AreKnownSlots uses.old.types uses.old.slots slots.now }
     ensures kept { uses.new ≡ uses.old }
-    ensures found { AreToldIn uses.old.types uses.old.told scope.now → IsFound (faults_of_terms (setting_in uses.old) (bound_in scope.now) symbol.now (terms_in terms.now) (map typed_view slots.now)) result }
+    ensures found { AreToldIn uses.old.types uses.old.told scope.now → IsFound (faults_of_terms (setting_in uses.old) (bound_in scope.now) symbol.now (terms_in terms.now) (map typed_view slots.now.parameters.now)) result }
 {
-    let all_fit = terms_fit(uses, terms, slots, numbers, scope)?;
-    if terms.len() != slots.len() {
+    let all_fit = terms_fit(uses, terms, slots, scope)?;
+    if terms.len() != slots.parameters.len() {
         Err(LinkFault::Arity(symbol))
     } else if all_fit {
         Ok(())
@@ -183,66 +181,22 @@ fn look_at_terms<'k, 't, 'm, 'a, 'd, A: Allocator, B: Allocator>(
     }
 }
 
-/// The lowest of the faults of a predicate or a function with its terms; the tops of the slots of the last that is declared are told before those of a name
-/// with this number.
+/// The lowest of the faults of a predicate or a function with its terms.
 fn look_at_use<'k, 't, 'm, 'a, 'd, A: Allocator, B: Allocator>(
     uses: &mut Uses<'k, 't, 'm, 'a, A, B>,
     declared: &Signatures<'m, 'a, A, B>,
-    end: usize,
     symbol: &'d [u8],
     terms: &Terms<'d, A>,
     scope: &Scope<A, B>,
 ) -> Result<(), LinkFault<'d>>
-    requires room { length declared.now.entries ≤ end }
-    requires slots { (k : ℕ) (f : Signature) → slice_get (map signature_in declared.now.entries) k ≡ Some f
-        → AreSlots uses.old f.parameters (slice_index_or uses.old.slots.numbers (end - length declared.now.entries + k) []) }
+    requires { AreSlotsKnown uses.old.types uses.old.slots declared.now.entries }
     ensures kept { uses.new ≡ uses.old }
     ensures found { AreToldIn uses.old.types uses.old.told scope.now → IsFound (faults_of_use (setting_in uses.old) (bound_in scope.now) (record { name = symbol.now; terms = terms_in terms.now; declared = map signature_in declared.now.entries })) result }
 {
-    match declared.get_full(symbol) {
+    match declared.get(symbol) {
         None => Err(LinkFault::UnknownName(symbol)),
-        Some((name, _, slots)) => {
-            let known = uses.known;
-            let numbers = known.slots.numbers(end - declared.len() + name);
-            look_at_terms(uses, symbol, terms, *slots, numbers, scope)
-        }
+        Some(slots) => look_at_terms(uses, symbol, terms, slots, scope),
     }
-}
-
-/// The lowest of the faults of a predicate with its terms.
-fn look_at_predicate<'k, 't, 'm, 'a, 'd, A: Allocator, B: Allocator>(
-    uses: &mut Uses<'k, 't, 'm, 'a, A, B>,
-    predicate: &'d [u8],
-    terms: &Terms<'d, A>,
-    scope: &Scope<A, B>,
-) -> Result<(), LinkFault<'d>>
-    ensures kept { uses.new ≡ uses.old }
-    ensures found { AreToldIn uses.old.types uses.old.told scope.now → IsFound (faults_of_use (setting_in uses.old) (bound_in scope.now) (record { name = predicate.now; terms = terms_in terms.now; declared = uses.old.predicates })) result }
-{
-    let known = uses.known;
-    let end = known.slots.len() - known.functions.len();
-    look_at_use(uses, known.predicates, end, predicate, terms, scope)
-}
-
-/// The lowest of the faults of a function with its terms.
-fn look_at_function<'k, 't, 'm, 'a, 'd, A: Allocator, B: Allocator>(
-    uses: &mut Uses<'k, 't, 'm, 'a, A, B>,
-    function: &'d [u8],
-    terms: &Terms<'d, A>,
-    scope: &Scope<A, B>,
-) -> Result<(), LinkFault<'d>>
-    ensures kept { uses.new ≡ uses.old }
-    ensures found { AreToldIn uses.old.types uses.old.told scope.now → IsFound (faults_of_use (setting_in uses.old) (bound_in scope.now) (record { name = function.now; terms = terms_in terms.now; declared = uses.old.functions })) result }
-{
-    let known = uses.known;
-    look_at_use(
-        uses,
-        known.functions,
-        known.slots.len(),
-        function,
-        terms,
-        scope,
-    )
 }
 
 /// Whether a term is an object, or a variable that is bound.
@@ -311,8 +265,14 @@ impl<'k, 't, 'm, 'a, A: Allocator, B: Allocator> Search<A, B> for Uses<'k, 't, '
 
     fn look<'d>(&mut self, scope: &Scope<A, B>, part: &Part<'d, A>) -> Result<(), LinkFault<'d>> {
         match part {
-            Part::Says(predicate, terms) => look_at_predicate(self, *predicate, terms, scope),
-            Part::Calls(function, terms) => look_at_function(self, *function, terms, scope),
+            Part::Says(predicate, terms) => {
+                let declared = self.known.declared;
+                look_at_use(self, &declared.predicates, *predicate, terms, scope)
+            }
+            Part::Calls(function, terms) => {
+                let declared = self.known.declared;
+                look_at_use(self, &declared.functions, *function, terms, scope)
+            }
             Part::Equates(first, second) => {
                 let first = look_at_term(self.known, *first, scope);
                 lower(first, look_at_term(self.known, *second, scope))

@@ -2,25 +2,27 @@
 use Rattle.std.proofs.Common.{◌≡◌, ℕ, false, ◌||◌, List, [], ◌∷◌, ◌++◌, map, length, refl, sym, ap, ◌∙◌, subst, bytes_eq}
 use Rattle.std.specs.Prelude.{Option, Some, None, is_some, option_map, position}
 use Rattle.std.specs.Borrow.{Bor}
-use Rattle.std.specs.List.{slice_get, flat_map}
+use Rattle.std.specs.List.{slice_get}
 use Rattle.std.specs.Map.{keys_of, lookup}
 use Rattle.std.proofs.lemmas.List.{length-map}
 use Rattle.std.proofs.lemmas.Option.{slice_get-map}
+use Rattle.std.proofs.lemmas.Simd.{map-map}
 use Rattle.pddl_domain.specs.declared.domain.Action.{Action}
 use Rattle.pddl_domain.specs.Actions.{ActionValue, action_view}
 use Rattle.pddl_domain.specs.declared.domain.Domain.{Domain}
 use Rattle.pddl_domain.specs.Domains.{DomainValue, domain_view}
 use Rattle.pddl_problem.specs.Problems.{ProblemValue}
-use Rattle.pddl_task.specs.Names.{Name, is_in, word_if, repeated, number_in}
-use Rattle.pddl_task.specs.Settings.{symbol_of, function_signatures}
-use Rattle.pddl_task.specs.Places.{action_places}
-use Rattle.pddl_task.specs.Faults.{retyped, repeated_at, repeated_in_actions, domain_repeats, problem_repeats}
+use Rattle.pddl_task.specs.Names.{Name, is_in, repeated, number_in}
+use Rattle.pddl_task.specs.Settings.{symbol_of}
+use Rattle.pddl_task.specs.Faults.{domain_repeats, problem_repeats}
 use Rattle.pddl_task.specs.GroundSize.{capped, action_size}
 use Rattle.pddl_task.specs.Linked.{IsLinked}
 use Rattle.pddl_task.specs.Tasks.{TaskValue, task_count}
 use Rattle.pddl_task.proofs.Lists.{nil_parts}
 use Rattle.pddl_linked_task.specs.LinkedTasks.{Files}
-use Rattle.pddl_types.proofs.SignatureTables.{Held}
+use Rattle.pddl_linked_task.proofs.OnceNamed.{once_declared}
+use Rattle.pddl_types.specs.KnownNames.{action_signature}
+use Rattle.pddl_types.proofs.SignatureTables.{AreHeld, held_none}
 use Rattle.pddl_faults.proofs.PutValues.{found_or}
 use Rattle.pddl_linked_plan.specs.StepFaults.{action_name, action_names, action_named}
 use Rattle.pddl_plan_tables.specs.declared.action_table.SizedAction.{SizedAction}
@@ -30,18 +32,9 @@ use Rattle.pddl_linked_plan.proofs.Numbers.{found_at_number, place_lent}
 
 -- ---- no two actions of linked files have one name
 
-pub none_twice : (seen : List Name) (rest : List ActionValue) → repeated_in_actions seen rest ≡ [] → repeated seen (map action_name rest) ≡ []
-none_twice seen [] none = refl
-none_twice seen (a ∷ rest) none =
-    let parts = nil_parts (word_if (is_in seen a.name) a.name ++ flat_map repeated_at (action_places a)) (repeated_in_actions (seen ++ a.name ∷ []) rest) none in
-    let first = nil_parts (word_if (is_in seen a.name) a.name) (flat_map repeated_at (action_places a)) parts.0 in
-    ap (λ ws. ws ++ repeated (seen ++ a.name ∷ []) (map action_name rest)) first.0 ∙ none_twice (seen ++ a.name ∷ []) rest parts.1
-
-pub named_once : (d : DomainValue) (p : ProblemValue) → IsLinked d p → repeated [] (map action_name d.actions) ≡ []
+named_once : (d : DomainValue) (p : ProblemValue) → IsLinked d p → repeated [] (map action_name d.actions) ≡ []
 named_once d p linked =
-    let whole = nil_parts (domain_repeats d) (problem_repeats d p) linked.1.1.1.1.0 in
-    let last = nil_parts (retyped [] d.constants ++ repeated [] (map symbol_of d.predicates) ++ repeated [] (map symbol_of (function_signatures d))) (repeated_in_actions [] d.actions) whole.0 in
-    none_twice [] d.actions last.1
+    ap (repeated []) (sym (map-map symbol_of action_signature d.actions)) ∙ (once_declared d (nil_parts (domain_repeats d) (problem_repeats d p) linked.1.1.1.1.0).0).actions
 
 pub once_in_files : {A : Type 0} (d : Domain A) (f : Files) (actions : List (Action A)) → domain_view d ≡ f.domain → IsLinked f.domain f.problem → actions ≡ d.actions.items
     → repeated [] (map action_name (map action_view actions)) ≡ []
@@ -71,9 +64,8 @@ actions_as_many task es are = sym (length-map es named_in) ∙ ap length are ∙
 -- ---- actions that are put in one by one
 
 pub held_start : {A : Type 0} (count : List Name → ℕ) (es : List (Entry A)) (all : List ActionValue) → es ≡ [] → repeated [] (map action_name all) ≡ []
-    → Held named_in name_in (map (named_action count) all) es (map (named_action count) all)
-held_start count es all none once =
-    subst (λ xs. Held named_in name_in (map (named_action count) all) xs (map (named_action count) all)) (sym none) (refl, ap (repeated []) (names_are count all) ∙ once)
+    → AreHeld named_in name_in (map (named_action count) all) es (map (named_action count) all)
+held_start count es all none once = held_none named_in name_in (map (named_action count) all) es none (ap (repeated []) (names_are count all) ∙ once)
 
 pub entry_is : {A : Type 0} (count : List Name → ℕ) (key : Bor (List ℕ)) (held : SizedAction A) (x : Action A) → key.now ≡ x.name → held.action.now ≡ x → held.size ≡ capped (action_size count (action_view x))
     → named_in (key, held) ≡ named_action count (action_view x)

@@ -10,6 +10,7 @@ pub mod HeldEach
 pub mod ListedObjects
 pub mod FittingSpans
 pub mod NumberedTops
+pub mod ParameterTops
 pub mod TypeTables
 pub mod TaskNames
 pub mod Views

@@ -5,26 +5,26 @@ use Rattle.std.specs.Borrow.{Bor}
 use Rattle.std.specs.List.{position_or_len}
 use Rattle.std.specs.Map.{keys_of, lookup}
 use Rattle.pddl_formula.specs.TypedLists.{typed_view}
-use Rattle.pddl_formula.specs.declared.type_names.Typed.{Typed}
 use Rattle.pddl_domain.specs.Declarations.{Signature}
 use Rattle.pddl_task.specs.Names.{Name, is_in}
 use Rattle.pddl_task.specs.Settings.{symbol_of}
 use Rattle.pddl_types.specs.KnownNames.{signature_in}
+use Rattle.pddl_types.specs.declared.signatures.Slots.{Slots}
 use Rattle.pddl_faults.proofs.PutValues.{found_or}
 use Rattle.pddl_task.proofs.Lists.{bytes_same}
 
-pub is_symbol : {A : Type 0} (es : List (Bor (List ℕ) × Bor (List (Typed A)))) (n : Name) → is_some (lookup (λ k. bytes_eq n k.now) es) ≡ is_in (map symbol_of (map signature_in es)) n
+pub is_symbol : {A B : Type 0} (es : List (Bor (List ℕ) × Slots A B)) (n : Name) → is_some (lookup (λ k. bytes_eq n k.now) es) ≡ is_in (map symbol_of (map signature_in es)) n
 is_symbol [] n = refl
 is_symbol (e ∷ es) n = found_or (bytes_eq n e.0.now) e.1 (lookup (λ k. bytes_eq n k.now) es) ∙ ap (λ b. bytes_eq n e.0.now || b) (is_symbol es n)
 
 -- ---- what is found, by a value of it
 
 -- the parameters of a predicate or a function
-pub signature_found : {A : Type 0} (es : List (Bor (List ℕ) × Bor (List (Typed A)))) (n : Name)
-    → option_map (λ (s : Signature). s.parameters) (find (λ s. bytes_eq n s.name) (map signature_in es)) ≡ option_map (λ (xs : Bor (List (Typed A))). map typed_view xs.now) (lookup (λ k. bytes_eq n k.now) es)
+pub signature_found : {A B : Type 0} (es : List (Bor (List ℕ) × Slots A B)) (n : Name)
+    → option_map (λ (s : Signature). s.parameters) (find (λ s. bytes_eq n s.name) (map signature_in es)) ≡ option_map (λ (v : Slots A B). map typed_view v.parameters.now) (lookup (λ k. bytes_eq n k.now) es)
 signature_found [] n = refl
-signature_found {A} (e ∷ es) n =
-    elim (bytes_eq n e.0.now) as (λ b. option_map (λ (s : Signature). s.parameters) (cond b (Some (signature_in e)) (find (λ s. bytes_eq n s.name) (map signature_in es))) ≡ option_map (λ (xs : Bor (List (Typed A))). map typed_view xs.now) (cond b (Some e.1) (lookup (λ k. bytes_eq n k.now) es))) [
+signature_found {A} {B} (e ∷ es) n =
+    elim (bytes_eq n e.0.now) as (λ b. option_map (λ (s : Signature). s.parameters) (cond b (Some (signature_in e)) (find (λ s. bytes_eq n s.name) (map signature_in es))) ≡ option_map (λ (v : Slots A B). map typed_view v.parameters.now) (cond b (Some e.1) (lookup (λ k. bytes_eq n k.now) es))) [
       | true ↦ refl
       | false ↦ signature_found es n
     ]

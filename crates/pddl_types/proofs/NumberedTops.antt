@@ -1,19 +1,20 @@
 -- Tops of types that are told by number.
-use Rattle.std.proofs.Common.{◌≡◌, ℕ, zero, suc, ◌+◌, ◌-◌, ◌<◌, ◌≤◌, List, [], ◌∷◌, ◌++◌, length, take, refl, sym, ap, ◌∙◌, subst, arith}
+use Rattle.std.proofs.Common.{◌≡◌, ℕ, zero, suc, ◌+◌, ◌-◌, ◌<◌, ◌≤◌, List, [], ◌∷◌, ◌++◌, map, length, take, refl, sym, ap, ◌∙◌, subst, arith}
 use Rattle.std.specs.Prelude.{Some, slice_get}
-use Rattle.std.specs.List.{slice_index_or}
+use Rattle.std.specs.Borrow.{Bor}
 use Rattle.std.proofs.lemmas.List.{length-append, take_all, get_or_append_left, get_or_push}
-use Rattle.std.proofs.lemmas.Option.{slice_get_within, get_or_from_slice_get}
+use Rattle.std.proofs.lemmas.List.Elements.{All-nil, All-weaker, All-push}
 use Rattle.pddl_forest.specs.Spans.{AreApart}
 use Rattle.pddl_forest.specs.declared.spans.Span.{Span}
-use Rattle.pddl_formula.specs.TypedLists.{TypedValue}
+use Rattle.pddl_formula.specs.TypedLists.{TypedValue, typed_view}
 use Rattle.pddl_formula.specs.Groups.{HaveOneType}
 use Rattle.pddl_domain.specs.Declarations.{Signature}
 use Rattle.pddl_task.specs.Names.{Name}
-use Rattle.pddl_task.proofs.Lists.{some_at}
 use Rattle.pddl_types.specs.TypeSpans.{TypesValue, IsTold}
-use Rattle.pddl_types.specs.ToldTops.{IsToldAt, AreToldAt, AreAllApart, AreKept, SlotsValue, AreSlotTops}
-use Rattle.pddl_types.proofs.HeldEach.{both_more, each_none, each_next, each_still}
+use Rattle.pddl_types.specs.ToldTops.{IsToldAt, AreToldAt, AreAllApart, AreKept}
+use Rattle.pddl_types.specs.Signatures.{Rows, AreSlotsTold, HaveSignatures}
+use Rattle.pddl_types.specs.declared.signatures.Slots.{Slots}
+use Rattle.pddl_types.proofs.HeldEach.{each_none, each_next, each_still}
 use Rattle.pddl_types.proofs.SharedTypes.{of_next}
 
 -- ---- what stays told
@@ -79,22 +80,20 @@ module _ {t : TypesValue} {told : List (List Span)} {list : List TypedValue} whe
 
 -- ---- slots
 
-pub slots_none : (t : TypesValue) → AreSlotTops t [] (record { told = []; numbers = [] })
-slots_none t = record { many = refl; each = λ k f numbers at is. absurd (omega (arith, slice_get_within [] k f at)) }
+pub slots_none : {A B : Type 0} (t : TypesValue) (told : List (List Span)) → AreSlotsTold {A = A} {B = B} t told []
+slots_none t told = All-nil (λ e. AreToldAt t told (map typed_view e.1.parameters.now) e.1.numbers.items)
 
--- with one more name
-pub slots_next : (t : TypesValue) (signatures more : List Signature) (v new : SlotsValue) (f : Signature) (numbers : List ℕ) → AreSlotTops t signatures v → more ≡ signatures ++ f ∷ []
-    → AreKept v.told new.told → AreToldAt t new.told f.parameters numbers → new.numbers ≡ v.numbers ++ numbers ∷ [] → AreSlotTops t more new
-slots_next t signatures more v new f numbers are more_is kept told numbers_are = record {
-  many = omega (arith, ap length numbers_are, ap length more_is, length-append v.numbers (numbers ∷ []), length-append signatures (f ∷ []), are.many);
-  each = λ k h ns at is.
-      both_more (λ (s : Signature) ms. AreToldAt t new.told s.parameters ms) signatures v.numbers f numbers are.many told (λ i s ms here there. kept_all t v.told new.told s.parameters ms kept (are.each i s ms here there))
-      k h ns (ap (λ fs. slice_get fs k) (sym more_is) ∙ at) (ap (λ ms. slice_get ms k) (sym numbers_are) ∙ is);
-}
+-- those of a table are told still
+pub slots_still : {A B : Type 0} (t : TypesValue) (before after : List (List Span)) (es : Rows A B) → AreKept before after → AreSlotsTold t before es → AreSlotsTold t after es
+slots_still t before after es kept =
+    All-weaker (λ e. AreToldAt t before (map typed_view e.1.parameters.now) e.1.numbers.items) (λ e. AreToldAt t after (map typed_view e.1.parameters.now) e.1.numbers.items)
+    (λ e. kept_all t before after (map typed_view e.1.parameters.now) e.1.numbers.items kept) es
 
--- the tops of a name's slots
-pub slots_at : (t : TypesValue) (signatures : List Signature) (v : SlotsValue) (k : ℕ) (f : Signature) → AreSlotTops t signatures v → slice_get signatures k ≡ Some f
-    → AreToldAt t v.told f.parameters (slice_index_or v.numbers k [])
-slots_at t signatures v k f are at =
-    let (numbers, is) = some_at v.numbers k (omega (arith, slice_get_within signatures k f at, are.many)) in
-    subst (AreToldAt t v.told f.parameters) (sym (get_or_from_slice_get v.numbers k numbers [] is)) (are.each k f numbers at is)
+-- and with those of one name more
+pub slots_more : {A B : Type 0} (t : TypesValue) (before after : List (List Span)) (es : Rows A B) (e : Bor (List ℕ) × Slots A B) → AreKept before after
+    → AreSlotsTold t before es → AreToldAt t after (map typed_view e.1.parameters.now) e.1.numbers.items → AreSlotsTold t after (es ++ e ∷ [])
+slots_more t before after es e kept are = All-push (λ d. AreToldAt t after (map typed_view d.1.parameters.now) d.1.numbers.items) es e (slots_still t before after es kept are)
+
+-- a table has what it had while more is told, and what is told otherwise too
+pub have_still : {A B : Type 0} (t : TypesValue) {before after : List (List Span)} {rows : Rows A B} {gs hs : List Signature} → AreKept before after → gs ≡ hs → HaveSignatures t before rows gs → HaveSignatures t after rows hs
+have_still t {before} {after} {rows} kept same have = record { signatures_are = have.signatures_are ∙ same; tops = slots_still t before after rows kept have.tops }

@@ -14,6 +14,7 @@ use Rattle.pddl_domain.specs.Declarations.{Signature, predicate_view}
 use Rattle.pddl_task.specs.Names.{Name, item_of}
 use Rattle.pddl_task.specs.Settings.{symbol_of}
 use Rattle.pddl_types.specs.KnownNames.{AreNamed, signature_in, object_in}
+use Rattle.pddl_types.specs.declared.signatures.Slots.{Slots}
 use Rattle.pddl_types.proofs.Lookups.{number_lent}
 
 -- the name of a predicate
@@ -44,6 +45,6 @@ pub object_number : {A : Type 0} (es : List (Bor (List ℕ) × Bor (Typed A))) (
     → map object_in es ≡ objects → found ≡ position (λ k. bytes_eq n k.now) (keys_of es) → found ≡ position (bytes_eq n) (map item_of objects)
 object_number es objects n found same = place_at es (map item_of objects) n found (sym (map-map item_of object_in es) ∙ ap (map item_of) same)
 
-pub signature_number : {A : Type 0} (es : List (Bor (List ℕ) × Bor (List (Typed A)))) (signatures : List Signature) (n : Name) (found : Option ℕ)
+pub signature_number : {A B : Type 0} (es : List (Bor (List ℕ) × Slots A B)) (signatures : List Signature) (n : Name) (found : Option ℕ)
     → map signature_in es ≡ signatures → found ≡ position (λ k. bytes_eq n k.now) (keys_of es) → found ≡ position (bytes_eq n) (map symbol_of signatures)
 signature_number es signatures n found same = place_at es (map symbol_of signatures) n found (sym (map-map symbol_of signature_in es) ∙ ap (map symbol_of) same)

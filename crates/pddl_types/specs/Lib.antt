@@ -2,4 +2,5 @@ pub mod TypeTables
 pub mod KnownNames
 pub mod TypeSpans
 pub mod ToldTops
+pub mod Signatures
 pub mod Settings

@@ -1,10 +1,9 @@
 -- Tops of types by the numbers at which they are told. Own.
-use Rattle.std.specs.Prelude.{◌≡◌, ◌<◌, ℕ, List, [], Some, length, slice_get}
+use Rattle.std.specs.Prelude.{◌≡◌, ◌<◌, ℕ, List, [], length}
 use Rattle.std.specs.List.{slice_index_or}
 use Rattle.pddl_forest.specs.declared.spans.Span.{Span}
 use Rattle.pddl_forest.specs.Spans.{AreApart}
 use Rattle.pddl_formula.specs.TypedLists.{TypedValue}
-use Rattle.pddl_domain.specs.Declarations.{Signature}
 use Rattle.pddl_task.specs.Names.{Name}
 use Rattle.pddl_types.specs.TypeSpans.{TypesValue, IsTold, HaveEach}
 
@@ -23,15 +22,3 @@ AreAllApart told = (k : ℕ) → AreApart (slice_index_or told k [])
 -- what was told is told still
 abbrev pub AreKept : List (List Span) → List (List Span) → Type 0
 AreKept before after = (k : ℕ) → k < length before → (k < length after) × (slice_index_or after k [] ≡ slice_index_or before k [])
-
--- ---- slots
-
--- tops, and for each of some names the numbers at which those of its slots are told
-pub record SlotsValue : Type 0 where
-  pub told : List (List Span)
-  pub numbers : List (List ℕ)
-
--- they are those of the slots of these names
-pub record AreSlotTops (t : TypesValue) (signatures : List Signature) (v : SlotsValue) : Type 0 where
-  pub many : length v.numbers ≡ length signatures
-  pub each : (k : ℕ) (f : Signature) (numbers : List ℕ) → slice_get signatures k ≡ Some f → slice_get v.numbers k ≡ Some numbers → AreToldAt t v.told f.parameters numbers

@@ -5,7 +5,7 @@ use Rattle.std.specs.List.{list_any, list_all}
 use Rattle.pddl_forest.specs.Spans.{some_holds, span_at, AreTops}
 use Rattle.pddl_forest.specs.declared.spans.Span.{Span}
 use Rattle.pddl_formula.specs.TypedLists.{TypedValue}
-use Rattle.pddl_domain.specs.Declarations.{TypeValue, Signature}
+use Rattle.pddl_domain.specs.Declarations.{TypeValue}
 use Rattle.pddl_task.specs.Names.{Name, is_in, number_in}
 use Rattle.pddl_task.specs.Types.{types_of, pairs, is_under}
 use Rattle.pddl_types.specs.KnownNames.{AreNamed, object_in}
@@ -36,10 +36,6 @@ IsToldOf t _ _ = ⊥
 -- all names are types
 abbrev pub are_types : List TypeValue → List Name → Bool
 are_types declared names = list_all (is_in (types_of declared)) names
-
--- the primitives of all slots are
-abbrev pub HaveTypes : List TypeValue → List Signature → Type 0
-HaveTypes declared signatures = (f : Signature) (x : TypedValue) → Contains signatures f → Contains f.parameters x → IsTrue (are_types declared x.of)
 
 -- Tops of a slot hold the first number of a name's span where the name is under some primitive of the slot, unless neither the name nor some primitive is a type.
 abbrev pub DoTell : TypesValue → Type 0

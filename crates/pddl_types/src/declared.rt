@@ -1,91 +1,75 @@
-//! The predicates and the functions of a domain by name, with the tops of their slots.
+//! What a domain declares beside types and constants.
 
-ghost use Rattle.std.specs.Prelude.{◌≡◌, [], ◌++◌, map, take, IfOk};
-ghost use Rattle.pddl_domain.specs.Domains.{domain_view};
-ghost use Rattle.pddl_task.specs.Names.{repeated};
-ghost use Rattle.pddl_task.specs.Types.{pairs};
-ghost use Rattle.pddl_task.specs.Settings.{symbol_of, function_signatures};
-ghost use Rattle.pddl_types.specs.KnownNames.{signature_in, object_in};
-ghost use Rattle.pddl_types.specs.Settings.{AreDeclared, setting_of};
-ghost use Rattle.pddl_types.specs.TypeSpans.{HaveTypes, AreSingle, AreListed};
-ghost use Rattle.pddl_types.specs.ToldTops.{AreSlotTops};
+ghost use Rattle.std.specs.Prelude.{◌≡◌, Some, slice_get, OnOk};
+ghost use Rattle.pddl_formula.specs.TypedLists.{TypedValue};
+ghost use Rattle.pddl_domain.specs.Actions.{ActionValue};
+ghost use Rattle.pddl_domain.specs.Domains.{DomainValue, domain_view};
+ghost use Rattle.pddl_forest.specs.Spans.{AreApart};
+ghost use Rattle.pddl_types.specs.Signatures.{IsNothing, IsDeclaredOnce, AreDeclared};
+ghost use Rattle.pddl_types.specs.TypeSpans.{TypesValue, IsTold};
 
-use crate::known::{Known, Signatures, signatures};
-use crate::listed::Listed;
-use crate::slot_tops::SlotTops;
+use crate::signatures::{Signatures, put};
+use crate::told_tops::ToldTops;
 use crate::types::Types;
-use pddl_build::both_made;
+use indexmap::IndexMap;
 use pddl_domain::Domain;
+use pddl_forest::Span;
+use pddl_hash::Hashed;
 use std::alloc::{AllocError, Allocator};
 
-/// What a domain declares beside types and constants, by name, and the tops of slots, those of predicates first.
+/// What a domain declares beside types and constants, by name, and the tops of the types of parameters.
 #[derive(Drop)]
 pub struct Declared<'m, 'a, A: Allocator, B: Allocator> {
     pub predicates: Signatures<'m, 'a, A, B>,
     pub functions: Signatures<'m, 'a, A, B>,
-    pub slots: SlotTops<'a, B>,
-}
-
-/// The tops of the slots of predicates, and behind them those of the slots of functions.
-///
-/// Fails where memory for them is refused.
-fn slots_of<'m, 'a, A: Allocator, B: Allocator>(
-    alloc: &'a B,
-    types: &Types<'m, 'a, A, B>,
-    domain: &Domain<A>,
-) -> Result<SlotTops<'a, B>, AllocError>
-    ensures { IfOk result (AreSlotTops types.now ((domain_view domain.now).predicates ++ function_signatures (domain_view domain.now))) }
-{
-    let mut slots = SlotTops::new(alloc);
-    let predicates = slots.add(types, &domain.predicates);
-    let functions = slots.add(types, &domain.functions);
-    predicates.and(functions).and(Ok(slots))
+    pub actions: Signatures<'m, 'a, A, B>,
+    pub told: ToldTops<'a, B>,
 }
 
 impl<'m, 'a, A: Allocator, B: Allocator> Declared<'m, 'a, A, B> {
-    /// The tables of a domain in which no predicate and no function is declared twice.
-    ///
-    /// Fails where memory for them is refused.
-    pub fn of(
-        alloc: &'a B,
-        types: &Types<'m, 'a, A, B>,
-        domain: &'m Domain<A>,
-    ) -> Result<Declared<'m, 'a, A, B>, AllocError>
-        requires predicates { repeated [] (map symbol_of (domain_view domain.now).predicates) ≡ [] }
-        requires functions { repeated [] (map symbol_of (function_signatures (domain_view domain.now))) ≡ [] }
-        ensures { IfOk result (AreDeclared types.now (domain_view domain.now)) }
+    /// Nothing is declared.
+    pub fn new(alloc: &'a B, hashed: Hashed) -> Declared<'m, 'a, A, B>
+        ensures { IsNothing result }
     {
-        let slots = slots_of(alloc, types, domain);
-        let predicates = signatures(alloc, types.hashed(), &domain.predicates);
-        let functions = signatures(alloc, types.hashed(), &domain.functions);
-        let (slots, (predicates, functions)) = both_made(slots, both_made(predicates, functions))?;
-        Ok(Declared {
-            predicates,
-            functions,
-            slots,
-        })
+        Declared {
+            predicates: IndexMap::with_hasher(alloc, hashed),
+            functions: IndexMap::with_hasher(alloc, hashed),
+            actions: IndexMap::with_hasher(alloc, hashed),
+            told: ToldTops::new(alloc),
+        }
     }
 
-    /// What may be named beside the first so many of these objects.
-    pub fn known<'t>(
-        &'t self,
-        types: &'t Types<'m, 'a, A, B>,
-        listed: &'t Listed<'m, 'a, A, B>,
-        limit: usize,
-    ) -> Known<'t, 'm, 'a, A, B>
-        requires slots { AreSlotTops types.now (map signature_in self.now.predicates.entries ++ map signature_in self.now.functions.entries) self.now.slots }
-        requires types { HaveTypes types.now.declared (map signature_in self.now.predicates.entries ++ map signature_in self.now.functions.entries) }
-        requires objects { AreListed types.now listed.now }
-        requires single { AreSingle types.now.declared (map object_in listed.now.objects.entries) }
-        ensures { setting_of result ≡ record { pairs = pairs types.now.declared; predicates = map signature_in self.now.predicates.entries; functions = map signature_in self.now.functions.entries; objects = take limit (map object_in listed.now.objects.entries) } }
+    /// Adds what a domain declares to nothing, each name once.
+    ///
+    /// Fails where memory for it is refused.
+    pub fn add(
+        &mut self,
+        types: &Types<'m, 'a, A, B>,
+        domain: &'m Domain<A>,
+    ) -> Result<(), AllocError>
+        requires nothing { IsNothing self.old }
+        requires once { IsDeclaredOnce (domain_view domain.now) }
+        ensures { OnOk result (AreDeclared types.now (domain_view domain.now) self.new) }
     {
-        Known {
-            types,
-            predicates: &self.predicates,
-            functions: &self.functions,
-            slots: &self.slots,
-            listed,
-            limit,
+        let told = &mut self.told;
+        let predicates = put(types, told, &mut self.predicates, &domain.predicates);
+        let functions = put(types, told, &mut self.functions, &domain.functions);
+        let actions = put(types, told, &mut self.actions, &domain.actions);
+        predicates.and(functions).and(actions)
+    }
+
+    /// The tops of the type of a parameter of an action, both by their numbers.
+    pub fn parameter_tops(&self, action: usize, parameter: usize) -> &[Span]
+        ensures apart { AreApart result.now }
+        ensures told { (t : TypesValue) (d : DomainValue) (a : ActionValue) (x : TypedValue) → AreDeclared t d self.now
+            → slice_get d.actions action ≡ Some a → slice_get a.parameters parameter ≡ Some x → IsTold t x.of result.now }
+    {
+        match self.actions.get_index(action) {
+            Some((_, slots)) => match slots.numbers.get(parameter) {
+                Some(number) => self.told.at(*number),
+                None => &[],
+            },
+            None => &[],
         }
     }
 }

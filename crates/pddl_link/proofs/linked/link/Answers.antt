@@ -23,5 +23,5 @@ pub of-requires : goal.of-requires
 of-requires g c = record {
   linked = (c.in_ok-domain_name.ensures, c.in_ok-both.ensures.verdict);
   types_are = c.in_ok-both.ensures.types;
-  behind = c.in_ok-both.ensures.tables;
+  behind = c.in_ok-both.ensures.held;
 }

@@ -10,4 +10,4 @@ returns g c =
     let f = c.args.files.now in
     let verdict = names_verdict (domain_view f.domain.now) (problem_in f.problem) f.types.now.declared c.lower.result f.typed
     (c.lower.ensures.found _ _ (c.list_all-found.ensures.found _ c.look_at_domain.ensures) c.look_at_problem.ensures) in
-    record { listed = named_well f c.list_all-found.new.listed c.lower.result verdict (first_kept _ _ _ _ c.lower.ensures.both c.list_all-found.ensures.listed); verdict = verdict }
+    record { named = named_well f c.list_all-found.new.listed c.lower.result verdict (first_kept _ _ _ _ c.lower.ensures.both c.list_all-found.ensures.listed); verdict = verdict }

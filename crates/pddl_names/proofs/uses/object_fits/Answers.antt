@@ -13,10 +13,10 @@ returns-in_err-told g c = λ x is.
 pub returns-in-None : goal.returns-in-None
 returns-in-None g c = λ x is.
     let k = c.args.known.now in
-    past_slots k.types.now k.slots.now.told _ x (sym (told_some k.types.now _ c.told_of.result (c.told_of.ensures.told k.types.now k.objects k.single)) ∙ ap is_some c.in_ok-told.was) c.args.slot c.in-None.is is
+    past_slots k.types.now k.declared.now.told _ x (sym (told_some k.types.now _ c.told_of.result (c.told_of.ensures.told k.types.now k.objects k.single)) ∙ ap is_some c.in_ok-told.was) c.args.slot c.in-None.is is
 
 pub returns-in-Some : goal.returns-in-Some
 returns-in-Some g c =
     let k = c.args.known.now in
-    object_fits k.types.now k.slots.now.told c.in-Some.slot c.fits.result _ c.in_ok-told.told (c.in_ok-told.ensures.told k.types.now k.objects k.single)
-    (λ types names told at. c.fits.ensures types names told (subst (IsTold k.types.now names) (sym c.tops.ensures.tops) at.1)) c.args.slot c.in-Some.is
+    object_fits k.types.now k.declared.now.told c.in-Some.slot c.fits.result _ c.in_ok-told.told (c.in_ok-told.ensures.told k.types.now k.objects k.single)
+    (λ types names told at. c.fits.ensures types names told (subst (IsTold k.types.now names) (sym c.at.ensures.tops) at.1)) c.args.slot c.in-Some.is

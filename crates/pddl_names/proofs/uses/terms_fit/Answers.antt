@@ -15,8 +15,8 @@ returns-in-None-clause-passes g c = λ told.
     let u = c.args.uses.now in
     let s = setting_in u in
     let b = bound_in c.args.scope.now in
-    let slots = map typed_view c.args.slots.now in
-    let is_slot = slot_read u slots c.args.numbers.now c.loop-i.i c.get.result c.copied.result c.requires c.get.ensures.lookup c.copied.ensures in
+    let slots = map typed_view c.args.slots.now.parameters.now in
+    let is_slot = slot_read u.types u.slots c.args.slots.now c.requires c.loop-i.i c.deref.result.now c.get.result c.copied.result c.deref.ensures.value c.get.ensures.lookup c.copied.ensures in
     let fit : c.in_ok-term_fits.field-0 ≡ fit_of s.pairs (typed_term s b (term_in c.at-term.result)) (slice_get slots c.loop-i.i) = rw (← c.loop-i.invariant.kept) (c.in_ok-term_fits.ensures.fits (rw c.loop-i.invariant.kept told) (slice_get slots c.loop-i.i) (rw c.loop-i.invariant.kept is_slot)) in
     (refl, unknown_here s b (terms_in c.args.terms.now) slots c.loop-i.i _ (omega (arith, c.len-i-end.ensures)) c.at-term.ensures _ fit _ _ (c.loop-i.invariant.unknown told) c.in-None.is c.name.ensures)
 
@@ -26,8 +26,8 @@ loop-i-preserved g c =
     let s = setting_in u in
     let b = bound_in c.args.scope.now in
     let all = terms_in c.args.terms.now in
-    let slots = map typed_view c.args.slots.now in
-    let is_slot = slot_read u slots c.args.numbers.now c.loop-i.i c.get.result c.copied.result c.requires c.get.ensures.lookup c.copied.ensures in
+    let slots = map typed_view c.args.slots.now.parameters.now in
+    let is_slot = slot_read u.types u.slots c.args.slots.now c.requires c.loop-i.i c.deref.result.now c.get.result c.copied.result c.deref.ensures.value c.get.ensures.lookup c.copied.ensures in
     let fit : AreToldIn u.types u.told c.args.scope.now → c.in_ok-term_fits.field-0 ≡ fit_of s.pairs (typed_term s b (term_in c.at-term.result)) (slice_get slots c.loop-i.i) =
     λ told. rw (← c.loop-i.invariant.kept) (c.in_ok-term_fits.ensures.fits (rw c.loop-i.invariant.kept told) (slice_get slots c.loop-i.i) (rw c.loop-i.invariant.kept is_slot)) in
     let low : c.loop-i.i < length all = omega (arith, c.len-i-end.ensures) in

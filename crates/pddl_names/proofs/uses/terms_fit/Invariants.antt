@@ -13,7 +13,7 @@ abbrev pub invariant-loop-i : goal.invariant-loop-i
 invariant-loop-i g l =
     let word = unknown_term (setting_in l.fn.uses) (bound_in l.scope) in
     let some = some_misfit (setting_in l.fn.uses) (bound_in l.scope) in
-    let slots = map typed_view l.slots in
+    let slots = map typed_view l.slots.parameters.now in
     let told = AreToldIn l.fn.uses.types l.fn.uses.told l.scope in
     record {
       kept : l.uses ≡ l.fn.uses;

@@ -1,4 +1,4 @@
-use Rattle.std.proofs.Common.{map, drop, ◌+◌, refl, ap}
+use Rattle.std.proofs.Common.{map, drop, refl, ap}
 use Rattle.std.proofs.lemmas.List.{drop_all}
 use Rattle.pddl_domain.specs.Actions.{action_view}
 use Rattle.pddl_task.specs.Tasks.{task_count}
@@ -19,14 +19,14 @@ loop-action-preserved g c =
     let xs = c.args.actions.now in
     let i = c.loop-action.action-index in
     let x = c.action-item.result in
-    held_more named_in name_in is_named c.loop-action.table c.insert.new.self (map named (map action_view xs)) (map named (map action_view (drop i xs))) (map named (map action_view (drop (i + 1) xs)))
-    (named (action_view x)) c.as_bytes.result c.sized_action.result (ap (map named) (views_drop action_view xs i x c.loop-action-test.true c.action-item.is))
-    (entry_is (task_count (task_of_files c.args.task.now)) c.as_bytes.result c.sized_action.result x c.as_bytes.ensures.value c.sized_action.ensures.action c.sized_action.ensures.size) refl c.loop-action.invariant c.in_ok-insert.ensures.entries
+    let front = ap (map named) (views_drop action_view xs i x c.loop-action-test.true c.action-item.is) in
+    let entry = entry_is (task_count (task_of_files c.args.task.now)) c.as_bytes.result c.sized_action.result x c.as_bytes.ensures.value c.sized_action.ensures.action c.sized_action.ensures.size in
+    held_more named_in name_in is_named _ c.loop-action.table c.insert.new.self _ _ (named (action_view x)) c.as_bytes.result c.sized_action.result front entry refl c.loop-action.invariant c.in_ok-insert.ensures.entries
 
 pub returns : goal.returns
 returns g c =
     let named = named_action (task_count (task_of_files c.args.task.now)) in
     let xs = c.args.actions.now in
     let i = c.loop-action.action-index in
-    held_all named_in name_in c.loop-action.table.entries (map named (map action_view xs)) (map named (map action_view (drop i xs)))
+    held_all named_in name_in (map named (map action_view xs)) c.loop-action.table.entries (map named (map action_view (drop i xs)))
     (ap (λ ys. map named (map action_view ys)) (drop_all i xs c.loop-action-test.false)) c.loop-action.invariant

@@ -14,12 +14,12 @@ use Rattle.pddl_names.proofs.uses.UsesSearch.enter.Goals as goal
 pub invariant_of-self : goal.invariant_of-self
 invariant_of-self g c =
     let u = c.self.inside in
-    fitting_kept u.known.now.types.now u.told c.tell_all.new.self u.known.now.slots.now.told u.fitting.entries c.tell_all.ensures.kept c.self.invariant
+    fitting_kept u.known.now.types.now u.told c.tell_all.new.self u.known.now.declared.now.told u.fitting.entries c.tell_all.ensures.kept c.self.invariant
 
 pub invariant_of-self-2 : goal.invariant_of-self-2
 invariant_of-self-2 g c =
     let u = c.self.inside in
-    fitting_kept u.known.now.types.now u.told c.tell_all.new.self u.known.now.slots.now.told u.fitting.entries c.tell_all.ensures.kept c.self.invariant
+    fitting_kept u.known.now.types.now u.told c.tell_all.new.self u.known.now.declared.now.told u.fitting.entries c.tell_all.ensures.kept c.self.invariant
 
 pub returns-in_err-numbers-clause-found : goal.returns-in_err-numbers-clause-found
 returns-in_err-numbers-clause-found g c = rw (← c.self.view_is) refl

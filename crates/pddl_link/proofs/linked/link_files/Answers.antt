@@ -7,7 +7,7 @@ use Rattle.pddl_task.proofs.Lists.{append-none}
 use Rattle.pddl_faults.proofs.PassedParts.{pass_front}
 use Rattle.pddl_faults.proofs.Verdicts.{found_at, decided_after}
 use Rattle.pddl_names.specs.FaultParts.{problem_in}
-use Rattle.pddl_link.proofs.linked.linked_tables.Goals as goal
+use Rattle.pddl_link.proofs.linked.link_files.Goals as goal
 
 pub returns-in_err-type_twice-clause-verdict : goal.returns-in_err-type_twice-clause-verdict
 returns-in_err-type_twice-clause-verdict g c =
@@ -23,8 +23,8 @@ returns-in_err-types-clause-verdict g c =
     rw (p.1, p.2) (found_at (fault 21 (twice ++ []) ∷ []) 22 (cyclic ++ []) _ c.in_err-types.field-0.0 (append-none twice ∙ c.in_ok-type_twice.ensures, tt) refl
     (pass_front 22 cyclic [] (cyclic ++ []) _ refl c.in_err-types.ensures.cycle))
 
-pub returns-in-Err-clause-verdict : goal.returns-in-Err-clause-verdict
-returns-in-Err-clause-verdict g c =
+pub returns-clause-verdict : goal.returns-clause-verdict
+returns-clause-verdict g c =
     let d = domain_view c.args.domain.now in
     decided_after {T = Unit {0}} (fault 21 (types_twice d ++ []) ∷ fault 22 (type_cycles d ++ []) ∷ []) (map (fault_in d (problem_in c.args.problem)) (drop 3 rules)) (Err c.in-Err.fault)
     (append-none (types_twice d) ∙ c.in_ok-type_twice.ensures, (append-none (type_cycles d) ∙ c.in_ok-types.ensures.cycle, tt)) c.in-Err.ensures.verdict
