@@ -1,6 +1,6 @@
 -- What is found in parts, and what is found in the whole.
 use Rattle.std.proofs.Common.{◌≡◌, ◌≤◌, ◌<◌, ℕ, List, [], ◌∷◌, ◌++◌, Option, Some, None, Result, Ok, Err, IfSome, refl, sym, ap, ◌∙◌, subst, arith, inl, inr}
-use Rattle.std.specs.Prelude.{Contains}
+use Rattle.std.specs.Prelude.{Contains, IfErr}
 use Rattle.std.specs.List.{flat_map}
 use Rattle.std.specs.Option.{option_map_or}
 use Rattle.std.proofs.lemmas.List.{append_assoc}
@@ -72,35 +72,18 @@ lower_back xs ys o None lt h k = tt
 lower_back xs ys None (Some g) lt h k = absurd (omega arith)
 lower_back xs ys (Some f) (Some g) lt h k = low_back xs ys g k (λ other c. let m = h.lowest other c in omega arith)
 
--- ---- the same faults in other lists
-
-none_from : (xs ys : List (ℕ × Name)) → ((f : ℕ × Name) → Contains ys f → Contains xs f) → xs ≡ [] → ys ≡ []
-none_from xs [] from none = refl
-none_from xs (y ∷ ys) from none = absurd (has_none y (subst (λ (zs : List (ℕ × Name)). Contains zs y) none (from y (has_first y ys))))
-
-some_as : (xs ys : List (ℕ × Name)) (o : Option (ℕ × Name)) → ((f : ℕ × Name) → Contains xs f → Contains ys f) → ((f : ℕ × Name) → Contains ys f → Contains xs f)
-    → IfSome o (IsLowestOf xs) → IfSome o (IsLowestOf ys)
-some_as xs ys None to from h = tt
-some_as xs ys (Some f) to from h = record { stands = to f h.stands; lowest = λ g c. h.lowest g (from g c) }
-
--- what is found in a list is found in any that has the same faults
-pub found_as : {T : Type 0} (xs ys : List (ℕ × Name)) (r : Result T LinkFault) → ((f : ℕ × Name) → Contains xs f → Contains ys f) → ((f : ℕ × Name) → Contains ys f → Contains xs f)
-    → IsFound xs r → IsFound ys r
-found_as xs ys (Ok v) to from h = none_from xs ys from h
-found_as xs ys (Err e) to from h = some_as xs ys (fault_of e) to from h
-
 -- ---- one fault
 
 none_numbered : (n : ℕ) (words : List Name) → words ≡ [] → numbered n words ≡ []
 none_numbered n words none = ap (numbered n) none
 
 -- each of some words has their number
-number_is : (n : ℕ) (words : List Name) (g : ℕ × Name) → Contains (numbered n words) g → (g.0 ≡ n) × Contains words g.1
+pub number_is : (n : ℕ) (words : List Name) (g : ℕ × Name) → Contains (numbered n words) g → (g.0 ≡ n) × Contains words g.1
 number_is n words g c =
     let m = mapped_is (λ w. (n, w)) words g c in
     (sym (ap (λ (p : ℕ × Name). p.0) m.2), subst (λ w. Contains words w) (ap (λ (p : ℕ × Name). p.1) m.2) m.1)
 
-is_numbered : (n : ℕ) (words : List Name) (g : ℕ × Name) → g.0 ≡ n → Contains words g.1 → Contains (numbered n words) g
+pub is_numbered : (n : ℕ) (words : List Name) (g : ℕ × Name) → g.0 ≡ n → Contains words g.1 → Contains (numbered n words) g
 is_numbered n words g is c = subst (λ m. Contains (numbered n words) (m, g.1)) (sym is) (is_mapped (λ w. (n, w)) words g.1 c)
 
 some_passed : (n : ℕ) (words : List Name) (o : Option (ℕ × Name)) → IfSome o (λ f. (f.0 ≡ n) × Contains words f.1) → IfSome o (IsLowestOf (numbered n words))
@@ -111,6 +94,29 @@ some_passed n words (Some f) h = record { stands = is_numbered n words f h.0 h.1
 pub passed_found : {T : Type 0} (n : ℕ) (words : List Name) (r : Result T LinkFault) → Passes n words r → IsFound (numbered n words) r
 passed_found n words (Ok v) h = none_numbered n words h
 passed_found n words (Err e) h = some_passed n words (fault_of e) h
+
+-- a pass for one fault, whose words may be told otherwise
+pub passed_as : {T : Type 0} (n : ℕ) {words told : List Name} (r : Result T LinkFault) → words ≡ told → Passes n words r → IsFound (numbered n told) r
+passed_as n {words} {told} r same h = passed_found n told r (subst (λ ws. Passes n ws r) same h)
+
+-- ---- what is found stands
+
+some_front : (xs ys : List (ℕ × Name)) (o : Option (ℕ × Name)) → IfSome o (IsLowestOf xs) → IfSome o (Contains (xs ++ ys))
+some_front xs ys None h = tt
+some_front xs ys (Some f) h = Contains-append_left xs ys f h.stands
+
+some_back : (xs ys : List (ℕ × Name)) (o : Option (ℕ × Name)) → IfSome o (IsLowestOf ys) → IfSome o (Contains (xs ++ ys))
+some_back xs ys None h = tt
+some_back xs ys (Some f) h = Contains-append_right xs ys f h.stands
+
+-- in the first of two parts, or in the second
+pub stands_front : {T : Type 0} (xs ys : List (ℕ × Name)) (r : Result T LinkFault) → IsFound xs r → IfErr r (λ e. IfSome (fault_of e) (Contains (xs ++ ys)))
+stands_front xs ys (Ok v) h = tt
+stands_front xs ys (Err e) h = some_front xs ys (fault_of e) h
+
+pub stands_back : {T : Type 0} (xs ys : List (ℕ × Name)) (r : Result T LinkFault) → IsFound ys r → IfErr r (λ e. IfSome (fault_of e) (Contains (xs ++ ys)))
+stands_back xs ys (Ok v) h = tt
+stands_back xs ys (Err e) h = some_back xs ys (fault_of e) h
 
 -- ---- in turn
 

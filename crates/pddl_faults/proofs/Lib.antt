@@ -5,3 +5,4 @@ pub mod PassedParts
 pub mod ViewTurns
 pub mod PutValues
 pub mod FoundFaults
+pub mod SeenItems

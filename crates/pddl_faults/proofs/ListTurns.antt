@@ -1,6 +1,8 @@
 -- Lists that are gone through, element by element: what is left, and what was seen.
 use Rattle.std.proofs.Common.{◌≡◌, ℕ, ◌+◌, ◌<◌, List, [], ◌∷◌, ◌++◌, map, length, get_or, take, drop, refl, sym, ap, ◌∙◌, add-one, drop-cons, append_assoc}
+use Rattle.std.specs.Prelude.{Some, option_map, slice_get}
 use Rattle.std.proofs.lemmas.List.{map_more}
+use Rattle.std.proofs.lemmas.Option.{slice_get-map, slice_get_read}
 
 front : {X : Type 0} (xs : List X) (i : ℕ) (d : X) → i < length xs → drop i xs ≡ get_or xs i d ∷ drop (i + 1) xs
 front xs i d h = rw (add-one, drop-cons xs i d) refl
@@ -17,3 +19,7 @@ pub seen_more : {X Y : Type 0} (view : X → Y) (before : List Y) (xs : List X) 
     → before ++ map view (take (i + 1) xs) ≡ (before ++ map view (take i xs)) ++ view x ∷ []
 seen_more view before xs i x h at =
     ap (λ ys. before ++ ys) (map_more view xs i x h ∙ ap (λ y. map view (take i xs) ++ view y ∷ []) (sym at)) ∙ sym (append_assoc before (map view (take i xs)) (view x ∷ []))
+
+-- what is seen of an item that is read
+pub viewed_at : {X Y : Type 0} (view : X → Y) (xs : List X) (i : ℕ) (x : X) → i < length xs → x ≡ get_or xs i x → slice_get (map view xs) i ≡ Some (view x)
+viewed_at view xs i x low is = slice_get-map view xs i ∙ ap (option_map view) (slice_get_read xs (length xs) i x refl low is)

@@ -1,15 +1,21 @@
 -- What is found where a value was put at a name.
-use Rattle.std.proofs.Common.{◌≡◌, ℕ, Bool, true, false, ◌||◌, cond, List, [], ◌∷◌, Option, Some, refl, ap, sym, ◌∙◌, bytes_eq}
-use Rattle.std.specs.Prelude.{is_some}
+use Rattle.std.proofs.Common.{◌≡◌, ℕ, Bool, true, false, ◌||◌, cond, List, [], ◌∷◌, map, Option, Some, refl, ap, sym, ◌∙◌, bytes_eq}
+use Rattle.std.specs.Prelude.{is_some, find}
 use Rattle.std.specs.Borrow.{Bor}
 use Rattle.std.specs.Map.{lookup}
-use Rattle.pddl_task.specs.Names.{Name}
+use Rattle.pddl_formula.specs.TypedLists.{TypedValue}
+use Rattle.pddl_task.specs.Names.{Name, is_in, is_named, item_of}
 use Rattle.pddl_task.proofs.Lists.{bytes_same, same_bytes}
 use Rattle.indexmap.specs.IndexMap.{insert_entry}
 
 pub found_or : {X : Type 0} (b : Bool) (x : X) (o : Option X) → is_some (cond b (Some x) o) ≡ b || is_some o
 found_or true x o = refl
 found_or false x o = refl
+
+-- whether something of a name is there
+pub is_there : (xs : List TypedValue) (n : Name) → is_some (find (is_named n) xs) ≡ is_in (map item_of xs) n
+is_there [] n = refl
+is_there (x ∷ xs) n = found_or (is_named n x) x (find (is_named n) xs) ∙ ap (λ b. is_named n x || b) (is_there xs n)
 
 pub lookup_put : {V : Type 0} (es : List (Bor (List ℕ) × V)) (k : Bor (List ℕ)) (v : V) (n : Name)
     → lookup (λ j. bytes_eq n j.now) (insert_entry (λ a b. bytes_eq a.now b.now) es k v) ≡ cond (bytes_eq n k.now) (Some v) (lookup (λ j. bytes_eq n j.now) es)

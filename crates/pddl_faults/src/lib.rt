@@ -8,4 +8,4 @@ mod fault;
 mod lowest;
 
 pub use fault::LinkFault;
-pub use lowest::lower;
+pub use lowest::{lower, once};

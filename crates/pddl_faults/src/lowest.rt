@@ -1,7 +1,8 @@
-//! The lowest fault, of what is found in two parts.
+//! The lowest fault, of what is found in two parts, and the fault of a name that does not stand alone.
 
-ghost use Rattle.std.specs.Prelude.{◌++◌, ℕ, List, OnOk, IsOk};
-ghost use Rattle.pddl_task.specs.Names.{Name};
+ghost use Rattle.std.specs.Prelude.{◌++◌, ℕ, List, OnOk, IsOk, not};
+ghost use Rattle.pddl_task.specs.Names.{Name, word_if};
+ghost use Rattle.pddl_faults.specs.Passes.{Passes};
 ghost use Rattle.pddl_faults.specs.Found.{IsFound};
 
 use crate::fault::LinkFault;
@@ -25,5 +26,16 @@ pub fn lower<'d>(
                 Err(fault)
             },
         },
+    }
+}
+
+/// A name stands alone.
+pub fn once<'d>(is_alone: bool, name: &'d [u8]) -> Result<(), LinkFault<'d>>
+    ensures { Passes 24 (word_if (not is_alone) name.now) result }
+{
+    if is_alone {
+        Ok(())
+    } else {
+        Err(LinkFault::NameTwice(name))
     }
 }

@@ -1,36 +1,33 @@
--- What is known behind the stage of names, where none of its faults stands: predicates and functions stand once, the types of their parameters are known, and so is the one type of each
--- object.
-use Rattle.std.proofs.Common.{◌≡◌, ◌<◌, ◌≤◌, true, nat_lt, ◌⊎◌, List, [], ◌∷◌, ◌++◌, map, length, get_or, Result, Ok, Err, refl, ap, ◌∙◌, subst, arith, inl, inr}
-use Rattle.std.specs.Prelude.{Contains, Some, OnOk}
+-- What is known where none of the faults from 23 to 33 stands: nothing is declared twice, and types are known.
+use Rattle.std.proofs.Common.{◌≡◌, ◌<◌, ◌≤◌, true, nat_lt, List, [], ◌∷◌, ◌++◌, map, drop, length, refl, sym, ap, ◌∙◌, subst, arith, inl, inr}
+use Rattle.std.specs.Prelude.{Contains, Some}
 use Rattle.std.specs.List.{flat_map}
-use Rattle.std.proofs.lemmas.List.Elements.{All-contains_itself, Contains-append_left, Contains-append_right, Contains-append_cases}
+use Rattle.std.proofs.lemmas.List.Concat.{flat_map-append}
+use Rattle.std.proofs.lemmas.List.Elements.{Contains-append_left, Contains-append_cases}
 use Rattle.std.proofs.lemmas.Option.{slice_get-get_or}
 use Rattle.pddl_forest.specs.declared.spans.Span.{Span}
 use Rattle.pddl_formula.specs.TypedLists.{TypedValue}
-use Rattle.pddl_domain.specs.Declarations.{TypeValue, Signature}
-use Rattle.pddl_domain.specs.Domains.{DomainValue, domain_view}
+use Rattle.pddl_domain.specs.Declarations.{TypeValue}
+use Rattle.pddl_domain.specs.Actions.{ActionValue}
+use Rattle.pddl_domain.specs.Domains.{DomainValue}
 use Rattle.pddl_problem.specs.Problems.{ProblemValue}
-use Rattle.pddl_task.specs.Names.{Name, is_in}
+use Rattle.pddl_task.specs.Names.{Name, is_in, repeated}
 use Rattle.pddl_task.specs.Types.{types_of}
-use Rattle.pddl_task.specs.Places.{domain_places, problem_places}
-use Rattle.pddl_task.specs.Settings.{parameters_of, function_signatures, objects_of}
+use Rattle.pddl_task.specs.Places.{action_places, domain_places, problem_places}
+use Rattle.pddl_task.specs.Settings.{symbol_of, parameters_of, function_signatures, objects_of}
 use Rattle.pddl_task.specs.Faults.{variables_at, unknown_types, domain_typed, problem_typed, domain_repeats, problem_repeats, object_types}
 use Rattle.pddl_task.specs.Linked.{fault_in, NoneStands}
-use Rattle.pddl_task.proofs.Lists.{nil_parts, is_mapped, found_all, and_left, some_at}
+use Rattle.pddl_task.proofs.Lists.{nil_parts, both_nil, found_all, and_left, some_at}
 use Rattle.pddl_task.proofs.DistinctNames.{firsts_have}
-use Rattle.pddl_task.proofs.LinkedTasks.{at_most_one, in_flat, type_known}
-use Rattle.pddl_faults.specs.declared.fault.LinkFault.{LinkFault}
-use Rattle.pddl_faults.specs.Passes.{Verdict}
-use Rattle.pddl_names.specs.FaultParts.{problem_in, name_rules}
-use Rattle.pddl_names.specs.declared.files.Files.{Files}
-use Rattle.pddl_names.specs.ObjectTables.{AreAllListed}
-use Rattle.pddl_types.specs.KnownNames.{signature_in, object_in}
-use Rattle.pddl_types.specs.Signatures.{Rows, HaveSignatures, AreSlotsKnown, IsDeclaredOnce, AreDeclared}
-use Rattle.pddl_types.specs.declared.declared.Declared.{Declared}
-use Rattle.pddl_types.specs.declared.listed.Listed.{Listed}
+use Rattle.pddl_task.proofs.LinkedTasks.{at_most_one, type_known}
+use Rattle.pddl_faults.specs.Found.{numbered}
+use Rattle.pddl_types.specs.KnownNames.{action_signature}
+use Rattle.pddl_types.specs.Told.{unknown_among}
+use Rattle.pddl_names.specs.FaultParts.{part_rules}
+use Rattle.pddl_types.specs.Signatures.{IsDeclaredOnce}
 use Rattle.pddl_types.specs.TypeSpans.{TypesValue, are_types, is_single, AreSingle, HaveEach, IsOnlySpan}
 use Rattle.pddl_linked_task.proofs.OnceNamed.{once_declared}
-use Rattle.pddl_link.specs.Stages.{faults_of, AreNamed}
+use Rattle.pddl_types.proofs.UnknownTypes.{unknown-append}
 
 -- a type of some primitives, of at most one, which is known
 one_type : (declared : List TypeValue) (types : List Name) → 0 < length types → length types ≤ 1 → are_types declared types ≡ true → is_single declared types ≡ true
@@ -44,17 +41,18 @@ has_some t objects spans each x (k, low, is) =
     let (s, at) = some_at spans k (let many = each.many in omega (arith, low, many)) in
     (each.each k s x (slice_get-get_or objects k x low ∙ ap Some is) at).some
 
--- the slots of a table are known where the types of its parameters are
-slots_known : {A B : Type 0} (t : TypesValue) (told : List (List Span)) (rows : Rows A B) (gs : List Signature) → HaveSignatures t told rows gs
-    → ((f : Signature) (x : TypedValue) → Contains gs f → Contains f.parameters x → are_types t.declared x.of ≡ true) → AreSlotsKnown t told rows
-slots_known t told rows gs have known k e low = record {
-  tops = have.tops k e low;
-  types = λ x there.
-      let row = get_or rows k e in
-      known (signature_in row) x (subst (λ fs. Contains fs (signature_in row)) have.signatures_are (is_mapped signature_in rows row (All-contains_itself rows k e low))) there;
-}
+-- the types of the parameters of actions are known where those of all that actions bind are
+action_types : (ts : List TypeValue) (acts : List ActionValue) → unknown_among ts (flat_map variables_at (flat_map action_places acts)) ≡ [] → unknown_among ts (flat_map parameters_of (map action_signature acts)) ≡ []
+action_types ts [] none = refl
+action_types ts (a ∷ rest) none =
+    let places = action_places a in
+    let more = flat_map action_places rest in
+    let all = nil_parts (unknown_among ts (flat_map variables_at places)) (unknown_among ts (flat_map variables_at more))
+    (sym (unknown-append ts (flat_map variables_at places) (flat_map variables_at more)) ∙ ap (unknown_among ts) (sym (flat_map-append variables_at places more)) ∙ none) in
+    let own = nil_parts (unknown_among ts a.parameters) (unknown_among ts (flat_map variables_at (drop 1 places))) (sym (unknown-append ts a.parameters (flat_map variables_at (drop 1 places))) ∙ all.0) in
+    unknown-append ts a.parameters (flat_map parameters_of (map action_signature rest)) ∙ both_nil (unknown_among ts a.parameters) (unknown_among ts (flat_map parameters_of (map action_signature rest))) own.0 (action_types ts rest all.1)
 
-module _ (d : DomainValue) (p : ProblemValue) (named : NoneStands (map (fault_in d p) name_rules)) where
+module _ (d : DomainValue) (p : ProblemValue) (named : NoneStands (map (fault_in d p) part_rules)) where
   -- nothing is declared twice
   pub declared_once : IsDeclaredOnce d
   declared_once = once_declared d (nil_parts (domain_repeats d) (problem_repeats d p) named.1.0).0
@@ -65,27 +63,21 @@ module _ (d : DomainValue) (p : ProblemValue) (named : NoneStands (map (fault_in
   in_domain : (x : TypedValue) → Contains (domain_typed d) x → are_types d.types x.of ≡ true
   in_domain = known (domain_typed d) (nil_parts (unknown_types d (domain_typed d)) (unknown_types d (problem_typed p)) named.0).0
 
-  -- what is declared first, behind constants and before places
-  declared_known : (x : TypedValue) → Contains (flat_map parameters_of d.predicates) x ⊎ Contains (flat_map parameters_of (function_signatures d)) x → are_types d.types x.of ≡ true
-  declared_known x there =
-      let predicates = flat_map parameters_of d.predicates in
-      let functions = flat_map parameters_of (function_signatures d) in
-      in_domain x (Contains-append_left (d.constants ++ predicates ++ functions) (flat_map variables_at (domain_places d)) x
-      (elim there as (λ _. Contains (d.constants ++ predicates ++ functions) x) [
-        | inl h ↦ Contains-append_left (d.constants ++ predicates) functions x (Contains-append_right d.constants predicates x h)
-        | inr h ↦ Contains-append_right (d.constants ++ predicates) functions x h
-      ]))
+  -- the types of the parameters of actions are known
+  pub parameters_known : unknown_among d.types (flat_map parameters_of (map action_signature d.actions)) ≡ []
+  parameters_known =
+      let front = d.constants ++ flat_map parameters_of d.predicates ++ flat_map parameters_of (function_signatures d) in
+      let bound = flat_map variables_at (domain_places d) in
+      action_types d.types d.actions
+      (nil_parts (unknown_types d front) (unknown_types d bound) (sym (unknown-append d.types front bound) ∙ (nil_parts (unknown_types d (domain_typed d)) (unknown_types d (problem_typed p)) named.0).0)).1
 
-  module _ {A B : Type 0} (t : TypesValue) (types : t.declared ≡ d.types) (declared : Declared A B) (are : AreDeclared t d declared) where
-    -- the types of the slots of predicates and of functions are known
-    pub predicates_known : AreSlotsKnown t declared.told declared.predicates.entries
-    predicates_known =
-        slots_known t declared.told declared.predicates.entries d.predicates are.predicates (λ f x there has. ap (λ ts. are_types ts x.of) types ∙ declared_known x (inl (in_flat parameters_of d.predicates f x there has)))
-
-    pub functions_known : AreSlotsKnown t declared.told declared.functions.entries
-    functions_known =
-        slots_known t declared.told declared.functions.entries (function_signatures d) are.functions
-        (λ f x there has. ap (λ ts. are_types ts x.of) types ∙ declared_known x (inr (in_flat parameters_of (function_signatures d) f x there has)))
+  -- so no fault is found where actions are put into a table
+  pub actions_right : (ts : List TypeValue) → ts ≡ d.types
+      → numbered 23 (unknown_among ts (flat_map parameters_of (map action_signature d.actions))) ++ numbered 24 (repeated [] (map symbol_of (map action_signature d.actions))) ≡ []
+  actions_right ts same =
+      let parameters = flat_map parameters_of (map action_signature d.actions) in
+      let twice = repeated [] (map symbol_of (map action_signature d.actions)) in
+      ap (λ us. numbered 23 (unknown_among us parameters) ++ numbered 24 twice) same ∙ ap (λ ws. numbered 23 ws ++ numbered 24 twice) parameters_known ∙ ap (numbered 24) declared_once.actions
 
   object_known : (x : TypedValue) → Contains p.objects x → are_types d.types x.of ≡ true
   object_known x there =
@@ -108,13 +100,3 @@ module _ (d : DomainValue) (p : ProblemValue) (named : NoneStands (map (fault_in
         | inl constant ↦ one_type d.types x.of some (at_most_one d.constants x few.0 constant (nat_lt 1 (length x.of)) refl) (constant_known x constant)
         | inr object ↦ one_type d.types x.of some (at_most_one p.objects x few.1 object (nat_lt 1 (length x.of)) refl) (object_known x object)
       ])
-
--- where none stands, so it is
-pub named_well : {A B : Type 0} (files : Files A B) (listed : Listed A B) (r : Result (Unit {0}) LinkFault) → Verdict (faults_of files name_rules) r
-    → OnOk r (AreAllListed (domain_view files.domain.now) (problem_in files.problem) files.types.now listed) → OnOk r (AreNamed files listed)
-named_well files listed (Ok u) none all = record {
-  none_stands = none;
-  are_listed = all;
-  single = single_objects (domain_view files.domain.now) (problem_in files.problem) none files.types.now (map object_in listed.objects.entries) listed.spans.items files.typed all.objects all.spans.spans;
-}
-named_well files listed (Err e) verdict all = tt

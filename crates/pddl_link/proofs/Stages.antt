@@ -1,38 +1,56 @@
--- Verdicts stage by stage: what is found among the parts of a stage is the verdict on its rules, and stages follow one another by rising numbers.
-use Rattle.std.proofs.Common.{◌≡◌, ◌≤◌, ℕ, Bool, true, List, [], ◌∷◌, ◌++◌, map, Result, IfSome, sym, ◌∙◌, subst, arith, inl, inr}
-use Rattle.std.specs.Prelude.{nat_le, Option, Some, None}
-use Rattle.std.specs.List.{list_all}
+-- Verdicts in turn: what is found among the parts of a domain and a problem is the verdict on the rules from 23 to 33, and rules follow one another by rising numbers.
+use Rattle.std.proofs.Common.{◌≡◌, ◌≤◌, ℕ, Bool, true, List, [], ◌∷◌, ◌++◌, map, drop, Result, Ok, Err, IfSome, refl, ap, ◌∙◌, subst, arith, append_assoc, inl, inr}
+use Rattle.std.specs.Prelude.{nat_le, Contains, Option, Some, None}
+use Rattle.std.specs.List.{list_all, flat_map}
 use Rattle.std.proofs.lemmas.Bool.Decides.{nat_tests}
-use Rattle.std.proofs.lemmas.List.{append_assoc}
-use Rattle.std.proofs.lemmas.List.Concat.{flat_map-append}
 use Rattle.std.proofs.lemmas.List.Elements.{Contains-append_left, Contains-append_cases}
 use Rattle.pddl_domain.specs.Declarations.{TypeValue}
 use Rattle.pddl_domain.specs.Domains.{DomainValue}
 use Rattle.pddl_problem.specs.Problems.{ProblemValue}
 use Rattle.pddl_task.specs.Names.{Name}
-use Rattle.pddl_task.specs.Faults.{retyped}
-use Rattle.pddl_task.specs.Linked.{Fault, fault_in, Stands, IsLowest}
-use Rattle.pddl_task.proofs.Lists.{all_found}
+use Rattle.pddl_task.specs.Places.{domain_places}
+use Rattle.pddl_task.specs.Faults.{unknown_types, variables_at, domain_typed, problem_typed}
+use Rattle.pddl_task.specs.Linked.{Fault, fault, fault_in, Stands, IsLowest}
+use Rattle.pddl_task.proofs.Lists.{all_found, has_none}
 use Rattle.pddl_faults.specs.declared.fault.LinkFault.{LinkFault}
-use Rattle.pddl_faults.specs.Passes.{fault_of, Verdict}
+use Rattle.pddl_faults.specs.Passes.{fault_of, Passes, Verdict}
 use Rattle.pddl_faults.specs.Found.{IsFound, numbered}
-use Rattle.pddl_faults.proofs.FoundFaults.{found_as, found_same, standing, found_verdict}
-use Rattle.pddl_names.specs.FaultParts.{joined, domain_parts, problem_parts, name_rules}
-use Rattle.pddl_names.proofs.RuleParts.{Same, names_stand}
+use Rattle.pddl_faults.proofs.FoundFaults.{found_rest, standing, found_verdict}
+use Rattle.pddl_faults.proofs.PassedParts.{pass_front}
+use Rattle.pddl_faults.proofs.Verdicts.{found_at}
+use Rattle.pddl_types.specs.Told.{unknown_among}
+use Rattle.pddl_names.specs.FaultParts.{joined, declared_typed, domain_parts, problem_parts, part_rules}
+use Rattle.pddl_names.proofs.RuleParts.{all_parts, parts_stand, found_as, unknown-declared}
 
--- what is found among faults is the verdict on those rules that have the same
-pub verdict_of : {T : Type 0} (parts : List (ℕ × Name)) (fs : List Fault) (r : Result T LinkFault) → Same parts (standing fs) → IsFound parts r → Verdict fs r
-verdict_of parts fs r same h = found_verdict fs r (found_as parts (standing fs) r same.to same.from h)
+-- what is found in the parts of a domain and a problem
+pub parts_verdict : (d : DomainValue) (p : ProblemValue) (ts : List TypeValue) (r : Result (Unit {0}) LinkFault) → ts ≡ d.types → unknown_among ts (declared_typed d) ≡ []
+    → IsFound (joined (domain_parts ts d) ++ joined (problem_parts ts d p)) r → Verdict (map (fault_in d p) part_rules) r
+parts_verdict d p ts r same none h =
+    let fs = map (fault_in d p) part_rules in
+    found_verdict fs r
+    (found_as (all_parts d.types d p) (standing fs) r (parts_stand d p)
+    (subst (λ us. IsFound (all_parts us d p) r) same (found_rest (numbered 23 (unknown_among ts (declared_typed d))) (joined (domain_parts ts d) ++ joined (problem_parts ts d p)) r (ap (numbered 23) none) h)))
 
--- names of a domain and a problem, part by part
-pub names_verdict : (d : DomainValue) (p : ProblemValue) (types : List TypeValue) (r : Result (Unit {0}) LinkFault) → types ≡ d.types
-    → IsFound ((joined (domain_parts types d) ++ numbered 24 (retyped [] d.constants ++ retyped d.constants p.objects)) ++ joined (problem_parts types p)) r → Verdict (map (fault_in d p) name_rules) r
-names_verdict d p types r same h =
-    let listed = numbered 24 (retyped [] d.constants ++ retyped d.constants p.objects) in
-    verdict_of _ (map (fault_in d p) name_rules) r (names_stand d p)
-    (subst (λ ts. IsFound (joined (domain_parts ts d ++ (listed ∷ problem_parts ts p))) r) same
-    (found_same ((joined (domain_parts types d) ++ listed) ++ joined (problem_parts types p)) (joined (domain_parts types d ++ (listed ∷ problem_parts types p))) r
-    (flat_map-append (λ (part : List (ℕ × Name)). part) (domain_parts types d) (listed ∷ problem_parts types p) ∙ sym (append_assoc (joined (domain_parts types d)) listed (joined (problem_parts types p)))) h))
+-- a type of what a domain declares that is not known
+pub stopped_verdict : (d : DomainValue) (p : ProblemValue) (ts : List TypeValue) (e : LinkFault) → ts ≡ d.types → Passes {T = Unit {0}} 23 (unknown_among ts (declared_typed d)) (Err e)
+    → Verdict {T = Unit {0}} (map (fault_in d p) part_rules) (Err e)
+stopped_verdict d p ts e same h =
+    let own = unknown_among d.types (declared_typed d) in
+    let bound = flat_map (λ pl. unknown_among d.types (variables_at pl)) (domain_places d) in
+    let others = unknown_types d (problem_typed p) in
+    found_at [] 23 (unknown_types d (domain_typed d) ++ others) (map (fault_in d p) (drop 1 part_rules)) e tt refl
+    (pass_front 23 own (bound ++ others) (unknown_types d (domain_typed d) ++ others) e (ap (λ ws. ws ++ others) (unknown-declared d.types d) ∙ append_assoc own bound others)
+    (subst (λ us. Passes {T = Unit {0}} 23 (unknown_among us (declared_typed d)) (Err e)) same h))
+
+-- a fault that is none of those which are found is no fault
+pub none_left : (P : ℕ × Name → Type 0) (o : Option (ℕ × Name)) (found : List (ℕ × Name)) → found ≡ [] → IfSome o (Contains found) → IfSome o P
+none_left P None found none h = tt
+none_left P (Some f) found none h = absurd (has_none f (subst (λ fs. Contains fs f) none h))
+
+-- the verdict on one fault alone
+pub alone_verdict : (n : ℕ) (words : List Name) (r : Result (Unit {0}) LinkFault) → Passes n words r → Verdict (fault n words ∷ []) r
+alone_verdict n words (Ok u) h = (h, tt)
+alone_verdict n words (Err e) h = found_at [] n words [] e tt refl h
 
 -- ---- stages
 

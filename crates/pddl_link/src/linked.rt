@@ -1,17 +1,17 @@
 //! Links a domain with a problem, or looks at a domain alone.
 
-ghost use Rattle.std.specs.Prelude.{◌≡◌, map, drop, IfOk, OnOk};
+ghost use Rattle.std.specs.Prelude.{◌≡◌, [], map, drop, IfOk, OnOk};
 ghost use Rattle.pddl_domain.specs.Domains.{domain_view};
 ghost use Rattle.pddl_problem.specs.Problems.{problem_view};
 ghost use Rattle.pddl_task.specs.Linked.{fault_in, domain_faults, faults, rules};
 ghost use Rattle.pddl_faults.specs.Passes.{Verdict};
-ghost use Rattle.pddl_sizes.specs.ObjectOrders.{IsOrderOf};
 ghost use Rattle.pddl_types.specs.TypeSpans.{IsEmpty};
-ghost use Rattle.pddl_types.specs.Signatures.{IsNothing, AreDeclared};
-ghost use Rattle.pddl_names.specs.FaultParts.{problem_in, name_rules, use_rules};
+ghost use Rattle.pddl_types.specs.Signatures.{IsNothing};
+ghost use Rattle.pddl_names.specs.FaultParts.{problem_in, part_rules};
+ghost use Rattle.pddl_names.specs.Held.{HoldAll};
 ghost use Rattle.pddl_linked_task.specs.TaskTables.{HoldBehindTypes};
 ghost use Rattle.pddl_linked_task.specs.LinkedTasks.{files};
-ghost use Rattle.pddl_link.specs.Stages.{faults_of, AreNamed};
+ghost use Rattle.pddl_link.specs.Stages.{faults_of};
 
 use pddl_domain::Domain;
 use pddl_faults::{LinkFault, lower};
@@ -21,7 +21,7 @@ use pddl_names::{Files, type_twice};
 use pddl_problem::Problem;
 use pddl_search::domain_name;
 use pddl_sizes::ObjectOrder;
-use pddl_types::{Declared, Fitting, Known, Listed, Types};
+use pddl_types::{Declared, Listed, Types};
 use std::alloc::Allocator;
 
 /// What a domain and a problem, or a domain alone, declare.
@@ -33,51 +33,20 @@ struct Linked<'m, 'a, A: Allocator, B: Allocator> {
     order: ObjectOrder<'a, B>,
 }
 
-/// The lowest fault of names, where objects are added to none.
-fn look_at_names<'t, 'm, 'a, A: Allocator, B: Allocator>(
+/// The lowest fault from 23 to 33. Objects are added to none, and predicates and functions to no declarations.
+fn look_at_files<'t, 'm, 'a, A: Allocator, B: Allocator>(
     files: &Files<'t, 'm, 'a, A, B>,
     listed: &mut Listed<'m, 'a, A, B>,
+    declared: &mut Declared<'m, 'a, A, B>,
 ) -> Result<(), LinkFault<'m>>
-    requires { IsEmpty listed.old }
-    ensures named { OnOk result (AreNamed files.now listed.new) }
-    ensures verdict { Verdict (faults_of files.now name_rules) result }
+    requires listed { IsEmpty listed.old }
+    requires declared { IsNothing declared.old }
+    requires told { declared.old.told ≡ [] }
+    ensures held { OnOk result (HoldAll (domain_view files.now.domain.now) (problem_in files.now.problem) files.now.types.now listed.new declared.new) }
+    ensures verdict { Verdict (faults_of files.now part_rules) result }
 {
-    let found = files.list_all(listed, files.look_at_domain());
-    lower(found, files.look_at_problem())
-}
-
-/// The lowest fault of what is used, where none of names stands.
-fn look_at_uses<'f, 't, 'm, 'a, A: Allocator, B: Allocator>(
-    files: &Files<'f, 'm, 'a, A, B>,
-    listed: &'t Listed<'m, 'a, A, B>,
-    declared: &'t Declared<'m, 'a, A, B>,
-    order: &'t ObjectOrder<'a, B>,
-) -> Result<(), LinkFault<'m>>
-    requires named { AreNamed files.now listed.now }
-    requires declared { AreDeclared files.now.types.now (domain_view files.now.domain.now) declared.now }
-    requires ordered { ∥ IsOrderOf listed.now.spans.items order.now ∥₁ }
-    ensures { Verdict (faults_of files.now use_rules) result }
-{
-    let types = files.types;
-    let inner = Known {
-        types,
-        declared,
-        listed,
-        limit: listed.constants,
-    };
-    let outer = Known {
-        types,
-        declared,
-        listed,
-        limit: listed.objects.len(),
-    };
-    let fitting = Fitting {
-        types,
-        listed,
-        order,
-    };
-    let used = files.look_at_domain_uses(&inner);
-    lower(used, files.look_at_problem_uses(&outer, &fitting))
+    let domain = files.look_at_domain(listed, declared)?;
+    lower(domain, files.look_at_problem(listed, declared))
 }
 
 /// The order of the types of objects, where no fault from 23 on stands. Objects are added to none, and what is declared to nothing.
@@ -88,13 +57,14 @@ fn order_behind_types<'t, 'm, 'a, A: Allocator, B: Allocator>(
 ) -> Result<ObjectOrder<'a, B>, LinkFault<'m>>
     requires listed { IsEmpty listed.old }
     requires declared { IsNothing declared.old }
+    requires told { declared.old.told ≡ [] }
     ensures held { IfOk result (HoldBehindTypes (domain_view files.now.domain.now) (problem_in files.now.problem) files.now.types.now listed.new declared.new) }
     ensures verdict { Verdict (faults_of files.now (drop 3 rules)) result }
 {
-    look_at_names(files, listed)?;
-    let added = declared.add(files.types, files.domain);
-    let order = added.and(ObjectOrder::of(files.alloc, &listed.spans))?;
-    look_at_uses(files, listed, declared, &order).and(Ok(order))
+    look_at_files(files, listed, declared)?;
+    declared.add_actions(files.types, files.domain)?;
+    let order = ObjectOrder::of(files.alloc, &listed.spans)?;
+    files.look_at_goal(listed, &order).and(Ok(order))
 }
 
 /// What a domain and a problem, or a domain alone, declare, where no fault from 21 on stands.

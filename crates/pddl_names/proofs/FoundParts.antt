@@ -1,24 +1,31 @@
 -- What is found in parts of faults.
-use Rattle.std.proofs.Common.{◌≡◌, ℕ, List, [], ◌∷◌, ◌++◌, Result, Ok, Err, subst, inl, inr}
+use Rattle.std.proofs.Common.{◌≡◌, ◌≤◌, ℕ, List, [], ◌∷◌, ◌++◌, drop, Result, Ok, Err, subst, arith, inl, inr}
 use Rattle.std.specs.Prelude.{Contains, OnOk, IsOk}
-use Rattle.std.proofs.lemmas.List.Elements.{Contains-append_left, Contains-append_right, Contains-append_cases}
+use Rattle.std.specs.List.{flat_map}
+use Rattle.std.proofs.lemmas.List.Elements.{Contains-append_cases}
 use Rattle.std.proofs.lemmas.List.Concat.{flat_map-append}
+use Rattle.pddl_domain.specs.Declarations.{TypeValue}
+use Rattle.pddl_domain.specs.Domains.{DomainValue}
+use Rattle.pddl_problem.specs.Problems.{ProblemValue}
 use Rattle.pddl_task.specs.Names.{Name}
-use Rattle.pddl_task.proofs.Lists.{append-none}
+use Rattle.pddl_task.specs.Places.{Place, problem_places}
+use Rattle.pddl_task.specs.Settings.{Setting, in_problem}
+use Rattle.pddl_task.specs.Faults.{variables_at, repeated_at, fraction_at, unknown_at, arity_at, misfit_at, contradictions, cost_values, object_types, other_metrics}
+use Rattle.pddl_task.proofs.Lists.{append-none, has_none, mapped_is}
 use Rattle.pddl_faults.specs.declared.fault.LinkFault.{LinkFault}
 use Rattle.pddl_faults.specs.Passes.{Passes}
 use Rattle.pddl_faults.specs.Found.{IsFound, numbered}
-use Rattle.pddl_faults.proofs.FoundFaults.{found_as, found_same, passed_found}
-use Rattle.pddl_names.specs.FaultParts.{FaultParts, joined}
+use Rattle.pddl_faults.proofs.FoundFaults.{found_first, found_same, passed_as, passed_found}
+use Rattle.pddl_types.specs.Told.{unknown_among}
+use Rattle.pddl_types.specs.Objects.{off_types}
+use Rattle.pddl_names.specs.Uses.{place_faults}
+use Rattle.pddl_names.specs.FaultParts.{FaultParts, joined, problem_parts}
 
 -- one part alone
 pub one_part : {T : Type 0} (xs : List (ℕ × Name)) (r : Result T LinkFault) → IsFound xs r → IsFound (joined (xs ∷ [])) r
 one_part xs r h = found_same xs (xs ++ []) r (append-none xs) h
 
 -- a pass for one fault, whose words may be told otherwise
-pub passed_as : {T : Type 0} (n : ℕ) {words told : List Name} (r : Result T LinkFault) → words ≡ told → Passes n words r → IsFound (numbered n told) r
-passed_as n {words} {told} r same h = passed_found n told r (subst (λ ws. Passes n ws r) same h)
-
 pub passed_part : {T : Type 0} (n : ℕ) {words told : List Name} (r : Result T LinkFault) → words ≡ told → Passes n words r → IsFound (joined (numbered n told ∷ [])) r
 passed_part n {words} {told} r same h = one_part (numbered n told) r (passed_as n r same h)
 
@@ -28,28 +35,53 @@ pub found_parts : {T : Type 0} (us vs : FaultParts) (first : Result (Unit {0}) L
 found_parts us vs first second both lower h k =
     found_same (joined us ++ joined vs) (joined (us ++ vs)) both (flat_map-append (λ (part : List (ℕ × Name)). part) us vs) (lower (joined us) (joined vs) h k)
 
--- parts in their other order
-swapped : (xs ys : List (ℕ × Name)) (f : ℕ × Name) → Contains (xs ++ ys) f → Contains (ys ++ xs) f
-swapped xs ys f c = elim (Contains-append_cases xs ys f c) as (λ _. Contains (ys ++ xs) f) [ inl l ↦ Contains-append_right ys xs f l | inr r ↦ Contains-append_left ys xs f r ]
+-- ---- a stop at an unknown type
 
-pub found_swapped : {T : Type 0} (xs ys : List (ℕ × Name)) (r : Result T LinkFault) → IsFound (xs ++ ys) r → IsFound (ys ++ xs) r
-found_swapped xs ys r = found_as (xs ++ ys) (ys ++ xs) r (swapped xs ys) (swapped ys xs)
+-- no fault has a number below that of an unknown type
+abbrev pub AreFrom : List (ℕ × Name) → Type 0
+AreFrom xs = (f : ℕ × Name) → Contains xs f → 23 ≤ f.0
+
+from_numbered : (n : ℕ) (words : List Name) → 23 ≤ n → AreFrom (numbered n words)
+from_numbered n words le f c = let m = mapped_is (λ w. (n, w)) words f c in subst (λ (p : ℕ × Name). 23 ≤ p.0) m.2 le
+
+from_both : (xs ys : List (ℕ × Name)) → AreFrom xs → AreFrom ys → AreFrom (xs ++ ys)
+from_both xs ys h k f c = elim (Contains-append_cases xs ys f c) as (λ _. 23 ≤ f.0) [ inl l ↦ h f l | inr r ↦ k f r ]
+
+from_none : AreFrom []
+from_none f c = absurd (has_none f c)
+
+from_place : (types : List TypeValue) (s : Setting) (pl : Place) → AreFrom (place_faults types s pl)
+from_place types s pl =
+    from_both _ _ (from_numbered 23 (unknown_among types (variables_at pl)) (omega arith)) (from_both _ _ (from_numbered 24 (repeated_at pl) (omega arith))
+    (from_both _ _ (from_numbered 30 (fraction_at pl) (omega arith)) (from_both _ _ (from_numbered 26 (unknown_at s pl) (omega arith))
+    (from_both _ _ (from_numbered 27 (arity_at s pl) (omega arith)) (from_numbered 28 (misfit_at s pl) (omega arith))))))
+
+from_places : (types : List TypeValue) (s : Setting) (pls : List Place) → AreFrom (flat_map (place_faults types s) pls)
+from_places types s [] = from_none
+from_places types s (pl ∷ pls) = from_both (place_faults types s pl) (flat_map (place_faults types s) pls) (from_place types s pl) (from_places types s pls)
+
+-- an unknown type of an object is the lowest fault of a problem
+pub stopped_at : (types : List TypeValue) (d : DomainValue) (p : ProblemValue) (e : LinkFault) → Passes {T = Unit {0}} 23 (unknown_among types p.objects) (Err e)
+    → IsFound {T = Unit {0}} (joined (problem_parts types d p)) (Err e)
+stopped_at types d p e h =
+    let rest : AreFrom (joined (drop 1 (problem_parts types d p))) =
+    from_both _ _ (from_numbered 24 (off_types d.constants p.objects) (omega arith)) (from_both _ _ (from_places types (in_problem d p) (problem_places p))
+    (from_both _ _ (from_numbered 29 (contradictions p) (omega arith)) (from_both _ _ (from_numbered 31 (cost_values p) (omega arith))
+    (from_both _ _ (from_numbered 25 (object_types p.objects) (omega arith)) (from_both _ _ (from_numbered 33 (other_metrics p.metric) (omega arith)) from_none))))) in
+    let words = unknown_among types p.objects in
+    found_first (numbered 23 words) (joined (drop 1 (problem_parts types d p))) e
+    (λ f g c after. let m = mapped_is (λ w. (23, w)) words f c in subst (λ (q : ℕ × Name). q.0 ≤ g.0) m.2 (rest g after))
+    (passed_found {T = Unit {0}} 23 words (Err e) h)
 
 -- ---- values
+
+-- what holds anyway holds where nothing was found
+pub holds_on : {U E P : Type 0} (r : Result U E) → P → OnOk r P
+holds_on (Ok u) h = h
+holds_on (Err e) h = tt
 
 -- what holds where the second part found nothing holds where nothing was found
 pub second_kept : {U E : Type 0} (first second r : Result U E) (P : Type 0) → OnOk r (IsOk first × IsOk second) → OnOk second P → OnOk r P
 second_kept first second (Err e) P h k = tt
 second_kept first (Ok u) (Ok v) P h k = k
 second_kept first (Err d) (Ok v) P h k = absurd (cc (h.1))
-
--- so it does of the first part
-pub first_kept : {U E : Type 0} (first second r : Result U E) (P : Type 0) → OnOk r (IsOk first × IsOk second) → OnOk first P → OnOk r P
-first_kept first second (Err e) P h k = tt
-first_kept (Ok u) second (Ok v) P h k = k
-first_kept (Err d) second (Ok v) P h k = absurd (cc (h.0))
-
--- what follows from two things that hold where nothing was found
-pub both_kept : {U E : Type 0} (r : Result U E) (P Q S : Type 0) → (P → Q → S) → OnOk r P → OnOk r Q → OnOk r S
-both_kept (Ok u) P Q S follows h k = follows h k
-both_kept (Err e) P Q S follows h k = tt

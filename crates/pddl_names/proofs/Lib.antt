@@ -1,11 +1,11 @@
-pub mod FittingTables
 pub mod FoundParts
 pub mod GoalSizes
-pub mod ObjectTables
-pub mod MetTypes
+pub mod HeldFiles
+pub mod OffTypes
 pub mod RuleParts
+pub mod SameSettings
 pub mod SeenNames
-pub mod Slots
+pub mod TermSlots
 pub mod ToldUses
-pub mod UnknownTypes
 pub mod UseFaults
+pub mod Walks

@@ -4,13 +4,13 @@ use Rattle.std.specs.Borrow.{Bor}
 use Rattle.std.specs.List.{list_any}
 use Rattle.std.proofs.Math.Bool.{or-false}
 use Rattle.pddl_domain.specs.declared.domain.Action.{Action}
-use Rattle.pddl_domain.specs.Declarations.{TypeValue}
 use Rattle.pddl_domain.specs.Actions.{action_view}
 use Rattle.pddl_task.specs.Names.{Name, is_in}
+use Rattle.pddl_task.specs.Places.{Place}
 use Rattle.pddl_task.proofs.Lists.{or_right, bytes_same}
 use Rattle.pddl_faults.specs.declared.fault.LinkFault.{LinkFault}
 use Rattle.pddl_faults.proofs.FoundFaults.{IsFoundUpTo}
-use Rattle.pddl_search.proofs.SeenItems.{any_more}
+use Rattle.pddl_faults.proofs.SeenItems.{any_more}
 use Rattle.pddl_names.specs.FaultParts.{action_faults}
 
 abbrev pub has : List (Bor (List ℕ)) → Name → Bool
@@ -42,7 +42,7 @@ module _ (keys : List (Bor (List ℕ))) (key : Bor (List ℕ)) (seen : List Name
       other a b h = grind arith
 
 -- what was found in the actions up to one, and the names that a set has from them
-pub record ActionsUpTo {A : Type 0} (types : List TypeValue) (all : List (Action A)) (i : ℕ) (keys : List (Bor (List ℕ))) (found : Result (Unit {0}) LinkFault) : Type 0 where
+pub record ActionsUpTo {A : Type 0} (sought : Place → List (ℕ × Name)) (all : List (Action A)) (i : ℕ) (keys : List (Bor (List ℕ))) (found : Result (Unit {0}) LinkFault) : Type 0 where
   pub seen : List Name
   pub same : HasNames keys seen
-  pub so_far : IsFoundUpTo (action_faults types seen (map action_view (drop i all))) (action_faults types [] (map action_view all)) found
+  pub so_far : IsFoundUpTo (action_faults sought seen (map action_view (drop i all))) (action_faults sought [] (map action_view all)) found

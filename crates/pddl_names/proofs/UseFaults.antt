@@ -7,7 +7,6 @@ use Rattle.std.specs.Map.{lookup}
 use Rattle.std.proofs.lemmas.Option.{same_Some}
 use Rattle.std.proofs.lemmas.List.{map-append}
 use Rattle.std.proofs.lemmas.List.Elements.{All-contains, Contains-append_cases, Contains-append_left}
-use Rattle.pddl_forest.specs.declared.spans.Span.{Span}
 use Rattle.pddl_formula.specs.Terms.{TermValue}
 use Rattle.pddl_formula.specs.TypedLists.{TypedValue, typed_view}
 use Rattle.pddl_domain.specs.Declarations.{Signature}
@@ -20,9 +19,9 @@ use Rattle.pddl_faults.specs.Passes.{Passes}
 use Rattle.pddl_faults.specs.Found.{IsFound, numbered}
 use Rattle.pddl_faults.proofs.FoundFaults.{AreBelow, passed_found, found_first, found_rest}
 use Rattle.pddl_types.specs.KnownNames.{signature_in}
-use Rattle.pddl_types.specs.Signatures.{Rows, AreKnownSlots, AreSlotsKnown}
+use Rattle.pddl_types.specs.Told.{ToldValue}
+use Rattle.pddl_types.specs.Signatures.{Rows, IsSlotsAt, AreSlotsAt}
 use Rattle.pddl_types.specs.declared.signatures.Slots.{Slots}
-use Rattle.pddl_types.specs.TypeSpans.{TypesValue}
 use Rattle.pddl_types.proofs.Lookups.{is_symbol, signature_found, entry_at}
 use Rattle.pddl_names.specs.Uses.{faults_of_use, faults_of_terms}
 
@@ -96,11 +95,11 @@ module _ {A B : Type 0} (s : Setting) (b : List TypedValue) (ts : List TermValue
       ∙ ap (λ c. in_turn words (word_if c n) (word_if (has_misfit s b ts (signature_of used)) n)) shape.0
       ∙ ap (λ c. in_turn words (word_if (not (length ts == length xs)) n) (word_if c n)) shape.1
 
-  -- and its slots are known, where those of all names are
-  pub declared_slots : (t : TypesValue) (told : List (List Span)) (slots : Slots A B) → Some slots ≡ lookup (λ k. bytes_eq n k.now) es → AreSlotsKnown t told es → AreKnownSlots t told slots
-  declared_slots t told slots at known =
+  -- and the types of its slots are told, where those of all names are
+  pub declared_slots : (told : ToldValue) (slots : Slots A B) → Some slots ≡ lookup (λ k. bytes_eq n k.now) es → AreSlotsAt told es → IsSlotsAt told slots
+  declared_slots told slots at are =
       let (k, there, named) = entry_at es n slots (sym at) in
-      All-contains (λ (e : Bor (List ℕ) × Slots A B). AreKnownSlots t told e.1) es (k, slots) known (at_place es _ (k, slots) there)
+      All-contains (λ (e : Bor (List ℕ) × Slots A B). IsSlotsAt told e.1) es (k, slots) are (at_place es _ (k, slots) there)
 
 -- ---- at a place
 

@@ -1,4 +1,3 @@
-pub mod ObjectTables
-pub mod MetTypes
 pub mod Uses
 pub mod FaultParts
+pub mod Held

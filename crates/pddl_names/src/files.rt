@@ -1,25 +1,32 @@
-//! The files that are looked at, and what they use: names, terms, numbers, what `:init` says, the size of the goal, and the metric.
+//! The files that are looked at, in the order of the canonical text: what they declare, and what they use.
 
-ghost use Rattle.std.specs.Prelude.{◌≡◌, map};
+ghost use Rattle.std.specs.Prelude.{◌≡◌, [], map, IfOk, OnOk};
+ghost use Rattle.std.specs.List.{flat_map};
 ghost use Rattle.pddl_domain.specs.Domains.{domain_view};
 ghost use Rattle.pddl_problem.specs.Problems.{problem_view};
+ghost use Rattle.pddl_task.specs.Places.{problem_places};
 ghost use Rattle.pddl_task.specs.Settings.{objects_of, in_domain, in_problem};
 ghost use Rattle.pddl_task.specs.Faults.{large_goals};
 ghost use Rattle.pddl_faults.specs.Passes.{Passes};
 ghost use Rattle.pddl_faults.specs.Found.{IsFound};
+ghost use Rattle.pddl_sizes.specs.ObjectOrders.{IsOrderOf};
 ghost use Rattle.pddl_types.specs.KnownNames.{object_in};
-ghost use Rattle.pddl_types.specs.Settings.{setting_of};
-ghost use Rattle.pddl_names.specs.FaultParts.{problem_in, joined, domain_uses, problem_uses};
+ghost use Rattle.pddl_types.specs.TypeSpans.{AreSingle, IsEmpty, AreListed};
+ghost use Rattle.pddl_types.specs.Told.{unknown_among};
+ghost use Rattle.pddl_types.specs.Signatures.{IsNothing};
+ghost use Rattle.pddl_names.specs.Uses.{place_faults};
+ghost use Rattle.pddl_names.specs.FaultParts.{problem_in, joined, declared_typed, action_faults, domain_parts, problem_parts};
+ghost use Rattle.pddl_names.specs.Held.{HoldDomain, HoldAll};
 
-use crate::uses::Uses;
+use crate::known::Known;
+use crate::walk::{search_actions, search_problem};
+use indexmap::IndexSet;
 use pddl_domain::Domain;
 use pddl_faults::{LinkFault, lower};
 use pddl_problem::Problem;
-use pddl_search::{
-    Scope, contradictions, cost_values, metric, object_fluents, search_domain, search_problem,
-};
-use pddl_sizes::ground_size;
-use pddl_types::{Fitting, Known, Types};
+use pddl_search::{Scope, contradictions, cost_values, metric, object_fluents, object_types};
+use pddl_sizes::{ObjectOrder, ground_size};
+use pddl_types::{Declared, Fitting, Listed, Types};
 use std::alloc::Allocator;
 
 /// A domain with its types, and the problem that it is linked with, where it is not looked at alone.
@@ -50,43 +57,128 @@ fn goal_size<'k, 'm, 'a, 'd, A: Allocator, B: Allocator>(
 }
 
 impl<'t, 'm, 'a, A: Allocator, B: Allocator> Files<'t, 'm, 'a, A, B> {
-    /// The lowest fault of what the domain uses.
-    pub fn look_at_domain_uses<'k>(
+    /// The lowest fault of actions.
+    fn look_at_actions(
         &self,
-        known: &Known<'k, 'm, 'a, A, B>,
+        listed: &Listed<'m, 'a, A, B>,
+        declared: &mut Declared<'m, 'a, A, B>,
     ) -> Result<(), LinkFault<'m>>
-        requires { setting_of known.now ≡ in_domain (domain_view self.now.domain.now) }
-        ensures { IsFound (joined (domain_uses (domain_view self.now.domain.now))) result }
+        requires { HoldDomain (domain_view self.now.domain.now) self.now.types.now listed.now declared.old }
+        ensures held { HoldDomain (domain_view self.now.domain.now) self.now.types.now listed.now declared.new }
+        ensures found { IsFound (action_faults (place_faults self.now.types.now.declared (in_domain (domain_view self.now.domain.now))) [] (domain_view self.now.domain.now).actions) result }
     {
         let domain = self.domain;
-        let mut uses = Uses::of(self.alloc, known);
-        let mut scope = Scope::new(self.alloc, self.types.hashed());
-        let used = search_domain(&mut uses, &mut scope, domain);
-        lower(used, object_fluents(domain))
+        let hashed = self.types.hashed();
+        let mut seen = IndexSet::with_hasher(self.alloc, hashed);
+        let mut scope = Scope::new(self.alloc, hashed);
+        let known = Known {
+            alloc: self.alloc,
+            types: self.types,
+            predicates: &declared.predicates,
+            functions: &declared.functions,
+            listed,
+        };
+        search_actions(
+            &known,
+            &mut declared.told,
+            &mut scope,
+            &mut seen,
+            &domain.actions,
+        )
     }
 
-    /// The lowest fault of what the problem uses.
-    pub fn look_at_problem_uses<'k>(
+    /// The lowest fault of the domain from 23 on, where the types of what it declares are known. Its constants are added to no objects, and its predicates
+    /// and functions to no declarations.
+    ///
+    /// # Errors
+    ///
+    /// `LinkFault::UnknownType` of what it declares, than which none is lower; `Memory` where memory is refused. Then nothing more is looked at.
+    pub fn look_at_domain(
         &self,
-        known: &Known<'k, 'm, 'a, A, B>,
-        fitting: &Fitting<'k, 'm, 'a, A, B>,
+        listed: &mut Listed<'m, 'a, A, B>,
+        declared: &mut Declared<'m, 'a, A, B>,
+    ) -> Result<Result<(), LinkFault<'m>>, LinkFault<'m>>
+        requires listed { IsEmpty listed.old }
+        requires declared { IsNothing declared.old }
+        requires told { declared.old.told ≡ [] }
+        ensures passes { Passes 23 (unknown_among self.now.types.now.declared (declared_typed (domain_view self.now.domain.now))) result }
+        ensures found { IfOk result (IsFound (joined (domain_parts self.now.types.now.declared (domain_view self.now.domain.now)))) }
+        ensures held { IfOk result (λ _. HoldDomain (domain_view self.now.domain.now) self.now.types.now listed.new declared.new) }
+    {
+        let domain = self.domain;
+        let constants = listed.add(self.types, &mut declared.told, &domain.constants)?;
+        let symbols = declared.add_symbols(self.types, domain)?;
+        let actions = self.look_at_actions(&*listed, declared);
+        let others = lower(object_types(&domain.constants), object_fluents(domain));
+        Ok(lower(constants, lower(symbols, lower(actions, others))))
+    }
+
+    /// The lowest fault of a problem's initial state, goal and metric.
+    fn look_at_places(
+        &self,
+        listed: &Listed<'m, 'a, A, B>,
+        declared: &mut Declared<'m, 'a, A, B>,
+        problem: &'m Problem<A>,
     ) -> Result<(), LinkFault<'m>>
-        requires known { setting_of known.now ≡ in_problem (domain_view self.now.domain.now) (problem_in self.now.problem) }
-        requires types { fitting.now.types.now.declared ≡ (domain_view self.now.domain.now).types }
-        requires objects { map object_in fitting.now.listed.now.objects.entries ≡ objects_of (domain_view self.now.domain.now) (problem_in self.now.problem) }
-        ensures { IsFound (joined (problem_uses (domain_view self.now.domain.now) (problem_in self.now.problem))) result }
+        requires { HoldAll (domain_view self.now.domain.now) (problem_view problem.now) self.now.types.now listed.now declared.old }
+        ensures held { HoldAll (domain_view self.now.domain.now) (problem_view problem.now) self.now.types.now listed.now declared.new }
+        ensures found { IsFound (flat_map (place_faults self.now.types.now.declared (in_problem (domain_view self.now.domain.now) (problem_view problem.now))) (problem_places (problem_view problem.now))) result }
+    {
+        let mut scope = Scope::new(self.alloc, self.types.hashed());
+        let known = Known {
+            alloc: self.alloc,
+            types: self.types,
+            predicates: &declared.predicates,
+            functions: &declared.functions,
+            listed,
+        };
+        search_problem(&known, &mut declared.told, &mut scope, problem)
+    }
+
+    /// The lowest fault of the problem from 23 on but for the size of the goal. Its objects are added behind the domain's constants.
+    pub fn look_at_problem(
+        &self,
+        listed: &mut Listed<'m, 'a, A, B>,
+        declared: &mut Declared<'m, 'a, A, B>,
+    ) -> Result<(), LinkFault<'m>>
+        requires { HoldDomain (domain_view self.now.domain.now) self.now.types.now listed.old declared.old }
+        ensures found { IsFound (joined (problem_parts self.now.types.now.declared (domain_view self.now.domain.now) (problem_in self.now.problem))) result }
+        ensures held { OnOk result (HoldAll (domain_view self.now.domain.now) (problem_in self.now.problem) self.now.types.now listed.new declared.new) }
     {
         match self.problem {
             Some(problem) => {
+                let objects = listed.add(self.types, &mut declared.told, &problem.objects)?;
+                let places = self.look_at_places(&*listed, declared, problem);
                 let hashed = self.types.hashed();
-                let mut uses = Uses::of(self.alloc, known);
-                let mut scope = Scope::new(self.alloc, hashed);
-                let used = search_problem(&mut uses, &mut scope, problem);
-                let claimed = contradictions(self.alloc, hashed, &problem.init);
-                let metric = metric(&problem.metric);
-                let size = goal_size(fitting, self.domain, problem);
-                let told = cost_values(self.alloc, hashed, &problem.init);
-                lower(used, lower(claimed, lower(metric, lower(size, told))))
+                let literals = contradictions(self.alloc, hashed, &problem.init);
+                let init = lower(literals, cost_values(self.alloc, hashed, &problem.init));
+                let others = lower(object_types(&problem.objects), metric(&problem.metric));
+                lower(objects, lower(places, lower(init, others)))
+            }
+            None => Ok(()),
+        }
+    }
+
+    /// The goal is not too large.
+    pub fn look_at_goal(
+        &self,
+        listed: &Listed<'m, 'a, A, B>,
+        order: &ObjectOrder<'a, B>,
+    ) -> Result<(), LinkFault<'m>>
+        requires listed { AreListed self.now.types.now listed.now }
+        requires single { AreSingle self.now.types.now.declared (map object_in listed.now.objects.entries) }
+        requires objects { map object_in listed.now.objects.entries ≡ objects_of (domain_view self.now.domain.now) (problem_in self.now.problem) }
+        requires ordered { ∥ IsOrderOf listed.now.spans.items order.now ∥₁ }
+        ensures { Passes 35 (large_goals (domain_view self.now.domain.now) (problem_in self.now.problem)) result }
+    {
+        match self.problem {
+            Some(problem) => {
+                let fitting = Fitting {
+                    types: self.types,
+                    listed,
+                    order,
+                };
+                goal_size(&fitting, self.domain, problem)
             }
             None => Ok(()),
         }

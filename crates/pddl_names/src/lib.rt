@@ -1,13 +1,13 @@
-//! Looks for the faults of linking that are about what names stand for: names that stand twice, are not known, or do not fit.
+//! Looks for the faults of linking from 23 on, in the order of the canonical text: what is declared and bound, and what is used.
+//!
+//! `walk.rt` goes through formulas, effects, actions and `:init`, and `uses.rt` looks at what stands at one place, by what `known.rt` has.
 #![tactic(auto)]
 
-mod bindings;
-mod declarations;
 mod files;
-mod met_types;
-mod objects;
+mod known;
 mod repeats;
 mod uses;
+mod walk;
 
 pub use files::Files;
 pub use repeats::type_twice;

@@ -1,13 +1,13 @@
 //! Names that stand twice in a list.
 
-ghost use Rattle.std.specs.Prelude.{◌≡◌, [], map, not, IfOk, MatchOption, Contains};
+ghost use Rattle.std.specs.Prelude.{◌≡◌, [], map, IfOk, MatchOption, Contains};
 ghost use Rattle.pddl_domain.specs.Domains.{domain_view};
-ghost use Rattle.pddl_task.specs.Names.{repeated, word_if};
+ghost use Rattle.pddl_task.specs.Names.{repeated};
 ghost use Rattle.pddl_task.specs.Faults.{types_twice};
 ghost use Rattle.pddl_faults.specs.Passes.{Passes};
 
 use indexmap::IndexSet;
-use pddl_domain::{DeclaredFunction, DeclaredPredicate, DeclaredType, Domain};
+use pddl_domain::{DeclaredType, Domain};
 use pddl_faults::LinkFault;
 use pddl_formula::Typed;
 use pddl_hash::Hashed;
@@ -26,22 +26,6 @@ pub trait Named {
 
 impl<A: Allocator> Named for DeclaredType<A> {
     ghost name = { λ t. t.name };
-
-    fn text(&self) -> &[u8] {
-        self.name.as_bytes()
-    }
-}
-
-impl<A: Allocator> Named for DeclaredPredicate<A> {
-    ghost name = { λ p. p.predicate };
-
-    fn text(&self) -> &[u8] {
-        self.predicate.as_bytes()
-    }
-}
-
-impl<A: Allocator> Named for DeclaredFunction<A> {
-    ghost name = { λ f. f.name };
 
     fn text(&self) -> &[u8] {
         self.name.as_bytes()
@@ -110,16 +94,5 @@ pub fn name_twice<'d, 'a, N: Named, B: Allocator>(
     match first_repeat(alloc, hashed, items)? {
         Some(name) => Err(LinkFault::NameTwice(name)),
         None => Ok(()),
-    }
-}
-
-/// A name stands here alone.
-pub fn once<'d>(is_alone: bool, name: &'d [u8]) -> Result<(), LinkFault<'d>>
-    ensures { Passes 24 (word_if (not is_alone) name.now) result }
-{
-    if is_alone {
-        Ok(())
-    } else {
-        Err(LinkFault::NameTwice(name))
     }
 }

@@ -1,135 +1,67 @@
-//! The search for names that are not known, other numbers of terms than declared, terms that do not fit their slots, and numbers that are not
-//! whole, with one look-up of each name.
+//! What is looked for at one place: names that are not known, other numbers of terms than declared, terms that do not fit their slots, and numbers that are
+//! not whole, with one look-up of each name; and variables that are bound.
 
-ghost use Rattle.std.specs.Prelude.{◌≡◌, not, map, take, find, Option, IfOk};
+ghost use Rattle.std.specs.Prelude.{◌≡◌, [], ◌∷◌, List, not, map, Option, IfOk, MatchResult};
 ghost use Rattle.std.specs.List.{flat_map};
 ghost use Rattle.pddl_formula.specs.Terms.{term_view};
 ghost use Rattle.pddl_formula.specs.TypedLists.{TypedValue, typed_view};
-ghost use Rattle.pddl_task.specs.Names.{is_named, word_if};
-ghost use Rattle.pddl_task.specs.Types.{pairs};
-ghost use Rattle.pddl_task.specs.Places.{counts};
+ghost use Rattle.pddl_task.specs.Names.{word_if};
+ghost use Rattle.pddl_task.specs.Places.{at, counts, binding};
 ghost use Rattle.pddl_task.specs.Faults.{typed_term, unknown_term, some_misfit, fraction_of};
 ghost use Rattle.pddl_faults.specs.Passes.{Passes};
 ghost use Rattle.pddl_faults.specs.Found.{IsFound};
-ghost use Rattle.pddl_search.specs.Parts.{term_in, term_name, terms_in};
-ghost use Rattle.pddl_search.specs.Scopes.{bound_in};
-ghost use Rattle.pddl_types.specs.KnownNames.{signature_in, object_in};
-ghost use Rattle.pddl_types.specs.Settings.{setting_of};
-ghost use Rattle.pddl_types.specs.Signatures.{AreKnownSlots, AreSlotsKnown};
-ghost use Rattle.pddl_names.specs.Uses.{setting_in, IsSlotAt, TellsFit, AreToldIn, fit_of, faults_of_use, faults_of_terms};
+ghost use Rattle.pddl_search.specs.Parts.{term_in, term_name, terms_in, part_in};
+ghost use Rattle.pddl_types.specs.KnownNames.{signature_in};
+ghost use Rattle.pddl_types.specs.Told.{ToldValue, AreTold, unknown_among};
+ghost use Rattle.pddl_types.specs.Objects.{IsAtOf};
+ghost use Rattle.pddl_types.specs.Signatures.{IsSlotsAt, AreSlotsAt};
+ghost use Rattle.pddl_names.specs.Uses.{setting_of, faults_by, fit_of, faults_of_use, faults_of_terms, IsBound, IsSearched};
 
-use indexmap::IndexMap;
+use crate::known::Known;
 use pddl_faults::{LinkFault, lower};
 use pddl_formula::{Term, TypedList};
-use pddl_hash::Hashed;
-use pddl_search::{LentTerm, Part, Scope, Search, Terms};
+use pddl_search::{LentTerm, Part, Scope, Terms};
 use pddl_token::Fixed;
-use pddl_types::{Known, Signatures, Slots, ToldTops};
+use pddl_types::{Signatures, Slots, Told};
 use std::alloc::{AllocError, Allocator};
-use std::marker::Model;
 
-/// Looks for what is wrong with names that are used, and with numbers.
-///
-/// Contracts see what is known, and the tops of the types of variables so far.
-#[derive(Drop)]
-pub struct Uses<'k, 't, 'm, 'a, A: Allocator, B: Allocator> {
-    known: &'k Known<'t, 'm, 'a, A, B>,
-    /// The tops of the types of variables.
-    told: ToldTops<'a, B>,
-    /// Whether a variable's type fits a slot's, each by the number at which its tops are told: for types of many tops, which are gone over once.
-    fitting: IndexMap<(usize, usize), bool, Hashed, &'a B>,
-}
-
-impl<'k, 't, 'm, 'a, A: Allocator, B: Allocator> Model for Uses<'k, 't, 'm, 'a, A, B> {
-    ghost use Rattle.std.specs.Prelude.{map, take};
-    ghost use Rattle.pddl_types.specs.KnownNames.{signature_in, object_in};
-    ghost use Rattle.pddl_names.specs.Uses.{UsesValue, AreFitting};
-
-    ghost Value = { UsesValue };
-
-    ghost view = { λ u. record {
-      types = u.known.now.types.now;
-      predicates = map signature_in u.known.now.declared.now.predicates.entries;
-      functions = map signature_in u.known.now.declared.now.functions.entries;
-      objects = take u.known.now.limit (map object_in u.known.now.listed.now.objects.entries);
-      slots = u.known.now.declared.now.told;
-      told = u.told;
-    } };
-
-    ghost invariant = { λ u. AreFitting u.known.now.types.now u.told u.known.now.declared.now.told u.fitting.entries };
-}
-
-impl<'k, 't, 'm, 'a, A: Allocator, B: Allocator> Uses<'k, 't, 'm, 'a, A, B> {
-    /// A search by what is known, which has met no variables.
-    pub fn of(alloc: &'a B, known: &'k Known<'t, 'm, 'a, A, B>) -> Uses<'k, 't, 'm, 'a, A, B>
-        ensures known { setting_in result ≡ setting_of known.now }
-    {
-        Uses {
-            known,
-            told: ToldTops::new(alloc),
-            fitting: IndexMap::with_hasher(alloc, known.types.hashed()),
-        }
-    }
-
-    /// Whether the type of a variable fits that of a slot, each by the number at which its tops are told. Where the variable's has many, what is found is
-    /// kept.
-    ///
-    /// Fails where memory for that is refused.
-    fn variable_fits(&mut self, variable: usize, slot: usize) -> Result<bool, AllocError>
-        ensures kept { self.new ≡ self.old }
-        ensures fits { IfOk result (TellsFit self.old.types self.old.told self.old.slots (variable, slot)) }
-    {
-        let known = self.known;
-        let told = self.told.at(variable);
-        let tops = known.declared.told.at(slot);
-        if told.len() < 8 {
-            return Ok(known.types.fits(told, tops));
-        }
-        if let Some(fit) = self.fitting.get(&(variable, slot)) {
-            return Ok(*fit);
-        }
-        let fit = known.types.fits(told, tops);
-        self.fitting.insert((variable, slot), fit)?;
-        Ok(fit)
-    }
-}
-
-/// Whether an object fits a slot, where there is one, by the number at which the slot's tops are told; `None` where the object is not known.
-fn object_fits<'t, 'm, 'a, A: Allocator, B: Allocator>(
-    known: &Known<'t, 'm, 'a, A, B>,
-    object: &[u8],
-    slot: Option<usize>,
-) -> Option<bool>
-    ensures { (x : Option TypedValue) → IsSlotAt known.now.types.now known.now.declared.now.told x slot
-        → result ≡ fit_of (pairs known.now.types.now.declared) (find (is_named object.now) (take known.now.limit (map object_in known.now.listed.now.objects.entries))) x }
-{
-    let told = known.listed.told_of(object, known.limit)?;
-    match slot {
-        None => Some(true),
-        Some(slot) => Some(known.types.fits(told, known.declared.told.at(slot))),
-    }
-}
-
-/// Whether a term fits a slot, where there is one, by the number at which the slot's tops are told; `None` where the term is not known.
-///
-/// Fails where memory is refused.
-fn term_fits<'k, 't, 'm, 'a, A: Allocator, B: Allocator>(
-    uses: &mut Uses<'k, 't, 'm, 'a, A, B>,
+/// The number at which the type of a term is told; `None` where the term is not known.
+fn type_of<'k, 'm, 'a, A: Allocator, B: Allocator>(
+    known: &Known<'k, 'm, 'a, A, B>,
+    scope: &Scope<'m, 'a, A, B>,
     term: &LentTerm,
-    scope: &Scope<A, B>,
-    slot: Option<usize>,
-) -> Result<Option<bool>, AllocError>
-    ensures kept { uses.new ≡ uses.old }
-    ensures fits { AreToldIn uses.old.types uses.old.told scope.now → IfOk result (λ fit. (x : Option TypedValue) → IsSlotAt uses.old.types uses.old.slots x slot → fit ≡ fit_of (pairs uses.old.types.declared) (typed_term (setting_in uses.old) (bound_in scope.now) (term_in term.now)) x) }
+) -> Option<usize>
+    ensures { (told : ToldValue) (b : List TypedValue) → IsBound known.now told scope.now b → IsAtOf told (typed_term (setting_of known.now) b (term_in term.now)) result }
 {
     match term {
-        LentTerm::Object(object) => Ok(object_fits(uses.known, *object, slot)),
-        LentTerm::Variable(variable) => match scope.number_of(*variable) {
-            None => Ok(None),
-            Some(number) => match slot {
-                None => Ok(Some(true)),
-                Some(slot) => Ok(Some(uses.variable_fits(number, slot)?)),
-            },
+        LentTerm::Object(object) => known.listed.type_of(*object),
+        LentTerm::Variable(variable) => scope.number_of(*variable),
+    }
+}
+
+/// Whether a term fits a slot, where there is one, by the number at which the slot's type is told; `None` where the term is not known.
+///
+/// Fails where memory is refused.
+fn term_fits<'k, 'm, 'a, A: Allocator, B: Allocator>(
+    known: &Known<'k, 'm, 'a, A, B>,
+    told: &mut Told<'m, 'a, A, B>,
+    scope: &Scope<'m, 'a, A, B>,
+    term: &LentTerm,
+    slot: Option<usize>,
+) -> Result<Option<bool>, AllocError>
+    requires { AreTold known.now.types.now told.old }
+    ensures kept { told.new ≡ told.old }
+    ensures fits { (b : List TypedValue) (x : Option TypedValue) → IsBound known.now told.old scope.now b → IsAtOf told.old x slot
+        → IfOk result (λ fit. fit ≡ fit_of (setting_of known.now).pairs (typed_term (setting_of known.now) b (term_in term.now)) x) }
+{
+    match type_of(known, scope, term) {
+        None => Ok(None),
+        Some(number) => match slot {
+            None => Ok(Some(true)),
+            Some(slot) => {
+                let fits = told.fits(known.types, number, slot)?;
+                Ok(Some(fits))
+            }
         },
     }
 }
@@ -137,21 +69,23 @@ fn term_fits<'k, 't, 'm, 'a, A: Allocator, B: Allocator>(
 /// Whether each term fits its slot; a term without a slot, or a slot without a term, is another fault.
 ///
 /// Fails where a term is not known, or memory is refused.
-fn terms_fit<'k, 't, 'm, 'a, 'd, A: Allocator, B: Allocator>(
-    uses: &mut Uses<'k, 't, 'm, 'a, A, B>,
+fn terms_fit<'k, 'm, 'a, 'd, A: Allocator, B: Allocator>(
+    known: &Known<'k, 'm, 'a, A, B>,
+    told: &mut Told<'m, 'a, A, B>,
+    scope: &Scope<'m, 'a, A, B>,
     terms: &Terms<'d, A>,
     slots: &Slots<'m, 'a, A, B>,
-    scope: &Scope<A, B>,
 ) -> Result<bool, LinkFault<'d>>
-    requires { AreKnownSlots uses.old.types uses.old.slots slots.now }
-    ensures kept { uses.new ≡ uses.old }
-    ensures passes { AreToldIn uses.old.types uses.old.told scope.now → Passes 26 (flat_map (unknown_term (setting_in uses.old) (bound_in scope.now)) (terms_in terms.now)) result }
-    ensures fits { AreToldIn uses.old.types uses.old.told scope.now → IfOk result (λ fits. some_misfit (setting_in uses.old) (bound_in scope.now) (terms_in terms.now) (map typed_view slots.now.parameters.now) ≡ not fits) }
+    requires { AreTold known.now.types.now told.old }
+    ensures kept { told.new ≡ told.old }
+    ensures passes { (b : List TypedValue) → IsBound known.now told.old scope.now b → IsSlotsAt told.old slots.now → Passes 26 (flat_map (unknown_term (setting_of known.now) b) (terms_in terms.now)) result }
+    ensures fits { (b : List TypedValue) → IsBound known.now told.old scope.now b → IsSlotsAt told.old slots.now
+        → IfOk result (λ fits. some_misfit (setting_of known.now) b (terms_in terms.now) (map typed_view slots.now.parameters.now) ≡ not fits) }
 {
     let mut all_fit = true;
     for i in 0..terms.len() {
         let term = terms.at(i);
-        match term_fits(uses, &term, scope, slots.numbers.get(i).copied())? {
+        match term_fits(known, told, scope, &term, slots.numbers.get(i).copied())? {
             None => return Err(LinkFault::UnknownName(term.name())),
             Some(fits) => all_fit = all_fit && fits,
         }
@@ -160,18 +94,20 @@ fn terms_fit<'k, 't, 'm, 'a, 'd, A: Allocator, B: Allocator>(
 }
 
 /// The lowest fault of the terms of a predicate or a function that is declared with these slots.
-fn look_at_terms<'k, 't, 'm, 'a, 'd, A: Allocator, B: Allocator>(
-    uses: &mut Uses<'k, 't, 'm, 'a, A, B>,
+fn look_at_terms<'k, 'm, 'a, 'd, A: Allocator, B: Allocator>(
+    known: &Known<'k, 'm, 'a, A, B>,
+    told: &mut Told<'m, 'a, A, B>,
+    scope: &Scope<'m, 'a, A, B>,
     symbol: &'d [u8],
     terms: &Terms<'d, A>,
     slots: &Slots<'m, 'a, A, B>,
-    scope: &Scope<A, B>,
 ) -> Result<(), LinkFault<'d>>
-    requires { AreKnownSlots uses.old.types uses.old.slots slots.now }
-    ensures kept { uses.new ≡ uses.old }
-    ensures found { AreToldIn uses.old.types uses.old.told scope.now → IsFound (faults_of_terms (setting_in uses.old) (bound_in scope.now) symbol.now (terms_in terms.now) (map typed_view slots.now.parameters.now)) result }
+    requires { AreTold known.now.types.now told.old }
+    ensures kept { told.new ≡ told.old }
+    ensures found { (b : List TypedValue) → IsBound known.now told.old scope.now b → IsSlotsAt told.old slots.now
+        → IsFound (faults_of_terms (setting_of known.now) b symbol.now (terms_in terms.now) (map typed_view slots.now.parameters.now)) result }
 {
-    let all_fit = terms_fit(uses, terms, slots, scope)?;
+    let all_fit = terms_fit(known, told, scope, terms, slots)?;
     if terms.len() != slots.parameters.len() {
         Err(LinkFault::Arity(symbol))
     } else if all_fit {
@@ -182,50 +118,37 @@ fn look_at_terms<'k, 't, 'm, 'a, 'd, A: Allocator, B: Allocator>(
 }
 
 /// The lowest of the faults of a predicate or a function with its terms.
-fn look_at_use<'k, 't, 'm, 'a, 'd, A: Allocator, B: Allocator>(
-    uses: &mut Uses<'k, 't, 'm, 'a, A, B>,
+fn look_at_use<'k, 'm, 'a, 'd, A: Allocator, B: Allocator>(
+    known: &Known<'k, 'm, 'a, A, B>,
+    told: &mut Told<'m, 'a, A, B>,
+    scope: &Scope<'m, 'a, A, B>,
     declared: &Signatures<'m, 'a, A, B>,
     symbol: &'d [u8],
     terms: &Terms<'d, A>,
-    scope: &Scope<A, B>,
 ) -> Result<(), LinkFault<'d>>
-    requires { AreSlotsKnown uses.old.types uses.old.slots declared.now.entries }
-    ensures kept { uses.new ≡ uses.old }
-    ensures found { AreToldIn uses.old.types uses.old.told scope.now → IsFound (faults_of_use (setting_in uses.old) (bound_in scope.now) (record { name = symbol.now; terms = terms_in terms.now; declared = map signature_in declared.now.entries })) result }
+    requires { AreTold known.now.types.now told.old }
+    ensures kept { told.new ≡ told.old }
+    ensures found { (b : List TypedValue) → IsBound known.now told.old scope.now b → AreSlotsAt told.old declared.now.entries
+        → IsFound (faults_of_use (setting_of known.now) b (record { name = symbol.now; terms = terms_in terms.now; declared = map signature_in declared.now.entries })) result }
 {
     match declared.get(symbol) {
         None => Err(LinkFault::UnknownName(symbol)),
-        Some(slots) => look_at_terms(uses, symbol, terms, slots, scope),
-    }
-}
-
-/// Whether a term is an object, or a variable that is bound.
-fn is_known<'t, 'm, 'a, A: Allocator, B: Allocator>(
-    known: &Known<'t, 'm, 'a, A, B>,
-    term: &LentTerm,
-    scope: &Scope<A, B>,
-) -> bool
-    ensures { unknown_term (setting_of known.now) (bound_in scope.now) (term_in term.now) ≡ word_if (not result) (term_name (term_in term.now)) }
-{
-    match term {
-        LentTerm::Object(object) => known.listed.told_of(*object, known.limit).is_some(),
-        LentTerm::Variable(variable) => scope.number_of(*variable).is_some(),
+        Some(slots) => look_at_terms(known, told, scope, symbol, terms, slots),
     }
 }
 
 /// A term is known.
-fn look_at_term<'t, 'm, 'a, 'd, A: Allocator, B: Allocator>(
-    known: &Known<'t, 'm, 'a, A, B>,
+fn look_at_term<'k, 'm, 'a, 'd, A: Allocator, B: Allocator>(
+    known: &Known<'k, 'm, 'a, A, B>,
+    scope: &Scope<'m, 'a, A, B>,
     term: &'d Term<A>,
-    scope: &Scope<A, B>,
 ) -> Result<(), LinkFault<'d>>
-    ensures { Passes 26 (unknown_term (setting_of known.now) (bound_in scope.now) (term_view term.now)) result }
+    ensures { (told : ToldValue) (b : List TypedValue) → IsBound known.now told scope.now b → Passes 26 (unknown_term (setting_of known.now) b (term_view term.now)) result }
 {
     let term = LentTerm::of(term);
-    if is_known(known, &term, scope) {
-        Ok(())
-    } else {
-        Err(LinkFault::UnknownName(term.name()))
+    match type_of(known, scope, &term) {
+        Some(_) => Ok(()),
+        None => Err(LinkFault::UnknownName(term.name())),
     }
 }
 
@@ -240,45 +163,50 @@ fn look_at_amount<'d>(function: &'d [u8], amount: Fixed) -> Result<(), LinkFault
     }
 }
 
-impl<'k, 't, 'm, 'a, A: Allocator, B: Allocator> Search<A, B> for Uses<'k, 't, 'm, 'a, A, B> {
-    ghost use Rattle.std.specs.Prelude.{◌≡◌};
-    ghost use Rattle.pddl_search.specs.Scopes.{bound_in};
-    ghost use Rattle.pddl_names.specs.Uses.{setting_in, use_faults, AreToldIn};
-
-    ghost is_bound = { λ uses scope variables. (bound_in scope ≡ variables) × AreToldIn uses.types uses.told scope };
-
-    ghost found = { λ uses place. use_faults (setting_in uses) place };
-
-    fn enter<'d, 's>(
-        &mut self,
-        scope: &mut Scope<'d, 's, A, B>,
-        variables: &'d TypedList<A>,
-    ) -> Result<(), AllocError> {
-        let alloc = *self.fitting.allocator();
-        let numbers = self.told.tell_all(alloc, self.known.types, variables)?;
-        scope.enter(variables, &numbers)
-    }
-
-    fn leave<'d, 's>(&mut self, scope: &mut Scope<'d, 's, A, B>, variables: &'d TypedList<A>) {
-        scope.leave(variables.len());
-    }
-
-    fn look<'d>(&mut self, scope: &Scope<A, B>, part: &Part<'d, A>) -> Result<(), LinkFault<'d>> {
-        match part {
-            Part::Says(predicate, terms) => {
-                let declared = self.known.declared;
-                look_at_use(self, &declared.predicates, *predicate, terms, scope)
-            }
-            Part::Calls(function, terms) => {
-                let declared = self.known.declared;
-                look_at_use(self, &declared.functions, *function, terms, scope)
-            }
-            Part::Equates(first, second) => {
-                let first = look_at_term(self.known, *first, scope);
-                lower(first, look_at_term(self.known, *second, scope))
-            }
-            Part::Binds(_) => Ok(()),
-            Part::Counts(function, amount) => look_at_amount(*function, *amount),
+/// The lowest of the faults that stand at a place.
+pub(crate) fn look<'k, 'm, 'a, 'd, A: Allocator, B: Allocator>(
+    known: &Known<'k, 'm, 'a, A, B>,
+    told: &mut Told<'m, 'a, A, B>,
+    scope: &Scope<'m, 'a, A, B>,
+    part: &Part<'d, A>,
+) -> Result<(), LinkFault<'d>>
+    requires { AreTold known.now.types.now told.old }
+    ensures kept { told.new ≡ told.old }
+    ensures searched { IsSearched (IsBound known.now told.old scope.now) (IsBound known.now told.new scope.now) (faults_by known.now) (λ b. at b (part_in part.now) ∷ []) result }
+{
+    match part {
+        Part::Says(predicate, terms) => {
+            look_at_use(known, told, scope, known.predicates, *predicate, terms)
         }
+        Part::Calls(function, terms) => {
+            look_at_use(known, told, scope, known.functions, *function, terms)
+        }
+        Part::Equates(first, second) => {
+            let first = look_at_term(known, scope, *first);
+            lower(first, look_at_term(known, scope, *second))
+        }
+        Part::Counts(function, amount) => look_at_amount(*function, *amount),
     }
+}
+
+/// Binds the variables of a list.
+///
+/// # Errors
+///
+/// `LinkFault::UnknownType`; `Memory` where memory is refused. Then none of them is bound.
+pub(crate) fn enter<'k, 'm, 'a, A: Allocator, B: Allocator>(
+    known: &Known<'k, 'm, 'a, A, B>,
+    told: &mut Told<'m, 'a, A, B>,
+    scope: &mut Scope<'m, 'a, A, B>,
+    variables: &'m TypedList<A>,
+) -> Result<(), LinkFault<'m>>
+    requires { AreTold known.now.types.now told.old }
+    ensures told { AreTold known.now.types.now told.new }
+    ensures passes { Passes 23 (unknown_among known.now.types.now.declared (map typed_view variables.now.items)) result }
+    ensures bound { (b : List TypedValue) → IsBound known.now told.old scope.old b
+        → MatchResult result (λ _. IsBound known.now told.new scope.new (binding (map typed_view variables.now.items) b)) (λ _. IsBound known.now told.new scope.new b) }
+{
+    let numbers = told.tell_all(known.alloc, known.types, variables)?;
+    scope.enter(variables, &numbers)?;
+    Ok(())
 }

@@ -1,3 +1,4 @@
+pub mod HeldNames
 pub mod NamedActions
 pub mod SomeEffects
 pub mod NoCosts

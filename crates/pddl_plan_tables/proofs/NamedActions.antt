@@ -1,5 +1,5 @@
 -- The actions of a task in a table by name.
-use Rattle.std.proofs.Common.{◌≡◌, ℕ, false, ◌||◌, List, [], ◌∷◌, ◌++◌, map, length, refl, sym, ap, ◌∙◌, subst, bytes_eq}
+use Rattle.std.proofs.Common.{◌≡◌, ℕ, false, ◌||◌, List, [], ◌∷◌, map, length, refl, sym, ap, ◌∙◌, bytes_eq}
 use Rattle.std.specs.Prelude.{Option, Some, None, is_some, option_map, position}
 use Rattle.std.specs.Borrow.{Bor}
 use Rattle.std.specs.List.{slice_get}
@@ -22,7 +22,7 @@ use Rattle.pddl_task.proofs.Lists.{nil_parts}
 use Rattle.pddl_linked_task.specs.LinkedTasks.{Files}
 use Rattle.pddl_linked_task.proofs.OnceNamed.{once_declared}
 use Rattle.pddl_types.specs.KnownNames.{action_signature}
-use Rattle.pddl_types.proofs.SignatureTables.{AreHeld, held_none}
+use Rattle.pddl_plan_tables.proofs.HeldNames.{AreHeld, held_none}
 use Rattle.pddl_faults.proofs.PutValues.{found_or}
 use Rattle.pddl_linked_plan.specs.StepFaults.{action_name, action_names, action_named}
 use Rattle.pddl_plan_tables.specs.declared.action_table.SizedAction.{SizedAction}

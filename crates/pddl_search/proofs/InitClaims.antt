@@ -15,7 +15,7 @@ use Rattle.pddl_search.specs.declared.init.Claimed.TheVariants.{Literals, Values
 use Rattle.pddl_search.specs.Claims.{claim_in, wrong_in, is_failure}
 use Rattle.pddl_search.specs.Grounds.{ground_equiv, ground_is}
 use Rattle.pddl_faults.proofs.ListTurns.{seen_more}
-use Rattle.pddl_search.proofs.SeenItems.{any_more, seen_at, AreLeft, seen_bad, seen_good}
+use Rattle.pddl_faults.proofs.SeenItems.{any_more, seen_at, AreLeft, seen_bad, seen_good}
 
 -- ---- which claims clash
 

@@ -1,4 +1,2 @@
 pub mod Scopes
 pub mod InitClaims
-pub mod SeenItems
-pub mod Walks

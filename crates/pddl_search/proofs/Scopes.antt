@@ -1,32 +1,19 @@
--- Variables in scope and their depths by name, and what stays while a search goes on.
-use Rattle.std.proofs.Common.{◌≡◌, ℕ, zero, suc, ◌+◌, ◌<◌, ◌≤◌, Bool, true, false, ◌||◌, cond, List, [], ◌∷◌, ◌++◌, map, length, get_or, drop, Option, Some, None, refl, ap, sym, ◌∙◌, subst, bytes_eq, arith}
-use Rattle.std.specs.Prelude.{is_some, find, option_map, slice_get, reverse, unwrap_or}
+-- Variables in scope and their depths by name.
+use Rattle.std.proofs.Common.{◌≡◌, ℕ, zero, suc, ◌+◌, ◌≤◌, Bool, true, false, cond, List, [], ◌∷◌, ◌++◌, map, length, drop, Option, Some, None, refl, ap, sym, ◌∙◌, subst, bytes_eq, arith}
+use Rattle.std.specs.Prelude.{find, option_map, slice_get, reverse, unwrap_or}
 use Rattle.std.specs.Borrow.{Bor}
 use Rattle.std.specs.Map.{lookup}
 use Rattle.std.proofs.iter.runs.Lists.{nth_left, nth_right}
 use Rattle.std.proofs.lemmas.List.{reverse-append, length-reverse, length-map}
-use Rattle.std.proofs.lemmas.Option.{same_Some, slice_get-map, slice_get_read}
+use Rattle.std.proofs.lemmas.Option.{same_Some}
 use Rattle.pddl_formula.specs.TypedLists.{TypedValue, typed_view}
-use Rattle.pddl_task.specs.Names.{Name, is_in, is_named, item_of}
-use Rattle.pddl_task.specs.Places.{Place, binding}
+use Rattle.pddl_task.specs.Names.{Name, is_named}
+use Rattle.pddl_task.specs.Places.{binding}
 use Rattle.pddl_task.proofs.Lists.{bytes_same, same_bytes}
-use Rattle.pddl_search.specs.Scopes.{entry_of, bound_in, depth_of, IsScope, entered, IsKept}
+use Rattle.pddl_search.specs.Scopes.{entry_of, bound_in, depth_of, IsScope, entered}
 use Rattle.pddl_search.specs.declared.scope.Bound.{Bound}
 use Rattle.indexmap.specs.IndexMap.{insert_entry}
-use Rattle.pddl_faults.proofs.PutValues.{found_or, lookup_put}
-
--- what is seen of an item that is read
-pub viewed_at : {X Y : Type 0} (view : X → Y) (xs : List X) (i : ℕ) (x : X) → i < length xs → x ≡ get_or xs i x → slice_get (map view xs) i ≡ Some (view x)
-viewed_at view xs i x low is = slice_get-map view xs i ∙ ap (option_map view) (slice_get_read xs (length xs) i x refl low is)
-
--- whether a variable is bound
-pub is_bound : (xs : List TypedValue) (n : Name) → is_some (find (is_named n) xs) ≡ is_in (map item_of xs) n
-is_bound [] n = refl
-is_bound (x ∷ xs) n = found_or (is_named n x) x (find (is_named n) xs) ∙ ap (λ b. is_named n x || b) (is_bound xs n)
-
--- what stays in two steps in turn stays
-pub kept_then : {before between after : List TypedValue → Type 0} {found next now : Place → List (ℕ × Name)} → IsKept before between found next → IsKept between after next now → IsKept before after found now
-kept_then h k = (λ b is. k.0 b (h.0 b is), k.1 ∙ h.1)
+use Rattle.pddl_faults.proofs.PutValues.{lookup_put}
 
 -- ---- depths
 

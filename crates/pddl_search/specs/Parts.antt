@@ -1,15 +1,14 @@
 -- Terms, and parts of places, that are lent.
 use Rattle.std.specs.Prelude.{ℕ, List, map}
 use Rattle.pddl_formula.specs.Terms.{TermValue, name, variable, term_view}
-use Rattle.pddl_formula.specs.TypedLists.{typed_view}
 use Rattle.pddl_task.specs.Places as places
-use Rattle.pddl_task.specs.Places.{says, calls, equates, binds, counts}
+use Rattle.pddl_task.specs.Places.{says, calls, equates, counts}
 use Rattle.pddl_search.specs.declared.part.LentTerm.{LentTerm}
 use Rattle.pddl_search.specs.declared.part.LentTerm.TheVariants.{Object, Variable}
 use Rattle.pddl_search.specs.declared.part.Terms.{Terms}
 use Rattle.pddl_search.specs.declared.part.Terms.TheVariants.{Any, Objects}
 use Rattle.pddl_search.specs.declared.part.Part.{Part}
-use Rattle.pddl_search.specs.declared.part.Part.TheVariants.{Says, Calls, Equates, Binds, Counts}
+use Rattle.pddl_search.specs.declared.part.Part.TheVariants.{Says, Calls, Equates, Counts}
 
 -- a term
 abbrev pub term_in : LentTerm → TermValue
@@ -31,5 +30,4 @@ abbrev pub part_in : {A : _} → Part A → places.Part
 part_in (Says p ts) = says (record { predicate = p.now; terms = terms_in ts })
 part_in (Calls f ts) = calls (record { function = f.now; terms = terms_in ts })
 part_in (Equates t u) = equates (term_view t.now) (term_view u.now)
-part_in (Binds xs) = binds (map typed_view xs.now.items)
 part_in (Counts f n) = counts f.now n

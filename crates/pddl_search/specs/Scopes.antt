@@ -1,10 +1,9 @@
--- Variables in scope with the numbers of their types, the innermost first, and what stays while a search goes on.
+-- Variables in scope with the numbers of their types, the innermost first.
 use Rattle.std.specs.Prelude.{◌≡◌, ℕ, suc, List, [], ◌∷◌, map, length, cond, unwrap_or, bytes_eq}
 use Rattle.std.specs.Borrow.{Bor}
 use Rattle.std.specs.Map.{lookup}
 use Rattle.pddl_formula.specs.TypedLists.{TypedValue, typed_view}
 use Rattle.pddl_task.specs.Names.{Name, is_named}
-use Rattle.pddl_task.specs.Places.{Place}
 use Rattle.pddl_search.specs.declared.scope.Bound.{Bound}
 
 -- a variable with the number of its type
@@ -35,7 +34,3 @@ abbrev pub entered : List TypedValue → List ℕ → List (TypedValue × ℕ) �
 entered [] numbers es = es
 entered (x ∷ xs) [] es = es
 entered (x ∷ xs) (n ∷ numbers) es = entered xs numbers ((x, n) ∷ es)
-
--- what is bound stays, and so do the faults that are looked for
-abbrev pub IsKept : (before after : List TypedValue → Type 0) → (found now : Place → List (ℕ × Name)) → Type 0
-IsKept before after found now = ((b : List TypedValue) → before b → after b) × (now ≡ found)

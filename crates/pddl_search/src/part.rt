@@ -7,7 +7,7 @@ ghost use Rattle.pddl_task.specs.Places.{says, calls, bare, total_cost, amount_p
 ghost use Rattle.pddl_search.specs.Parts.{part_in, term_in, term_name, terms_in};
 
 use pddl_effect::Amount;
-use pddl_formula::{Atom, Term, TypedList};
+use pddl_formula::{Atom, Term};
 use pddl_token::{Fixed, Name};
 use std::alloc::Allocator;
 
@@ -33,8 +33,6 @@ pub enum Part<'d, A: Allocator> {
     /// A function of terms.
     Calls(&'d [u8], Terms<'d, A>),
     Equates(&'d Term<A>, &'d Term<A>),
-    /// The variables of a quantifier, or parameters.
-    Binds(&'d TypedList<A>),
     /// A number for a function.
     Counts(&'d [u8], Fixed),
 }

@@ -1,5 +1,5 @@
 -- What fits a type, by the spans of objects and tops of the type.
-use Rattle.std.proofs.Common.{◌≡◌, ℕ, suc, ◌+◌, Bool, false, cond, List, [], ◌∷◌, ◌<◌, filter, length, take, refl, sym, ap, ◌∙◌, arith, inl}
+use Rattle.std.proofs.Common.{◌≡◌, ℕ, suc, ◌+◌, Bool, false, cond, List, [], ◌∷◌, ◌<◌, filter, length, take, refl, sym, ap, ◌∙◌, arith}
 use Rattle.std.specs.Prelude.{IsTrue, Some, slice_get}
 use Rattle.std.specs.List.{list_any}
 use Rattle.std.specs.Option.{option_map_or}
@@ -30,7 +30,7 @@ same_places p q k (x ∷ xs) (y ∷ ys) many same =
 one_fits : (t : TypesValue) (types slot : List Name) (s : Span) (tops : List Span) → DoTell t → IsTrue (is_single t.declared types) → IsOnlySpan t types s → IsTold t slot tops → some_holds tops s.first ≡ fits (pairs t.declared) types slot
 one_fits t [] slot s tops tell single only told = cc
 one_fits t (n ∷ []) slot s tops tell single only told =
-    ap (λ (u : Span). some_holds tops u.first) (only.only n refl) ∙ tell n slot tops told (inl single) ∙ sym (and-true (list_any (is_under (pairs t.declared) n) slot))
+    ap (λ (u : Span). some_holds tops u.first) (only.only n refl) ∙ tell n slot tops told single ∙ sym (and-true (list_any (is_under (pairs t.declared) n) slot))
 one_fits t (n ∷ m ∷ ns) slot s tops tell single only told = cc
 
 module _ {t : TypesValue} {objects : List TypedValue} {spans read : List Span} (slot : List Name) {tops : List Span} (tell : DoTell t) (single : AreSingle t.declared objects) (are : HaveEach (IsOnlySpan t) objects spans)

@@ -9,8 +9,11 @@ pub mod NamedSpans
 pub mod HeldEach
 pub mod ListedObjects
 pub mod FittingSpans
-pub mod NumberedTops
+pub mod ToldTypes
 pub mod ParameterTops
 pub mod TypeTables
 pub mod TaskNames
 pub mod Views
+pub mod FittingTables
+pub mod UnknownTypes
+pub mod ObjectTables

@@ -1,9 +1,9 @@
 -- Objects by their numbers, each with the span of its type.
-use Rattle.std.proofs.Common.{◌≡◌, ℕ, zero, suc, ◌+◌, ◌≤◌, ◌<◌, true, false, not, cond, ltb, get_or, ltb-false, ltb-true, bytes_eq, List, [], ◌∷◌, map, length, take, refl, sym, ap, ◌∙◌, subst, arith, inl, inr}
+use Rattle.std.proofs.Common.{◌≡◌, ℕ, Option, IfSome, is_some, option_copied, suc, ◌+◌, ◌≤◌, true, false, not, cond, ltb, get_or, ltb-false, ltb-true, bytes_eq, List, [], ◌∷◌, map, length, refl, sym, ap, ◌∙◌, subst, arith, inl, inr}
 use Rattle.std.specs.Prelude.{IsTrue, Some, None, slice_get, find}
 use Rattle.std.specs.Borrow.{Bor}
 use Rattle.std.specs.List.{position, position_or_len}
-use Rattle.std.specs.Map.{lookup, keys_of}
+use Rattle.std.specs.Map.{keys_of}
 use Rattle.std.proofs.lemmas.Bool.{cases_lt}
 use Rattle.std.proofs.lemmas.List.{length-map}
 use Rattle.std.proofs.lemmas.Option.{slice_get_read, slice_get_within, slice_get_past}
@@ -15,11 +15,11 @@ use Rattle.pddl_domain.specs.Declarations.{TypeValue}
 use Rattle.pddl_task.specs.Names.{Name, is_in, is_named}
 use Rattle.pddl_task.specs.Types.{types_of}
 use Rattle.pddl_types.specs.KnownNames.{object_in}
+use Rattle.pddl_types.specs.Told.{ToldValue, AreAt}
+use Rattle.pddl_types.specs.Objects.{IsAtOf}
 use Rattle.pddl_types.specs.TypeSpans.{TypesValue, span_of, IsTold, are_types, is_single, AreSingle, IsOnlySpan, HaveEach}
 use Rattle.pddl_task.proofs.Lists.{and_both, at_place, some_at}
-use Rattle.pddl_types.proofs.Lookups.{entry_at}
 use Rattle.pddl_types.proofs.NamedSpans.{told_alone}
-use Rattle.pddl_types.proofs.Views.{seen_entry}
 
 -- the one primitive of a type
 only_type : (declared : List TypeValue) (types : List Name) → IsTrue (is_single declared types) → (n : Name) × (types ≡ n ∷ []) × IsTrue (is_in (types_of declared) n)
@@ -54,38 +54,38 @@ none_past {objects = objects} {read = read} k are same past = slice_get_past obj
 
 -- ---- an object that is found by its name
 
--- it is looked for among the first so many
-found_named : {A : Type 0} (es : List (Bor Name × Bor (Typed A))) (n : Name) (limit i : ℕ) → position_or_len (λ k. bytes_eq n k.now) (keys_of es) ≡ i
-    → (i < limit → find (is_named n) (take limit (map object_in es)) ≡ slice_get (map object_in es) i) × (limit ≤ i → find (is_named n) (take limit (map object_in es)) ≡ None)
-found_named es n zero i at = (λ low. absurd (omega (arith, low)), λ _. refl)
-found_named [] n (suc limit) i at = (λ _. refl, λ _. refl)
-found_named (e ∷ es) n (suc limit) i at =
+found_named : {A : Type 0} (es : List (Bor Name × Bor (Typed A))) (n : Name) → find (is_named n) (map object_in es) ≡ slice_get (map object_in es) (position_or_len (λ k. bytes_eq n k.now) (keys_of es))
+found_named [] n = refl
+found_named (e ∷ es) n =
     let later = position_or_len (λ k. bytes_eq n k.now) (keys_of es) in
-    let first = find (is_named n) (take limit (map object_in es)) in
-    let all = map object_in (e ∷ es) in
-    elim (bytes_eq n e.0.now) as (λ b. cond (not b) (1 + later) 0 ≡ i → (i < suc limit → cond b (Some (object_in e)) first ≡ slice_get all i) × (suc limit ≤ i → cond b (Some (object_in e)) first ≡ None)) [
-      | true ↦ λ here. (λ _. ap (slice_get all) here, λ past. absurd (omega (arith, here, past)))
-      | false ↦ λ there.
-          let next : suc later ≡ i = omega (arith, there) in
-          let rest = found_named es n limit later refl in
-          (λ low. rest.0 (omega (arith, next, low)) ∙ ap (slice_get all) next, λ past. rest.1 (omega (arith, next, past)))
-    ] at
+    let objects = map object_in es in
+    elim (bytes_eq n e.0.now) as (λ b. cond b (Some (object_in e)) (find (is_named n) objects) ≡ slice_get (object_in e ∷ objects) (cond (not b) (1 + later) 0)) [
+      | true ↦ refl
+      | false ↦ let next : suc later ≡ 1 + later = omega arith in found_named es n ∙ ap (slice_get (object_in e ∷ objects)) next
+    ]
 
-module _ {A : Type 0} (es : List (Bor Name × Bor (Typed A))) (n : Name) (limit : ℕ) where
-  -- the one of a number below that
-  pub object_found : (i : ℕ) → position (λ k. bytes_eq n k.now) (keys_of es) ≡ Some i → i < limit → find (is_named n) (take limit (map object_in es)) ≡ slice_get (map object_in es) i
-  object_found i is = (found_named es n limit i (Found-position (λ k. bytes_eq n k.now) es i is).or_len).0
+module _ {A : Type 0} (es : List (Bor Name × Bor (Typed A))) (n : Name) where
+  -- the one of its number
+  pub object_found : (i : ℕ) → position (λ k. bytes_eq n k.now) (keys_of es) ≡ Some i → find (is_named n) (map object_in es) ≡ slice_get (map object_in es) i
+  object_found i is = found_named es n ∙ ap (slice_get (map object_in es)) (Found-position (λ k. bytes_eq n k.now) es i is).or_len
 
-  -- none where its number is not below
-  pub none_below : (i : ℕ) → position (λ k. bytes_eq n k.now) (keys_of es) ≡ Some i → limit ≤ i → find (is_named n) (take limit (map object_in es)) ≡ None
-  none_below i is = (found_named es n limit i (Found-position (λ k. bytes_eq n k.now) es i is).or_len).1
-
-  pub none_found : position (λ k. bytes_eq n k.now) (keys_of es) ≡ None → find (is_named n) (take limit (map object_in es)) ≡ None
+  pub none_found : position (λ k. bytes_eq n k.now) (keys_of es) ≡ None → find (is_named n) (map object_in es) ≡ None
   none_found h =
-      let told = found_named es n limit (length es) (Missing-position (λ k. bytes_eq n k.now) es h).or_len in
-      elim (cases_lt (length es) limit) as (λ _. find (is_named n) (take limit (map object_in es)) ≡ None) [ inl low ↦ told.0 low ∙ slice_get_past (map object_in es) (length es) (omega (arith, length-map es object_in)) | inr past ↦ told.1 past ]
+      let past = (Missing-position (λ k. bytes_eq n k.now) es h).or_len in
+      found_named es n ∙ slice_get_past (map object_in es) (position_or_len (λ k. bytes_eq n k.now) (keys_of es)) (omega (arith, past, length-map es object_in))
 
--- with what a table has of it
-pub found_at : {A : Type 0} (es : List (Bor Name × Bor (Typed A))) (n : Name) (found : Bor (Typed A)) → lookup (λ k. bytes_eq n k.now) es ≡ Some found
-    → (x : TypedValue) × (slice_get (map object_in es) (position_or_len (λ k. bytes_eq n k.now) (keys_of es)) ≡ Some x) × (x.of ≡ found.now.types)
-found_at es n found h = let (k, at, named) = entry_at es n found h in (object_in (k, found), seen_entry object_in es (position_or_len (λ k. bytes_eq n k.now) (keys_of es)) (k, found) at, refl)
+-- the type of what is listed at a number is told at the number that is held there
+pub at_of : (told : ToldValue) (objects : List TypedValue) (numbers : List ℕ) (place : ℕ) → AreAt told objects numbers → IsAtOf told (slice_get objects place) (slice_get numbers place)
+at_of told objects numbers place are =
+    elim (cases_lt place (length objects)) as (λ _. IsAtOf told (slice_get objects place) (slice_get numbers place)) [
+      | inl low ↦
+          let (x, there) = some_at objects place low in
+          let (n, here) = some_at numbers place (omega (arith, low, are.many)) in
+          rw (there, here) (are.each place n x there here)
+      | inr past ↦ rw (slice_get_past objects place past, slice_get_past numbers place (omega (arith, past, are.many))) tt
+    ]
+
+-- a number that is read, if there is one
+pub copied_is : (o : Option (Bor ℕ)) (xs : List ℕ) (i : ℕ) → is_some o ≡ ltb i (length xs) → IfSome o (λ x. x.now ≡ get_or xs i x.now) → option_copied o ≡ slice_get xs i
+copied_is None xs i none is = sym (slice_get_past xs i (ltb-false i (length xs) (sym none)))
+copied_is (Some x) xs i some is = sym (slice_get_read xs (length xs) i x.now refl (ltb-true i (length xs) (sym some)) is)

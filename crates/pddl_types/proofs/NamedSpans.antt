@@ -1,5 +1,5 @@
 -- Types by their spans: what is under a type is what has its first number in the type's span.
-use Rattle.std.proofs.Common.{◌≡◌, ℕ, ◌<◌, ◌≤◌, Bool, true, false, ◌&&◌, eqb, leb, List, [], ◌∷◌, map, length, refl, sym, ap, ◌∙◌, subst, arith, inl, inr, ◌⊎◌, eqb-true, leb-true}
+use Rattle.std.proofs.Common.{◌≡◌, ℕ, ◌<◌, ◌≤◌, Bool, true, false, ◌&&◌, eqb, leb, List, [], ◌∷◌, map, length, refl, sym, ap, ◌∙◌, subst, arith, inl, inr, eqb-true, leb-true}
 use Rattle.std.specs.Prelude.{◌↔◌, IsTrue, Contains}
 use Rattle.std.specs.Cmp.{both_ways}
 use Rattle.std.specs.List.{list_any, slice_index_or}
@@ -82,10 +82,6 @@ module _ (t : TypesValue) (h : AreInTable t) where
   abbrev test : Name → Name → Bool
   test n m = holds (span_of t m) (span_of t n).first
 
-  -- one of two names at least is a type
-  abbrev IsKnown : Name → Name → Type 0
-  IsKnown n m = IsTrue (is_type n) ⊎ IsTrue (is_type m)
-
   -- what begins among the numbers is a type
   type_if : (n : Name) → (span_of t n).first < length t.spans → is_type n ≡ true
   type_if n low = elim (is_type n) as (λ b. is_type n ≡ b → b ≡ true) [ true ↦ λ _. refl | false ↦ λ off. let b = behind n off in absurd (omega (arith, low, b.0)) ] refl
@@ -98,20 +94,16 @@ module _ (t : TypesValue) (h : AreInTable t) where
       let places = under_numbered t.declared h.0 h.2 (number n) (number m) n m at there in
       (λ yes. places.1 (spans.0 yes), λ yes. spans.1 (places.0 yes))
 
-  is_test : (n m : Name) → IsKnown n m → test n m ≡ under n m
-  is_test n m known =
+  is_test : (n m : Name) → is_type n ≡ true → test n m ≡ under n m
+  is_test n m type =
       both_ways (test n m) (under n m)
       (λ yes.
       let (from, to) = is_held (span_of t m) (span_of t n).first yes in
-      elim known as (λ _. IsTrue (under n m)) [
-        | inl one ↦ let w = within n one in (both_test n m one (type_if m (omega (arith, from, w)))).0 yes
-        | inr other ↦ let w = within m other in (both_test n m (type_if n (omega (arith, to, w))) other).0 yes
-      ])
-      (λ yes.
-      let same = same_types t.declared n m h.2.0 yes in
-      elim known as (λ _. IsTrue (test n m)) [ inl one ↦ (both_test n m one (sym same ∙ one)).1 yes | inr other ↦ (both_test n m (same ∙ other) other).1 yes ])
+      let w = within n type in
+      (both_test n m type (type_if m (omega (arith, from, w)))).0 yes)
+      (λ yes. (both_test n m type (sym (same_types t.declared n m h.2.0 yes) ∙ type)).1 yes)
 
-  pub test_told : (n m : Name) (low over : Span) → IsKnown n m → low ≡ span_of t n → over ≡ span_of t m → holds over low.first ≡ under n m
+  pub test_told : (n m : Name) (low over : Span) → is_type n ≡ true → low ≡ span_of t n → over ≡ span_of t m → holds over low.first ≡ under n m
   test_told n m low over known is also = ap (λ s. holds s low.first) also ∙ ap (λ (s : Span). holds (span_of t m) s.first) is ∙ is_test n m known
 
   through : (n m u : Name) → under n m ≡ true → under m u ≡ true → under n u ≡ true
@@ -136,40 +128,30 @@ module _ (t : TypesValue) (h : AreInTable t) where
       (m.0, m.1, subst (Contains tops) (sym m.2) s.1, ap (λ u. holds u (span_of t n).first) m.2 ∙ s.2)
 
   pub do_tell : DoTell t
-  do_tell n slot tops told known =
+  do_tell n slot tops told type =
       both_ways (some_holds tops (span_of t n).first) (list_any (under n) slot)
-      (λ yes. let m = in_top slot tops n told yes in found_any (under n) slot m.0 m.1 (sym (is_test n m.0 (with_one m.0 m.1)) ∙ m.3))
+      (λ yes. let m = in_top slot tops n told yes in found_any (under n) slot m.0 m.1 (sym (is_test n m.0 type) ∙ m.3))
       (λ yes.
       let m = any_found (under n) slot yes in
       let u = in_top slot tops m.0 told (told.all (span_of t m.0) (is_mapped (span_of t) slot m.0 m.1)) in
-      let up = through n m.0 u.0 m.2 (sym (is_test m.0 u.0 (over m.0 u.0 u.1 m.2)) ∙ u.3) in
-      found_any (λ s. holds s (span_of t n).first) tops (span_of t u.0) u.2 (is_test n u.0 (with_one u.0 u.1) ∙ up))
-    where
-      with_one : (m : Name) → Contains slot m → IsKnown n m
-      with_one m there = elim known as (λ _. IsKnown n m) [ inl type ↦ inl type | inr all ↦ inr (all_found is_type slot all m there) ]
-
-      over : (m u : Name) → Contains slot u → under n m ≡ true → IsKnown m u
-      over m u there up = elim (with_one u there) as (λ _. IsKnown m u) [
-        | inl type ↦ inl (sym (same_types t.declared n m h.2.0 up) ∙ type)
-        | inr type ↦ inr type
-      ]
+      let up = through n m.0 u.0 m.2 (sym (is_test m.0 u.0 (sym (same_types t.declared n m.0 h.2.0 m.2) ∙ type)) ∙ u.3) in
+      found_any (λ s. holds s (span_of t n).first) tops (span_of t u.0) u.2 (is_test n u.0 type ∙ up))
 
   -- what is told of two types tells whether one fits the other
-  pub tops_fit : (types slot : List Name) (told tops : List Span) → IsTold t types told → IsTold t slot tops → IsTrue (are_types t.declared types) ⊎ IsTrue (are_types t.declared slot)
+  pub tops_fit : (types slot : List Name) (told tops : List Span) → IsTold t types told → IsTold t slot tops → IsTrue (are_types t.declared types)
       → hold_all tops told ≡ fits (pairs t.declared) types slot
   tops_fit types slot told tops first second known =
       both_ways (hold_all tops told) (fits (pairs t.declared) types slot)
       (λ yes. found_all (λ n. list_any (under n) slot) types (λ n there.
       let m = in_top types told n first (first.all (span_of t n) (is_mapped (span_of t) types n there)) in
-      let u = any_found (under m.0) slot (sym (do_tell m.0 slot tops second (one m.0 m.1)) ∙ all_found (λ s. some_holds tops s.first) told yes (span_of t m.0) m.2) in
-      let type = elim (one m.0 m.1) as (λ _. is_type m.0 ≡ true) [ inl is ↦ is | inr all ↦ same_types t.declared m.0 u.0 h.2.0 u.2 ∙ all_found is_type slot all u.0 u.1 ] in
-      found_any (under n) slot u.0 u.1 (through n m.0 u.0 (sym (is_test n m.0 (inr type)) ∙ m.3) u.2)))
+      let u = any_found (under m.0) slot (sym (do_tell m.0 slot tops second (type m.0 m.1)) ∙ all_found (λ s. some_holds tops s.first) told yes (span_of t m.0) m.2) in
+      found_any (under n) slot u.0 u.1 (through n m.0 u.0 (sym (is_test n m.0 (type n there)) ∙ m.3) u.2)))
       (λ yes. found_all (λ s. some_holds tops s.first) told (λ s there.
       let m = top_of types told s first there in
-      ap (λ (u : Span). some_holds tops u.first) (sym m.2) ∙ do_tell m.0 slot tops second (one m.0 m.1) ∙ all_found (λ n. list_any (under n) slot) types yes m.0 m.1))
+      ap (λ (u : Span). some_holds tops u.first) (sym m.2) ∙ do_tell m.0 slot tops second (type m.0 m.1) ∙ all_found (λ n. list_any (under n) slot) types yes m.0 m.1))
     where
-      one : (n : Name) → Contains types n → IsTrue (is_type n) ⊎ IsTrue (are_types t.declared slot)
-      one n there = elim known as (λ _. IsTrue (is_type n) ⊎ IsTrue (are_types t.declared slot)) [ inl all ↦ inl (all_found is_type types all n there) | inr all ↦ inr all ]
+      type : (n : Name) → Contains types n → is_type n ≡ true
+      type n there = all_found is_type types known n there
 
 -- a test of types alone
 pub subtype_is : (declared : List TypeValue) (sub over : Name) (told : Bool) → is_in (types_of declared) sub ≡ true → is_in (types_of declared) over ≡ true → told ≡ is_under (pairs declared) sub over

@@ -1,66 +1,117 @@
 -- Tables of what is declared, as it is put into them one after another.
-use Rattle.std.proofs.Common.{◌≡◌, ℕ, Bool, true, false, List, [], ◌∷◌, ◌++◌, map, Option, Some, None, refl, ap, sym, ◌∙◌, bytes_eq, append-nil, append_assoc}
-use Rattle.std.specs.Prelude.{is_some}
+use Rattle.std.proofs.Common.{◌≡◌, ℕ, Bool, true, false, ◌||◌, cond, List, [], ◌∷◌, ◌++◌, map, Option, Some, None, refl, ap, sym, ◌∙◌, subst, bytes_eq, append_assoc}
+use Rattle.std.specs.Prelude.{is_some, find}
 use Rattle.std.specs.Borrow.{Bor}
 use Rattle.std.specs.Map.{lookup}
+use Rattle.std.specs.Option.{option_or}
 use Rattle.std.proofs.lemmas.List.{map-append}
+use Rattle.std.proofs.lemmas.List.Folds.{find-append}
 use Rattle.indexmap.specs.IndexMap.{IndexMap, insert_entry}
 use Rattle.indexmap.proofs.CallerLemmas.{insert_entry-new}
 use Rattle.pddl_formula.specs.TypedLists.{typed_view}
 use Rattle.pddl_formula.specs.declared.type_names.Typed.{Typed}
 use Rattle.pddl_domain.specs.Declarations.{Signature}
 use Rattle.pddl_task.specs.Names.{Name, is_in, word_if, repeated}
+use Rattle.pddl_task.specs.Settings.{symbol_of}
+use Rattle.pddl_task.proofs.Lists.{append-none, append-one, bytes_same, nil_parts}
+use Rattle.pddl_task.proofs.DistinctNames.{word_none}
+use Rattle.pddl_faults.specs.Found.{numbered}
+use Rattle.pddl_faults.proofs.PutValues.{found_or}
 use Rattle.pddl_types.specs.KnownNames.{signature_in}
+use Rattle.pddl_types.specs.Told.{ToldValue, AreKept}
+use Rattle.pddl_types.specs.Signatures.{Rows, signature_among, AreFirst, HaveFirst, HaveSignatures}
 use Rattle.pddl_types.specs.declared.signatures.Slots.{Slots}
-
-by_first : (b : Bool) (n : Name) (rest : List Name) → word_if b n ++ rest ≡ [] → (b ≡ false) × (rest ≡ [])
-by_first true n rest h = cc
-by_first false n rest h = (refl, h)
+use Rattle.pddl_types.proofs.Lookups.{is_symbol}
+use Rattle.pddl_types.proofs.ToldTypes.{slots_still}
 
 pub none_found : {X : Type 0} (o : Option X) → is_some o ≡ false → o ≡ None
 none_found None h = refl
 none_found (Some x) h = cc
 
--- a table's entries are seen as ys, each with its name
-module _ {E Y : Type 0} (seen : E → Y) (symbol : Y → Name) (all : List Y) where
-  -- what is held and what is left are all, and no name stands twice
-  pub record AreHeld (es : List E) (rest : List Y) : Type 0 where
-    pub all_are : map seen es ++ rest ≡ all
-    pub once : repeated (map symbol (map seen es)) (map symbol rest) ≡ []
+or_none : {X : Type 0} (o : Option X) → option_or o None ≡ o
+or_none None = refl
+or_none (Some x) = refl
 
-  -- nothing is held
-  pub held_none : (es : List E) → es ≡ [] → repeated [] (map symbol all) ≡ [] → AreHeld es all
-  held_none es none once = rw none (record { all_are = refl; once = once })
+or_some : {X : Type 0} (o p : Option X) → is_some o ≡ true → option_or o p ≡ o
+or_some None p h = cc
+or_some (Some x) p h = refl
 
-  -- all is
-  pub held_all : (es : List E) (rest : List Y) → rest ≡ [] → AreHeld es rest → map seen es ≡ all
-  held_all es rest none held = sym (append-nil (map seen es)) ∙ ap (λ ys. map seen es ++ ys) (sym none) ∙ held.all_are
+-- names, each that stands before it too, with one name more
+pub repeated_more : (before names : List Name) (n : Name) → repeated before (names ++ n ∷ []) ≡ repeated before names ++ word_if (is_in (before ++ names) n) n
+repeated_more before [] n = append-none (word_if (is_in before n) n) ∙ ap (λ ns. word_if (is_in ns n) n) (sym (append-none before))
+repeated_more before (m ∷ names) n =
+    ap (λ ws. word_if (is_in before m) m ++ ws) (repeated_more (before ++ m ∷ []) names n ∙ ap (λ ns. repeated (before ++ m ∷ []) names ++ word_if (is_in ns n) n) (append-one before m names))
+    ∙ sym (append_assoc (word_if (is_in before m) m) (repeated (before ++ m ∷ []) names) (word_if (is_in (before ++ m ∷ names) n) n))
 
--- the next one is inserted
-module _ {V S Y : Type 0} (seen : Bor (List ℕ) × V → Y) (symbol : Y → Name)
-    (known : (es : List (Bor (List ℕ) × V)) (n : Name) → is_some (lookup (λ k. bytes_eq n k.now) es) ≡ is_in (map symbol (map seen es)) n) (all : List Y)
-    (m next : IndexMap (Bor (List ℕ)) V S) (left rest : List Y) (y : Y) (k : Bor (List ℕ)) (v : V) (front : left ≡ y ∷ rest) (same : seen (k, v) ≡ y) (key : symbol (seen (k, v)) ≡ k.now)
-    (held : AreHeld seen symbol all m.entries left) (put : next.entries ≡ insert_entry (λ a b. bytes_eq a.now b.now) m.entries k v) where
-  abbrev before : List Name
-  before = map symbol (map seen m.entries)
+-- a name has a signature where it is one of the names
+is_among : (gs : List Signature) (n : Name) → is_some (signature_among gs n) ≡ is_in (map symbol_of gs) n
+is_among [] n = refl
+is_among (g ∷ gs) n = found_or (bytes_eq n g.name) g (signature_among gs n) ∙ ap (λ b. bytes_eq n g.name || b) (is_among gs n)
 
-  parts : (is_in before k.now ≡ false) × (repeated (before ++ k.now ∷ []) (map symbol rest) ≡ [])
-  parts =
-      by_first (is_in before k.now) k.now (repeated (before ++ k.now ∷ []) (map symbol rest))
-      (ap (λ n. word_if (is_in before n) n ++ repeated (before ++ n ∷ []) (map symbol rest)) (sym key ∙ ap symbol same) ∙ ap (λ ys. repeated before (map symbol ys)) (sym front) ∙ held.once)
+-- ---- what is seen of signatures is held of them, and so with one more
 
-  -- it comes last
-  pub last_put : next.entries ≡ m.entries ++ (k, v) ∷ []
-  last_put = put ∙ insert_entry-new (λ a b. bytes_eq a.now b.now) m k v (none_found (lookup (λ j. bytes_eq k.now j.now) m.entries) (known m.entries k.now ∙ parts.0))
+module _ {held seen : List Signature} (are : AreFirst held seen) (g : Signature) where
+  once_before : (here : Bool) → is_in (map symbol_of seen) g.name ≡ here → repeated [] (map symbol_of (seen ++ g ∷ [])) ≡ [] → (repeated [] (map symbol_of seen) ≡ []) × (here ≡ false)
+  once_before here is once =
+      let parts = nil_parts (repeated [] (map symbol_of seen)) (word_if (is_in (map symbol_of seen) g.name) g.name)
+      (sym (ap (repeated []) (map-append symbol_of seen (g ∷ [])) ∙ repeated_more [] (map symbol_of seen) g.name) ∙ once) in
+      (parts.0, sym is ∙ word_none (is_in (map symbol_of seen) g.name) g.name parts.1)
 
-  pub held_more : AreHeld seen symbol all next.entries rest
-  held_more =
-      let views : map seen next.entries ≡ map seen m.entries ++ seen (k, v) ∷ [] = ap (map seen) last_put ∙ map-append seen m.entries ((k, v) ∷ []) in
-      record {
-        all_are = ap (λ ys. ys ++ rest) views ∙ append_assoc (map seen m.entries) (seen (k, v) ∷ []) rest ∙ ap (λ z. map seen m.entries ++ z ∷ rest) same ∙ ap (λ ys. map seen m.entries ++ ys) (sym front) ∙ held.all_are;
-        once = ap (λ ys. repeated (map symbol ys) (map symbol rest)) views ∙ ap (λ ns. repeated ns (map symbol rest)) (map-append symbol (map seen m.entries) (seen (k, v) ∷ []) ∙ ap (λ n. before ++ n ∷ []) key) ∙ parts.1;
-      }
+  -- of a new name it is put there
+  pub first_more : is_in (map symbol_of seen) g.name ≡ false → AreFirst (held ++ g ∷ []) (seen ++ g ∷ [])
+  first_more new = record {
+    first = λ n.
+        let test : Signature → Bool = λ s. bytes_eq n s.name in
+        find-append test held (g ∷ []) ∙ ap (λ o. option_or o (find test (g ∷ []))) (are.first n) ∙ sym (find-append test seen (g ∷ []));
+    all = λ once. ap (λ gs. gs ++ g ∷ []) (are.all (once_before false new once).0);
+  }
 
--- a name and parameters that are lent
-pub signature_is : {A B : Type 0} (k : Bor (List ℕ)) (v : Slots A B) (g : Signature) (xs : List (Typed A)) → k.now ≡ g.name → v.parameters.now ≡ xs → map typed_view xs ≡ g.parameters → signature_in (k, v) ≡ g
-signature_is k v g xs name parameters views = rw (name, parameters, views) refl
+  -- of a name that was seen the first is there
+  pub first_still : is_in (map symbol_of seen) g.name ≡ true → AreFirst held (seen ++ g ∷ [])
+  first_still old = record {
+    first = λ n. are.first n ∙ sym (find-append (λ s. bytes_eq n s.name) seen (g ∷ []) ∙ no_more n (bytes_eq n g.name) refl);
+    all = λ once. let here = (once_before true old once).1 in cc;
+  }
+    where
+      no_more : (n : Name) (b : Bool) → bytes_eq n g.name ≡ b → option_or (signature_among seen n) (cond b (Some g) None) ≡ signature_among seen n
+      no_more n false is = or_none (signature_among seen n)
+      no_more n true is = or_some (signature_among seen n) (Some g) (is_among seen n ∙ ap (is_in (map symbol_of seen)) (bytes_same n g.name is) ∙ old)
+
+-- of names that stand twice, that of the next one, and those that are left behind it
+pub repeated_left : (seen next left rest : List Signature) (g : Signature) → next ≡ seen ++ g ∷ [] → left ≡ g ∷ rest → numbered 24 (repeated (map symbol_of seen) (map symbol_of left))
+    ≡ numbered 24 (word_if (is_in (map symbol_of seen) g.name) g.name) ++ numbered 24 (repeated (map symbol_of next) (map symbol_of rest))
+repeated_left seen next left rest g next_is left_is =
+    let own = word_if (is_in (map symbol_of seen) g.name) g.name in
+    ap (λ gs. numbered 24 (repeated (map symbol_of seen) (map symbol_of gs))) left_is ∙ map-append (λ (w : Name). (24, w)) own (repeated (map symbol_of seen ++ g.name ∷ []) (map symbol_of rest))
+    ∙ ap (λ ns. numbered 24 own ++ numbered 24 (repeated ns (map symbol_of rest))) (sym (ap (map symbol_of) next_is ∙ map-append symbol_of seen (g ∷ [])))
+
+-- ---- a table
+
+module _ {A B S : Type 0} (m : IndexMap (Bor (List ℕ)) (Slots A B) S) (seen : List Signature) (are : AreFirst (map signature_in m.entries) seen) (g : Signature) (k : Bor (List ℕ))
+    (name : k.now ≡ g.name) (there : Bool) (is : there ≡ is_some (lookup (λ j. bytes_eq k.now j.now) m.entries)) where
+  -- a name is in it where it was seen
+  pub seen_there : is_in (map symbol_of seen) g.name ≡ there
+  seen_there =
+      sym (is_among seen g.name) ∙ sym (ap is_some (are.first g.name)) ∙ is_among (map signature_in m.entries) g.name ∙ sym (is_symbol m.entries g.name)
+      ∙ ap (λ n. is_some (lookup (λ j. bytes_eq n j.now) m.entries)) (sym name) ∙ sym is
+
+-- a new name comes last
+pub last_put : {A B S : Type 0} (m : IndexMap (Bor (List ℕ)) (Slots A B) S) (k : Bor (List ℕ)) (v : Slots A B) (next : Rows A B) → false ≡ is_some (lookup (λ j. bytes_eq k.now j.now) m.entries)
+    → next ≡ insert_entry (λ a b. bytes_eq a.now b.now) m.entries k v → next ≡ m.entries ++ (k, v) ∷ []
+last_put m k v next none put = put ∙ insert_entry-new (λ a b. bytes_eq a.now b.now) m k v (none_found (lookup (λ j. bytes_eq k.now j.now) m.entries) (sym none))
+
+pub last_seen : {A B : Type 0} (rows next : Rows A B) (k : Bor (List ℕ)) (v : Slots A B) (g : Signature) (xs : List (Typed A)) → next ≡ rows ++ (k, v) ∷ []
+    → k.now ≡ g.name → v.parameters.now ≡ xs → map typed_view xs ≡ g.parameters → map signature_in next ≡ map signature_in rows ++ g ∷ []
+last_seen rows next k v g xs last name parameters views =
+    let same : signature_in (k, v) ≡ g = rw (name, parameters, views) refl in
+    ap (map signature_in) last ∙ map-append signature_in rows ((k, v) ∷ []) ∙ ap (λ s. map signature_in rows ++ s ∷ []) same
+
+-- ---- what is declared
+
+-- it is held while more is told, and of what is told otherwise too
+pub have_still : {A B : Type 0} {before after : ToldValue} {rows : Rows A B} {gs hs : List Signature} → AreKept before after → gs ≡ hs → HaveFirst before rows gs → HaveFirst after rows hs
+have_still {before = before} {after} {rows} kept same have = record { first = subst (AreFirst (map signature_in rows)) same have.first; slots = slots_still before after rows kept have.slots }
+
+-- all are held where no name stands twice
+pub have_all : {A B : Type 0} {told : ToldValue} {rows : Rows A B} {gs : List Signature} → repeated [] (map symbol_of gs) ≡ [] → HaveFirst told rows gs → HaveSignatures told rows gs
+have_all once have = record { signatures_are = have.first.all once; slots = have.slots }

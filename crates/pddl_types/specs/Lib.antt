@@ -1,6 +1,6 @@
 pub mod TypeTables
 pub mod KnownNames
 pub mod TypeSpans
-pub mod ToldTops
+pub mod Told
+pub mod Objects
 pub mod Signatures
-pub mod Settings

@@ -1,16 +1,15 @@
 -- What a domain declares beside types and constants, as it is held for look-ups by name. Own.
-use Rattle.std.specs.Prelude.{◌≡◌, ℕ, IsTrue, List, [], map, Contains}
+use Rattle.std.specs.Prelude.{◌≡◌, ℕ, List, [], Option, map, find, bytes_eq}
 use Rattle.std.specs.Borrow.{Bor}
 use Rattle.std.specs.List.{All}
-use Rattle.pddl_forest.specs.declared.spans.Span.{Span}
-use Rattle.pddl_formula.specs.TypedLists.{TypedValue, typed_view}
+use Rattle.pddl_formula.specs.TypedLists.{typed_view}
 use Rattle.pddl_domain.specs.Declarations.{Signature}
 use Rattle.pddl_domain.specs.Domains.{DomainValue}
-use Rattle.pddl_task.specs.Names.{repeated}
+use Rattle.pddl_task.specs.Names.{Name, repeated}
 use Rattle.pddl_task.specs.Settings.{symbol_of, function_signatures}
 use Rattle.pddl_types.specs.KnownNames.{signature_in, action_signature}
-use Rattle.pddl_types.specs.TypeSpans.{TypesValue, are_types}
-use Rattle.pddl_types.specs.ToldTops.{AreToldAt}
+use Rattle.pddl_types.specs.TypeSpans.{TypesValue}
+use Rattle.pddl_types.specs.Told.{ToldValue, AreAt, AreTold}
 use Rattle.pddl_types.specs.declared.declared.Declared.{Declared}
 use Rattle.pddl_types.specs.declared.signatures.Slots.{Slots}
 
@@ -20,31 +19,34 @@ use Rattle.pddl_types.specs.declared.signatures.Slots.{Slots}
 abbrev pub Rows : Type 0 → Type 0 → Type 0
 Rows A B = List (Bor (List ℕ) × Slots A B)
 
--- the tops of the types of all slots are told
-abbrev pub AreSlotsTold : {A B : _} → TypesValue → List (List Span) → Rows A B → Type 0
-AreSlotsTold t told rows = All (λ e. AreToldAt t told (map typed_view e.1.parameters.now) e.1.numbers.items) rows
-
--- it has these names with these parameters, and the tops of their types are told
-pub record HaveSignatures {A B : Type 0} (t : TypesValue) (told : List (List Span)) (rows : Rows A B) (signatures : List Signature) : Type 0 where
-  pub signatures_are : map signature_in rows ≡ signatures
-  pub tops : AreSlotsTold t told rows
-
--- the tops of the types of the slots of a name are told, and these types are known
-pub record AreKnownSlots {A B : Type 0} (t : TypesValue) (told : List (List Span)) (slots : Slots A B) : Type 0 where
-  pub tops : AreToldAt t told (map typed_view slots.parameters.now) slots.numbers.items
-  pub types : (x : TypedValue) → Contains (map typed_view slots.parameters.now) x → IsTrue (are_types t.declared x.of)
+-- the types of the slots of a name are told
+abbrev pub IsSlotsAt : {A B : _} → ToldValue → Slots A B → Type 0
+IsSlotsAt told slots = AreAt told (map typed_view slots.parameters.now) slots.numbers.items
 
 -- so it is of all names of a table
-abbrev pub AreSlotsKnown : {A B : _} → TypesValue → List (List Span) → Rows A B → Type 0
-AreSlotsKnown t told rows = All (λ e. AreKnownSlots t told e.1) rows
+abbrev pub AreSlotsAt : {A B : _} → ToldValue → Rows A B → Type 0
+AreSlotsAt told rows = All (λ e. IsSlotsAt told e.1) rows
+
+-- the signature that a name has among some
+abbrev pub signature_among : List Signature → Name → Option Signature
+signature_among signatures n = find (λ s. bytes_eq n s.name) signatures
+
+-- what is held of what was seen: of each name the first, and all where no name stands twice
+pub record AreFirst (held seen : List Signature) : Type 0 where
+  pub first : (n : Name) → signature_among held n ≡ signature_among seen n
+  pub all : repeated [] (map symbol_of seen) ≡ [] → held ≡ seen
+
+-- a table holds these signatures so, and the types of their slots are told
+pub record HaveFirst {A B : Type 0} (told : ToldValue) (rows : Rows A B) (signatures : List Signature) : Type 0 where
+  pub first : AreFirst (map signature_in rows) signatures
+  pub slots : AreSlotsAt told rows
+
+-- it has all of these
+pub record HaveSignatures {A B : Type 0} (told : ToldValue) (rows : Rows A B) (signatures : List Signature) : Type 0 where
+  pub signatures_are : map signature_in rows ≡ signatures
+  pub slots : AreSlotsAt told rows
 
 -- ---- a domain
-
--- nothing is declared
-pub record IsNothing {A B : Type 0} (declared : Declared A B) : Type 0 where
-  pub predicates : declared.predicates.entries ≡ []
-  pub functions : declared.functions.entries ≡ []
-  pub actions : declared.actions.entries ≡ []
 
 -- no predicate, no function and no action is declared twice
 pub record IsDeclaredOnce (d : DomainValue) : Type 0 where
@@ -52,8 +54,22 @@ pub record IsDeclaredOnce (d : DomainValue) : Type 0 where
   pub functions : repeated [] (map symbol_of (function_signatures d)) ≡ []
   pub actions : repeated [] (map symbol_of (map action_signature d.actions)) ≡ []
 
+-- nothing is declared
+pub record IsNothing {A B : Type 0} (declared : Declared A B) : Type 0 where
+  pub predicates : declared.predicates.entries ≡ []
+  pub functions : declared.functions.entries ≡ []
+  pub actions : declared.actions.entries ≡ []
+
+-- tables have the predicates and functions of a domain, of each name the first; actions are not looked up yet
+pub record HaveSymbols {A B : Type 0} (t : TypesValue) (d : DomainValue) (declared : Declared A B) : Type 0 where
+  pub told : AreTold t declared.told
+  pub predicates : HaveFirst declared.told declared.predicates.entries d.predicates
+  pub functions : HaveFirst declared.told declared.functions.entries (function_signatures d)
+  pub actions : declared.actions.entries ≡ []
+
 -- tables have the predicates, functions and actions of a domain
 pub record AreDeclared {A B : Type 0} (t : TypesValue) (d : DomainValue) (declared : Declared A B) : Type 0 where
-  pub predicates : HaveSignatures t declared.told declared.predicates.entries d.predicates
-  pub functions : HaveSignatures t declared.told declared.functions.entries (function_signatures d)
-  pub actions : HaveSignatures t declared.told declared.actions.entries (map action_signature d.actions)
+  pub told : AreTold t declared.told
+  pub predicates : HaveSignatures declared.told declared.predicates.entries d.predicates
+  pub functions : HaveSignatures declared.told declared.functions.entries (function_signatures d)
+  pub actions : HaveSignatures declared.told declared.actions.entries (map action_signature d.actions)

@@ -1,6 +1,5 @@
 -- Types by spans of numbers: what is under a type has its numbers in the type's span. Own.
-use Rattle.std.specs.Prelude.{◌≡◌, ◌<◌, ◌≤◌, ◌⊎◌, ⊤, ℕ, Bool, false, IsTrue, List, [], ◌∷◌, Option, Some, None, map, length, slice_get, Contains}
-use Rattle.std.specs.Borrow.{Bor}
+use Rattle.std.specs.Prelude.{◌≡◌, ◌<◌, ◌≤◌, ℕ, Bool, false, IsTrue, List, [], ◌∷◌, Some, map, length, slice_get, Contains}
 use Rattle.std.specs.List.{list_any, list_all}
 use Rattle.pddl_forest.specs.Spans.{some_holds, span_at, AreTops}
 use Rattle.pddl_forest.specs.declared.spans.Span.{Span}
@@ -27,19 +26,13 @@ span_of t n = span_at t.spans (number_in t.names n)
 abbrev pub IsTold : TypesValue → List Name → List Span → Type 0
 IsTold t names tops = AreTops (map (span_of t) names) tops
 
--- what is told of the type of an item, where there is one
-abbrev pub IsToldOf : TypesValue → Option TypedValue → Option (Bor (List Span)) → Type 0
-IsToldOf t None None = ⊤
-IsToldOf t (Some x) (Some told) = IsTold t x.of told.now
-IsToldOf t _ _ = ⊥
-
 -- all names are types
 abbrev pub are_types : List TypeValue → List Name → Bool
 are_types declared names = list_all (is_in (types_of declared)) names
 
--- Tops of a slot hold the first number of a name's span where the name is under some primitive of the slot, unless neither the name nor some primitive is a type.
+-- Tops of a slot hold the first number of a type's span where the type is under some primitive of the slot.
 abbrev pub DoTell : TypesValue → Type 0
-DoTell t = (n : Name) (slot : List Name) (tops : List Span) → IsTold t slot tops → IsTrue (is_in (types_of t.declared) n) ⊎ IsTrue (are_types t.declared slot)
+DoTell t = (n : Name) (slot : List Name) (tops : List Span) → IsTold t slot tops → IsTrue (is_in (types_of t.declared) n)
     → some_holds tops (span_of t n).first ≡ list_any (is_under (pairs t.declared) n) slot
 
 -- ---- objects
@@ -65,8 +58,10 @@ pub record HaveEach {T : Type 0} (Holds : List Name → T → Type 0) (objects :
   pub each : (k : ℕ) (v : T) (x : TypedValue) → slice_get objects k ≡ Some x → slice_get values k ≡ Some v → Holds x.of v
 
 -- no objects are listed
-abbrev pub IsEmpty : {A B : _} → Listed A B → Type 0
-IsEmpty l = (l.objects.entries ≡ []) × (l.spans.items ≡ [])
+pub record IsEmpty {A B : Type 0} (l : Listed A B) : Type 0 where
+  pub objects : l.objects.entries ≡ []
+  pub types : l.types.items ≡ []
+  pub spans : l.spans.items ≡ []
 
 -- objects that are listed stand each under its own name, with such a span
 pub record AreListed {A B : Type 0} (t : TypesValue) (l : Listed A B) : Type 0 where

@@ -1,51 +1,88 @@
-//! Predicates, functions and actions by name, with the tops of the types of their parameters.
+//! Predicates, functions and actions by name, with the types of their parameters.
 
-ghost use Rattle.std.specs.Prelude.{◌≡◌, [], map, OnOk};
-ghost use Rattle.pddl_task.specs.Names.{repeated};
-ghost use Rattle.pddl_task.specs.Settings.{symbol_of};
-ghost use Rattle.pddl_types.specs.ToldTops.{AreKept};
-ghost use Rattle.pddl_types.specs.Signatures.{HaveSignatures};
+ghost use Rattle.std.specs.Prelude.{◌≡◌, [], ◌∷◌, ◌++◌, List, map, not, IfOk};
+ghost use Rattle.std.specs.List.{flat_map};
+ghost use Rattle.pddl_domain.specs.Declarations.{Signature};
+ghost use Rattle.pddl_task.specs.Names.{repeated, is_in};
+ghost use Rattle.pddl_task.specs.Settings.{symbol_of, parameters_of};
+ghost use Rattle.pddl_faults.specs.Passes.{Passes};
+ghost use Rattle.pddl_faults.specs.Found.{IsFound, numbered};
+ghost use Rattle.pddl_types.specs.Told.{AreTold, AreKept, unknown_among};
+ghost use Rattle.pddl_types.specs.KnownNames.{signature_in};
+ghost use Rattle.pddl_types.specs.Signatures.{AreSlotsAt, AreFirst, HaveFirst};
 
 use crate::declares::Declares;
-use crate::told_tops::ToldTops;
+use crate::told::Told;
 use crate::types::Types;
 use indexmap::IndexMap;
+use pddl_faults::{LinkFault, lower, once};
 use pddl_formula::Typed;
 use pddl_hash::Hashed;
-use std::alloc::{AllocError, Allocator};
+use std::alloc::Allocator;
 
-/// The parameters of what is declared, and the numbers at which the tops of their types are told. Parameters of one group share theirs.
+/// The parameters of what is declared, and the numbers at which their types are told.
 #[derive(Drop)]
 pub struct Slots<'m, 'a, A: Allocator, B: Allocator> {
     pub parameters: &'m [Typed<A>],
     pub numbers: Vec<usize, &'a B>,
 }
 
-/// Predicates, functions or actions by name, in the order in which they are declared.
+/// Predicates, functions or actions by name, in the order in which they are declared; of several of one name the first.
 pub type Signatures<'m, 'a, A, B> = IndexMap<&'m [u8], Slots<'m, 'a, A, B>, Hashed, &'a B>;
 
-/// Puts what is declared into an empty table, each name once, and tells the tops of the types of parameters.
+/// Puts what is declared into a table, where its name is new there, and tells the types of its parameters. Answers whether it is new.
+fn put_one<'m, 'a, A: Allocator, B: Allocator, D: Declares<A>>(
+    types: &Types<'m, 'a, A, B>,
+    told: &mut Told<'m, 'a, A, B>,
+    table: &mut Signatures<'m, 'a, A, B>,
+    declared: &'m D,
+) -> Result<bool, LinkFault<'m>>
+    requires told { AreTold types.now told.old }
+    requires slots { AreSlotsAt told.old table.old.entries }
+    ensures told { AreTold types.now told.new }
+    ensures kept { AreKept told.old told.new }
+    ensures passes { Passes 23 (unknown_among types.now.declared (D.signature declared.now).parameters) result }
+    ensures slots { AreSlotsAt told.new table.new.entries }
+    ensures first { (seen : List Signature) → AreFirst (map signature_in table.old.entries) seen
+        → IfOk result (λ is_new. (is_in (map symbol_of seen) (D.signature declared.now).name ≡ not is_new) × AreFirst (map signature_in table.new.entries) (seen ++ D.signature declared.now ∷ [])) }
+{
+    let parameters = declared.parameters();
+    let numbers = told.tell_all(*table.allocator(), types, parameters)?;
+    let name = declared.name();
+    if table.contains_key(name) {
+        return Ok(false);
+    }
+    let slots = Slots {
+        parameters: parameters.as_slice(),
+        numbers,
+    };
+    table.insert(name, slots)?;
+    Ok(true)
+}
+
+/// Puts what is declared into an empty table, and tells the types of parameters. Answers the fault of a name that stands twice.
 ///
-/// Fails where memory for it is refused.
+/// # Errors
+///
+/// `LinkFault::UnknownType`; `Memory` where memory for the table is refused.
 pub(crate) fn put<'m, 'a, A: Allocator, B: Allocator, D: Declares<A>>(
     types: &Types<'m, 'a, A, B>,
-    told: &mut ToldTops<'a, B>,
+    told: &mut Told<'m, 'a, A, B>,
     table: &mut Signatures<'m, 'a, A, B>,
     declared: &'m [D],
-) -> Result<(), AllocError>
+) -> Result<Result<(), LinkFault<'m>>, LinkFault<'m>>
+    requires told { AreTold types.now told.old }
     requires empty { table.old.entries ≡ [] }
-    requires once { repeated [] (map symbol_of (map D.signature declared.now)) ≡ [] }
+    ensures told { AreTold types.now told.new }
     ensures kept { AreKept told.old told.new }
-    ensures held { OnOk result (HaveSignatures types.now told.new table.new.entries (map D.signature declared.now)) }
+    ensures passes { Passes 23 (unknown_among types.now.declared (flat_map parameters_of (map D.signature declared.now))) result }
+    ensures found { IfOk result (IsFound (numbered 24 (repeated [] (map symbol_of (map D.signature declared.now))))) }
+    ensures held { IfOk result (λ _. HaveFirst told.new table.new.entries (map D.signature declared.now)) }
 {
+    let mut found = Ok(());
     for each in declared {
-        let parameters = each.parameters();
-        let numbers = told.tell_all(*table.allocator(), types, parameters)?;
-        let slots = Slots {
-            parameters: parameters.as_slice(),
-            numbers,
-        };
-        table.insert(each.name(), slots)?;
+        let is_new = put_one(types, told, table, each)?;
+        found = lower(found, once(is_new, each.name()));
     }
-    Ok(())
+    Ok(found)
 }

@@ -1,13 +1,11 @@
 //! The types of a domain with their parents, looked up by name.
 
-ghost use Rattle.std.specs.Prelude.{◌≡◌, ◌<◌, ◌⊎◌, ℕ, List, suc, [], IsTrue, map, not, filter, length, slice_get, Some, IfOk, OnOk};
-ghost use Rattle.std.specs.List.{flat_map, list_any};
-ghost use Rattle.pddl_formula.specs.TypedLists.{TypedValue, typed_view};
+ghost use Rattle.std.specs.Prelude.{◌≡◌, ◌<◌, ℕ, List, [], IsTrue, map, not, filter, length, IfOk, OnOk};
+ghost use Rattle.std.specs.List.{list_any};
 ghost use Rattle.pddl_domain.specs.Declarations.{type_view};
 ghost use Rattle.pddl_task.specs.Names.{is_in, repeated, item_of};
 ghost use Rattle.pddl_task.specs.Types.{types_of, pairs, is_under, is_subtype, fits};
-ghost use Rattle.pddl_task.specs.Faults.{primitives_of};
-ghost use Rattle.pddl_forest.specs.Spans.{AreApart};
+ghost use Rattle.pddl_forest.specs.Spans.{AreApart, hold_all};
 ghost use Rattle.pddl_faults.specs.Passes.{Passes};
 ghost use Rattle.pddl_types.specs.TypeTables.{cycle_in};
 ghost use Rattle.pddl_types.specs.TypeSpans.{span_of, IsTold, DoTell, are_types, IsOnlySpan};
@@ -18,7 +16,7 @@ use pddl_build::both_made;
 use pddl_domain::{DeclaredType, DeclaredTypes};
 use pddl_faults::LinkFault;
 use pddl_forest::{Span, hold_all, keep_tops};
-use pddl_formula::{TypeNames, TypedList};
+use pddl_formula::TypeNames;
 use pddl_hash::Hashed;
 use std::alloc::{AllocError, Allocator};
 use std::marker::Model;
@@ -114,15 +112,23 @@ impl<'m, 'a, A: Allocator, B: Allocator> Types<'m, 'a, A, B> {
         self.contains(sub) && self.contains(over) && self.span(over).holds(self.span(sub).first)
     }
 
-    /// Whether a term of a type of which the first spans are told fits a slot of which the second are. One of the two types has known primitives.
+    /// Whether a term of a type of which the first spans are told fits a slot of which the second are. The term's has known primitives.
     pub fn fits(&self, told: &[Span], tops: &[Span]) -> bool
         requires tops { AreApart tops.now }
         requires told { 1 < length told.now → AreApart told.now }
         ensures { (types slot : List (List ℕ)) → IsTold self.now types told.now → IsTold self.now slot tops.now
-            → IsTrue (are_types self.now.declared types) ⊎ IsTrue (are_types self.now.declared slot) → result ≡ fits (pairs self.now.declared) types slot }
+            → IsTrue (are_types self.now.declared types) → result ≡ fits (pairs self.now.declared) types slot }
     {
         let _ = &self.spans;
         hold_all(tops, told)
+    }
+
+    /// Tops tell of two types whether one fits the other.
+    pub(crate) fn tops_decide(&self)
+        ensures { (types slot : List (List ℕ)) (told tops : List Span) → IsTold self.now types told → IsTold self.now slot tops → IsTrue (are_types self.now.declared types)
+            → hold_all tops told ≡ fits (pairs self.now.declared) types slot }
+    {
+        let _ = &self.spans;
     }
 
     /// Whether a type of this span is under some primitive of a slot's type, each of which is looked up.
@@ -161,10 +167,11 @@ impl<'m, 'a, A: Allocator, B: Allocator> Types<'m, 'a, A, B> {
     }
 
     /// The primitives of a type are types.
-    fn known_primitives<'d, T: Allocator>(
-        &self,
-        types: &'d TypeNames<T>,
-    ) -> Result<(), LinkFault<'d>>
+    ///
+    /// # Errors
+    ///
+    /// `LinkFault::UnknownType` of the first that is none.
+    pub fn known<'d, T: Allocator>(&self, types: &'d TypeNames<T>) -> Result<(), LinkFault<'d>>
         ensures { Passes 23 (filter (λ t. not (is_in (types_of self.now.declared) t)) types.now) result }
     {
         let primitives = types.as_slice();
@@ -172,18 +179,6 @@ impl<'m, 'a, A: Allocator, B: Allocator> Types<'m, 'a, A, B> {
             let name = primitive.as_bytes();
             if !self.contains(name) {
                 return Err(LinkFault::UnknownType(name));
-            }
-        }
-        Ok(())
-    }
-
-    /// The primitive types of what is typed are types, which is looked at once for each group.
-    pub fn known<'d, T: Allocator>(&self, typed: &'d TypedList<T>) -> Result<(), LinkFault<'d>>
-        ensures { Passes 23 (filter (λ t. not (is_in (types_of self.now.declared) t)) (flat_map primitives_of (map typed_view typed.now.items))) result }
-    {
-        for place in 0..typed.len() {
-            if !typed.shares(place) {
-                self.known_primitives(&typed[place].types)?;
             }
         }
         Ok(())

@@ -177,6 +177,27 @@ file (define (problem x) (:domain d) (:objects o - a o - b) (:init) (:goal (and)
 | link: fault 24 NameTwice p
 refused problem
 
+row an unknown type behind a name that stands twice
+file (define (domain d) (:predicates (p) (p ?x)) (:action n :precondition (exists (?y - u) (and))))
+| link: fault 23 UnknownType u
+refused domain
+copy bare
+file
+| link: fault 23 UnknownType u
+refused problem
+
+row an unknown type behind an object with two types
+file (define (domain d) (:types a b) (:predicates (p ?x - a)))
+file (define (problem x) (:domain d) (:objects o - a o - b) (:init (p o)) (:goal (forall (?y - u) (p ?y))))
+| link: fault 23 UnknownType u
+refused problem
+
+row an object of several types that does not fit
+file (define (domain d) (:types a b) (:predicates (p ?x - a)))
+file (define (problem x) (:domain d) (:objects o - (either a b)) (:init (p o)) (:goal (and)))
+| link: fault 25 ObjectTypes o
+refused problem
+
 row long names that begin alike
 file (define (domain d) (:predicates (abcdefghijklmnopqrstuvwxyzabcde) (abcdefghijklmnopqrstuvwxyzabcdef) (abcdefghijklmnopqrstuvwxyzabcdeg) (abcdefghijklmnopqrstuvwxyzabcdefg)))
 | good: domain d

@@ -1,7 +1,7 @@
 use Rattle.std.proofs.Common.{[], not, ap, sym, ◌∙◌, subst}
 use Rattle.pddl_task.specs.Names.{is_in}
 use Rattle.pddl_faults.proofs.ListTurns.{seen_more}
-use Rattle.pddl_search.proofs.SeenItems.{seen_bad, seen_good}
+use Rattle.pddl_faults.proofs.SeenItems.{seen_bad, seen_good}
 use Rattle.pddl_names.proofs.SeenNames.{HasNames, names_more, was_seen}
 use Rattle.pddl_names.proofs.repeats.repeat_among.Goals as goal
 

@@ -1,6 +1,6 @@
 use Rattle.std.proofs.Common.{[]}
 use Rattle.pddl_task.specs.Names.{is_in}
-use Rattle.pddl_search.proofs.SeenItems.{seen_at, AreLeft}
+use Rattle.pddl_faults.proofs.SeenItems.{seen_at, AreLeft}
 use Rattle.pddl_names.proofs.SeenNames.{HasNames}
 use Rattle.pddl_names.proofs.repeats.repeat_among.Given as goal
 

@@ -4,7 +4,7 @@ use Rattle.pddl_domain.specs.Actions.{action_view}
 use Rattle.pddl_task.specs.Tasks.{task_count}
 use Rattle.pddl_linked_task.specs.LinkedTasks.{task_of_files}
 use Rattle.pddl_faults.proofs.ListTurns.{views_drop}
-use Rattle.pddl_types.proofs.SignatureTables.{held_more, held_all}
+use Rattle.pddl_plan_tables.proofs.HeldNames.{held_more, held_all}
 use Rattle.pddl_plan_tables.specs.StepTables.{named_action, named_in}
 use Rattle.pddl_plan_tables.proofs.NamedActions.{name_in, is_named, held_start, entry_is}
 use Rattle.pddl_plan_tables.proofs.action_table.actions_by_name.Goals as goal

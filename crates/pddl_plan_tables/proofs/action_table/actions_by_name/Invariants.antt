@@ -2,7 +2,7 @@ use Rattle.std.proofs.Common.{drop, map}
 use Rattle.pddl_domain.specs.Actions.{action_view}
 use Rattle.pddl_task.specs.Tasks.{task_count}
 use Rattle.pddl_linked_task.specs.LinkedTasks.{task_of_files}
-use Rattle.pddl_types.proofs.SignatureTables.{AreHeld}
+use Rattle.pddl_plan_tables.proofs.HeldNames.{AreHeld}
 use Rattle.pddl_plan_tables.specs.StepTables.{named_action, named_in}
 use Rattle.pddl_plan_tables.proofs.NamedActions.{name_in}
 use Rattle.pddl_plan_tables.proofs.action_table.actions_by_name.Given as goal

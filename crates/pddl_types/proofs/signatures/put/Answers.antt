@@ -1,48 +1,46 @@
-use Rattle.std.proofs.Common.{map, refl, sym, ap, subst, arith}
-use Rattle.std.proofs.lemmas.List.{drop_all}
-use Rattle.pddl_formula.specs.TypedLists.{typed_view}
-use Rattle.pddl_task.specs.Settings.{symbol_of}
-use Rattle.pddl_faults.proofs.ListTurns.{views_drop}
+use Rattle.std.proofs.Common.{◌+◌, [], map, not, take, drop, refl, sym, ap, ◌∙◌, subst}
+use Rattle.std.proofs.lemmas.Result.{err_from_is_err_and}
+use Rattle.pddl_task.specs.Names.{word_if}
+use Rattle.pddl_faults.proofs.FoundFaults.{up_to_more}
+use Rattle.pddl_faults.proofs.ListTurns.{views_drop, seen_more}
+use Rattle.pddl_faults.proofs.PassedParts.{pass_front}
 use Rattle.pddl_types.specs.KnownNames.{signature_in}
-use Rattle.pddl_types.specs.ToldTops.{AreToldAt}
-use Rattle.pddl_types.specs.Signatures.{AreSlotsTold}
-use Rattle.pddl_types.specs.declared.signatures.Slots.{Slots}
-use Rattle.pddl_types.proofs.Lookups.{is_symbol}
-use Rattle.pddl_types.proofs.NumberedTops.{kept_self, kept_then, slots_none, slots_more}
-use Rattle.pddl_types.proofs.SignatureTables.{held_none, held_all, last_put, held_more, signature_is}
+use Rattle.pddl_types.specs.Signatures.{AreFirst}
+use Rattle.pddl_faults.proofs.FoundFaults.{passed_as}
+use Rattle.pddl_types.proofs.ToldTypes.{kept_then}
+use Rattle.pddl_types.proofs.SignatureTables.{repeated_left}
+use Rattle.pddl_types.proofs.UnknownTypes.{declared_left}
 use Rattle.pddl_types.proofs.signatures.put.Goals as goal
 
-pub loop-each-init : goal.loop-each-init
-loop-each-init g c = record {
-  kept = kept_self c.args.told.now;
-  held = held_none signature_in symbol_of _ c.args.table.now.entries c.requires.empty c.requires.once;
-  told = subst (AreSlotsTold c.args.types.now c.args.told.now) (sym c.requires.empty) (slots_none c.args.types.now c.args.told.now);
-}
-
-pub returns-in_err-numbers-clause-kept : goal.returns-in_err-numbers-clause-kept
-returns-in_err-numbers-clause-kept g c = kept_then c.args.told.now c.loop-each.told c.tell_all.new.self c.loop-each.invariant.kept c.tell_all.ensures.kept
-
-pub returns-in_err-insert-clause-kept : goal.returns-in_err-insert-clause-kept
-returns-in_err-insert-clause-kept g c = kept_then c.args.told.now c.loop-each.told c.tell_all.new.self c.loop-each.invariant.kept c.tell_all.ensures.kept
+pub returns-in_err-is_new-clause-passes : goal.returns-in_err-is_new-clause-passes
+returns-in_err-is_new-clause-passes g c =
+    let signature = g.D.Declares.signature in
+    let x = c.each-item.result in
+    let left = declared_left c.args.types.now.declared signature c.args.declared.now c.loop-each.each-index x (signature x).parameters c.loop-each-test.true c.each-item.is refl in
+    let p = err_from_is_err_and c.from_residual.result c.from_residual.ensures.1 in
+    rw (p.1, p.2) (pass_front 23 _ _ _ c.in_err-is_new.field-0.0 (sym c.loop-each.invariant.left ∙ left) c.in_err-is_new.ensures.passes)
 
 pub loop-each-preserved : goal.loop-each-preserved
 loop-each-preserved g c =
-    let t = c.args.types.now in
     let signature = g.D.Declares.signature in
+    let all = c.args.declared.now in
+    let i = c.loop-each.each-index in
     let x = c.each-item.result in
-    let slots : Slots g.row.A.Denot g.row.B.Denot = record { parameters = c.as_slice.result; numbers = c.in_ok-numbers.numbers } in
-    let front = views_drop signature c.args.declared.now c.loop-each.each-index x c.loop-each-test.true c.each-item.is in
-    let same = signature_is c.name.result slots (signature x) c.parameters-parameters.result.now.items c.name.ensures c.as_slice.ensures.value c.parameters-parameters.ensures in
-    let held = c.loop-each.invariant.held in
-    let last = last_put signature_in symbol_of is_symbol _ c.loop-each.table c.insert.new.self _ _ (signature x) c.name.result slots front same refl held c.in_ok-insert.ensures.entries in
+    let before = c.loop-each.invariant in
+    let seen = map signature (take i all) in
+    let more = seen_more signature [] all i x c.loop-each-test.true c.each-item.is in
+    let left = declared_left c.args.types.now.declared signature all i x (signature x).parameters c.loop-each-test.true c.each-item.is refl in
+    let rest = views_drop signature all i x c.loop-each-test.true c.each-item.is in
+    let first = c.in_ok-is_new.ensures.first seen before.first in
     record {
-      kept = kept_then c.args.told.now c.loop-each.told c.tell_all.new.self c.loop-each.invariant.kept c.tell_all.ensures.kept;
-      held = held_more signature_in symbol_of is_symbol _ c.loop-each.table c.insert.new.self _ _ (signature x) c.name.result slots front same refl held c.in_ok-insert.ensures.entries;
-      told = subst (AreSlotsTold t c.tell_all.new.self) (sym last) (slots_more t c.loop-each.told c.tell_all.new.self c.loop-each.table.entries (c.name.result, slots) c.tell_all.ensures.kept c.loop-each.invariant.told
-          (subst (λ xs. AreToldAt t c.tell_all.new.self (map typed_view xs) c.in_ok-numbers.numbers.items) (sym c.as_slice.ensures.value) c.in_ok-numbers.ensures.numbers));
+      types = c.put_one.ensures.told;
+      kept = kept_then c.args.told.now c.loop-each.told c.put_one.new.told before.kept c.put_one.ensures.kept;
+      slots = c.put_one.ensures.slots;
+      first = subst (AreFirst (map signature_in c.put_one.new.table.entries)) (sym more) first.1;
+      found =
+          up_to_more _ c.once.result
+          (repeated_left seen (map signature (take (i + 1) all)) (map signature (drop i all)) (map signature (drop (i + 1) all)) (signature x) more rest)
+          c.lower-found.ensures.found
+          (passed_as 24 c.once.result (ap (word_if (not c.in_ok-is_new.is_new)) c.name.ensures ∙ ap (λ b. word_if b (signature x).name) (sym first.0)) c.once.ensures) before.found;
+      left = rw (left, c.in_ok-is_new.ensures.passes) at before.left;
     }
-
-pub returns : goal.returns
-returns g c =
-    let all = held_all signature_in symbol_of _ c.loop-each.table.entries _ (ap (map g.D.Declares.signature) (drop_all c.loop-each.each-index c.args.declared.now (omega (arith, c.loop-each-test.false)))) c.loop-each.invariant.held in
-    record { kept = c.loop-each.invariant.kept; held = record { signatures_are = all; tops = c.loop-each.invariant.told } }

@@ -1,15 +1,25 @@
-use Rattle.std.proofs.Common.{drop, map}
-use Rattle.pddl_task.specs.Settings.{symbol_of}
+use Rattle.std.proofs.Common.{◌≡◌, [], map, take, drop}
+use Rattle.std.specs.List.{flat_map}
+use Rattle.pddl_task.specs.Names.{repeated}
+use Rattle.pddl_task.specs.Settings.{symbol_of, parameters_of}
+use Rattle.pddl_faults.specs.Found.{numbered}
+use Rattle.pddl_faults.proofs.FoundFaults.{IsFoundUpTo}
 use Rattle.pddl_types.specs.KnownNames.{signature_in}
-use Rattle.pddl_types.specs.ToldTops.{AreKept}
-use Rattle.pddl_types.specs.Signatures.{AreSlotsTold}
-use Rattle.pddl_types.proofs.SignatureTables.{AreHeld}
+use Rattle.pddl_types.specs.Told.{AreTold, AreKept, unknown_among}
+use Rattle.pddl_types.specs.Signatures.{AreSlotsAt, AreFirst}
 use Rattle.pddl_types.proofs.signatures.put.Given as goal
 
--- what is held and what is left are all of them, and the tops of what is held are told
+-- what was declared so far is held, each name that stands twice is found, and what is unknown is unknown in the rest
 abbrev pub invariant-loop-each : goal.invariant-loop-each
-invariant-loop-each g l = record {
-  kept : AreKept l.fn.told l.told;
-  held : AreHeld signature_in symbol_of (map g.D.Declares.signature l.declared) l.table.entries (map g.D.Declares.signature (drop l.each-index l.declared));
-  told : AreSlotsTold l.types l.told l.table.entries;
-}
+invariant-loop-each g l =
+    let seen = map g.D.Declares.signature (take l.each-index l.declared) in
+    let left = map g.D.Declares.signature (drop l.each-index l.declared) in
+    let all = map g.D.Declares.signature l.declared in
+    record {
+      types : AreTold l.types l.told;
+      kept : AreKept l.fn.told l.told;
+      slots : AreSlotsAt l.told l.table.entries;
+      first : AreFirst (map signature_in l.table.entries) seen;
+      found : IsFoundUpTo (numbered 24 (repeated (map symbol_of seen) (map symbol_of left))) (numbered 24 (repeated [] (map symbol_of all))) l.found;
+      left : unknown_among l.types.declared (flat_map parameters_of left) ≡ unknown_among l.types.declared (flat_map parameters_of all);
+    }

@@ -15,3 +15,6 @@ returns g c =
     c.fits_by.ensures x.of (c.parameter_tops-tops.ensures.told t.types d a x c.self.invariant.behind.declared_are here there)
     ∙ ap (λ ds. option_map_or (λ (o : TypedValue). fits (pairs ds) o.of x.of) (slice_get (map object_in t.listed.objects.entries) c.args.object) false) c.self.invariant.types_are
     ∙ ap (λ os. option_map_or (λ (o : TypedValue). fits (pairs d.types) o.of x.of) (slice_get os c.args.object) false) c.self.invariant.behind.objects_are)
+
+pub fits_by-requires-clause-apart : goal.fits_by-requires-clause-apart
+fits_by-requires-clause-apart g c = c.parameter_tops-tops.ensures.apart c.self.inside.types c.self.invariant.behind.declared_are.told

@@ -2,7 +2,8 @@ use Rattle.std.proofs.Common.{◌<◌, map, length, sym, ◌∙◌, add-one, ari
 use Rattle.std.specs.List.{slice_index_or}
 use Rattle.std.proofs.lemmas.Option.{slice_get-get_or}
 use Rattle.pddl_formula.specs.TypedLists.{typed_view}
-use Rattle.pddl_search.proofs.Scopes.{viewed_at, entered_next}
+use Rattle.pddl_faults.proofs.ListTurns.{viewed_at}
+use Rattle.pddl_search.proofs.Scopes.{entered_next}
 use Rattle.pddl_search.proofs.scope.Scope.enter.Goals as goal
 
 pub loop-place-preserved : goal.loop-place-preserved

@@ -1,0 +1,35 @@
+use Rattle.std.proofs.Common.{[], map, subst}
+use Rattle.pddl_domain.specs.Actions.{action_view}
+use Rattle.pddl_domain.specs.Domains.{domain_view}
+use Rattle.pddl_task.specs.Settings.{in_domain}
+use Rattle.pddl_faults.specs.Found.{IsFound}
+use Rattle.pddl_names.specs.Uses.{place_faults}
+use Rattle.pddl_names.specs.FaultParts.{action_faults}
+use Rattle.pddl_names.proofs.HeldFiles.{nothing_bound, known_faults}
+use Rattle.pddl_names.proofs.files.Files.look_at_actions.Goals as goal
+
+pub returns-clause-held : goal.returns-clause-held
+returns-clause-held g c =
+    let h = c.requires in
+    let b = c.search_actions.ensures.kept (nothing_bound _ _ c.new-scope.result c.new-scope.ensures h.symbols.predicates.slots h.symbols.functions.slots h.constants_are.types) in
+    record {
+      symbols = record {
+        told = c.search_actions.ensures.told;
+        predicates = record { first = h.symbols.predicates.first; slots = b.predicates };
+        functions = record { first = h.symbols.functions.first; slots = b.functions };
+        actions = h.symbols.actions;
+      };
+      listed_are = h.listed_are;
+      constants_are = record { objects = h.constants_are.objects; types = b.objects };
+    }
+
+pub returns-clause-found : goal.returns-clause-found
+returns-clause-found g c =
+    let f = c.args.self.now in
+    let d = domain_view f.domain.now in
+    let h = c.requires in
+    let r = c.search_actions.result in
+    let found = c.search_actions.ensures.found (nothing_bound _ _ c.new-scope.result c.new-scope.ensures h.symbols.predicates.slots h.symbols.functions.slots h.constants_are.types) in
+    subst (λ xs. IsFound (action_faults (place_faults f.types.now.declared (in_domain d)) [] (map action_view xs)) r) c.deref.ensures.value
+    (subst (λ sought. IsFound (action_faults sought [] (map action_view c.deref.result.now)) r)
+    (known_faults f.types.now d f.typed h.symbols.predicates.first h.symbols.functions.first h.constants_are.objects) found)

@@ -1,0 +1,16 @@
+use Rattle.std.proofs.Common.{subst}
+use Rattle.std.specs.List.{flat_map}
+use Rattle.pddl_domain.specs.Domains.{domain_view}
+use Rattle.pddl_problem.specs.Problems.{problem_view}
+use Rattle.pddl_task.specs.Places.{problem_places}
+use Rattle.pddl_faults.specs.Found.{IsFound}
+use Rattle.pddl_names.proofs.HeldFiles.{nothing_bound, known_faults}
+use Rattle.pddl_names.proofs.files.Files.look_at_places.Goals as goal
+
+pub returns-clause-found : goal.returns-clause-found
+returns-clause-found g c =
+    let f = c.args.self.now in
+    let h = c.requires in
+    let found = c.search_problem.ensures.found (nothing_bound _ _ c.new-scope.result c.new-scope.ensures h.symbols.predicates.slots h.symbols.functions.slots h.objects_are.types) in
+    subst (λ sought. IsFound (flat_map sought (problem_places (problem_view c.args.problem.now))) c.search_problem.result)
+    (known_faults f.types.now (domain_view f.domain.now) f.typed h.symbols.predicates.first h.symbols.functions.first h.objects_are.objects) found

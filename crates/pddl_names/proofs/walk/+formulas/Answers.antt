@@ -1,0 +1,129 @@
+use Rattle.std.proofs.Common.{map, refl, ap, inl, inr, arith}
+use denote.Param.Weighed.{most}
+use Rattle.std.proofs.lemmas.Result.{err_from_is_err_and}
+use Rattle.pddl_formula.specs.TypedLists.{typed_view}
+use Rattle.pddl_formula.specs.Formulas.{formula_view}
+use Rattle.pddl_formula.proofs.formula.Formula.TheLaws.{the_size}
+use Rattle.pddl_formula.proofs.Depths.{among, under_not, under_imply, under_and, under_or, under_exists, under_forall}
+use Rattle.pddl_formula.proofs.Views.{view_atom, view_equal, view_not, view_imply, view_and, view_or, view_exists, view_forall}
+use Rattle.pddl_task.specs.Places.{places_in}
+use Rattle.pddl_names.proofs.ToldUses.{bound_left}
+use Rattle.pddl_names.proofs.Walks.{stopped, in_turn, within, at_start, one_more, at_end}
+use Rattle.pddl_names.proofs.walk.+formulas.Goals as goal
+
+pub search_formula-returns-in-Imply-clause-searched : goal.search_formula-returns-in-Imply-clause-searched
+search_formula-returns-in-Imply-clause-searched g t c =
+    rw (c.in-Imply.is, view_imply c.in-Imply.first c.in-Imply.second)
+    (in_turn (rw c.deref-in-Imply.ensures at c.search_formula-first.ensures.searched) (rw c.deref-in-Imply-2.ensures at c.search_formula-in-Imply.ensures.searched) c.lower.ensures.found)
+
+pub search_formula-returns-in-Atom-clause-searched : goal.search_formula-returns-in-Atom-clause-searched
+search_formula-returns-in-Atom-clause-searched g t c = rw (c.in-Atom.is, view_atom c.in-Atom.atom) (rw c.of_atom.ensures at c.look.ensures.searched)
+
+pub search_formula-returns-in-Equal-clause-searched : goal.search_formula-returns-in-Equal-clause-searched
+search_formula-returns-in-Equal-clause-searched g t c = rw (c.in-Equal.is, view_equal c.in-Equal.first c.in-Equal.second) c.look-in-Equal.ensures.searched
+
+pub search_formula-returns-in-Not-clause-searched : goal.search_formula-returns-in-Not-clause-searched
+search_formula-returns-in-Not-clause-searched g t c = rw (c.in-Not.is, view_not c.in-Not.inner) (rw c.deref.ensures at c.search_formula.ensures.searched)
+
+pub search_formula-returns-in-And-clause-searched : goal.search_formula-returns-in-And-clause-searched
+search_formula-returns-in-And-clause-searched g t c =
+    elim c.in-And.is [
+      | inl here ↦ rw (here, view_and c.in-And.parts) c.search_formulas.ensures.searched
+      | inr here ↦ rw (here, view_or c.in-And.parts) c.search_formulas.ensures.searched
+    ]
+
+pub search_formula-returns-in_err-enter-in-Exists-clause-searched : goal.search_formula-returns-in_err-enter-in-Exists-clause-searched
+search_formula-returns-in_err-enter-in-Exists-clause-searched g t c =
+    let p = err_from_is_err_and c.from_residual.result c.from_residual.ensures.1 in
+    let stop = c.in_err-enter-in-Exists in
+    let whole = stopped c.args.known.now (places_in (formula_view c.in-Exists.inner.value)) (map typed_view c.in-Exists.variables.items) stop.field-0.0 stop.ensures.passes stop.ensures.bound in
+    elim c.in-Exists.is [
+      | inl here ↦ rw (p.1, p.2, here, view_exists c.in-Exists.variables c.in-Exists.inner) whole
+      | inr here ↦ rw (p.1, p.2, here, view_forall c.in-Exists.variables c.in-Exists.inner) whole
+    ]
+
+pub search_formula-returns-in_ok-enter-in-Exists-clause-searched : goal.search_formula-returns-in_ok-enter-in-Exists-clause-searched
+search_formula-returns-in_ok-enter-in-Exists-clause-searched g t c =
+    let entered = c.in_ok-enter-in-Exists.ensures in
+    let whole = within c.args.known.now (map typed_view c.in-Exists.variables.items) c.variable_twice.result entered.passes c.variable_twice.ensures entered.bound
+    (rw c.deref-in-Exists.ensures at c.search_formula-found.ensures.searched) (λ b is. bound_left c.in-Exists.variables.items c.len.result c.len.ensures c.leave.ensures is)
+    c.lower-in-Exists.ensures.found in
+    elim c.in-Exists.is [
+      | inl here ↦ rw (here, view_exists c.in-Exists.variables c.in-Exists.inner) whole
+      | inr here ↦ rw (here, view_forall c.in-Exists.variables c.in-Exists.inner) whole
+    ]
+
+pub search_formulas-loop-formula-init : goal.search_formulas-loop-formula-init
+search_formulas-loop-formula-init g t c = record { told = c.requires; come = at_start }
+
+pub search_formulas-loop-formula-preserved : goal.search_formulas-loop-formula-preserved
+search_formulas-loop-formula-preserved g t c =
+    let come = c.loop-formula.invariant.come in
+    let next = c.search_formula.ensures.searched in
+    record {
+      told = c.search_formula.ensures.told;
+      come = one_more (places_in (formula_view c.formula-item.result)) c.deref-formula-items.result.now c.formula-item.result c.search_formula.result c.deref-formula-items.ensures.value
+          c.loop-formula-test.true c.formula-item.is
+          (λ b rest. refl) come next.kept (λ b is. next.found b (come.kept b is)) c.lower-found.ensures.found;
+    }
+
+pub search_formulas-returns-clause-searched : goal.search_formulas-returns-clause-searched
+search_formulas-returns-clause-searched g t c = record {
+  kept = c.loop-formula.invariant.come.kept;
+  found = at_end c.deref-formula-items.result.now c.deref-formula-items.ensures.value c.loop-formula-test.false (λ b. refl) c.loop-formula.invariant.come;
+}
+
+pub search_formula-search_formula-requires : goal.search_formula-search_formula-requires
+search_formula-search_formula-requires g t c κs lives =
+    (omega (arith, under_not g.row.A g.A.Allocator g.A.laws c.args.formula.now c.deref.result.now c.in-Not.inner c.in-Not.is c.deref.ensures, c.decreases), (lives.0, (lives.1, c.requires)))
+
+pub search_formula-search_formula-first-requires : goal.search_formula-search_formula-first-requires
+search_formula-search_formula-first-requires g t c κs lives =
+    let under = under_imply g.row.A g.A.Allocator g.A.laws c.args.formula.now c.deref-in-Imply.result.now c.in-Imply.second.value c.in-Imply.first c.in-Imply.second c.in-Imply.is
+    c.deref-in-Imply.ensures refl in
+    (omega (arith, under.0, c.decreases), (lives.0, (lives.1, c.requires)))
+
+pub search_formula-search_formula-requires-in-Imply : goal.search_formula-search_formula-requires-in-Imply
+search_formula-search_formula-requires-in-Imply g t c κs lives =
+    let under = under_imply g.row.A g.A.Allocator g.A.laws c.args.formula.now c.in-Imply.first.value c.deref-in-Imply-2.result.now c.in-Imply.first c.in-Imply.second c.in-Imply.is
+    refl c.deref-in-Imply-2.ensures in
+    (omega (arith, under.1, c.decreases), (lives.0, (lives.1, c.search_formula-first.ensures.told)))
+
+pub search_formula-search_formulas-requires : goal.search_formula-search_formulas-requires
+search_formula-search_formulas-requires g t c κs lives =
+    elim c.in-And.is [
+      | inl here ↦ (omega (arith, under_and g.row.A g.A.Allocator g.A.laws c.args.formula.now c.in-And.parts.items c.in-And.parts here refl, c.decreases), (lives.0, (lives.1, c.requires)))
+      | inr here ↦ (omega (arith, under_or g.row.A g.A.Allocator g.A.laws c.args.formula.now c.in-And.parts.items c.in-And.parts here refl, c.decreases), (lives.0, (lives.1, c.requires)))
+    ]
+
+pub search_formula-search_formula-found-requires : goal.search_formula-search_formula-found-requires
+search_formula-search_formula-found-requires g t c κs lives =
+    let told = c.enter.ensures.told in
+    elim c.in-Exists.is [
+      | inl here ↦ (
+        omega (
+          arith,
+          under_exists g.row.A g.A.Allocator g.A.laws c.args.formula.now c.deref-in-Exists.result.now c.in-Exists.variables c.in-Exists.inner here
+              c.deref-in-Exists.ensures,
+          c.decreases,
+        ),
+        (lives.0, (lives.1, told)),
+      )
+      | inr here ↦ (
+        omega (
+          arith,
+          under_forall g.row.A g.A.Allocator g.A.laws c.args.formula.now c.deref-in-Exists.result.now c.in-Exists.variables c.in-Exists.inner here
+              c.deref-in-Exists.ensures,
+          c.decreases,
+        ),
+        (lives.0, (lives.1, told)),
+      )
+    ]
+
+pub search_formulas-search_formula-requires : goal.search_formulas-search_formula-requires
+search_formulas-search_formula-requires g t c κs lives =
+    let depth = the_size g.row.A g.A.Allocator g.A.laws in
+    let same = ap (most depth) c.deref-formula-items.ensures.value in (
+      omega (arith, among depth c.deref-formula-items.result.now c.loop-formula.formula-index c.formula-item.result c.loop-formula-test.true c.formula-item.is, same, c.decreases),
+      (lives.0, (lives.1, c.loop-formula.invariant.told)),
+    )

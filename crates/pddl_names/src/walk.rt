@@ -1,0 +1,288 @@
+//! One walk over formulas, effects, actions, initial states, goals and metrics, for the faults that are looked for at places.
+//!
+//! Each function answers the lowest of the faults that stand in its part.
+
+ghost use Rattle.std.specs.Prelude.{◌≡◌, [], ◌∷◌, map, option_map};
+ghost use Rattle.std.specs.List.{flat_map};
+ghost use Rattle.pddl_formula.specs.Formulas.{formula_view, formulas_of};
+ghost use Rattle.pddl_formula.specs.TypedLists.{typed_view};
+ghost use Rattle.pddl_effect.specs.Effects.{effect_view, effects_of};
+ghost use Rattle.pddl_domain.specs.Actions.{action_view};
+ghost use Rattle.pddl_problem.specs.Inits.{init_view, metric_view};
+ghost use Rattle.pddl_problem.specs.Problems.{problem_view};
+ghost use Rattle.pddl_task.specs.Names.{repeated, item_of};
+ghost use Rattle.pddl_task.specs.Places.{at, places_in, places_in_all, effect_places, effects_places, action_places, init_places, metric_places, problem_places};
+ghost use Rattle.pddl_faults.specs.Passes.{Passes};
+ghost use Rattle.pddl_faults.specs.Found.{IsFound};
+ghost use Rattle.pddl_search.specs.Parts.{part_in};
+ghost use Rattle.pddl_types.specs.Told.{AreTold};
+ghost use Rattle.pddl_names.specs.Uses.{faults_by, IsBound, IsSearched};
+ghost use Rattle.pddl_names.specs.FaultParts.{action_faults};
+
+use crate::known::Known;
+use crate::repeats::name_twice;
+use crate::uses::{enter, look};
+use indexmap::IndexSet;
+use pddl_domain::Action;
+use pddl_effect::Effect;
+use pddl_faults::{LinkFault, lower, once};
+use pddl_formula::{Formula, TypedList};
+use pddl_hash::Hashed;
+use pddl_problem::{InitItem, Metric, Problem};
+use pddl_search::{Part, Scope, Terms, is_taken};
+use pddl_types::Told;
+use std::alloc::Allocator;
+
+/// No variable of a list stands twice.
+fn variable_twice<'k, 'm, 'a, 'd, A: Allocator, B: Allocator>(
+    known: &Known<'k, 'm, 'a, A, B>,
+    variables: &'d TypedList<A>,
+) -> Result<(), LinkFault<'d>>
+    ensures { Passes 24 (repeated [] (map item_of (map typed_view variables.now.items))) result }
+{
+    name_twice(known.alloc, known.types.hashed(), variables)
+}
+
+/// Looks at two places, one after the other.
+fn look_at_both<'k, 'm, 'a, 'd, A: Allocator, B: Allocator>(
+    known: &Known<'k, 'm, 'a, A, B>,
+    told: &mut Told<'m, 'a, A, B>,
+    scope: &Scope<'m, 'a, A, B>,
+    first: &Part<'d, A>,
+    second: &Part<'d, A>,
+) -> Result<(), LinkFault<'d>>
+    requires { AreTold known.now.types.now told.old }
+    ensures kept { told.new ≡ told.old }
+    ensures searched { IsSearched (IsBound known.now told.old scope.now) (IsBound known.now told.new scope.now) (faults_by known.now) (λ b. at b (part_in first.now) ∷ at b (part_in second.now) ∷ []) result }
+{
+    let found = look(known, told, scope, first);
+    lower(found, look(known, told, scope, second))
+}
+
+/// Searches a formula.
+#[cycle(formulas)]
+fn search_formula<'k, 'm, 'a, A: Allocator, B: Allocator>(
+    known: &Known<'k, 'm, 'a, A, B>,
+    told: &mut Told<'m, 'a, A, B>,
+    scope: &mut Scope<'m, 'a, A, B>,
+    formula: &'m Formula<A>,
+) -> Result<(), LinkFault<'m>>
+    requires { AreTold known.now.types.now told.old }
+    ensures told { AreTold known.now.types.now told.new }
+    ensures searched { IsSearched (IsBound known.now told.old scope.old) (IsBound known.now told.new scope.new) (faults_by known.now) (places_in (formula_view formula.now)) result }
+{
+    match formula {
+        Formula::Atom(atom) => look(known, told, &*scope, &Part::of_atom(atom)),
+        Formula::Equal(first, second) => look(known, told, &*scope, &Part::Equates(first, second)),
+        Formula::Not(inner) => search_formula(known, told, scope, inner),
+        Formula::Imply(first, second) => {
+            let first = search_formula(known, told, scope, first);
+            lower(first, search_formula(known, told, scope, second))
+        }
+        Formula::And(parts) | Formula::Or(parts) => search_formulas(known, told, scope, parts),
+        Formula::Exists(variables, inner) | Formula::Forall(variables, inner) => {
+            enter(known, told, scope, variables)?;
+            let found = search_formula(known, told, scope, inner);
+            scope.leave(variables.len());
+            lower(variable_twice(known, variables), found)
+        }
+    }
+}
+
+/// Searches formulas in turn.
+#[cycle(formulas)]
+fn search_formulas<'k, 'm, 'a, A: Allocator, B: Allocator>(
+    known: &Known<'k, 'm, 'a, A, B>,
+    told: &mut Told<'m, 'a, A, B>,
+    scope: &mut Scope<'m, 'a, A, B>,
+    formulas: &'m Vec<Formula<A>, A>,
+) -> Result<(), LinkFault<'m>>
+    requires { AreTold known.now.types.now told.old }
+    ensures told { AreTold known.now.types.now told.new }
+    ensures searched { IsSearched (IsBound known.now told.old scope.old) (IsBound known.now told.new scope.new) (faults_by known.now) (places_in_all (formulas_of (map formula_view formulas.now.items))) result }
+{
+    let mut found = Ok(());
+    for formula in formulas {
+        found = lower(found, search_formula(known, told, scope, formula));
+    }
+    found
+}
+
+/// Searches an effect.
+#[cycle(effects)]
+fn search_effect<'k, 'm, 'a, A: Allocator, B: Allocator>(
+    known: &Known<'k, 'm, 'a, A, B>,
+    told: &mut Told<'m, 'a, A, B>,
+    scope: &mut Scope<'m, 'a, A, B>,
+    effect: &'m Effect<A>,
+) -> Result<(), LinkFault<'m>>
+    requires { AreTold known.now.types.now told.old }
+    ensures told { AreTold known.now.types.now told.new }
+    ensures searched { IsSearched (IsBound known.now told.old scope.old) (IsBound known.now told.new scope.new) (faults_by known.now) (effect_places (effect_view effect.now)) result }
+{
+    match effect {
+        Effect::And(parts) => search_effects(known, told, scope, parts),
+        Effect::Forall(variables, inner) => {
+            enter(known, told, scope, variables)?;
+            let found = search_effect(known, told, scope, inner);
+            scope.leave(variables.len());
+            lower(variable_twice(known, variables), found)
+        }
+        Effect::When(condition, inner) => {
+            let condition = search_formula(known, told, scope, condition);
+            lower(condition, search_effect(known, told, scope, inner))
+        }
+        Effect::Add(atom) | Effect::Del(atom) => look(known, told, &*scope, &Part::of_atom(atom)),
+        Effect::Increase(amount) => {
+            look_at_both(
+                known,
+                told,
+                &*scope,
+                &Part::total_cost(),
+                &Part::of_amount(amount),
+            )
+        }
+    }
+}
+
+/// Searches effects in turn.
+#[cycle(effects)]
+fn search_effects<'k, 'm, 'a, A: Allocator, B: Allocator>(
+    known: &Known<'k, 'm, 'a, A, B>,
+    told: &mut Told<'m, 'a, A, B>,
+    scope: &mut Scope<'m, 'a, A, B>,
+    effects: &'m Vec<Effect<A>, A>,
+) -> Result<(), LinkFault<'m>>
+    requires { AreTold known.now.types.now told.old }
+    ensures told { AreTold known.now.types.now told.new }
+    ensures searched { IsSearched (IsBound known.now told.old scope.old) (IsBound known.now told.new scope.new) (faults_by known.now) (effects_places (effects_of (map effect_view effects.now.items))) result }
+{
+    let mut found = Ok(());
+    for effect in effects {
+        found = lower(found, search_effect(known, told, scope, effect));
+    }
+    found
+}
+
+/// Searches an action: its parameters, its precondition and its effect.
+fn search_action<'k, 'm, 'a, A: Allocator, B: Allocator>(
+    known: &Known<'k, 'm, 'a, A, B>,
+    told: &mut Told<'m, 'a, A, B>,
+    scope: &mut Scope<'m, 'a, A, B>,
+    action: &'m Action<A>,
+) -> Result<(), LinkFault<'m>>
+    requires { AreTold known.now.types.now told.old }
+    ensures told { AreTold known.now.types.now told.new }
+    ensures kept { IsBound known.now told.old scope.old [] → IsBound known.now told.new scope.new [] }
+    ensures found { IsBound known.now told.old scope.old [] → IsFound (flat_map (faults_by known.now) (action_places (action_view action.now))) result }
+{
+    enter(known, told, scope, &action.parameters)?;
+    let precondition = search_formula(known, told, scope, &action.precondition);
+    let effect = search_effect(known, told, scope, &action.effect);
+    scope.leave(action.parameters.len());
+    lower(
+        variable_twice(known, &action.parameters),
+        lower(precondition, effect),
+    )
+}
+
+/// Searches actions in turn, and looks for names that stand twice, for which they are put into an empty set.
+pub(crate) fn search_actions<'k, 'm, 'a, A: Allocator, B: Allocator>(
+    known: &Known<'k, 'm, 'a, A, B>,
+    told: &mut Told<'m, 'a, A, B>,
+    scope: &mut Scope<'m, 'a, A, B>,
+    seen: &mut IndexSet<&'m [u8], Hashed, &'a B>,
+    actions: &'m [Action<A>],
+) -> Result<(), LinkFault<'m>>
+    requires told { AreTold known.now.types.now told.old }
+    requires seen { seen.old.keys ≡ [] }
+    ensures told { AreTold known.now.types.now told.new }
+    ensures kept { IsBound known.now told.old scope.old [] → IsBound known.now told.new scope.new [] }
+    ensures found { IsBound known.now told.old scope.old [] → IsFound (action_faults (faults_by known.now) [] (map action_view actions.now)) result }
+{
+    let mut found = Ok(());
+    for action in actions {
+        let name = action.name.as_bytes();
+        let (_, is_new) = seen.insert_full(name)?;
+        let own = search_action(known, told, scope, action);
+        found = lower(found, lower(once(is_new, name), own));
+    }
+    found
+}
+
+/// Searches an item of `:init`; a literal that fails is looked at like one that holds.
+fn search_item<'k, 'm, 'a, 'd, A: Allocator, B: Allocator>(
+    known: &Known<'k, 'm, 'a, A, B>,
+    told: &mut Told<'m, 'a, A, B>,
+    scope: &Scope<'m, 'a, A, B>,
+    item: &'d InitItem<A>,
+) -> Result<(), LinkFault<'d>>
+    requires { AreTold known.now.types.now told.old }
+    ensures kept { told.new ≡ told.old }
+    ensures found { IsBound known.now told.old scope.now [] → IsFound (flat_map (faults_by known.now) (init_places (init_view item.now))) result }
+{
+    match item {
+        InitItem::Holds(fact) | InitItem::Fails(fact) => {
+            let says = Part::Says(fact.predicate.as_bytes(), Terms::Objects(&fact.objects));
+            look(known, told, scope, &says)
+        }
+        InitItem::Value(call, amount) => {
+            let function = call.function.as_bytes();
+            let calls = Part::Calls(function, Terms::Objects(&call.objects));
+            look_at_both(known, told, scope, &calls, &Part::Counts(function, *amount))
+        }
+    }
+}
+
+/// Searches items of `:init` in turn.
+fn search_items<'k, 'm, 'a, 'd, A: Allocator, B: Allocator>(
+    known: &Known<'k, 'm, 'a, A, B>,
+    told: &mut Told<'m, 'a, A, B>,
+    scope: &Scope<'m, 'a, A, B>,
+    init: &'d [InitItem<A>],
+) -> Result<(), LinkFault<'d>>
+    requires { AreTold known.now.types.now told.old }
+    ensures kept { told.new ≡ told.old }
+    ensures found { IsBound known.now told.old scope.now [] → IsFound (flat_map (faults_by known.now) (flat_map init_places (map init_view init.now))) result }
+{
+    let mut found = Ok(());
+    for item in init {
+        found = lower(found, search_item(known, told, scope, item));
+    }
+    found
+}
+
+/// Searches a metric; nothing is looked for in one that is not taken.
+fn search_metric<'k, 'm, 'a, 'd, A: Allocator, B: Allocator>(
+    known: &Known<'k, 'm, 'a, A, B>,
+    told: &mut Told<'m, 'a, A, B>,
+    scope: &Scope<'m, 'a, A, B>,
+    metric: &'d Option<Metric<A>>,
+) -> Result<(), LinkFault<'d>>
+    requires { AreTold known.now.types.now told.old }
+    ensures kept { told.new ≡ told.old }
+    ensures found { IsBound known.now told.old scope.now [] → IsFound (flat_map (faults_by known.now) (metric_places (option_map metric_view metric.now))) result }
+{
+    match metric {
+        Some(metric) if is_taken(metric) => look(known, told, scope, &Part::total_cost()),
+        _ => Ok(()),
+    }
+}
+
+/// Searches a problem: its initial state, its goal and its metric.
+pub(crate) fn search_problem<'k, 'm, 'a, A: Allocator, B: Allocator>(
+    known: &Known<'k, 'm, 'a, A, B>,
+    told: &mut Told<'m, 'a, A, B>,
+    scope: &mut Scope<'m, 'a, A, B>,
+    problem: &'m Problem<A>,
+) -> Result<(), LinkFault<'m>>
+    requires { AreTold known.now.types.now told.old }
+    ensures told { AreTold known.now.types.now told.new }
+    ensures kept { IsBound known.now told.old scope.old [] → IsBound known.now told.new scope.new [] }
+    ensures found { IsBound known.now told.old scope.old [] → IsFound (flat_map (faults_by known.now) (problem_places (problem_view problem.now))) result }
+{
+    let init = search_items(known, told, &*scope, &problem.init);
+    let goal = search_formula(known, told, scope, &problem.goal);
+    let metric = search_metric(known, told, &*scope, &problem.metric);
+    lower(init, lower(goal, metric))
+}

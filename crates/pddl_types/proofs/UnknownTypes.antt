@@ -1,0 +1,28 @@
+-- Types that are used and not known, part by part.
+use Rattle.std.proofs.Common.{◌≡◌, ℕ, ◌+◌, ◌<◌, List, ◌++◌, map, length, get_or, drop, sym, ap, ◌∙◌}
+use Rattle.std.specs.List.{flat_map}
+use Rattle.std.proofs.lemmas.List.Concat.{flat_map-append}
+use Rattle.std.proofs.lemmas.List.Elements.{filter-append}
+use Rattle.pddl_formula.specs.TypedLists.{TypedValue}
+use Rattle.pddl_domain.specs.Declarations.{TypeValue, Signature}
+use Rattle.pddl_task.specs.Settings.{parameters_of}
+use Rattle.pddl_types.specs.Told.{unknown_among}
+use Rattle.pddl_faults.proofs.ListTurns.{views_drop}
+
+pub unknown-append : (ts : List TypeValue) (xs ys : List TypedValue) → unknown_among ts (xs ++ ys) ≡ unknown_among ts xs ++ unknown_among ts ys
+unknown-append ts xs ys = simp (flat_map-append, filter-append)
+
+-- what is left of what is declared: the first, and the rest
+pub declared_left : {X : Type 0} (ts : List TypeValue) (signature : X → Signature) (xs : List X) (i : ℕ) (x : X) (own : List TypedValue) → i < length xs → x ≡ get_or xs i x
+    → own ≡ (signature x).parameters → unknown_among ts (flat_map parameters_of (map signature (drop i xs))) ≡ unknown_among ts own ++ unknown_among ts (flat_map parameters_of (map signature (drop (i + 1) xs)))
+declared_left ts signature xs i x own h at is =
+    let rest = flat_map parameters_of (map signature (drop (i + 1) xs)) in
+    ap (λ ys. unknown_among ts (flat_map parameters_of ys)) (views_drop signature xs i x h at)
+    ∙ ap (λ ys. unknown_among ts (ys ++ rest)) (sym is) ∙ unknown-append ts own rest
+
+-- two kinds of what is declared, both told otherwise
+pub declared_parts : (ts : List TypeValue) {gs hs ps fs : List Signature} → ps ≡ gs → fs ≡ hs
+    → unknown_among ts (flat_map parameters_of gs ++ flat_map parameters_of hs) ≡ unknown_among ts (flat_map parameters_of ps) ++ unknown_among ts (flat_map parameters_of fs)
+declared_parts ts {gs} {hs} {ps} {fs} first second =
+    unknown-append ts (flat_map parameters_of gs) (flat_map parameters_of hs) ∙ ap (λ xs. unknown_among ts (flat_map parameters_of xs) ++ unknown_among ts (flat_map parameters_of hs)) (sym first)
+    ∙ ap (λ xs. unknown_among ts (flat_map parameters_of ps) ++ unknown_among ts (flat_map parameters_of xs)) (sym second)

@@ -1,0 +1,170 @@
+//! The types that are written in files, by number, with the tops of their primitives.
+
+ghost use Rattle.std.specs.Prelude.{◌≡◌, [], ℕ, List, IsTrue, map, filter, not, IfOk, OnOk};
+ghost use Rattle.pddl_formula.specs.TypedLists.{typed_view};
+ghost use Rattle.pddl_forest.specs.Spans.{AreApart};
+ghost use Rattle.pddl_task.specs.Names.{is_in};
+ghost use Rattle.pddl_task.specs.Types.{types_of, pairs, fits};
+ghost use Rattle.pddl_faults.specs.Passes.{Passes};
+ghost use Rattle.pddl_types.specs.TypeSpans.{TypesValue, IsTold, are_types};
+ghost use Rattle.pddl_types.specs.Told.{told_in, tops_at, IsAt, AreAt, AreTold, AreKept, unknown_among};
+
+use crate::types::Types;
+use indexmap::IndexMap;
+use pddl_faults::LinkFault;
+use pddl_forest::{Span, hold_all};
+use pddl_formula::{TypeNames, TypedList};
+use pddl_hash::Hashed;
+use std::alloc::{AllocError, Allocator};
+use std::marker::Model;
+
+/// The types that are written, each list of primitives once, with its tops. So two types are one where their numbers are, and the primitives of a type are
+/// looked up once.
+///
+/// Contracts see each type with its tops.
+#[derive(Drop)]
+pub struct Told<'m, 'a, A: Allocator, B: Allocator> {
+    types: IndexMap<&'m TypeNames<A>, Vec<Span, &'a B>, Hashed, &'a B>,
+    /// Whether one type fits another, by their numbers: for types of many tops, which are gone over once.
+    fitting: IndexMap<(usize, usize), bool, Hashed, &'a B>,
+}
+
+impl<'m, 'a, A: Allocator, B: Allocator> Model for Told<'m, 'a, A, B> {
+    ghost use Rattle.pddl_types.specs.Told.{ToldValue, told_in, AreFitting};
+
+    ghost Value = { ToldValue };
+
+    ghost view = { λ t. told_in t.types.entries };
+
+    ghost invariant = { λ t. AreFitting (told_in t.types.entries) t.fitting.entries };
+}
+
+/// The tops of the type of a number, or none where no type has it.
+fn tops_at<'m, 'a, 't, A: Allocator, B: Allocator>(
+    types: &'t IndexMap<&'m TypeNames<A>, Vec<Span, &'a B>, Hashed, &'a B>,
+    number: usize,
+) -> &'t [Span]
+    ensures { result.now ≡ tops_at (told_in types.now.entries) number }
+{
+    match types.get_index(number) {
+        Some((_, tops)) => tops.as_slice(),
+        None => &[],
+    }
+}
+
+impl<'m, 'a, A: Allocator, B: Allocator> Told<'m, 'a, A, B> {
+    /// No types.
+    pub fn new(alloc: &'a B, hashed: Hashed) -> Told<'m, 'a, A, B>
+        ensures { result ≡ [] }
+    {
+        Told {
+            types: IndexMap::with_hasher(alloc, hashed),
+            fitting: IndexMap::with_hasher(alloc, hashed),
+        }
+    }
+
+    /// The number of a type, which is told where it was not.
+    ///
+    /// # Errors
+    ///
+    /// `LinkFault::UnknownType` of the first primitive that is no type; `Memory` where memory for the tops is refused.
+    fn tell(
+        &mut self,
+        types: &Types<'m, 'a, A, B>,
+        names: &'m TypeNames<A>,
+    ) -> Result<usize, LinkFault<'m>>
+        requires told { AreTold types.now self.old }
+        ensures told { AreTold types.now self.new }
+        ensures kept { AreKept self.old self.new }
+        ensures passes { Passes 23 (filter (λ t. not (is_in (types_of types.now.declared) t)) names.now) result }
+        ensures number { IfOk result (IsAt self.new names.now) }
+    {
+        if let Some(number) = self.types.get_index_of(&names) {
+            return Ok(number);
+        }
+        types.known(names)?;
+        let tops = types.tops(*self.types.allocator(), names)?;
+        let (number, _) = self.types.insert_full(names, tops)?;
+        Ok(number)
+    }
+
+    /// Tells the types of a list's items, each once for a group, and puts their numbers into an empty list.
+    fn tell_each<'c, C: Allocator>(
+        &mut self,
+        types: &Types<'m, 'a, A, B>,
+        list: &'m TypedList<A>,
+        numbers: &mut Vec<usize, &'c C>,
+    ) -> Result<(), LinkFault<'m>>
+        requires told { AreTold types.now self.old }
+        requires empty { numbers.old.items ≡ [] }
+        ensures told { AreTold types.now self.new }
+        ensures kept { AreKept self.old self.new }
+        ensures passes { Passes 23 (unknown_among types.now.declared (map typed_view list.now.items)) result }
+        ensures numbers { OnOk result (AreAt self.new (map typed_view list.now.items) numbers.new.items) }
+    {
+        let mut number = 0;
+        for place in 0..list.len() {
+            if !list.shares(place) {
+                number = self.tell(types, &list[place].types)?;
+            }
+            numbers.push(number)?;
+        }
+        Ok(())
+    }
+
+    /// The numbers of the types of a list's items.
+    ///
+    /// # Errors
+    ///
+    /// `LinkFault::UnknownType` of the first primitive that is no type; `Memory` where memory for tops and numbers is refused.
+    pub fn tell_all<'c, C: Allocator>(
+        &mut self,
+        alloc: &'c C,
+        types: &Types<'m, 'a, A, B>,
+        list: &'m TypedList<A>,
+    ) -> Result<Vec<usize, &'c C>, LinkFault<'m>>
+        requires told { AreTold types.now self.old }
+        ensures told { AreTold types.now self.new }
+        ensures kept { AreKept self.old self.new }
+        ensures passes { Passes 23 (unknown_among types.now.declared (map typed_view list.now.items)) result }
+        ensures numbers { IfOk result (λ numbers. AreAt self.new (map typed_view list.now.items) numbers.items) }
+    {
+        let mut numbers = Vec::with_capacity(alloc, list.len())?;
+        self.tell_each(types, list, &mut numbers).and(Ok(numbers))
+    }
+
+    /// The tops of the type of a number, or none where no type has it.
+    pub fn at(&self, number: usize) -> &[Span]
+        ensures apart { (t : TypesValue) → AreTold t self.now → AreApart result.now }
+        ensures told { (t : TypesValue) (names : List (List ℕ)) → AreTold t self.now → IsAt self.now names number → IsTold t names result.now × IsTrue (are_types t.declared names) }
+    {
+        tops_at(&self.types, number)
+    }
+
+    /// Whether a term of a type fits a slot of another, both by their numbers. Where both have many tops, what is found is kept.
+    ///
+    /// Fails where memory for that is refused.
+    pub fn fits(
+        &mut self,
+        types: &Types<'m, 'a, A, B>,
+        number: usize,
+        slot: usize,
+    ) -> Result<bool, AllocError>
+        requires { AreTold types.now self.old }
+        ensures kept { self.new ≡ self.old }
+        ensures fits { (of : List (List ℕ)) (to : List (List ℕ)) → IsAt self.old of number → IsAt self.old to slot → IfOk result (λ fit. fit ≡ fits (pairs types.now.declared) of to) }
+    {
+        types.tops_decide();
+        let told = tops_at(&self.types, number);
+        let tops = tops_at(&self.types, slot);
+        if told.len() < 8 || tops.len() < 8 {
+            return Ok(hold_all(tops, told));
+        }
+        if let Some(fit) = self.fitting.get(&(number, slot)) {
+            return Ok(*fit);
+        }
+        let fit = hold_all(tops, told);
+        self.fitting.insert((number, slot), fit)?;
+        Ok(fit)
+    }
+}
