@@ -1,28 +1,34 @@
 -- Sections of a domain, and the domain that is made of them, in the words of the code.
-use Rattle.std.proofs.Common.{◌≡◌, ℕ, ◌+◌, ◌<◌, ◌≤◌, List, [], ◌∷◌, ◌++◌, length, get_or, drop, refl, sym, ap, ◌∙◌, append_assoc, arith, codes}
+use Rattle.std.proofs.Common.{◌≡◌, ℕ, ◌+◌, ◌<◌, ◌≤◌, List, [], ◌∷◌, ◌++◌, length, get_or, drop, refl, sym, ap, subst, ◌∙◌, append_assoc, arith, codes}
 use Rattle.std.specs.Prelude.{false, Option, Some, None, option_map}
 use Rattle.std.specs.List.{flat_map}
 use Rattle.std.proofs.lemmas.List.{append-nil}
 use Rattle.std.proofs.lemmas.Grind.{flat_map-append}
 use Rattle.pddl_items.specs.declared.item.Item.{Item}
 use Rattle.pddl_items.specs.Items.{item_view, items_view}
+use Rattle.pddl_token.specs.declared.token.TokenKind.TheVariants.{Close}
+use Rattle.pddl_token.specs.Spelling.{PlacedWord, Spells}
 use Rattle.pddl_token.specs.Trees.{Tree, Placed}
+use Rattle.pddl_scan.specs.Scanning.{LexedTo}
 use Rattle.pddl_token.specs.TreeWords.{list}
 use Rattle.pddl_items.specs.ItemTrees.{item_tree, item_trees}
-use Rattle.pddl_items.proofs.TreeLists.{list_of_trees_of}
+use Rattle.pddl_items.proofs.TreeLists.{list_of_trees_of, view_from}
 use Rattle.pddl_token.proofs.Options.{map_some}
 use Rattle.pddl_sections.specs.Files.{IsOpened}
 use Rattle.pddl_sections.specs.Inner.Answers.{right}
 use Rattle.pddl_sections.specs.Inner.Verdicts.{Verdict, turn, verdict}
+use Rattle.pddl_sections.proofs.Turns.{verdict_on}
 use Rattle.pddl_file.specs.declared.keyword.SectionKeyword.{SectionKeyword}
 use Rattle.pddl_file.specs.declared.keyword.Seen.{Seen}
 use Rattle.pddl_file.specs.declared.mark.Mark.{Mark}
-use Rattle.pddl_file.proofs.SectionTurns.{section_goes, sections_end, sections_on, file_right}
+use Rattle.pddl_file.proofs.SectionTurns.{section_goes, sections_end, file_right}
+use Rattle.pddl_file.specs.Inner.Begun.{HasBegun, words_of, ReadsSection}
 use Rattle.pddl_file.specs.Inner.WordReading.{head_key, key_at, has_seen, with_seen}
+use Rattle.pddl_file.proofs.Begun.{begun_on, begun_ends}
 use Rattle.pddl_domain.specs.Domains.{DomainValue}
 use Rattle.pddl_domain_reader.specs.DomainTexts.{Part, requirements, types, constants, predicates, functions, action, requirements_in, types_in, constants_in, predicates_in, functions_in, actions_in}
 use Rattle.pddl_domain_reader.specs.Inner.DomainReading.{content_at, part_of, part_at, domain_readers, domain_of}
-use Rattle.pddl_domain_reader.specs.Inner.Sections.{domain_verdict, AnswersDomain, with_part, with_parts, AddsPart, AddsParts}
+use Rattle.pddl_domain_reader.specs.Inner.Sections.{domain_verdict, AnswersDomain, with_part, with_parts, AddsPart, AddsParts, AddsFile}
 
 -- ---- one section
 
@@ -96,6 +102,15 @@ pub record AddsSoFar (seen : Seen) (rest : List Placed) (whole : Verdict Part Se
   pub goes : verdict domain_readers seen parts rest ≡ whole
   pub made : now ≡ with_parts before parts
 
+-- one more section
+pub adds_next : (seen : Seen) (p : Placed) (rest : List Placed) (whole : Verdict Part SectionKeyword Mark Seen) (before now : DomainValue) → AddsSoFar seen (p ∷ rest) whole before now
+    → (key : SectionKeyword) (after : DomainValue) (next : Seen) → AddsPart (turn domain_readers seen p) now after key → next ≡ with_seen seen key → AddsSoFar next rest whole before after
+adds_next seen p rest whole before now so_far key after next adds noted = record {
+  parts = so_far.parts ++ adds.part ∷ [];
+  goes = ap (λ n. verdict domain_readers n (so_far.parts ++ adds.part ∷ []) rest) noted ∙ verdict_on domain_readers seen so_far.parts p rest whole so_far.goes adds.part key adds.is;
+  made = adds.made ∙ ap (λ d. with_part d adds.part) so_far.made ∙ sym (with_one_more before so_far.parts adds.part);
+}
+
 module _ {A : Type 0} (seen : Seen) (xs : List (Item A)) (i : ℕ) (before now : DomainValue) (so_far : AddsSoFar seen (items_view (drop i xs)) (domain_verdict (items_view xs)) before now) where
   -- no section is left
   pub adds_end : length xs ≤ i → AddsParts (items_view xs) before now
@@ -110,11 +125,45 @@ module _ {A : Type 0} (seen : Seen) (xs : List (Item A)) (i : ℕ) (before now :
   pub adds_on : (item : Item A) → i < length xs → item ≡ get_or xs i item → (key : SectionKeyword) (after : DomainValue) (next : Seen)
       → AddsPart (turn domain_readers seen (item_view item)) now after key → next ≡ with_seen seen key
       → AddsSoFar next (items_view (drop (i + 1) xs)) (domain_verdict (items_view xs)) before after
-  adds_on item below at key after next adds noted = record {
-    parts = so_far.parts ++ adds.part ∷ [];
-    goes = sections_on domain_readers seen so_far.parts xs i (domain_verdict (items_view xs)) so_far.goes item below at adds.part key next (so_far.parts ++ adds.part ∷ []) adds.is noted refl;
-    made = adds.made ∙ ap (λ d. with_part d adds.part) so_far.made ∙ sym (with_one_more before so_far.parts adds.part);
-  }
+  adds_on item below at key after next adds noted =
+      let rest = items_view (drop (i + 1) xs) in
+      let whole = domain_verdict (items_view xs) in
+      let here : items_view (drop i xs) ≡ item_view item ∷ rest = view_from xs i item below ∙ ap (λ it. item_view it ∷ rest) (sym at) in
+      adds_next seen (item_view item) rest whole before now (subst (λ ps. AddsSoFar seen ps whole before now) here so_far) key after next adds noted
+
+-- ---- in one pass
+
+-- up to a place the text is a file's beginning with some sections, which were added
+pub record SectionsTo (name text : List ℕ) (at : ℕ) (seen : Seen) (before now : DomainValue) : Type 0 where
+  pub sections : List Placed
+  pub begun : HasBegun (codes "domain") name text sections at
+  pub so_far : (rest : List Placed) → AddsSoFar seen rest (domain_verdict (sections ++ rest)) before now
+
+-- one section more
+pub section_on : (name text : List ℕ) (at to : ℕ) (seen next : Seen) (before now after : DomainValue) (held : SectionsTo name text at seen before now)
+    → ReadsSection (λ p. AddsPart (turn domain_readers seen p) now after) text (words_of held.begun) to seen next → SectionsTo name text to next before after
+section_on name text at to seen next before now after held read = record {
+  sections = held.sections ++ read.section ∷ [];
+  begun = begun_on held.begun read.more read.section to read.lexed read.form;
+  so_far = λ rest.
+      subst (λ ps. AddsSoFar next rest (domain_verdict ps) before after) (sym (append_assoc held.sections (read.section ∷ []) rest))
+      (adds_next seen read.section rest (domain_verdict (held.sections ++ read.section ∷ rest)) before now (held.so_far (read.section ∷ rest)) read.key after next read.holds read.next_is);
+}
+
+-- the last was read
+pub last_section : (name text : List ℕ) (at to : ℕ) (seen : Seen) (before now : DomainValue) (held : SectionsTo name text at seen before now) (closing : PlacedWord) → closing.kind ≡ Close
+    → LexedTo text (words_of held.begun ++ closing ∷ []) to → Spells (words_of held.begun ++ closing ∷ []) text → length text ≤ 16777216 → AddsFile name text before now
+unfolding verdict
+last_section name text at to seen before now held closing is_close lexed spells within =
+    let (items, has, opened) = begun_ends held.begun closing to is_close lexed spells within in
+    let so_far = held.so_far [] in
+    record {
+      items = items;
+      sections = held.sections;
+      has = has;
+      opened = opened;
+      adds = record { seen = seen; parts = so_far.parts; is = ap domain_verdict (sym (append-nil held.sections)) ∙ sym so_far.goes; made = so_far.made };
+    }
 
 -- ---- the file
 

@@ -12,13 +12,14 @@ ghost use Rattle.pddl_domain_reader.specs.DomainTexts.{SpellsDomain, DomainStand
 ghost use Rattle.pddl_domain_reader.specs.Inner.DomainReading.{domain_of};
 ghost use Rattle.pddl_domain_reader.specs.Inner.Sections.{domain_verdict, AddsParts, domain_answer, AnswersDomain};
 
+use crate::one_pass::read_sections;
 use crate::section_reader::add_sections;
 use pddl_domain::{DeclaredTypes, Domain};
-use pddl_file::FileFault;
+use pddl_file::{FileFault, Stop, begin_file};
 use pddl_formula::TypedList;
 use pddl_hash::Hashed;
 use pddl_items::Item;
-use pddl_scan::LONGEST;
+use pddl_scan::{LONGEST, TextFault};
 use pddl_sections::open_file;
 use pddl_text::items_of;
 use pddl_token::Name;
@@ -71,6 +72,31 @@ fn domain_at<'a, B: Allocator>(
     domain_of(alloc, hashed, opening.name, opening.sections)
 }
 
+/// The domain that a text spells, in one pass over it.
+fn read_once<'a, B: Allocator>(alloc: &'a B, text: &[u8]) -> Result<Domain<&'a B>, Stop>
+    ensures { IfOk result (λ domain. SpellsDomain (domain_view domain) text.now) }
+{
+    if text.len() > LONGEST {
+        return Err(Stop::Wrong);
+    }
+    let mut at = 0;
+    let name = begin_file(alloc, b"domain", text, &mut at)?;
+    let mut domain = empty_domain(alloc, Hashed::of(text), name);
+    let read = read_sections(alloc, &mut domain, text, &mut at);
+    read.and(Ok(domain))
+}
+
+/// The domain that a text spells, by its items, or else its first fault.
+fn read_whole<'a, B: Allocator>(alloc: &'a B, text: &[u8]) -> Result<Domain<&'a B>, FileFault>
+    ensures domain { IfOk result (λ domain. SpellsDomain (domain_view domain) text.now) }
+    ensures only { (domain : DomainValue) → SpellsDomain domain text.now
+        → MatchResult result (λ found. domain_view found ≡ domain) (λ fault. fault ≡ Text Memory) }
+    ensures fault { IfErr result (λ fault. DomainStands fault text.now) }
+{
+    let items = items_of(alloc, text)?;
+    domain_at(alloc, Hashed::of(text), &items)
+}
+
 /// The domain that a text spells: `(define (domain NAME) section*)`, with sections of requirements, types, constants,
 /// predicates, functions and actions, and comments and blanks between (Kovacs, BNF definition of PDDL 3.1; that sections
 /// stand in any order, and which features are left out, is own). Letter case does not count: names are in lower case. Each
@@ -92,8 +118,11 @@ pub fn read_domain<'a, B: Allocator>(alloc: &'a B, text: &[u8]) -> Result<Domain
     // What is wrong stands in the text.
     ensures fault { IfErr result (λ fault. DomainStands fault text.now) }
 {
-    let items = items_of(alloc, text)?;
-    domain_at(alloc, Hashed::of(text), &items)
+    match read_once(alloc, text) {
+        Ok(domain) => Ok(domain),
+        Err(Stop::Memory) => Err(FileFault::Text(TextFault::Memory)),
+        Err(Stop::Wrong) => read_whole(alloc, text),
+    }
 }
 
 /// At most one domain spells a text.

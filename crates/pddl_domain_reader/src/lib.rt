@@ -4,6 +4,7 @@
 #![tactic(auto)]
 
 mod domain_reader;
+mod one_pass;
 mod section_reader;
 
 pub use domain_reader::{

@@ -118,7 +118,7 @@ fn add_item<'a, B: Allocator>(
 }
 
 /// Adds the section that an item is behind those of the keywords seen, and answers its keyword.
-fn add_section<'a, B: Allocator>(
+pub fn add_section<'a, B: Allocator>(
     alloc: &'a B,
     domain: &mut Domain<&'a B>,
     seen: Seen,

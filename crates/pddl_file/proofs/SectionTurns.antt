@@ -11,7 +11,7 @@ use Rattle.pddl_sections.specs.Files.{IsOpened, HeadFault}
 use Rattle.pddl_sections.specs.Inner.Verdicts.{Readers, Turn, stop, go, Verdict, fine, bad, turn, refused, verdict}
 use Rattle.pddl_sections.specs.Inner.Answers.{Answer, right, first_missing, missing_answer, sections_answer, opened_answer, file_answer}
 use Rattle.pddl_sections.proofs.FileLaws.{opened_is}
-use Rattle.pddl_sections.proofs.Turns.{verdict_end, verdict_step, verdict_stop, no_key_turn, twice_turn, unfit_turn, fit_turn}
+use Rattle.pddl_sections.proofs.Turns.{verdict_end, verdict_stop, no_key_turn, twice_turn, unfit_turn, fit_turn}
 use Rattle.pddl_file.specs.Inner.FileReading.{IsFaultAt, StopsAt, RefusesSections, RefusesFile}
 use Rattle.pddl_file.specs.declared.keyword.SectionKeyword.{SectionKeyword}
 use Rattle.pddl_file.specs.declared.mark.Mark.{Mark}
@@ -76,14 +76,6 @@ module _ {A P S : Type 0} (readers : Readers P SectionKeyword Mark S) (seen : S)
     -- what this section says, by its place
     at_place : (t : Turn P SectionKeyword Mark) → turn readers seen (item_view item) ≡ t → turn readers seen (item_view (get_or xs i item)) ≡ t
     at_place t e = ap (λ it. turn readers seen (item_view it)) (sym at) ∙ e
-
-    -- this section fits
-    pub sections_on : (x : P) (key : SectionKeyword) (next : S) (new : List P) → turn readers seen (item_view item) ≡ go x key
-        → next ≡ readers.with_seen seen key → new ≡ found ++ x ∷ [] → verdict readers next new (items_view (drop (i + 1) xs)) ≡ whole
-    sections_on x key next new goes noted pushed =
-        ap (λ s. verdict readers s new (items_view (drop (i + 1) xs))) noted
-        ∙ ap (λ ys. verdict readers (readers.with_seen seen key) ys (items_view (drop (i + 1) xs))) pushed
-        ∙ verdict_step readers seen found xs i item whole below x key (at_place (go x key) goes) so_far
 
     -- this section is refused
     pub sections_stop : (fault : FileFault) → StopsAt fault (turn readers seen (item_view item)) → RefusesSections fault whole

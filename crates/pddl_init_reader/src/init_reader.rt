@@ -169,7 +169,7 @@ fn init_of_list<'a, B: Allocator>(
 /// literals; that numbers are those in range is own).
 ///
 /// Fails where memory for it is refused.
-fn init_of<'a, B: Allocator>(
+pub fn init_of<'a, B: Allocator>(
     alloc: &'a B,
     item: &Item<'_, &'a B>,
 ) -> Result<Option<InitItem<&'a B>>, AllocError>

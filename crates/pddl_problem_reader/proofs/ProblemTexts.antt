@@ -1,6 +1,6 @@
 -- A text is one problem or has one fault, and the slots that are filled from its sections make up the problem.
-use Rattle.std.proofs.Common.{◌≡◌, ℕ, List, [], ◌∷◌, Option, Some, None, refl, sym, ap, ◌∙◌, codes}
-use Rattle.std.specs.Prelude.{◌≢◌, option_to_list}
+use Rattle.std.proofs.Common.{◌≡◌, ℕ, List, [], ◌∷◌, Option, Some, None, Result, Ok, Err, refl, sym, ap, ◌∙◌, codes}
+use Rattle.std.specs.Prelude.{◌≢◌, IfOk, option_to_list}
 use Rattle.std.specs.List.{flat_map}
 use Rattle.pddl_scan.specs.declared.fault.TextFault.TheVariants.{Memory}
 use Rattle.pddl_token.specs.Trees.{Placed}
@@ -24,6 +24,7 @@ use Rattle.pddl_problem.specs.Problems.{ProblemValue}
 use Rattle.pddl_problem_reader.specs.ProblemTexts.{Part, problem_rules, required, AreProblem, SpellsProblem, ProblemStands}
 use Rattle.pddl_problem_reader.specs.Inner.ProblemReading.{problem_readers}
 use Rattle.pddl_problem_reader.specs.Inner.Slots.{SlotsValue, HoldVerdict, MakesUp, has_slot, SaysMissing, Refuses, wrong, lacking}
+use Rattle.pddl_problem_reader.specs.Inner.OnePass.{HoldsFile}
 use Rattle.pddl_problem_reader.proofs.PartLaws.{problem_law}
 use Rattle.pddl_problem_reader.proofs.SlotLaws.{slot_list, slot_some, missing_same}
 
@@ -117,6 +118,14 @@ no_fault text fault p stands spells =
 
 pub spells_text : (text : List ℕ) (items : List Placed) (p : ProblemValue) → HasItems text items → AreProblem p items → SpellsProblem p text
 spells_text text items p has are = record { items = items; has = has; problem_is = are }
+
+-- the problem of a name and slots that were read in one pass
+pub made_in_one : {V E : Type 0} (text : List ℕ) (s : SlotsValue) (named : Result (List ℕ) E) (view : V → ProblemValue) (r : Result V E) → IfOk named (λ n. HoldsFile n text s)
+    → IfOk r (λ p. (n : List ℕ) × (named ≡ Ok n) × MakesUp s n (view p)) → IfOk r (λ p. SpellsProblem (view p) text)
+made_in_one text s named view (Ok p) held (n, is, makes) =
+    let file = rw is at held in
+    spells_text text file.items (view p) file.has (made_problem file.items n file.sections file.opened s file.hold (view p) makes)
+made_in_one text s named view (Err e) held made = tt
 
 -- ---- what the code refuses
 

@@ -6,17 +6,18 @@ use Rattle.std.proofs.lemmas.List.{append-nil}
 use Rattle.std.proofs.lemmas.Grind.{flat_map-append}
 use Rattle.pddl_items.specs.declared.item.Item.{Item}
 use Rattle.pddl_items.specs.Items.{item_view, items_view}
-use Rattle.pddl_token.specs.Trees.{Tree, Placed}
-use Rattle.pddl_items.specs.ItemTrees.{item_tree}
+use Rattle.pddl_token.specs.Trees.{Tree, Placed, erased}
+use Rattle.pddl_items.proofs.TreeLists.{view_from}
 use Rattle.pddl_token.proofs.Options.{test_cases}
 use Rattle.pddl_sections.specs.Inner.Verdicts.{Verdict, verdict, go, key_turn, turn}
 use Rattle.pddl_sections.specs.Inner.Answers.{first_missing}
+use Rattle.pddl_sections.proofs.Turns.{verdict_on}
 use Rattle.pddl_file.specs.declared.keyword.SectionKeyword.{SectionKeyword}
 use Rattle.pddl_file.specs.declared.keyword.Seen.{Seen}
 use Rattle.pddl_file.specs.declared.mark.Mark.{Mark}
 use Rattle.pddl_file.specs.Inner.WordReading.{key_at, nothing_seen, has_seen, with_seen}
 use Rattle.pddl_file.proofs.KeywordLaws.{key_reads}
-use Rattle.pddl_file.proofs.SectionTurns.{sections_on, sections_end}
+use Rattle.pddl_file.proofs.SectionTurns.{sections_end}
 use Rattle.pddl_problem_reader.specs.ProblemTexts.{Part, domain, requirements, objects, init, goal, metric, domains_in, requirements_in, objects_in, init_in, goals_in, metrics_in, part_key, required}
 use Rattle.pddl_problem_reader.specs.Inner.ProblemReading.{part_at, problem_readers}
 use Rattle.pddl_problem_reader.specs.Inner.Slots.{SlotsValue, no_slots, fill, FillsPart, Slot, Holds, HoldVerdict, or_nothing, has_slot}
@@ -144,6 +145,21 @@ go_says (Some l) (Some y) seen p x k e =
           (ap Some key, ap (has_seen seen) (sym key) ∙ h.0, ap Some part))
     ]
 
+module _ (before : SlotsValue) (seen : Seen) (s : SlotsValue) (p : Placed) (rest : List Placed) (whole : Verdict Part SectionKeyword Mark Seen) (so_far : SoFar before seen s (p ∷ rest) whole) where
+  -- it fills its slot
+  pub so_far_next : (k : SectionKeyword) (next : Seen) (after : SlotsValue) → FillsPart (turn problem_readers seen p) s after k → next ≡ with_seen seen k → SoFar before next after rest whole
+  so_far_next k next after fills noted =
+      let x = fills.part in
+      let says = go_says (key_at (erased p)) (part_at (erased p)) seen p x k fills.is in
+      let key : part_key x ≡ k = key_is x k (erased p) (sym says.2) (sym says.0) in
+      let unseen = sym (ap (has_seen seen) key ∙ says.1) in
+      record {
+        found = so_far.found ++ x ∷ [];
+        goes = ap (λ n. verdict problem_readers n (so_far.found ++ x ∷ []) rest) noted ∙ verdict_on problem_readers seen so_far.found p rest whole so_far.goes x k fills.is;
+        hold = λ empty. subst (λ n. Holds n after (so_far.found ++ x ∷ [])) (sym (noted ∙ ap (with_seen seen) (sym key)))
+            (subst (λ t. Holds (with_seen seen (part_key x)) t (so_far.found ++ x ∷ [])) (sym fills.made) (hold_more x seen s so_far.found unseen (so_far.hold empty)));
+      }
+
 module _ {A : Type 0} (before : SlotsValue) (seen : Seen) (s : SlotsValue) (xs : List (Item A)) (i : ℕ) (whole : Verdict Part SectionKeyword Mark Seen)
     (so_far : SoFar before seen s (items_view (drop i xs)) whole) where
   -- no section is left
@@ -159,16 +175,9 @@ module _ {A : Type 0} (before : SlotsValue) (seen : Seen) (s : SlotsValue) (xs :
   pub so_far_on : (item : Item A) → i < length xs → item ≡ get_or xs i item → (k : SectionKeyword) (next : Seen) (after : SlotsValue)
       → FillsPart (turn problem_readers seen (item_view item)) s after k → next ≡ with_seen seen k → SoFar before next after (items_view (drop (i + 1) xs)) whole
   so_far_on item below at k next after fills noted =
-      let x = fills.part in
-      let says = go_says (key_at (item_tree item)) (part_at (item_tree item)) seen (item_view item) x k fills.is in
-      let key : part_key x ≡ k = key_is x k (item_tree item) (sym says.2) (sym says.0) in
-      let unseen = sym (ap (has_seen seen) key ∙ says.1) in
-      record {
-        found = so_far.found ++ x ∷ [];
-        goes = sections_on problem_readers seen so_far.found xs i whole so_far.goes item below at x k next (so_far.found ++ x ∷ []) fills.is noted refl;
-        hold = λ empty. subst (λ n. Holds n after (so_far.found ++ x ∷ [])) (sym (noted ∙ ap (with_seen seen) (sym key)))
-            (subst (λ t. Holds (with_seen seen (part_key x)) t (so_far.found ++ x ∷ [])) (sym fills.made) (hold_more x seen s so_far.found unseen (so_far.hold empty)));
-      }
+      let rest = items_view (drop (i + 1) xs) in
+      let here : items_view (drop i xs) ≡ item_view item ∷ rest = view_from xs i item below ∙ ap (λ it. item_view it ∷ rest) (sym at) in
+      so_far_next before seen s (item_view item) rest whole (subst (λ ps. SoFar before seen s ps whole) here so_far) k next after fills noted
 
 -- the required sections that are missing are those whose slots are empty
 pub missing_same : (seen : Seen) (s : SlotsValue) (parts : List Part) → Holds seen s parts → first_missing (has_seen seen) required ≡ first_missing (has_slot s) required

@@ -1,6 +1,6 @@
 //! Problems read from texts.
 
-ghost use Rattle.std.specs.Prelude.{◌≡◌, ◌≢◌, ◌≤◌, ℕ, List, Some, None, IfOk, IfErr, MatchResult, length, option_map, codes};
+ghost use Rattle.std.specs.Prelude.{◌≡◌, ◌≢◌, ◌≤◌, ℕ, List, Some, None, Ok, IfOk, IfErr, OnOk, MatchResult, length, option_map, codes};
 ghost use Rattle.pddl_items.specs.Items.{items_view};
 ghost use Rattle.pddl_scan.specs.declared.fault.TextFault.TheVariants.{Memory};
 ghost use Rattle.pddl_sections.specs.Inner.Answers.{first_missing, file_answer};
@@ -13,14 +13,15 @@ ghost use Rattle.pddl_problem_reader.specs.ProblemTexts.{required, AreProblem, S
 ghost use Rattle.pddl_problem_reader.specs.Inner.ProblemReading.{problem_readers};
 ghost use Rattle.pddl_problem_reader.specs.Inner.Slots.{slots_view, or_nothing, MakesUp, has_slot};
 
+use crate::one_pass::read_file;
 use crate::section::Slots;
 use crate::section_reader::sections_of;
-use pddl_file::FileFault;
+use pddl_file::{FileFault, Stop};
 use pddl_formula::TypedList;
 use pddl_hash::Hashed;
 use pddl_items::Item;
 use pddl_problem::Problem;
-use pddl_scan::LONGEST;
+use pddl_scan::{LONGEST, TextFault};
 use pddl_sections::open_file;
 use pddl_text::items_of;
 use pddl_token::Name;
@@ -88,6 +89,39 @@ fn problem_of<'a, B: Allocator>(
     Ok(problem_by(alloc, hashed, opening.name, slots))
 }
 
+/// The problem, whose name and sections were read.
+fn if_read<'a, B: Allocator>(
+    alloc: &'a B,
+    hashed: Hashed,
+    name: Result<Name<&'a B>, Stop>,
+    slots: Slots<&'a B>,
+) -> Result<Problem<&'a B>, Stop>
+    requires { OnOk name (first_missing (has_slot (slots_view slots)) required ≡ None) }
+    ensures { IfOk result (λ problem. (n : List ℕ) × (name.entry ≡ Ok n) × MakesUp (slots_view slots.entry) n (problem_view problem)) }
+{
+    Ok(problem_by(alloc, hashed, name?, slots))
+}
+
+/// The problem that a text spells, in one pass over it.
+fn read_once<'a, B: Allocator>(alloc: &'a B, text: &[u8]) -> Result<Problem<&'a B>, Stop>
+    ensures { IfOk result (λ problem. SpellsProblem (problem_view problem) text.now) }
+{
+    let mut slots = Slots::nothing();
+    let name = read_file(alloc, &mut slots, text);
+    if_read(alloc, Hashed::of(text), name, slots)
+}
+
+/// The problem that a text spells, by its items, or else its first fault.
+fn read_whole<'a, B: Allocator>(alloc: &'a B, text: &[u8]) -> Result<Problem<&'a B>, FileFault>
+    ensures problem { IfOk result (λ problem. SpellsProblem (problem_view problem) text.now) }
+    ensures only { (problem : ProblemValue) → SpellsProblem problem text.now
+        → MatchResult result (λ found. problem_view found ≡ problem) (λ fault. fault ≡ Text Memory) }
+    ensures fault { IfErr result (λ fault. ProblemStands fault text.now) }
+{
+    let items = items_of(alloc, text)?;
+    problem_of(alloc, Hashed::of(text), &items)
+}
+
 /// The problem that a text spells: one list `(define (problem NAME) section*)`, letter case aside (Kovacs, BNF definition of
 /// PDDL 3.1, `<problem>`, without constraints and lengths; that sections stand in any order, each at most once, is own).
 /// `:domain`, `:init` and `:goal` must stand; a section of another keyword that is absent is read as an empty one.
@@ -113,8 +147,11 @@ pub fn read_problem<'a, B: Allocator>(
     // What is wrong stands in the text.
     ensures fault { IfErr result (λ fault. ProblemStands fault text.now) }
 {
-    let items = items_of(alloc, text)?;
-    problem_of(alloc, Hashed::of(text), &items)
+    match read_once(alloc, text) {
+        Ok(problem) => Ok(problem),
+        Err(Stop::Memory) => Err(FileFault::Text(TextFault::Memory)),
+        Err(Stop::Wrong) => read_whole(alloc, text),
+    }
 }
 
 /// At most one problem spells a text.

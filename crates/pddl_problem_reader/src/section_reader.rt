@@ -107,7 +107,7 @@ fn read_item<'a, B: Allocator>(
 }
 
 /// Keeps what the section that an item is says behind those of the keywords seen, and answers its keyword.
-fn read_section<'a, B: Allocator>(
+pub fn read_section<'a, B: Allocator>(
     alloc: &'a B,
     slots: &mut Slots<&'a B>,
     seen: Seen,

@@ -80,6 +80,12 @@ module _ {A W : Type 0} (mark : Tree → Option W) where
 
 -- ---- one section after the other
 
+-- behind a section that fits the verdict is that of all
+pub verdict_on : {P K W S : Type 0} (readers : Readers P K W S) (seen : S) (found : List P) (p : Placed) (rest : List Placed) (whole : Verdict P K W S) → verdict readers seen found (p ∷ rest) ≡ whole
+    → (x : P) (k : K) → turn readers seen p ≡ go x k → verdict readers (readers.with_seen seen k) (found ++ x ∷ []) rest ≡ whole
+unfolding verdict
+verdict_on readers seen found p rest whole so_far x k e = sym (ap (λ t. after_turn readers t (λ y l. verdict readers (readers.with_seen seen l) (found ++ y ∷ []) rest)) e) ∙ so_far
+
 module _ {A P K W S : Type 0} (readers : Readers P K W S) where
   -- no section is left
   pub verdict_end : (seen : S) (found : List P) (xs : List (Item A)) (i : ℕ) → length xs ≤ i → verdict readers seen found (items_view (drop i xs)) ≡ fine seen found
@@ -94,11 +100,6 @@ module _ {A P K W S : Type 0} (readers : Readers P K W S) where
     verdict_more : verdict readers seen found (items_view (drop i xs)) ≡ after_turn readers (turn readers seen (item_view (get_or xs i d))) Next
     unfolding verdict
     verdict_more = ap (verdict readers seen found) (view_from xs i d below)
-
-    -- this section fits
-    pub verdict_step : (x : P) (k : K) → turn readers seen (item_view (get_or xs i d)) ≡ go x k → verdict readers seen found (items_view (drop i xs)) ≡ whole
-        → verdict readers (readers.with_seen seen k) (found ++ x ∷ []) (items_view (drop (i + 1) xs)) ≡ whole
-    verdict_step x k e so_far = sym (verdict_more ∙ ap (λ t. after_turn readers t Next) e) ∙ so_far
 
     -- this section is faulty
     pub verdict_stop : (f : SectionFault K W) → turn readers seen (item_view (get_or xs i d)) ≡ stop f → verdict readers seen found (items_view (drop i xs)) ≡ whole

@@ -2,6 +2,7 @@ pub mod WordSpans
 pub mod Nests
 pub mod FaultsBehind
 pub mod Stacks
+pub mod InTurn
 pub mod Written
 pub mod Listed
 pub mod Levels

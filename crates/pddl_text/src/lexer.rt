@@ -20,6 +20,7 @@ pub fn next_token<'a>(text: &'a [u8], from: usize) -> Result<Option<Token<'a>>, 
         (λ found. MatchOption found (Spells words text.now) (λ token. LexedTo text.now (words ++ view token ∷ []) token.span.end))
         (λ fault. Stands fault text.now) }
     ensures further { IfOk result (λ found. IfSome found (λ token. from < token.span.end)) }
+    ensures within { IfOk result (λ found. IfSome found (λ token. token.span.end ≤ length text.now)) }
     ensures no_memory { IfErr result (λ fault. fault ≢ Memory) }
 {
     let mut at = from;

@@ -1,17 +1,33 @@
 //! The items of a text.
 
-ghost use Rattle.std.specs.Prelude.{◌≡◌, ◌≢◌, List, ℕ, IfOk, IfErr, MatchResult};
+ghost use Rattle.std.specs.Prelude.{◌≡◌, ◌≢◌, List, ℕ, None, Ok, IfOk, IfErr, MatchResult};
 ghost use Rattle.pddl_scan.specs.declared.fault.TextFault.{TextFault};
 ghost use Rattle.pddl_scan.specs.declared.fault.TextFault.TheVariants.{Memory};
 ghost use Rattle.pddl_token.specs.Trees.{Tree, Placed};
 ghost use Rattle.pddl_items.specs.Items.{items_view};
 ghost use Rattle.pddl_text.specs.Texts.{HasItems, ReadsAs, TextStands};
 
-use crate::lexer::{lex, next_token};
-use crate::nesting::{OpenLists, lists};
+use crate::in_turn::add_items;
+use crate::lexer::lex;
+use crate::nesting::{DEEPEST, lists};
 use pddl_items::Item;
 use pddl_scan::{LONGEST, TextFault};
 use std::alloc::Allocator;
+
+/// Items, where they were read up to the text's end.
+fn if_whole<'t, A: Allocator>(
+    items: Vec<Item<'t, A>, A>,
+    end: Result<Option<u32>, TextFault>,
+) -> Result<Vec<Item<'t, A>, A>, TextFault>
+    ensures { IfOk result (λ whole. (items_view whole.items ≡ items_view items.entry.items) × (end ≡ Ok None)) }
+{
+    match end? {
+        Some(end) => Err(TextFault::Unopened {
+            at: end.saturating_sub(1),
+        }),
+        None => Ok(items),
+    }
+}
 
 /// The items of a text, in one pass over it. Of a text that has none, what it answers need not be the first fault.
 fn read_items<'t, 'a, B: Allocator>(
@@ -23,13 +39,10 @@ fn read_items<'t, 'a, B: Allocator>(
     if text.len() > LONGEST {
         return Err(TextFault::TooLong);
     }
-    let mut open = OpenLists::new(alloc);
+    let mut items = Vec::new(alloc);
     let mut at = 0;
-    while let Some(token) = next_token(text, at)? {
-        open.add(&token)?;
-        at = token.span.end as usize;
-    }
-    open.into_items()
+    let end = add_items(alloc, text, &mut at, DEEPEST, &mut items);
+    if_whole(items, end)
 }
 
 /// The same in two passes, words before lists, which answers the first fault.

@@ -1,12 +1,16 @@
 -- How a domain is made of its sections, one after the other. No public contract names these.
-use Rattle.std.specs.Prelude.{◌≡◌, List, [], ◌∷◌, ◌++◌, Bool, Option, option_map, codes}
+use Rattle.std.specs.Prelude.{◌≡◌, ℕ, List, [], ◌∷◌, ◌++◌, Bool, Option, option_map, codes}
 use Rattle.std.specs.Bool.{then_some}
+use Rattle.pddl_token.specs.Spelling.{PlacedWord}
 use Rattle.pddl_token.specs.Trees.{Placed}
-use Rattle.pddl_sections.specs.Inner.Verdicts.{Turn, go, Verdict, fine, verdict}
+use Rattle.pddl_text.specs.Texts.{HasItems}
+use Rattle.pddl_sections.specs.Files.{IsOpened}
+use Rattle.pddl_sections.specs.Inner.Verdicts.{Turn, go, Verdict, fine, turn, verdict}
 use Rattle.pddl_sections.specs.Inner.Answers.{Answer, right, file_answer}
 use Rattle.pddl_file.specs.declared.keyword.SectionKeyword.{SectionKeyword}
 use Rattle.pddl_file.specs.declared.keyword.Seen.{Seen}
 use Rattle.pddl_file.specs.declared.mark.Mark.{Mark}
+use Rattle.pddl_file.specs.Inner.Begun.{ReadsTurn}
 use Rattle.pddl_file.specs.Inner.WordReading.{nothing_seen}
 use Rattle.pddl_domain.specs.Domains.{DomainValue}
 use Rattle.pddl_domain_reader.specs.DomainTexts.{Part, requirements, types, constants, predicates, functions, action}
@@ -54,3 +58,17 @@ pub record AddsParts (items : List Placed) (before after : DomainValue) : Type 0
   pub parts : List Part
   pub is : domain_verdict items ≡ fine seen parts
   pub made : after ≡ with_parts before parts
+
+-- ---- in one pass
+
+-- a section that was added behind the keywords seen, or the end, where nothing was added, as it is answered
+abbrev pub AddsTurn : List ℕ → List PlacedWord → ℕ → Seen → DomainValue → DomainValue → Option Seen → Type 0
+AddsTurn text words at seen before after = ReadsTurn (λ p. AddsPart (turn domain_readers seen p) before after) (after ≡ before) text words at seen
+
+-- the text has a file of this name, whose sections were added to a domain
+pub record AddsFile (name text : List ℕ) (before after : DomainValue) : Type 0 where
+  pub items : List Placed
+  pub sections : List Placed
+  pub has : HasItems text items
+  pub opened : IsOpened (codes "domain") name sections items
+  pub adds : AddsParts sections before after

@@ -1,0 +1,213 @@
+//! Problems read in one pass over their text, section by section and `:init` item by item, so that no more of the text is held as items than that.
+//!
+//! What is answered is right. Where something is wrong, what it is shows only in the whole text, and is not looked for here.
+
+ghost use Rattle.std.specs.Prelude.{◌≡◌, ◌<◌, ◌≤◌, ◌++◌, ◌∷◌, [], Some, None, List, ℕ, map, length, IfOk, IfSome, IsOk, OnOk, codes};
+ghost use Rattle.pddl_token.specs.Spelling.{PlacedWord};
+ghost use Rattle.pddl_scan.specs.Scanning.{LexedTo};
+ghost use Rattle.pddl_items.specs.ItemTrees.{item_tree};
+ghost use Rattle.pddl_items.specs.Items.{item_view};
+ghost use Rattle.pddl_sections.specs.Inner.Verdicts.{turn};
+ghost use Rattle.pddl_sections.specs.Inner.Answers.{first_missing};
+ghost use Rattle.pddl_file.specs.Inner.Begun.{HasBegun};
+ghost use Rattle.pddl_file.specs.Inner.WordReading.{with_seen};
+ghost use Rattle.pddl_file.specs.declared.keyword.SectionKeyword.{SectionKeyword};
+ghost use Rattle.pddl_problem.specs.Inits.{InitValue, init_view};
+ghost use Rattle.pddl_init_reader.specs.Inner.InitReading.{init_at};
+ghost use Rattle.pddl_problem_reader.specs.ProblemTexts.{init, required};
+ghost use Rattle.pddl_problem_reader.specs.Inner.ProblemReading.{problem_readers};
+ghost use Rattle.pddl_problem_reader.specs.Inner.Slots.{slots_view, no_slots, fill, FillsPart, has_slot};
+ghost use Rattle.pddl_problem_reader.specs.Inner.OnePass.{IsInitBehind, ReadsInits, FillsTurn, HoldsFile};
+
+use crate::section::Slots;
+use crate::section_reader::read_section;
+use pddl_build::{push_found, set_list};
+use pddl_file::{SectionKeyword, Seen, Stop, begin_file, end_behind, word_behind};
+use pddl_init_reader::init_of;
+use pddl_items::{Item, is_word};
+use pddl_problem::InitItem;
+use pddl_scan::LONGEST;
+use pddl_text::{DEEPEST, NextItem, next_item};
+use pddl_token::{Name, TokenKind};
+use std::alloc::Allocator;
+
+/// The place behind `(:init`, where that stands next behind a place.
+fn init_behind(text: &[u8], from: usize) -> Option<usize>
+    requires short { length text.now ≤ LONGEST }
+    ensures init { (words : List PlacedWord) → LexedTo text.now words from → IfSome result (IsInitBehind text.now words) }
+    ensures further { IfSome result (λ at. (from < at) × (at ≤ length text.now)) }
+{
+    let mut at = from;
+    word_behind(text, &mut at, TokenKind::Open).ok()?;
+    let keyword = word_behind(text, &mut at, TokenKind::Keyword).ok()?;
+    if is_word(keyword, b":init") {
+        Some(at)
+    } else {
+        None
+    }
+}
+
+/// Adds what an item of `:init` says.
+fn add_init<'a, B: Allocator>(
+    alloc: &'a B,
+    inits: &mut Vec<InitItem<&'a B>, &'a B>,
+    item: Item<'_, &'a B>,
+) -> Result<(), Stop>
+    ensures { OnOk result ((x : InitValue) × (init_at (item_tree item.entry) ≡ Some x) × (map init_view inits.new.items ≡ map init_view inits.old.items ++ x ∷ [])) }
+{
+    if push_found(inits, init_of(alloc, &item))? {
+        Ok(())
+    } else {
+        Err(Stop::Wrong)
+    }
+}
+
+/// Puts what the items up to the end of `:init` say into an empty list.
+fn add_inits<'a, B: Allocator>(
+    alloc: &'a B,
+    inits: &mut Vec<InitItem<&'a B>, &'a B>,
+    text: &[u8],
+    at: &mut usize,
+) -> Result<(), Stop>
+    requires short { length text.now ≤ LONGEST }
+    requires empty { inits.old.items ≡ [] }
+    ensures inits { (words : List PlacedWord) → LexedTo text.now words at.old → OnOk result (ReadsInits text.now words at.new (map init_view inits.new.items)) }
+    ensures further { OnOk result ((at.old < at.new) × (at.new ≤ length text.now)) }
+{
+    loop {
+        match next_item(alloc, text, at, DEEPEST - 2)? {
+            NextItem::Item(item) => add_init(alloc, inits, item)?,
+            NextItem::End(Some(_)) => return Ok(()),
+            NextItem::End(None) => return Err(Stop::Wrong),
+        }
+    }
+}
+
+/// Keeps what `:init` says, where that was read.
+fn keep_inits<'a, B: Allocator>(
+    slots: &mut Slots<&'a B>,
+    inits: Vec<InitItem<&'a B>, &'a B>,
+    read: Result<(), Stop>,
+) -> Result<(), Stop>
+    ensures read { OnOk result (IsOk read) }
+    ensures kept { OnOk result (slots_view slots.new ≡ fill (slots_view slots.old) (init (map init_view inits.entry.items))) }
+{
+    read?;
+    set_list(&mut slots.init, Ok(Some(inits)))?;
+    Ok(())
+}
+
+/// Keeps what the section of `:init` says, whose items stand behind a place.
+fn read_init<'a, B: Allocator>(
+    alloc: &'a B,
+    slots: &mut Slots<&'a B>,
+    text: &[u8],
+    at: &mut usize,
+) -> Result<(), Stop>
+    requires short { length text.now ≤ LONGEST }
+    ensures init { (words : List PlacedWord) → LexedTo text.now words at.old
+        → OnOk result ((inits : List InitValue) × ReadsInits text.now words at.new inits × (slots_view slots.new ≡ fill (slots_view slots.old) (init inits))) }
+    ensures further { OnOk result ((at.old < at.new) × (at.new ≤ length text.now)) }
+{
+    let mut inits = Vec::new(alloc);
+    let read = add_inits(alloc, &mut inits, text, at);
+    keep_inits(slots, inits, read)
+}
+
+/// Keeps what a section says that was read behind those seen, and answers which are seen then.
+fn keep_section<'a, B: Allocator>(
+    alloc: &'a B,
+    slots: &mut Slots<&'a B>,
+    seen: Seen,
+    section: Item<'_, &'a B>,
+) -> Result<Option<Seen>, Stop>
+    ensures { IfOk result (λ next. (key : SectionKeyword) × FillsPart (turn problem_readers seen (item_view section.entry)) (slots_view slots.old) (slots_view slots.new) key × (next ≡ Some (with_seen seen key))) }
+{
+    let keyword = read_section(alloc, slots, seen, &section)?;
+    Ok(Some(seen.with(keyword)))
+}
+
+/// Keeps what the section behind a place says, behind those seen, and answers which are seen then; nothing where the file's `)` comes.
+fn read_turn<'a, B: Allocator>(
+    alloc: &'a B,
+    slots: &mut Slots<&'a B>,
+    seen: Seen,
+    text: &[u8],
+    at: &mut usize,
+) -> Result<Option<Seen>, Stop>
+    requires short { length text.now ≤ LONGEST }
+    ensures turn { (words : List PlacedWord) → LexedTo text.now words at.old
+        → IfOk result (FillsTurn text.now words at.new seen (slots_view slots.old) (slots_view slots.new)) }
+    ensures further { IfOk result (λ next. IfSome next (λ _. (at.old < at.new) × (at.new ≤ length text.now))) }
+{
+    match next_item(alloc, text, at, DEEPEST - 1)? {
+        NextItem::Item(section) => keep_section(alloc, slots, seen, section),
+        NextItem::End(Some(_)) => Ok(None),
+        NextItem::End(None) => Err(Stop::Wrong),
+    }
+}
+
+/// The same, where `:init` is read item by item.
+fn read_next<'a, B: Allocator>(
+    alloc: &'a B,
+    slots: &mut Slots<&'a B>,
+    seen: Seen,
+    text: &[u8],
+    at: &mut usize,
+) -> Result<Option<Seen>, Stop>
+    requires short { length text.now ≤ LONGEST }
+    ensures turn { (words : List PlacedWord) → LexedTo text.now words at.old
+        → IfOk result (FillsTurn text.now words at.new seen (slots_view slots.old) (slots_view slots.new)) }
+    ensures further { IfOk result (λ next. IfSome next (λ _. (at.old < at.new) × (at.new ≤ length text.now))) }
+{
+    match init_behind(text, *at) {
+        Some(behind) if !seen.init => {
+            *at = behind;
+            read_init(alloc, slots, text, at)?;
+            Ok(Some(seen.with(SectionKeyword::Init)))
+        }
+        _ => read_turn(alloc, slots, seen, text, at),
+    }
+}
+
+/// Keeps what the sections behind a file's beginning say, of which none is missing, up to the text's end.
+fn read_sections<'a, B: Allocator>(
+    alloc: &'a B,
+    slots: &mut Slots<&'a B>,
+    text: &[u8],
+    at: &mut usize,
+) -> Result<(), Stop>
+    requires short { length text.now ≤ LONGEST }
+    requires empty { slots_view slots.old ≡ no_slots }
+    ensures hold { (name : List ℕ) → HasBegun (codes "problem") name text.now [] at.old → OnOk result (HoldsFile name text.now (slots_view slots.new)) }
+    ensures whole { OnOk result (first_missing (has_slot (slots_view slots.new)) required ≡ None) }
+{
+    let mut seen = Seen::nothing();
+    while let Some(next) = read_next(alloc, slots, seen, text, at)? {
+        seen = next;
+    }
+    end_behind(text, *at)?;
+    match slots.first_missing() {
+        None => Ok(()),
+        Some(_) => Err(Stop::Wrong),
+    }
+}
+
+/// Keeps what the sections of a file say that a text is, and answers its name.
+pub fn read_file<'a, B: Allocator>(
+    alloc: &'a B,
+    slots: &mut Slots<&'a B>,
+    text: &[u8],
+) -> Result<Name<&'a B>, Stop>
+    requires { slots_view slots.old ≡ no_slots }
+    ensures hold { IfOk result (λ name. HoldsFile name text.now (slots_view slots.new)) }
+    ensures whole { OnOk result (first_missing (has_slot (slots_view slots.new)) required ≡ None) }
+{
+    if text.len() > LONGEST {
+        return Err(Stop::Wrong);
+    }
+    let mut at = 0;
+    let name = begin_file(alloc, b"problem", text, &mut at)?;
+    let read = read_sections(alloc, slots, text, &mut at);
+    read.and(Ok(name))
+}

@@ -1,0 +1,46 @@
+-- Items that are read one by one.
+use Rattle.std.proofs.Common.{◌≡◌, ℕ, suc, ◌-◌, ◌<◌, ◌≤◌, List, [], ◌∷◌, ◌++◌, length, refl, subst, ◌∙◌, arith}
+use Rattle.std.specs.Prelude.{Option, Some, None, Result, Ok, Err, IfOk}
+use Rattle.std.proofs.lemmas.List.{append_assoc}
+use Rattle.pddl_token.specs.declared.token.TokenKind.TheVariants.{Open}
+use Rattle.pddl_token.specs.declared.token.Span.{Span}
+use Rattle.pddl_token.specs.Spelling.{PlacedWord}
+use Rattle.pddl_token.specs.Trees.{Placed, placed_node, placed_of}
+use Rattle.pddl_scan.specs.declared.fault.TextFault.{TextFault}
+use Rattle.pddl_scan.specs.Scanning.{LexedTo}
+use Rattle.pddl_text.specs.Lists.{AreItems, none, nested}
+use Rattle.pddl_text.specs.Texts.{HasItems}
+use Rattle.pddl_text.specs.NextItems.{ReadsOn, ReadsItems, Closes}
+use Rattle.pddl_text.specs.declared.in_turn.NextItem.{NextItem}
+use Rattle.pddl_text.specs.declared.in_turn.NextItem.TheVariants.{Item, End}
+
+-- a list's words, behind others
+regroup : (words : List PlacedWord) (opening : PlacedWord) (more : List PlacedWord) (closing : PlacedWord) → ((words ++ opening ∷ []) ++ more) ++ closing ∷ [] ≡ words ++ opening ∷ (more ++ closing ∷ [])
+regroup words opening more closing = append_assoc (words ++ opening ∷ []) more (closing ∷ []) ∙ append_assoc words (opening ∷ []) (more ++ closing ∷ [])
+
+-- a list whose items and end were read
+pub list_on : {A : Type 0} (text : List ℕ) (words : List PlacedWord) (opening : PlacedWord) (levels : ℕ) (items : List Placed) (start at : ℕ) (end : Result (Option ℕ) TextFault) (r : Result (NextItem A) TextFault)
+    → opening.kind ≡ Open → opening.span.start ≡ start → 0 < levels → IfOk end (ReadsItems text (words ++ opening ∷ []) (levels - 1) items at) → Closes items start end r → IfOk r (ReadsOn text words levels at)
+list_on text words opening levels items start at (Ok (Some e)) (Ok (Item item)) is_open starts some (more, form, (w, is_close, ends, lexed)) is =
+    let own : Span = record { start = opening.span.start; end = w.span.end } in
+    let told : Span = record { start = start; end = e } in
+    let same : own ≡ told = λ i. record { start = starts i; end = ends i } in
+    let whole : List Placed = placed_node own (placed_of items) ∷ [] in
+    let list : AreItems (suc (levels - 1)) (opening ∷ (more ++ w ∷ [])) whole = nested opening w more [] items [] is_open is_close form none refl refl in
+    let deep : suc (levels - 1) ≡ levels = omega (arith, some) in (
+      opening ∷ (more ++ w ∷ []),
+      subst (λ ws. LexedTo text ws at) (regroup words opening more w) lexed,
+      rw (is, ← same) (subst (λ n. AreItems n (opening ∷ (more ++ w ∷ [])) whole) deep list),
+    )
+list_on text words opening levels items start at (Ok (Some e)) (Ok (End other)) is_open starts some read is = absurd is
+list_on text words opening levels items start at (Ok None) (Ok next) is_open starts some read is = absurd is
+list_on text words opening levels items start at (Err fault) (Ok next) is_open starts some read is = absurd is
+list_on text words opening levels items start at end (Err fault) is_open starts some read is = tt
+
+-- what was read up to the text's end is the text's
+pub whole_text : {V : Type 0} (text : List ℕ) (at : ℕ) (view : V → List Placed) (items : List Placed) (end : Result (Option ℕ) TextFault) (r : Result V TextFault) → length text ≤ 16777216
+    → IfOk end (ReadsItems text [] 128 items at) → IfOk r (λ v. (view v ≡ items) × (end ≡ Ok None)) → IfOk r (λ v. HasItems text (view v))
+whole_text text at view items end (Ok v) within read (same, ends) =
+    let (more, form, (spells, valued)) = rw ends at read in
+    record { words = more; within = within; spells = spells; valued = valued; form = rw same form }
+whole_text text at view items end (Err fault) within read is = tt
