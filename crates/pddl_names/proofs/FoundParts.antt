@@ -1,5 +1,5 @@
 -- What is found in parts of faults.
-use Rattle.std.proofs.Common.{◌≡◌, ◌≤◌, ℕ, List, [], ◌∷◌, ◌++◌, drop, Result, Ok, Err, subst, arith, inl, inr}
+use Rattle.std.proofs.Common.{◌≡◌, ◌≤◌, ℕ, List, [], ◌∷◌, ◌++◌, drop, Result, Ok, Err, arith, inl, inr}
 use Rattle.std.specs.Prelude.{Contains, OnOk, IsOk}
 use Rattle.std.specs.List.{flat_map}
 use Rattle.std.proofs.lemmas.List.Elements.{Contains-append_cases}
@@ -11,11 +11,11 @@ use Rattle.pddl_task.specs.Names.{Name}
 use Rattle.pddl_task.specs.Places.{Place, problem_places}
 use Rattle.pddl_task.specs.Settings.{Setting, in_problem}
 use Rattle.pddl_task.specs.Faults.{variables_at, repeated_at, fraction_at, unknown_at, arity_at, misfit_at, contradictions, cost_values, object_types, other_metrics}
-use Rattle.pddl_task.proofs.Lists.{append-none, has_none, mapped_is}
+use Rattle.pddl_task.proofs.Lists.{append-none, has_none}
 use Rattle.pddl_faults.specs.declared.fault.LinkFault.{LinkFault}
 use Rattle.pddl_faults.specs.Passes.{Passes}
 use Rattle.pddl_faults.specs.Found.{IsFound, numbered}
-use Rattle.pddl_faults.proofs.FoundFaults.{found_first, found_same, passed_as, passed_found}
+use Rattle.pddl_faults.proofs.FoundFaults.{number_is, found_first, found_same, passed_as, passed_found}
 use Rattle.pddl_types.specs.Told.{unknown_among}
 use Rattle.pddl_types.specs.Objects.{off_types}
 use Rattle.pddl_names.specs.Uses.{place_faults}
@@ -41,13 +41,13 @@ found_parts us vs first second both lower h k =
 abbrev pub AreFrom : List (ℕ × Name) → Type 0
 AreFrom xs = (f : ℕ × Name) → Contains xs f → 23 ≤ f.0
 
-from_numbered : (n : ℕ) (words : List Name) → 23 ≤ n → AreFrom (numbered n words)
-from_numbered n words le f c = let m = mapped_is (λ w. (n, w)) words f c in subst (λ (p : ℕ × Name). 23 ≤ p.0) m.2 le
+pub from_numbered : (n : ℕ) (words : List Name) → 23 ≤ n → AreFrom (numbered n words)
+from_numbered n words le f c = let m = number_is n words f c in omega (arith, m.0)
 
-from_both : (xs ys : List (ℕ × Name)) → AreFrom xs → AreFrom ys → AreFrom (xs ++ ys)
+pub from_both : (xs ys : List (ℕ × Name)) → AreFrom xs → AreFrom ys → AreFrom (xs ++ ys)
 from_both xs ys h k f c = elim (Contains-append_cases xs ys f c) as (λ _. 23 ≤ f.0) [ inl l ↦ h f l | inr r ↦ k f r ]
 
-from_none : AreFrom []
+pub from_none : AreFrom []
 from_none f c = absurd (has_none f c)
 
 from_place : (types : List TypeValue) (s : Setting) (pl : Place) → AreFrom (place_faults types s pl)
@@ -56,9 +56,14 @@ from_place types s pl =
     (from_both _ _ (from_numbered 30 (fraction_at pl) (omega arith)) (from_both _ _ (from_numbered 26 (unknown_at s pl) (omega arith))
     (from_both _ _ (from_numbered 27 (arity_at s pl) (omega arith)) (from_numbered 28 (misfit_at s pl) (omega arith))))))
 
-from_places : (types : List TypeValue) (s : Setting) (pls : List Place) → AreFrom (flat_map (place_faults types s) pls)
+pub from_places : (types : List TypeValue) (s : Setting) (pls : List Place) → AreFrom (flat_map (place_faults types s) pls)
 from_places types s [] = from_none
 from_places types s (pl ∷ pls) = from_both (place_faults types s pl) (flat_map (place_faults types s) pls) (from_place types s pl) (from_places types s pls)
+
+-- an unknown type is the lowest of them and itself
+pub stopped_first : (words : List Name) (rest : List (ℕ × Name)) (e : LinkFault) → Passes {T = Unit {0}} 23 words (Err e) → AreFrom rest → IsFound {T = Unit {0}} (numbered 23 words ++ rest) (Err e)
+stopped_first words rest e h from =
+    found_first (numbered 23 words) rest e (λ f g c after. let m = number_is 23 words f c in omega (arith, m.0, from g after)) (passed_found {T = Unit {0}} 23 words (Err e) h)
 
 -- an unknown type of an object is the lowest fault of a problem
 pub stopped_at : (types : List TypeValue) (d : DomainValue) (p : ProblemValue) (e : LinkFault) → Passes {T = Unit {0}} 23 (unknown_among types p.objects) (Err e)
@@ -68,10 +73,7 @@ stopped_at types d p e h =
     from_both _ _ (from_numbered 24 (off_types d.constants p.objects) (omega arith)) (from_both _ _ (from_places types (in_problem d p) (problem_places p))
     (from_both _ _ (from_numbered 29 (contradictions p) (omega arith)) (from_both _ _ (from_numbered 31 (cost_values p) (omega arith))
     (from_both _ _ (from_numbered 25 (object_types p.objects) (omega arith)) (from_both _ _ (from_numbered 33 (other_metrics p.metric) (omega arith)) from_none))))) in
-    let words = unknown_among types p.objects in
-    found_first (numbered 23 words) (joined (drop 1 (problem_parts types d p))) e
-    (λ f g c after. let m = mapped_is (λ w. (23, w)) words f c in subst (λ (q : ℕ × Name). q.0 ≤ g.0) m.2 (rest g after))
-    (passed_found {T = Unit {0}} 23 words (Err e) h)
+    stopped_first (unknown_among types p.objects) (joined (drop 1 (problem_parts types d p))) e h rest
 
 -- ---- values
 

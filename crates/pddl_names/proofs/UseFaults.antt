@@ -13,11 +13,11 @@ use Rattle.pddl_domain.specs.Declarations.{Signature}
 use Rattle.pddl_task.specs.Names.{Name, word_if}
 use Rattle.pddl_task.specs.Settings.{Setting}
 use Rattle.pddl_task.specs.Faults.{Use, is_declared, signature_of, unknown_term, takes_others, some_misfit, has_misfit}
-use Rattle.pddl_task.proofs.Lists.{at_place, mapped_is, append-none, has_first}
+use Rattle.pddl_task.proofs.Lists.{at_place, append-none, has_first}
 use Rattle.pddl_faults.specs.declared.fault.LinkFault.{LinkFault}
 use Rattle.pddl_faults.specs.Passes.{Passes}
 use Rattle.pddl_faults.specs.Found.{IsFound, numbered}
-use Rattle.pddl_faults.proofs.FoundFaults.{AreBelow, passed_found, found_first, found_rest}
+use Rattle.pddl_faults.proofs.FoundFaults.{AreBelow, number_is, passed_found, found_first, found_rest}
 use Rattle.pddl_types.specs.KnownNames.{signature_in}
 use Rattle.pddl_types.specs.Told.{ToldValue}
 use Rattle.pddl_types.specs.Signatures.{Rows, IsSlotsAt, AreSlotsAt}
@@ -32,10 +32,7 @@ abbrev in_turn : List Name → List Name → List Name → List (ℕ × Name)
 in_turn xs ys zs = numbered 26 xs ++ (numbered 27 ys ++ numbered 28 zs)
 
 below : (m n : ℕ) (xs ys : List Name) → m ≤ n → AreBelow (numbered m xs) (numbered n ys)
-below m n xs ys le f g c d =
-    let first = mapped_is (λ w. (m, w)) xs f c in
-    let second = mapped_is (λ w. (n, w)) ys g d in
-    subst (λ (p : ℕ × Name). p.0 ≤ g.0) first.2 (subst (λ (p : ℕ × Name). m ≤ p.0) second.2 le)
+below m n xs ys le f g c d = omega (arith, (number_is m xs f c).0, (number_is n ys g d).0)
 
 first_below : (xs ys zs : List Name) → AreBelow (numbered 26 xs) (numbered 27 ys ++ numbered 28 zs)
 first_below xs ys zs f g c d =
