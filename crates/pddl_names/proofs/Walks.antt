@@ -15,7 +15,7 @@ use Rattle.pddl_faults.proofs.ListTurns.{rest_is}
 use Rattle.pddl_types.specs.Told.{unknown_among}
 use Rattle.pddl_names.specs.declared.known.Known.{Known}
 use Rattle.pddl_names.specs.Uses.{setting_of, faults_by, IsSearched}
-use Rattle.pddl_names.proofs.FoundParts.{from_numbered, from_both, from_none, from_places, stopped_first}
+use Rattle.pddl_names.proofs.FoundParts.{from_numbered, from_both, from_places, passed_first}
 
 -- ---- parts of a walk
 
@@ -48,10 +48,9 @@ module _ {A B : Type 0} (k : Known A B) (xs : List TypedValue) where
   stopped ps e passes kept = record {
     kept = kept;
     found = λ b is.
-        let rest = flat_map (faults_by k) (ps (binding xs b)) in
-        let from = from_both (twice ++ []) rest (from_both twice [] (from_numbered 24 (repeated [] (map item_of xs)) (omega arith)) from_none)
-        (from_places k.types.now.declared (setting_of k) (ps (binding xs b))) in
-        rw append_assoc (stopped_first unknown ((twice ++ []) ++ rest) e passes from);
+        let pls = ps (binding xs b) in
+        let from = from_both 23 _ _ (from_numbered 23 24 (repeated [] (map item_of xs)) (omega arith)) (from_places k.types.now.declared (setting_of k) pls) in
+        rw (append-none twice, append_assoc) (passed_first 23 unknown (twice ++ flat_map (faults_by k) pls) e passes from);
   }
 
   -- places where the variables of a list are bound besides, behind the list itself, of which all types are known
