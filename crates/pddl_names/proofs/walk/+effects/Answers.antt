@@ -6,7 +6,7 @@ use Rattle.pddl_effect.specs.Effects.{effect_view}
 use Rattle.pddl_effect.proofs.effect.Effect.TheLaws.{the_size}
 use Rattle.pddl_formula.proofs.Depths.{among}
 use Rattle.pddl_effect.proofs.Depths.{under_all, under_each, under_when}
-use Rattle.pddl_effect.proofs.Views.{view_add, view_del, view_and, view_when, view_forall, view_increase}
+use Rattle.pddl_effect.proofs.Views.{view_add, view_del, view_when, view_forall, view_increase}
 use Rattle.pddl_task.specs.Places.{effect_places}
 use Rattle.pddl_names.proofs.ToldUses.{bound_left}
 use Rattle.pddl_names.proofs.Walks.{stopped, in_turn, within, at_start, one_more, at_end}
@@ -16,9 +16,6 @@ pub search_effect-returns-in-When-clause-searched : goal.search_effect-returns-i
 search_effect-returns-in-When-clause-searched g t c =
     rw (c.in-When.is, view_when c.in-When.condition c.in-When.inner)
     (in_turn c.search_formula-condition.ensures.searched (rw c.deref-in-When.ensures at c.search_effect.ensures.searched) c.lower-in-When.ensures.found)
-
-pub search_effect-returns-in-And-clause-searched : goal.search_effect-returns-in-And-clause-searched
-search_effect-returns-in-And-clause-searched g t c = rw (c.in-And.is, view_and c.in-And.parts) c.search_effects.ensures.searched
 
 pub search_effect-returns-in-Add-clause-searched : goal.search_effect-returns-in-Add-clause-searched
 search_effect-returns-in-Add-clause-searched g t c =

@@ -5,7 +5,7 @@ use Rattle.pddl_formula.specs.TypedLists.{typed_view}
 use Rattle.pddl_formula.specs.Formulas.{formula_view}
 use Rattle.pddl_formula.proofs.formula.Formula.TheLaws.{the_size}
 use Rattle.pddl_formula.proofs.Depths.{among, under_not, under_imply, under_and, under_or, under_exists, under_forall}
-use Rattle.pddl_formula.proofs.Views.{view_atom, view_equal, view_not, view_imply, view_and, view_or, view_exists, view_forall}
+use Rattle.pddl_formula.proofs.Views.{view_atom, view_equal, view_imply, view_and, view_or, view_exists, view_forall}
 use Rattle.pddl_task.specs.Places.{places_in}
 use Rattle.pddl_names.proofs.ToldUses.{bound_left}
 use Rattle.pddl_names.proofs.Walks.{stopped, in_turn, within, at_start, one_more, at_end}
@@ -21,9 +21,6 @@ search_formula-returns-in-Atom-clause-searched g t c = rw (c.in-Atom.is, view_at
 
 pub search_formula-returns-in-Equal-clause-searched : goal.search_formula-returns-in-Equal-clause-searched
 search_formula-returns-in-Equal-clause-searched g t c = rw (c.in-Equal.is, view_equal c.in-Equal.first c.in-Equal.second) c.look-in-Equal.ensures.searched
-
-pub search_formula-returns-in-Not-clause-searched : goal.search_formula-returns-in-Not-clause-searched
-search_formula-returns-in-Not-clause-searched g t c = rw (c.in-Not.is, view_not c.in-Not.inner) (rw c.deref.ensures at c.search_formula.ensures.searched)
 
 pub search_formula-returns-in-And-clause-searched : goal.search_formula-returns-in-And-clause-searched
 search_formula-returns-in-And-clause-searched g t c =
