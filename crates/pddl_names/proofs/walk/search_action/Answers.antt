@@ -8,6 +8,9 @@ use Rattle.pddl_names.proofs.ToldUses.{bound_left}
 use Rattle.pddl_names.proofs.Walks.{stopped, in_turn, within}
 use Rattle.pddl_names.proofs.walk.search_action.Goals as goal
 
+pub returns-in_err-repeated-clause-kept : goal.returns-in_err-repeated-clause-kept
+returns-in_err-repeated-clause-kept g c = c.in_err-repeated.ensures.bound []
+
 pub returns-in_err-repeated-clause-found : goal.returns-in_err-repeated-clause-found
 returns-in_err-repeated-clause-found g c =
     let p = err_from_is_err_and c.from_residual.result c.from_residual.ensures.1 in
