@@ -5,12 +5,12 @@ ghost use Rattle.std.specs.Prelude.{◌≡◌, [], ◌∷◌, List, not, map, Op
 ghost use Rattle.std.specs.List.{flat_map};
 ghost use Rattle.pddl_formula.specs.Terms.{term_view};
 ghost use Rattle.pddl_formula.specs.TypedLists.{TypedValue, typed_view};
-ghost use Rattle.pddl_task.specs.Names.{word_if, item_of, repeated};
+ghost use Rattle.pddl_task.specs.Names.{item_of, repeated};
 ghost use Rattle.pddl_task.specs.Places.{at, counts, binding};
 ghost use Rattle.pddl_task.specs.Faults.{typed_term, unknown_term, some_misfit, fraction_of};
 ghost use Rattle.pddl_faults.specs.Passes.{Passes};
 ghost use Rattle.pddl_faults.specs.Found.{IsFound, numbered};
-ghost use Rattle.pddl_search.specs.Parts.{term_in, term_name, terms_in, part_in};
+ghost use Rattle.pddl_search.specs.Parts.{term_in, terms_in, part_in};
 ghost use Rattle.pddl_types.specs.KnownNames.{signature_in};
 ghost use Rattle.pddl_types.specs.Told.{ToldValue, AreTold, unknown_among};
 ghost use Rattle.pddl_types.specs.Objects.{IsAtOf};

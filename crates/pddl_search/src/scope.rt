@@ -1,6 +1,6 @@
 //! The variables in scope, looked up by name.
 
-ghost use Rattle.std.specs.Prelude.{◌≡◌, ℕ, [], ◌∷◌, map, drop, find, length, option_map, IfOk, MatchResult};
+ghost use Rattle.std.specs.Prelude.{◌≡◌, [], ◌∷◌, map, drop, find, length, option_map, IfOk, MatchResult};
 ghost use Rattle.pddl_formula.specs.TypedLists.{typed_view};
 ghost use Rattle.pddl_task.specs.Names.{is_named, item_of, repeated};
 ghost use Rattle.pddl_faults.specs.Found.{IsFound, numbered};
