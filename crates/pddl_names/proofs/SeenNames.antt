@@ -1,8 +1,8 @@
 -- Names that are seen one after another, and a set of them.
-use Rattle.std.proofs.Common.{◌≡◌, ℕ, Bool, true, false, ◌||◌, not, cond, List, [], ◌∷◌, ◌++◌, map, drop, Result, refl, ap, sym, ◌∙◌, bytes_eq, arith}
+use Rattle.std.proofs.Common.{◌≡◌, ℕ, Bool, true, false, ◌||◌, not, cond, List, [], ◌∷◌, ◌++◌, map, drop, Result, refl, ap, sym, ◌∙◌, bytes_eq}
 use Rattle.std.specs.Borrow.{Bor}
 use Rattle.std.specs.List.{list_any}
-use Rattle.std.proofs.Math.Bool.{or-false}
+use Rattle.std.proofs.Math.Bool.{or-false, not-not}
 use Rattle.pddl_domain.specs.declared.domain.Action.{Action}
 use Rattle.pddl_domain.specs.Actions.{action_view}
 use Rattle.pddl_task.specs.Names.{Name, is_in}
@@ -36,10 +36,7 @@ module _ (keys : List (Bor (List ℕ))) (key : Bor (List ℕ)) (seen : List Name
 
   -- whether it was seen
   pub was_seen : (is_new : Bool) → is_new ≡ not (has keys key.now) → not is_new ≡ is_in seen name
-  was_seen is_new told = other is_new (has keys key.now) told ∙ same key.now ∙ ap (is_in seen) named
-    where
-      other : (a b : Bool) → a ≡ not b → not a ≡ b
-      other a b h = grind arith
+  was_seen is_new told = ap not told ∙ not-not (has keys key.now) ∙ same key.now ∙ ap (is_in seen) named
 
 -- what was found in the actions up to one, and the names that a set has from them
 pub record ActionsUpTo {A : Type 0} (sought : Place → List (ℕ × Name)) (all : List (Action A)) (i : ℕ) (keys : List (Bor (List ℕ))) (found : Result (Unit {0}) LinkFault) : Type 0 where

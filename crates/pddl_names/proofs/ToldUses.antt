@@ -73,31 +73,24 @@ told_entered told (x ∷ xs) (n ∷ numbers) scope are all =
     told_entered told xs numbers ((x, n) ∷ scope) (record { many = omega (arith, are.many); each = λ i m y at is. are.each (suc i) m y at is })
     (All-cons (λ e. IsAt told e.0.of e.1) (x, n) scope (are.each 0 n x refl refl) all)
 
-module _ {A B : Type 0} {k : Known A B} {told : ToldValue} {scope : List (TypedValue × ℕ)} {b : List TypedValue} (xs : List TypedValue) where
+module _ {A B : Type 0} {k : Known A B} {told : ToldValue} {scope now : List (TypedValue × ℕ)} {b : List TypedValue} where
+  -- others are bound where others are in scope
+  bound_anew : {c : List TypedValue} (new : List (TypedValue × ℕ)) → now ≡ new → All (λ e. IsAt told e.0.of e.1) new → bound_in new ≡ c → IsBound k told scope b → IsBound k told now c
+  bound_anew {c} new is all names bound =
+      subst (λ s. IsBound k told s c) (sym is) (record { predicates = bound.predicates; functions = bound.functions; objects = bound.objects; variables = all; bound_is = names })
+
   -- the variables of a list are bound where they are entered
-  pub bound_entered : {entering : List (TypedValue × ℕ)} (numbers : List ℕ) → AreAt told xs numbers → entering ≡ entered xs numbers scope → IsBound k told scope b
-      → IsBound k told entering (binding xs b)
-  bound_entered numbers are is bound = subst (λ s. IsBound k told s (binding xs b)) (sym is) (record {
-    predicates = bound.predicates;
-    functions = bound.functions;
-    objects = bound.objects;
-    variables = told_entered told xs numbers scope are bound.variables;
-    bound_is = entered_bound xs numbers scope are.many ∙ ap (binding xs) bound.bound_is;
-  })
+  pub bound_entered : (xs : List TypedValue) (numbers : List ℕ) → AreAt told xs numbers → now ≡ entered xs numbers scope → IsBound k told scope b → IsBound k told now (binding xs b)
+  bound_entered xs numbers are is bound =
+      bound_anew (entered xs numbers scope) is (told_entered told xs numbers scope are bound.variables) (entered_bound xs numbers scope are.many ∙ ap (binding xs) bound.bound_is) bound
 
 -- and no more where as many are gone
 pub bound_left : {A B C : Type 0} {k : Known A B} {told : ToldValue} {scope left : List (TypedValue × ℕ)} {b : List TypedValue} (items : List (Typed C)) (many : ℕ)
     → many ≡ length items → left ≡ drop many scope → IsBound k told scope (binding (map typed_view items) b) → IsBound k told left b
-bound_left {k = k} {told} {scope} {left} {b} items many length_is is bound =
+bound_left {told = told} {scope} {b = b} items many length_is is bound =
     let xs = map typed_view items in
-    let all : many ≡ length xs = length_is ∙ sym (length-map items typed_view) in
-    subst (λ s. IsBound k told s b) (sym is) (record {
-      predicates = bound.predicates;
-      functions = bound.functions;
-      objects = bound.objects;
-      variables = All-drop (λ e. IsAt told e.0.of e.1) many scope bound.variables;
-      bound_is = sym (drop-map (λ (e : TypedValue × ℕ). e.0) many scope) ∙ ap (drop many) bound.bound_is ∙ ap (λ n. drop n (binding xs b)) all ∙ left_bound xs b;
-    })
+    bound_anew (drop many scope) is (All-drop (λ e. IsAt told e.0.of e.1) many scope bound.variables)
+    (sym (drop-map (λ (e : TypedValue × ℕ). e.0) many scope) ∙ ap (drop many) bound.bound_is ∙ ap (λ n. drop n (binding xs b)) (length_is ∙ sym (length-map items typed_view)) ∙ left_bound xs b) bound
 
 -- ---- a slot
 

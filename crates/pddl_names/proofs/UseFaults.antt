@@ -1,29 +1,30 @@
 -- The faults of a predicate or a function with its terms.
-use Rattle.std.proofs.Common.{◌≡◌, ◌≤◌, ℕ, Bool, true, not, List, [], ◌++◌, map, length, ◌==◌, Option, Some, None, Result, Err, ap, sym, ◌∙◌, subst, bytes_eq, arith, inl, inr}
+use Rattle.std.proofs.Common.{◌≡◌, ℕ, Bool, true, not, List, [], ◌++◌, map, length, ◌==◌, Option, Some, None, Result, Err, ap, sym, ◌∙◌, subst, bytes_eq, arith}
 use Rattle.std.specs.Prelude.{Contains, is_some, option_map}
 use Rattle.std.specs.List.{flat_map}
 use Rattle.std.specs.Borrow.{Bor}
 use Rattle.std.specs.Map.{lookup}
 use Rattle.std.proofs.lemmas.Option.{same_Some}
 use Rattle.std.proofs.lemmas.List.{map-append}
-use Rattle.std.proofs.lemmas.List.Elements.{All-contains, Contains-append_cases, Contains-append_left}
+use Rattle.std.proofs.lemmas.List.Elements.{All-contains, Contains-append_left}
 use Rattle.pddl_formula.specs.Terms.{TermValue}
 use Rattle.pddl_formula.specs.TypedLists.{TypedValue, typed_view}
 use Rattle.pddl_domain.specs.Declarations.{Signature}
 use Rattle.pddl_task.specs.Names.{Name, word_if}
 use Rattle.pddl_task.specs.Settings.{Setting}
 use Rattle.pddl_task.specs.Faults.{Use, is_declared, signature_of, unknown_term, takes_others, some_misfit, has_misfit}
-use Rattle.pddl_task.proofs.Lists.{at_place, mapped_is, append-none, has_first}
+use Rattle.pddl_task.proofs.Lists.{at_place, append-none, has_first}
 use Rattle.pddl_faults.specs.declared.fault.LinkFault.{LinkFault}
 use Rattle.pddl_faults.specs.Passes.{Passes}
 use Rattle.pddl_faults.specs.Found.{IsFound, numbered}
-use Rattle.pddl_faults.proofs.FoundFaults.{AreBelow, passed_found, found_first, found_rest}
+use Rattle.pddl_faults.proofs.FoundFaults.{passed_found, found_rest}
 use Rattle.pddl_types.specs.KnownNames.{signature_in}
 use Rattle.pddl_types.specs.Told.{ToldValue}
 use Rattle.pddl_types.specs.Signatures.{Rows, IsSlotsAt, AreSlotsAt}
 use Rattle.pddl_types.specs.declared.signatures.Slots.{Slots}
 use Rattle.pddl_types.proofs.Lookups.{is_symbol, signature_found, entry_at}
 use Rattle.pddl_names.specs.Uses.{faults_of_use, faults_of_terms}
+use Rattle.pddl_names.proofs.FoundParts.{from_numbered, from_both, passed_first}
 
 -- ---- three faults in turn
 
@@ -31,25 +32,15 @@ use Rattle.pddl_names.specs.Uses.{faults_of_use, faults_of_terms}
 abbrev in_turn : List Name → List Name → List Name → List (ℕ × Name)
 in_turn xs ys zs = numbered 26 xs ++ (numbered 27 ys ++ numbered 28 zs)
 
-below : (m n : ℕ) (xs ys : List Name) → m ≤ n → AreBelow (numbered m xs) (numbered n ys)
-below m n xs ys le f g c d =
-    let first = mapped_is (λ w. (m, w)) xs f c in
-    let second = mapped_is (λ w. (n, w)) ys g d in
-    subst (λ (p : ℕ × Name). p.0 ≤ g.0) first.2 (subst (λ (p : ℕ × Name). m ≤ p.0) second.2 le)
-
-first_below : (xs ys zs : List Name) → AreBelow (numbered 26 xs) (numbered 27 ys ++ numbered 28 zs)
-first_below xs ys zs f g c d =
-    elim (Contains-append_cases (numbered 27 ys) (numbered 28 zs) g d) as (λ _. f.0 ≤ g.0) [ inl h ↦ below 26 27 xs ys (omega arith) f g c h | inr h ↦ below 26 28 xs zs (omega arith) f g c h ]
-
 -- a name is not known
 pub first_found : (xs ys zs : List Name) (e : LinkFault) → Passes {T = Unit {0}} 26 xs (Err e) → IsFound {T = Unit {0}} (in_turn xs ys zs) (Err e)
-first_found xs ys zs e h = found_first (numbered 26 xs) (numbered 27 ys ++ numbered 28 zs) e (first_below xs ys zs) (passed_found {T = Unit {0}} 26 xs (Err e) h)
+first_found xs ys zs e h = passed_first 26 xs (numbered 27 ys ++ numbered 28 zs) e h (from_both 26 _ _ (from_numbered 26 27 ys (omega arith)) (from_numbered 26 28 zs (omega arith)))
 
 -- each name is known, and there is another number of terms
 pub second_found : (xs ys zs : List Name) (e : LinkFault) → xs ≡ [] → Passes {T = Unit {0}} 27 ys (Err e) → IsFound {T = Unit {0}} (in_turn xs ys zs) (Err e)
 second_found xs ys zs e none h =
     found_rest {T = Unit {0}} (numbered 26 xs) (numbered 27 ys ++ numbered 28 zs) (Err e) (ap (numbered 26) none)
-    (found_first (numbered 27 ys) (numbered 28 zs) e (below 27 28 ys zs (omega arith)) (passed_found {T = Unit {0}} 27 ys (Err e) h))
+    (passed_first 27 ys (numbered 28 zs) e h (from_numbered 27 28 zs (omega arith)))
 
 -- each name is known, there are as many terms as slots, and one does not fit
 pub third_found : (xs ys zs : List Name) (r : Result (Unit {0}) LinkFault) → xs ≡ [] → ys ≡ [] → Passes 28 zs r → IsFound (in_turn xs ys zs) r

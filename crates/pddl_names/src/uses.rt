@@ -5,12 +5,12 @@ ghost use Rattle.std.specs.Prelude.{◌≡◌, [], ◌∷◌, List, not, map, Op
 ghost use Rattle.std.specs.List.{flat_map};
 ghost use Rattle.pddl_formula.specs.Terms.{term_view};
 ghost use Rattle.pddl_formula.specs.TypedLists.{TypedValue, typed_view};
-ghost use Rattle.pddl_task.specs.Names.{word_if};
+ghost use Rattle.pddl_task.specs.Names.{item_of, repeated};
 ghost use Rattle.pddl_task.specs.Places.{at, counts, binding};
 ghost use Rattle.pddl_task.specs.Faults.{typed_term, unknown_term, some_misfit, fraction_of};
 ghost use Rattle.pddl_faults.specs.Passes.{Passes};
-ghost use Rattle.pddl_faults.specs.Found.{IsFound};
-ghost use Rattle.pddl_search.specs.Parts.{term_in, term_name, terms_in, part_in};
+ghost use Rattle.pddl_faults.specs.Found.{IsFound, numbered};
+ghost use Rattle.pddl_search.specs.Parts.{term_in, terms_in, part_in};
 ghost use Rattle.pddl_types.specs.KnownNames.{signature_in};
 ghost use Rattle.pddl_types.specs.Told.{ToldValue, AreTold, unknown_among};
 ghost use Rattle.pddl_types.specs.Objects.{IsAtOf};
@@ -189,7 +189,7 @@ pub(crate) fn look<'k, 'm, 'a, 'd, A: Allocator, B: Allocator>(
     }
 }
 
-/// Binds the variables of a list.
+/// Binds the variables of a list. Answers the fault of one that stands twice in it.
 ///
 /// # Errors
 ///
@@ -199,14 +199,15 @@ pub(crate) fn enter<'k, 'm, 'a, A: Allocator, B: Allocator>(
     told: &mut Told<'m, 'a, A, B>,
     scope: &mut Scope<'m, 'a, A, B>,
     variables: &'m TypedList<A>,
-) -> Result<(), LinkFault<'m>>
+) -> Result<Result<(), LinkFault<'m>>, LinkFault<'m>>
     requires { AreTold known.now.types.now told.old }
     ensures told { AreTold known.now.types.now told.new }
     ensures passes { Passes 23 (unknown_among known.now.types.now.declared (map typed_view variables.now.items)) result }
+    ensures found { IfOk result (IsFound (numbered 24 (repeated [] (map item_of (map typed_view variables.now.items))))) }
     ensures bound { (b : List TypedValue) → IsBound known.now told.old scope.old b
         → MatchResult result (λ _. IsBound known.now told.new scope.new (binding (map typed_view variables.now.items) b)) (λ _. IsBound known.now told.new scope.new b) }
 {
     let numbers = told.tell_all(known.alloc, known.types, variables)?;
-    scope.enter(variables, &numbers)?;
-    Ok(())
+    let repeated = scope.enter(variables, &numbers)?;
+    Ok(repeated)
 }

@@ -5,14 +5,11 @@
 ghost use Rattle.std.specs.Prelude.{◌≡◌, [], ◌∷◌, map, option_map};
 ghost use Rattle.std.specs.List.{flat_map};
 ghost use Rattle.pddl_formula.specs.Formulas.{formula_view, formulas_of};
-ghost use Rattle.pddl_formula.specs.TypedLists.{typed_view};
 ghost use Rattle.pddl_effect.specs.Effects.{effect_view, effects_of};
 ghost use Rattle.pddl_domain.specs.Actions.{action_view};
 ghost use Rattle.pddl_problem.specs.Inits.{init_view, metric_view};
 ghost use Rattle.pddl_problem.specs.Problems.{problem_view};
-ghost use Rattle.pddl_task.specs.Names.{repeated, item_of};
 ghost use Rattle.pddl_task.specs.Places.{at, places_in, places_in_all, effect_places, effects_places, action_places, init_places, metric_places, problem_places};
-ghost use Rattle.pddl_faults.specs.Passes.{Passes};
 ghost use Rattle.pddl_faults.specs.Found.{IsFound};
 ghost use Rattle.pddl_search.specs.Parts.{part_in};
 ghost use Rattle.pddl_types.specs.Told.{AreTold};
@@ -20,28 +17,17 @@ ghost use Rattle.pddl_names.specs.Uses.{faults_by, IsBound, IsSearched};
 ghost use Rattle.pddl_names.specs.FaultParts.{action_faults};
 
 use crate::known::Known;
-use crate::repeats::name_twice;
 use crate::uses::{enter, look};
 use indexmap::IndexSet;
 use pddl_domain::Action;
 use pddl_effect::Effect;
 use pddl_faults::{LinkFault, lower, once};
-use pddl_formula::{Formula, TypedList};
+use pddl_formula::Formula;
 use pddl_hash::Hashed;
 use pddl_problem::{InitItem, Metric, Problem};
 use pddl_search::{Part, Scope, Terms, is_taken};
 use pddl_types::Told;
 use std::alloc::Allocator;
-
-/// No variable of a list stands twice.
-fn variable_twice<'k, 'm, 'a, 'd, A: Allocator, B: Allocator>(
-    known: &Known<'k, 'm, 'a, A, B>,
-    variables: &'d TypedList<A>,
-) -> Result<(), LinkFault<'d>>
-    ensures { Passes 24 (repeated [] (map item_of (map typed_view variables.now.items))) result }
-{
-    name_twice(known.alloc, known.types.hashed(), variables)
-}
 
 /// Looks at two places, one after the other.
 fn look_at_both<'k, 'm, 'a, 'd, A: Allocator, B: Allocator>(
@@ -81,10 +67,10 @@ fn search_formula<'k, 'm, 'a, A: Allocator, B: Allocator>(
         }
         Formula::And(parts) | Formula::Or(parts) => search_formulas(known, told, scope, parts),
         Formula::Exists(variables, inner) | Formula::Forall(variables, inner) => {
-            enter(known, told, scope, variables)?;
+            let repeated = enter(known, told, scope, variables)?;
             let found = search_formula(known, told, scope, inner);
             scope.leave(variables.len());
-            lower(variable_twice(known, variables), found)
+            lower(repeated, found)
         }
     }
 }
@@ -123,10 +109,10 @@ fn search_effect<'k, 'm, 'a, A: Allocator, B: Allocator>(
     match effect {
         Effect::And(parts) => search_effects(known, told, scope, parts),
         Effect::Forall(variables, inner) => {
-            enter(known, told, scope, variables)?;
+            let repeated = enter(known, told, scope, variables)?;
             let found = search_effect(known, told, scope, inner);
             scope.leave(variables.len());
-            lower(variable_twice(known, variables), found)
+            lower(repeated, found)
         }
         Effect::When(condition, inner) => {
             let condition = search_formula(known, told, scope, condition);
@@ -176,14 +162,11 @@ fn search_action<'k, 'm, 'a, A: Allocator, B: Allocator>(
     ensures kept { IsBound known.now told.old scope.old [] → IsBound known.now told.new scope.new [] }
     ensures found { IsBound known.now told.old scope.old [] → IsFound (flat_map (faults_by known.now) (action_places (action_view action.now))) result }
 {
-    enter(known, told, scope, &action.parameters)?;
+    let repeated = enter(known, told, scope, &action.parameters)?;
     let precondition = search_formula(known, told, scope, &action.precondition);
     let effect = search_effect(known, told, scope, &action.effect);
     scope.leave(action.parameters.len());
-    lower(
-        variable_twice(known, &action.parameters),
-        lower(precondition, effect),
-    )
+    lower(repeated, lower(precondition, effect))
 }
 
 /// Searches actions in turn, and looks for names that stand twice, for which they are put into an empty set.

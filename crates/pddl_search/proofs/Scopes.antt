@@ -1,19 +1,27 @@
 -- Variables in scope and their depths by name.
-use Rattle.std.proofs.Common.{◌≡◌, ℕ, zero, suc, ◌+◌, ◌≤◌, Bool, true, false, cond, List, [], ◌∷◌, ◌++◌, map, length, drop, Option, Some, None, refl, ap, sym, ◌∙◌, subst, bytes_eq, arith}
-use Rattle.std.specs.Prelude.{find, option_map, slice_get, reverse, unwrap_or}
+use Rattle.std.proofs.Common.{◌≡◌, ℕ, zero, suc, ◌+◌, ◌<◌, ◌≤◌, Bool, true, false, ◌||◌, not, cond, List, [], ◌∷◌, ◌++◌, map, length, drop, Option, Some, None, Result, Ok, refl, ap, sym, ◌∙◌, subst, bytes_eq, get_or, drop-cons, add-one, arith}
+use Rattle.std.specs.Prelude.{find, option_map, slice_get, reverse, unwrap_or, nat_le}
 use Rattle.std.specs.Borrow.{Bor}
 use Rattle.std.specs.Map.{lookup}
 use Rattle.std.proofs.iter.runs.Lists.{nth_left, nth_right}
-use Rattle.std.proofs.lemmas.List.{reverse-append, length-reverse, length-map}
-use Rattle.std.proofs.lemmas.Option.{same_Some}
+use Rattle.std.proofs.Math.Bool.{or-false}
+use Rattle.std.proofs.lemmas.Bool.Decides.{nat_tests}
+use Rattle.std.proofs.lemmas.List.{reverse-append, length-reverse, length-map, length-drop, map-append}
 use Rattle.pddl_formula.specs.TypedLists.{TypedValue, typed_view}
-use Rattle.pddl_task.specs.Names.{Name, is_named}
+use Rattle.pddl_formula.specs.declared.type_names.Typed.{Typed}
+use Rattle.pddl_task.specs.Names.{Name, is_in, is_named, item_of, repeated, word_if}
 use Rattle.pddl_task.specs.Places.{binding}
 use Rattle.pddl_task.proofs.Lists.{bytes_same, same_bytes}
 use Rattle.pddl_search.specs.Scopes.{entry_of, bound_in, depth_of, IsScope, entered}
 use Rattle.pddl_search.specs.declared.scope.Bound.{Bound}
 use Rattle.indexmap.specs.IndexMap.{insert_entry}
+use Rattle.pddl_faults.specs.declared.fault.LinkFault.{LinkFault}
+use Rattle.pddl_faults.specs.Passes.{Passes}
+use Rattle.pddl_faults.specs.Found.{IsFound, numbered}
+use Rattle.pddl_faults.proofs.FoundFaults.{IsFoundUpTo, up_to_none, up_to_more, passed_as}
+use Rattle.pddl_faults.proofs.ListTurns.{rest_is}
 use Rattle.pddl_faults.proofs.PutValues.{lookup_put}
+use Rattle.pddl_faults.proofs.SeenItems.{any_more}
 
 -- ---- depths
 
@@ -27,16 +35,16 @@ value_put : (b : Bool) (v : ℕ) (o : Option ℕ) → unwrap_or (cond b (Some v)
 value_put true v o = refl
 value_put false v o = refl
 
+-- no depth is above all that is in scope
+pub depth_low : (n : Name) (es : List (TypedValue × ℕ)) → depth_of n es ≤ length es
+depth_low n [] = omega arith
+depth_low n (e ∷ es) =
+    let less = depth_low n es in
+    elim (is_named n e.0) as (λ b. cond b (suc (length es)) (depth_of n es) ≤ suc (length es)) [ true ↦ omega arith | false ↦ omega (arith, less) ]
+
 module _ {A : Type 0} where
   abbrev pub entries : List (Bound A) → List (TypedValue × ℕ)
   entries bs = map entry_of bs
-
-  pub depth_low : (n : Name) (bs : List (Bound A)) → depth_of n (entries bs) ≤ length bs
-  depth_low n [] = omega arith
-  depth_low n (b ∷ bs) =
-      let less = depth_low n bs in
-      let same = length-map bs entry_of in
-      elim (is_named n (typed_view b.variable.now)) as (λ c. cond c (suc (length (entries bs))) (depth_of n (entries bs)) ≤ suc (length bs)) [ true ↦ omega (arith, same) | false ↦ omega (arith, less) ]
 
   -- the innermost of the name stands there
   pub found_there : (n : Name) (bs : List (Bound A)) (k : ℕ) → depth_of n (entries bs) ≡ suc k
@@ -47,12 +55,12 @@ module _ {A : Type 0} where
       let rest = find (λ (e : TypedValue × ℕ). is_named n e.0) (entries bs) in
       let many = length-map bs entry_of in
       let turned = length-reverse bs in
-      let low = depth_low n bs in
+      let low = depth_low n (entries bs) in
       ap (λ (cs : List (Bound A)). option_map (λ (c : Bound A). c.number) (slice_get cs k)) past
       ∙ (elim (is_named n (typed_view b.variable.now)) as (λ c. cond c (suc (length (entries bs))) (depth_of n (entries bs)) ≡ suc k
       → option_map (λ (d : Bound A). d.number) (slice_get (reverse bs ++ b ∷ []) k) ≡ option_map (λ (e : TypedValue × ℕ). e.1) (cond c (Some (entry_of b)) rest)) [
         | true ↦ λ h. ap (λ i. option_map (λ (d : Bound A). d.number) (slice_get (reverse bs ++ b ∷ []) i)) (omega (arith, h, many, turned)) ∙ ap (option_map (λ (d : Bound A). d.number)) (nth_right (reverse bs) (b ∷ []) 0)
-        | false ↦ λ h. ap (option_map (λ (d : Bound A). d.number)) (nth_left (reverse bs) (b ∷ []) k (omega (arith, h, low, turned))) ∙ found_there n bs k h
+        | false ↦ λ h. ap (option_map (λ (d : Bound A). d.number)) (nth_left (reverse bs) (b ∷ []) k (omega (arith, h, low, many, turned))) ∙ found_there n bs k h
       ] is)
 
   -- one more, at this depth
@@ -96,14 +104,6 @@ entered_bound [] numbers es same = refl
 entered_bound (x ∷ xs) [] es same = absurd (omega (arith, same))
 entered_bound (x ∷ xs) (n ∷ numbers) es same = entered_bound xs numbers ((x, n) ∷ es) (omega (arith, same))
 
--- one more of them
-pub entered_next : (xs : List TypedValue) (numbers : List ℕ) (i : ℕ) (x : TypedValue) (n : ℕ) (es : List (TypedValue × ℕ)) → slice_get xs i ≡ Some x → slice_get numbers i ≡ Some n
-    → entered (drop i xs) (drop i numbers) es ≡ entered (drop (suc i) xs) (drop (suc i) numbers) ((x, n) ∷ es)
-entered_next [] numbers i x n es at is = cc
-entered_next (y ∷ xs) [] i x n es at is = cc
-entered_next (y ∷ xs) (m ∷ numbers) zero x n es at is = ap (λ z. entered xs numbers ((z, m) ∷ es)) (same_Some y x at) ∙ ap (λ k. entered xs numbers ((x, k) ∷ es)) (same_Some m n is)
-entered_next (y ∷ xs) (m ∷ numbers) (suc i) x n es at is = entered_next xs numbers i x n es at is
-
 pub one_less : {X : Type 0} (k : ℕ) (xs : List X) → drop (suc k) xs ≡ drop 1 (drop k xs)
 one_less zero xs = refl
 one_less (suc k) [] = refl
@@ -113,3 +113,51 @@ one_less (suc k) (x ∷ xs) = one_less k xs
 pub left_bound : (xs b : List TypedValue) → drop (length xs) (binding xs b) ≡ b
 left_bound [] b = refl
 left_bound (x ∷ xs) b = one_less (length xs) (binding xs (x ∷ b)) ∙ ap (drop 1) (left_bound xs (x ∷ b))
+
+-- ---- the variables of a list one after another
+
+above_all : (depth all : ℕ) (b : Bool) → all ≤ depth → b || true ≡ not (nat_le (suc depth) all)
+above_all depth all b low = grind (arith, nat_tests)
+
+-- what was entered of a list: the rest is entered behind it, the names that were seen are those whose innermost variable lies above what was in scope, and
+-- of the variables that stand twice those of the rest are still to be found
+pub record IsEnteredUpTo {A : Type 0} (items : List (Typed A)) (numbers : List ℕ) (old now : List (TypedValue × ℕ)) (i : ℕ) (found : Result (Unit {0}) LinkFault) : Type 0 where
+  pub left : entered (map typed_view (drop i items)) (drop i numbers) now ≡ entered (map typed_view items) numbers old
+  pub behind : drop i now ≡ old
+  pub seen : List Name
+  pub above : (n : Name) → is_in seen n ≡ not (nat_le (depth_of n now) (length old))
+  pub so_far : IsFoundUpTo (numbered 24 (repeated seen (map item_of (map typed_view (drop i items))))) (numbered 24 (repeated [] (map item_of (map typed_view items)))) found
+
+module _ {A : Type 0} {items : List (Typed A)} {numbers : List ℕ} {old : List (TypedValue × ℕ)} where
+  pub none_entered : IsEnteredUpTo items numbers old old 0 (Ok tt)
+  none_entered = record { left = refl; behind = refl; seen = []; above = λ n. let low = depth_low n old in grind (arith, nat_tests); so_far = up_to_none }
+
+  module _ {now : List (TypedValue × ℕ)} {i : ℕ} {found : Result (Unit {0}) LinkFault} (so : IsEnteredUpTo items numbers old now i found) where
+    -- one more variable, which is new in the list where what it hides does not lie above what was in scope
+    pub entered_more : {both : Result (Unit {0}) LinkFault} (x : Typed A) (hidden : ℕ) (own : Result (Unit {0}) LinkFault) → length numbers ≡ length items → i < length items → x ≡ get_or items i x
+        → hidden ≡ depth_of x.name now → Passes 24 (word_if (not (nat_le hidden (length old))) x.name) own
+        → ((xs ys : List (ℕ × Name)) → IsFound xs found → IsFound ys own → IsFound (xs ++ ys) both) → IsEnteredUpTo items numbers old ((typed_view x, get_or numbers i 0) ∷ now) (i + 1) both
+    entered_more x hidden own many low is hides once lower = record {
+      left = sym (ap (λ xs. entered (map typed_view xs) (drop i numbers) now) rest ∙ ap (λ ns. entered (map typed_view (x ∷ drop (i + 1) items)) ns now) number) ∙ so.left;
+      behind = rw add-one so.behind;
+      seen = so.seen ++ x.name ∷ [];
+      above = λ m. any_more (bytes_eq m) so.seen x.name ∙ above_more m (bytes_eq m x.name);
+      so_far =
+          up_to_more (numbered 24 (word_if (is_in so.seen x.name) x.name)) own
+          (ap (λ xs. numbered 24 (repeated so.seen (map item_of (map typed_view xs)))) rest
+          ∙ map-append (λ (w : Name). (24, w)) (word_if (is_in so.seen x.name) x.name) (repeated (so.seen ++ x.name ∷ []) (map item_of (map typed_view (drop (i + 1) items)))))
+          lower (passed_as 24 own (ap (λ b. word_if b x.name) (ap (λ d. not (nat_le d (length old))) hides ∙ sym (so.above x.name))) once) so.so_far;
+    }
+      where
+        rest : drop i items ≡ x ∷ drop (i + 1) items
+        rest = rest_is items i x low is
+
+        number : drop i numbers ≡ get_or numbers i 0 ∷ drop (i + 1) numbers
+        number = let inside : i < length numbers = omega arith in rw (add-one, drop-cons numbers i 0) refl
+
+        deep : length old ≤ length now
+        deep = omega (arith, length-drop i now, ap length so.behind)
+
+        above_more : (m : Name) (b : Bool) → is_in so.seen m || b ≡ not (nat_le (cond b (suc (length now)) (depth_of m now)) (length old))
+        above_more m true = above_all (length now) (length old) (is_in so.seen m) deep
+        above_more m false = or-false (is_in so.seen m) ∙ so.above m

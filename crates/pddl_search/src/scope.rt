@@ -1,11 +1,13 @@
 //! The variables in scope, looked up by name.
 
-ghost use Rattle.std.specs.Prelude.{◌≡◌, ℕ, [], ◌∷◌, map, drop, find, length, option_map, MatchResult};
+ghost use Rattle.std.specs.Prelude.{◌≡◌, [], ◌∷◌, map, drop, find, length, option_map, IfOk, MatchResult};
 ghost use Rattle.pddl_formula.specs.TypedLists.{typed_view};
-ghost use Rattle.pddl_task.specs.Names.{is_named};
+ghost use Rattle.pddl_task.specs.Names.{is_named, item_of, repeated};
+ghost use Rattle.pddl_faults.specs.Found.{IsFound, numbered};
 ghost use Rattle.pddl_search.specs.Scopes.{depth_of, entered};
 
 use indexmap::IndexMap;
+use pddl_faults::{LinkFault, lower, once};
 use pddl_formula::{Typed, TypedList};
 use pddl_hash::Hashed;
 use std::alloc::{AllocError, Allocator};
@@ -69,11 +71,12 @@ impl<'d, 'a, A: Allocator, B: Allocator> Scope<'d, 'a, A, B> {
         Some(self.bound[depth - 1].number)
     }
 
-    /// Adds a variable whose type has a number.
+    /// Adds a variable whose type has a number. Answers the depth of the one of its name that it hides, or 0.
     ///
     /// Fails where memory for it is refused; then nothing is added.
-    fn push(&mut self, variable: &'d Typed<A>, number: usize) -> Result<(), AllocError>
-        ensures { MatchResult result (λ _. self.new ≡ (typed_view variable.now, number) ∷ self.old) (λ _. self.new ≡ self.old) }
+    fn push(&mut self, variable: &'d Typed<A>, number: usize) -> Result<usize, AllocError>
+        ensures bound { MatchResult result (λ _. self.new ≡ (typed_view variable.now, number) ∷ self.old) (λ _. self.new ≡ self.old) }
+        ensures hidden { IfOk result (λ hidden. hidden ≡ depth_of variable.now.name self.old) }
     {
         let name = variable.name.as_bytes();
         let hidden = self.depth_of(name);
@@ -85,7 +88,7 @@ impl<'d, 'a, A: Allocator, B: Allocator> Scope<'d, 'a, A, B> {
             number,
             hidden,
         })?;
-        Ok(())
+        Ok(hidden)
     }
 
     /// Takes the innermost variable away, where there is one.
@@ -111,22 +114,33 @@ impl<'d, 'a, A: Allocator, B: Allocator> Scope<'d, 'a, A, B> {
         }
     }
 
-    /// Adds the variables of a list in turn, whose types have these numbers.
+    /// Adds the variables of a list in turn, whose types have these numbers. Answers the fault of a variable that stands twice in the list.
     ///
     /// Fails where memory for them is refused; then none is added.
-    pub fn enter(&mut self, list: &'d TypedList<A>, numbers: &[usize]) -> Result<(), AllocError>
+    pub fn enter(
+        &mut self,
+        list: &'d TypedList<A>,
+        numbers: &[usize],
+    ) -> Result<Result<(), LinkFault<'d>>, AllocError>
         requires { length numbers.now ≡ length list.now.items }
-        ensures { MatchResult result (λ _. self.new ≡ entered (map typed_view list.now.items) numbers.now self.old) (λ _. self.new ≡ self.old) }
+        ensures bound { MatchResult result (λ _. self.new ≡ entered (map typed_view list.now.items) numbers.now self.old) (λ _. self.new ≡ self.old) }
+        ensures found { IfOk result (IsFound (numbered 24 (repeated [] (map item_of (map typed_view list.now.items))))) }
     {
+        let began = self.bound.len();
+        let mut found = Ok(());
         for place in 0..list.len() {
-            match self.push(&list[place], numbers[place]) {
-                Ok(()) => {}
+            let variable = &list[place];
+            match self.push(variable, numbers[place]) {
+                Ok(hidden) => {
+                    // what hides nothing of its list stands there for the first time
+                    found = lower(found, once(hidden <= began, variable.name.as_bytes()));
+                }
                 Err(error) => {
                     self.leave(place);
                     return Err(error);
                 }
             }
         }
-        Ok(())
+        Ok(found)
     }
 }

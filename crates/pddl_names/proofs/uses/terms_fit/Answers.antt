@@ -10,9 +10,6 @@ use Rattle.pddl_names.proofs.ToldUses.{slot_read}
 use Rattle.pddl_names.proofs.uses.terms_fit.Goals.{then-all_fit, else-all_fit}
 use Rattle.pddl_names.proofs.uses.terms_fit.Goals as goal
 
-pub term_fits-requires : goal.term_fits-requires
-term_fits-requires g c = rw c.loop-i.invariant.kept c.requires
-
 pub returns-in-None-clause-passes : goal.returns-in-None-clause-passes
 returns-in-None-clause-passes g c = λ b is slots.
     let s = setting_of c.args.known.now in

@@ -6,7 +6,7 @@ use Rattle.pddl_effect.specs.Effects.{effect_view}
 use Rattle.pddl_effect.proofs.effect.Effect.TheLaws.{the_size}
 use Rattle.pddl_formula.proofs.Depths.{among}
 use Rattle.pddl_effect.proofs.Depths.{under_all, under_each, under_when}
-use Rattle.pddl_effect.proofs.Views.{view_add, view_del, view_and, view_when, view_forall, view_increase}
+use Rattle.pddl_effect.proofs.Views.{view_add, view_del, view_when, view_forall, view_increase}
 use Rattle.pddl_task.specs.Places.{effect_places}
 use Rattle.pddl_names.proofs.ToldUses.{bound_left}
 use Rattle.pddl_names.proofs.Walks.{stopped, in_turn, within, at_start, one_more, at_end}
@@ -17,9 +17,6 @@ search_effect-returns-in-When-clause-searched g t c =
     rw (c.in-When.is, view_when c.in-When.condition c.in-When.inner)
     (in_turn c.search_formula-condition.ensures.searched (rw c.deref-in-When.ensures at c.search_effect.ensures.searched) c.lower-in-When.ensures.found)
 
-pub search_effect-returns-in-And-clause-searched : goal.search_effect-returns-in-And-clause-searched
-search_effect-returns-in-And-clause-searched g t c = rw (c.in-And.is, view_and c.in-And.parts) c.search_effects.ensures.searched
-
 pub search_effect-returns-in-Add-clause-searched : goal.search_effect-returns-in-Add-clause-searched
 search_effect-returns-in-Add-clause-searched g t c =
     let found = rw c.of_atom.ensures at c.look.ensures.searched in
@@ -28,18 +25,18 @@ search_effect-returns-in-Add-clause-searched g t c =
       | inr here ↦ rw (here, view_del c.in-Add.atom) found
     ]
 
-pub search_effect-returns-in_err-enter-in-Forall-clause-searched : goal.search_effect-returns-in_err-enter-in-Forall-clause-searched
-search_effect-returns-in_err-enter-in-Forall-clause-searched g t c =
+pub search_effect-returns-in_err-repeated-in-Forall-clause-searched : goal.search_effect-returns-in_err-repeated-in-Forall-clause-searched
+search_effect-returns-in_err-repeated-in-Forall-clause-searched g t c =
     let p = err_from_is_err_and c.from_residual.result c.from_residual.ensures.1 in
-    let stop = c.in_err-enter-in-Forall in
+    let stop = c.in_err-repeated-in-Forall in
     rw (p.1, p.2, c.in-Forall.is, view_forall c.in-Forall.variables c.in-Forall.inner)
-    (stopped c.args.known.now (effect_places (effect_view c.in-Forall.inner.value)) (map typed_view c.in-Forall.variables.items) stop.field-0.0 stop.ensures.passes stop.ensures.bound)
+    (stopped c.args.known.now (map typed_view c.in-Forall.variables.items) (effect_places (effect_view c.in-Forall.inner.value)) stop.field-0.0 stop.ensures.passes stop.ensures.bound)
 
-pub search_effect-returns-in_ok-enter-in-Forall-clause-searched : goal.search_effect-returns-in_ok-enter-in-Forall-clause-searched
-search_effect-returns-in_ok-enter-in-Forall-clause-searched g t c =
-    let entered = c.in_ok-enter-in-Forall.ensures in
+pub search_effect-returns-in_ok-repeated-in-Forall-clause-searched : goal.search_effect-returns-in_ok-repeated-in-Forall-clause-searched
+search_effect-returns-in_ok-repeated-in-Forall-clause-searched g t c =
+    let entered = c.in_ok-repeated-in-Forall.ensures in
     rw (c.in-Forall.is, view_forall c.in-Forall.variables c.in-Forall.inner)
-    (within c.args.known.now (map typed_view c.in-Forall.variables.items) c.variable_twice.result entered.passes c.variable_twice.ensures entered.bound
+    (within c.args.known.now (map typed_view c.in-Forall.variables.items) c.in_ok-repeated-in-Forall.repeated entered.passes entered.found entered.bound
     (rw c.deref.ensures at c.search_effect-found.ensures.searched)
     (λ b is. bound_left c.in-Forall.variables.items c.len.result c.len.ensures c.leave.ensures is) c.lower.ensures.found)
 

@@ -1,11 +1,11 @@
-use Rattle.std.proofs.Common.{map, refl, ap, inl, inr, arith}
+use Rattle.std.proofs.Common.{◌<◌, map, refl, ap, inl, inr, arith}
 use denote.Param.Weighed.{most}
 use Rattle.std.proofs.lemmas.Result.{err_from_is_err_and}
 use Rattle.pddl_formula.specs.TypedLists.{typed_view}
 use Rattle.pddl_formula.specs.Formulas.{formula_view}
 use Rattle.pddl_formula.proofs.formula.Formula.TheLaws.{the_size}
 use Rattle.pddl_formula.proofs.Depths.{among, under_not, under_imply, under_and, under_or, under_exists, under_forall}
-use Rattle.pddl_formula.proofs.Views.{view_atom, view_equal, view_not, view_imply, view_and, view_or, view_exists, view_forall}
+use Rattle.pddl_formula.proofs.Views.{view_atom, view_equal, view_imply, view_and, view_or, view_exists, view_forall}
 use Rattle.pddl_task.specs.Places.{places_in}
 use Rattle.pddl_names.proofs.ToldUses.{bound_left}
 use Rattle.pddl_names.proofs.Walks.{stopped, in_turn, within, at_start, one_more, at_end}
@@ -22,9 +22,6 @@ search_formula-returns-in-Atom-clause-searched g t c = rw (c.in-Atom.is, view_at
 pub search_formula-returns-in-Equal-clause-searched : goal.search_formula-returns-in-Equal-clause-searched
 search_formula-returns-in-Equal-clause-searched g t c = rw (c.in-Equal.is, view_equal c.in-Equal.first c.in-Equal.second) c.look-in-Equal.ensures.searched
 
-pub search_formula-returns-in-Not-clause-searched : goal.search_formula-returns-in-Not-clause-searched
-search_formula-returns-in-Not-clause-searched g t c = rw (c.in-Not.is, view_not c.in-Not.inner) (rw c.deref.ensures at c.search_formula.ensures.searched)
-
 pub search_formula-returns-in-And-clause-searched : goal.search_formula-returns-in-And-clause-searched
 search_formula-returns-in-And-clause-searched g t c =
     elim c.in-And.is [
@@ -32,20 +29,20 @@ search_formula-returns-in-And-clause-searched g t c =
       | inr here ↦ rw (here, view_or c.in-And.parts) c.search_formulas.ensures.searched
     ]
 
-pub search_formula-returns-in_err-enter-in-Exists-clause-searched : goal.search_formula-returns-in_err-enter-in-Exists-clause-searched
-search_formula-returns-in_err-enter-in-Exists-clause-searched g t c =
+pub search_formula-returns-in_err-repeated-in-Exists-clause-searched : goal.search_formula-returns-in_err-repeated-in-Exists-clause-searched
+search_formula-returns-in_err-repeated-in-Exists-clause-searched g t c =
     let p = err_from_is_err_and c.from_residual.result c.from_residual.ensures.1 in
-    let stop = c.in_err-enter-in-Exists in
-    let whole = stopped c.args.known.now (places_in (formula_view c.in-Exists.inner.value)) (map typed_view c.in-Exists.variables.items) stop.field-0.0 stop.ensures.passes stop.ensures.bound in
+    let stop = c.in_err-repeated-in-Exists in
+    let whole = stopped c.args.known.now (map typed_view c.in-Exists.variables.items) (places_in (formula_view c.in-Exists.inner.value)) stop.field-0.0 stop.ensures.passes stop.ensures.bound in
     elim c.in-Exists.is [
       | inl here ↦ rw (p.1, p.2, here, view_exists c.in-Exists.variables c.in-Exists.inner) whole
       | inr here ↦ rw (p.1, p.2, here, view_forall c.in-Exists.variables c.in-Exists.inner) whole
     ]
 
-pub search_formula-returns-in_ok-enter-in-Exists-clause-searched : goal.search_formula-returns-in_ok-enter-in-Exists-clause-searched
-search_formula-returns-in_ok-enter-in-Exists-clause-searched g t c =
-    let entered = c.in_ok-enter-in-Exists.ensures in
-    let whole = within c.args.known.now (map typed_view c.in-Exists.variables.items) c.variable_twice.result entered.passes c.variable_twice.ensures entered.bound
+pub search_formula-returns-in_ok-repeated-in-Exists-clause-searched : goal.search_formula-returns-in_ok-repeated-in-Exists-clause-searched
+search_formula-returns-in_ok-repeated-in-Exists-clause-searched g t c =
+    let entered = c.in_ok-repeated-in-Exists.ensures in
+    let whole = within c.args.known.now (map typed_view c.in-Exists.variables.items) c.in_ok-repeated-in-Exists.repeated entered.passes entered.found entered.bound
     (rw c.deref-in-Exists.ensures at c.search_formula-found.ensures.searched) (λ b is. bound_left c.in-Exists.variables.items c.len.result c.len.ensures c.leave.ensures is)
     c.lower-in-Exists.ensures.found in
     elim c.in-Exists.is [
@@ -98,27 +95,14 @@ search_formula-search_formulas-requires g t c κs lives =
 
 pub search_formula-search_formula-found-requires : goal.search_formula-search_formula-found-requires
 search_formula-search_formula-found-requires g t c κs lives =
-    let told = c.enter.ensures.told in
-    elim c.in-Exists.is [
-      | inl here ↦ (
-        omega (
-          arith,
-          under_exists g.row.A g.A.Allocator g.A.laws c.args.formula.now c.deref-in-Exists.result.now c.in-Exists.variables c.in-Exists.inner here
-              c.deref-in-Exists.ensures,
-          c.decreases,
-        ),
-        (lives.0, (lives.1, told)),
-      )
-      | inr here ↦ (
-        omega (
-          arith,
-          under_forall g.row.A g.A.Allocator g.A.laws c.args.formula.now c.deref-in-Exists.result.now c.in-Exists.variables c.in-Exists.inner here
-              c.deref-in-Exists.ensures,
-          c.decreases,
-        ),
-        (lives.0, (lives.1, told)),
-      )
-    ]
+    let depth = the_size g.row.A g.A.Allocator g.A.laws in
+    let f = c.args.formula.now in
+    let inner = c.deref-in-Exists.result.now in
+    let under = elim c.in-Exists.is as (λ _. depth inner < depth f) [
+      | inl here ↦ under_exists g.row.A g.A.Allocator g.A.laws f inner c.in-Exists.variables c.in-Exists.inner here c.deref-in-Exists.ensures
+      | inr here ↦ under_forall g.row.A g.A.Allocator g.A.laws f inner c.in-Exists.variables c.in-Exists.inner here c.deref-in-Exists.ensures
+    ] in
+    (omega (arith, under, c.decreases), (lives.0, (lives.1, c.enter.ensures.told)))
 
 pub search_formulas-search_formula-requires : goal.search_formulas-search_formula-requires
 search_formulas-search_formula-requires g t c κs lives =

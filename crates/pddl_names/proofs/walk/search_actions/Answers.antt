@@ -22,9 +22,6 @@ loop-action-init g c = record {
   };
 }
 
-pub search_action-own-requires : goal.search_action-own-requires
-search_action-own-requires g c = c.loop-action.invariant.told
-
 pub loop-action-preserved : goal.loop-action-preserved
 loop-action-preserved g c =
     let sought = faults_by c.args.known.now in
@@ -51,20 +48,8 @@ loop-action-preserved g c =
           };
     }
 
-pub returns-in_err-is_new-clause-told : goal.returns-in_err-is_new-clause-told
-returns-in_err-is_new-clause-told g c = c.loop-action.invariant.told
-
-pub returns-in_err-is_new-clause-kept : goal.returns-in_err-is_new-clause-kept
-returns-in_err-is_new-clause-kept g c = c.loop-action.invariant.kept
-
 pub returns-in_err-is_new-clause-found : goal.returns-in_err-is_new-clause-found
 returns-in_err-is_new-clause-found g c = λ is. let p = err_from_is_err_and c.from_residual.result c.from_residual.ensures.1 in rw (p.1, p.2) tt
-
-pub returns-clause-told : goal.returns-clause-told
-returns-clause-told g c = c.loop-action.invariant.told
-
-pub returns-clause-kept : goal.returns-clause-kept
-returns-clause-kept g c = c.loop-action.invariant.kept
 
 pub returns-clause-found : goal.returns-clause-found
 returns-clause-found g c = λ is.

@@ -1,14 +1,8 @@
 use Rattle.std.proofs.Common.{refl, ◌∙◌}
 use Rattle.pddl_problem.specs.Inits.{init_view}
 use Rattle.pddl_task.specs.Places.{init_places}
-use Rattle.pddl_names.proofs.Walks.{at_start, one_more, at_end}
+use Rattle.pddl_names.proofs.Walks.{one_more, at_end}
 use Rattle.pddl_names.proofs.walk.search_items.Goals as goal
-
-pub loop-item-init : goal.loop-item-init
-loop-item-init g c = record { kept = refl; come = at_start }
-
-pub search_item-requires : goal.search_item-requires
-search_item-requires g c = rw c.loop-item.invariant.kept c.requires
 
 pub loop-item-preserved : goal.loop-item-preserved
 loop-item-preserved g c =

@@ -4,9 +4,6 @@ use Rattle.std.proofs.lemmas.List.Concat.{flat_map-append}
 use Rattle.pddl_names.specs.Uses.{IsBound}
 use Rattle.pddl_names.proofs.walk.search_problem.Goals as goal
 
-pub search_formula-goal-requires : goal.search_formula-goal-requires
-search_formula-goal-requires g c = rw c.search_items-init.ensures.kept c.requires
-
 pub returns-clause-kept : goal.returns-clause-kept
 returns-clause-kept g c = λ is. rw c.search_metric-metric.ensures.kept (c.search_formula-goal.ensures.searched.kept [] (rw c.search_items-init.ensures.kept is))
 

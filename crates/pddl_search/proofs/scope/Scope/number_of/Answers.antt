@@ -1,8 +1,8 @@
 use Rattle.std.proofs.Common.{◌≡◌, ◌-◌, ◌<◌, length, sym, ap, ◌∙◌, refl, arith}
 use Rattle.std.specs.Prelude.{Some, option_map, reverse, slice_get}
-use Rattle.std.proofs.lemmas.List.{length-reverse, reverse-reverse}
+use Rattle.std.proofs.lemmas.List.{length-reverse, length-map, reverse-reverse}
 use Rattle.std.proofs.lemmas.Option.{slice_get_read}
-use Rattle.pddl_search.specs.Scopes.{depth_of}
+use Rattle.pddl_search.specs.Scopes.{entry_of, depth_of}
 use Rattle.pddl_search.proofs.Scopes.{none_found, depth_low, found_there, entries}
 use Rattle.pddl_search.proofs.scope.Scope.number_of.Goals as goal
 
@@ -13,8 +13,8 @@ pub index-requires : goal.index-requires
 index-requires g c =
     let bound = c.self.inside.bound.items in
     let deep : c.depth_of-depth.result ≡ depth_of c.args.name.now (entries (reverse bound)) = rw (← c.self.view_is) at c.depth_of-depth.ensures in
-    let low = depth_low c.args.name.now (reverse bound) in
-    omega (arith, deep, low, length-reverse bound, c.if-depth-eq0.false)
+    let low = depth_low c.args.name.now (entries (reverse bound)) in
+    omega (arith, deep, low, length-map (reverse bound) entry_of, length-reverse bound, c.if-depth-eq0.false)
 
 pub returns : goal.returns
 returns g c =
@@ -22,7 +22,7 @@ returns g c =
     let bound = c.self.inside.bound.items in
     let k = c.depth_of-depth.result - 1 in
     let deep : c.depth_of-depth.result ≡ depth_of n (entries (reverse bound)) = rw (← c.self.view_is) at c.depth_of-depth.ensures in
-    let low : k < length bound = omega (arith, deep, depth_low n (reverse bound), length-reverse bound, c.if-depth-eq0.false) in
+    let low : k < length bound = omega (arith, deep, depth_low n (entries (reverse bound)), length-map (reverse bound) entry_of, length-reverse bound, c.if-depth-eq0.false) in
     let there : slice_get bound k ≡ Some c.index.result.now = slice_get_read bound (length bound) k c.index.result.now refl low c.index.ensures in
     rw (← c.self.view_is)
     (ap (option_map (λ b. b.number)) (sym there) ∙ ap (λ bs. option_map (λ b. b.number) (slice_get bs k)) (sym (reverse-reverse bound))
