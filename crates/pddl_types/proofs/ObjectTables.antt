@@ -5,7 +5,7 @@ use Rattle.std.specs.Borrow.{Bor}
 use Rattle.std.specs.Cmp.Lexicographic.{nat_list_eq_equiv}
 use Rattle.std.specs.Map.{keys_of}
 use Rattle.std.specs.Option.{option_map_or}
-use Rattle.std.proofs.lemmas.List.{drop_all, take_all, map-append}
+use Rattle.std.proofs.lemmas.List.{drop_all, take_all, length-map, map-append}
 use Rattle.std.proofs.lemmas.List.Elements.{filter-append}
 use Rattle.std.proofs.lemmas.Option.{slice_get_read, slice_get_within, slice_get-get_or}
 use Rattle.indexmap.specs.IndexMap.{insert_entry}
@@ -74,14 +74,16 @@ module _ {A : Type 0} (es : List (Bor (List ℕ) × Bor (Typed A))) (seen : List
   pushed b is = firsts_push seen x ∙ ap (λ c. firsts seen ++ cond c [] (x ∷ [])) (sym (is_there seen x.item) ∙ is)
 
   -- a name that is there is at odds where its number is another, and nothing is put
-  pub seen_there : (told : ToldValue) (numbers : List ℕ) (number known place : ℕ) → AreDistinct told → IsAt told x.of number → AreAt told (map object_in es) numbers
-      → position (λ k. bytes_eq n k.now) (keys_of es) ≡ Some place → place < length numbers → known ≡ get_or numbers place known
-      → (is_off seen x ≡ not (known == number)) × (map object_in es ≡ firsts (seen ++ x ∷ []))
-  seen_there told numbers number known place once at are is low read =
-      let (y, there) = some_at (map object_in es) place (omega (arith, low, are.many)) in
-      let found : find (is_named x.item) seen ≡ Some y = sym found_seen ∙ object_found es n place is ∙ there in
-      let told_of = are.each place known y there (slice_get_read numbers (length numbers) place known refl low read) in (
-        ap (λ o. option_map_or (λ (z : TypedValue). not (same_names z.of x.of)) o false) found ∙ ap not (sym (one_number told once y.of x.of known number told_of at)),
+  pub seen_there : (told : ToldValue) (numbers : List ℕ) (number place : ℕ) → AreDistinct told → IsAt told x.of number → AreAt told (map object_in es) numbers
+      → position (λ k. bytes_eq n k.now) (keys_of es) ≡ Some place → place < length es
+      → (known : ℕ) × (slice_get numbers place ≡ Some known) × (is_off seen x ≡ not (known == number)) × (map object_in es ≡ firsts (seen ++ x ∷ []))
+  seen_there told numbers number place once at are is low =
+      let (y, there) = some_at (map object_in es) place (omega (arith, low, length-map es object_in)) in
+      let (known, read) = some_at numbers place (omega (arith, low, length-map es object_in, are.many)) in
+      let found : find (is_named x.item) seen ≡ Some y = sym found_seen ∙ object_found es n place is ∙ there in (
+        known,
+        read,
+        ap (λ o. option_map_or (λ (z : TypedValue). not (same_names z.of x.of)) o false) found ∙ ap not (sym (one_number told once y.of x.of known number (are.each place known y there read) at)),
         same ∙ sym (append-none (firsts seen)) ∙ sym (pushed true (ap is_some found)),
       )
 
@@ -156,4 +158,4 @@ module _ {A B : Type 0} {told : ToldValue} {seen : List TypedValue} {xs : List (
 
 pub seen_still : {A B : Type 0} {before after : ToldValue} {seen : List TypedValue} {listed : Listed A B} → AreKept before after → AreSeen before seen listed → AreSeen after seen listed
 seen_still {before = before} {after} {listed = listed} kept are =
-    record { objects = are.objects; types = still_all before after (map object_in listed.objects.entries) listed.types.items kept are.types }
+    record { named = are.named; objects = are.objects; types = still_all before after (map object_in listed.objects.entries) listed.types.items kept are.types }
