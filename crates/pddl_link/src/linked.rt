@@ -58,7 +58,7 @@ fn order_behind_types<'t, 'm, 'a, A: Allocator, B: Allocator>(
     requires listed { AreSeen declared.old.told [] listed.old }
     requires declared { IsNothing declared.old }
     requires told { declared.old.told ≡ [] }
-    ensures held { IfOk result (HoldBehindTypes (domain_view files.now.domain.now) (problem_in files.now.problem) files.now.types.now listed.new declared.new) }
+    ensures held { IfOk result (λ order. HoldBehindTypes (domain_view files.now.domain.now) (problem_in files.now.problem) files.now.types.now listed.new declared.new order.numbers.items) }
     ensures verdict { Verdict (faults_of files.now (drop 3 rules)) result }
 {
     look_at_files(files, listed, declared)?;
@@ -75,7 +75,7 @@ fn link_files<'m, 'a, A: Allocator, B: Allocator>(
     hashed: Hashed,
 ) -> Result<Linked<'m, 'a, A, B>, LinkFault<'m>>
     ensures types { IfOk result (λ l. l.types.declared ≡ (domain_view domain.now).types) }
-    ensures held { IfOk result (λ l. HoldBehindTypes (domain_view domain.now) (problem_in problem.entry) l.types l.listed l.declared l.order) }
+    ensures held { IfOk result (λ l. HoldBehindTypes (domain_view domain.now) (problem_in problem.entry) l.types l.listed l.declared l.order.numbers.items) }
     ensures verdict { Verdict (map (fault_in (domain_view domain.now) (problem_in problem.entry)) (drop 1 rules)) result }
 {
     type_twice(alloc, domain)?;

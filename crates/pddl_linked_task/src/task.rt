@@ -56,7 +56,7 @@ impl<'m, 'a, A: Allocator, B: Allocator> Model for Task<'m, 'a, A, B> {
 
     ghost view = { λ t. files (domain_view t.domain.now) (problem_view t.problem.now) };
 
-    ghost invariant = { λ t. AreTablesOf (domain_view t.domain.now) (problem_view t.problem.now) t.types t.listed t.declared t.order };
+    ghost invariant = { λ t. AreTablesOf (domain_view t.domain.now) (problem_view t.problem.now) t.types t.listed t.declared t.order.numbers.items };
 }
 
 /// Whether objects that are asked for have these names, in their order.
@@ -91,7 +91,7 @@ impl<'m, 'a, A: Allocator, B: Allocator> Task<'m, 'a, A, B> {
         declared: Declared<'m, 'a, A, B>,
         order: ObjectOrder<'a, B>,
     ) -> Task<'m, 'a, A, B>
-        requires { AreTablesOf (domain_view domain.now) (problem_view problem.now) types listed declared order }
+        requires { AreTablesOf (domain_view domain.now) (problem_view problem.now) types listed declared order.numbers.items }
         ensures { result ≡ files (domain_view domain.now) (problem_view problem.now) }
     {
         Task {

@@ -166,7 +166,7 @@ impl<'t, 'm, 'a, A: Allocator, B: Allocator> Files<'t, 'm, 'a, A, B> {
         order: &ObjectOrder<'a, B>,
     ) -> Result<(), LinkFault<'m>>
         requires objects { map object_in listed.now.objects.entries ≡ objects_of (domain_view self.now.domain.now) (problem_in self.now.problem) }
-        requires numbered { AreNumbered self.now.types.now (map object_in listed.now.objects.entries) order.now }
+        requires numbered { AreNumbered self.now.types.now (map object_in listed.now.objects.entries) order.now.numbers.items }
         ensures { Passes 35 (large_goals (domain_view self.now.domain.now) (problem_in self.now.problem)) result }
     {
         match self.problem {

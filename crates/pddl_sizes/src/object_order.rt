@@ -5,29 +5,17 @@ ghost use Rattle.std.specs.List.{sum_by};
 ghost use Rattle.pddl_forest.specs.Forests.{number_at};
 ghost use Rattle.pddl_forest.specs.Spans.{holds, some_holds, AreApart};
 ghost use Rattle.pddl_task.specs.Tasks.{places_from};
+ghost use Rattle.pddl_sizes.specs.ObjectOrders.{IsOrderOf};
 
 use pddl_forest::Span;
 use std::alloc::{AllocError, Allocator};
-use std::marker::Model;
 
-/// Objects with the numbers of their types, and in the order of these. So those whose types are under one stand side by side.
-///
-/// Contracts see the numbers.
+/// The numbers of the types of objects, and the objects in their order. So those whose types are under one stand side by side.
 #[derive(Drop)]
 pub struct ObjectOrder<'a, B: Allocator> {
-    numbers: Vec<usize, &'a B>,
+    pub numbers: Vec<usize, &'a B>,
     objects: Vec<usize, &'a B>,
-}
-
-impl<'a, B: Allocator> Model for ObjectOrder<'a, B> {
-    ghost use Rattle.std.specs.Prelude.{List, ℕ};
-    ghost use Rattle.pddl_sizes.specs.ObjectOrders.{IsOrderOf};
-
-    ghost Value = { List ℕ };
-
-    ghost view = { λ o. o.numbers.items };
-
-    ghost invariant = { λ o. ∥ IsOrderOf o.numbers.items o.objects.items ∥₁ };
+    ghost ordered: { ∥ IsOrderOf numbers.items objects.items ∥₁ },
 }
 
 /// The number of the type of an object, or 0 past the last.
@@ -45,7 +33,7 @@ impl<'a, B: Allocator> ObjectOrder<'a, B> {
     ///
     /// Fails where memory for it is refused.
     pub fn of(numbers: Vec<usize, &'a B>) -> Result<ObjectOrder<'a, B>, AllocError>
-        ensures { IfOk result (λ order. order ≡ numbers.entry.items) }
+        ensures { IfOk result (λ order. order.numbers.items ≡ numbers.entry.items) }
     {
         let mut objects: Vec<usize, &'a B> = (0..numbers.len()).collect(*numbers.allocator())?;
         objects.sort_unstable_by_key(|object| type_number(&numbers, *object));
@@ -54,14 +42,14 @@ impl<'a, B: Allocator> ObjectOrder<'a, B> {
 
     /// The number of the type of an object, or `None` past the last.
     pub fn number(&self, object: usize) -> Option<usize>
-        ensures { result ≡ slice_get self.now object }
+        ensures { result ≡ slice_get self.now.numbers.items object }
     {
         self.numbers.get(object).copied()
     }
 
     /// The objects whose types have numbers in a span.
     fn under(&self, top: Span) -> &[usize]
-        ensures { (f : ℕ → ℕ) → sum_by f result.now ≡ sum_by f (places_from 0 (holds top) self.now) }
+        ensures { (f : ℕ → ℕ) → sum_by f result.now ≡ sum_by f (places_from 0 (holds top) self.now.numbers.items) }
     {
         let numbers = self.numbers.as_slice();
         let objects = self.objects.as_slice();
@@ -74,9 +62,8 @@ impl<'a, B: Allocator> ObjectOrder<'a, B> {
     /// How many objects have types whose numbers are in some of these spans.
     pub fn count(&self, tops: &[Span]) -> usize
         requires { AreApart tops.now }
-        ensures { result ≡ length (filter (some_holds tops.now) self.now) }
+        ensures { result ≡ length (filter (some_holds tops.now) self.now.numbers.items) }
     {
-        let _ = &self.numbers;
         let mut count = 0;
         for top in tops {
             count += self.under(*top).len();
@@ -93,7 +80,7 @@ impl<'a, B: Allocator> ObjectOrder<'a, B> {
         tops: &[Span],
     ) -> Result<Vec<usize, &'c C>, AllocError>
         requires { AreApart tops.now }
-        ensures { IfOk result (λ objects. objects.items ≡ places_from 0 (some_holds tops.now) self.now) }
+        ensures { IfOk result (λ objects. objects.items ≡ places_from 0 (some_holds tops.now) self.now.numbers.items) }
     {
         let mut found = Vec::new(alloc);
         for top in tops {

@@ -20,7 +20,7 @@ pub struct Fitting<'t, 'm, 'a, A: Allocator, B: Allocator> {
     pub types: &'t Types<'m, 'a, A, B>,
     pub listed: &'t Listed<'m, 'a, A, B>,
     pub order: &'t ObjectOrder<'a, B>,
-    ghost numbered: { AreNumbered types.now (map object_in listed.now.objects.entries) order.now },
+    ghost numbered: { AreNumbered types.now (map object_in listed.now.objects.entries) order.now.numbers.items },
 }
 
 impl<'t, 'm, 'a, A: Allocator, B: Allocator> Fitting<'t, 'm, 'a, A, B> {

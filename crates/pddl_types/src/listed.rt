@@ -119,7 +119,7 @@ impl<'m, 'a, A: Allocator, B: Allocator> Listed<'m, 'a, A, B> {
     ///
     /// Fails where memory for it is refused.
     pub fn order(&self, told: &Told<'m, 'a, A, B>) -> Result<ObjectOrder<'a, B>, AllocError>
-        ensures { IfOk result (λ order. order ≡ map (first_at told.now) self.now.types.items) }
+        ensures { IfOk result (λ order. order.numbers.items ≡ map (first_at told.now) self.now.types.items) }
     {
         let types = self.types.as_slice();
         let mut numbers = Vec::with_capacity(*self.types.allocator(), types.len())?;

@@ -145,10 +145,9 @@ impl<'m, 'a, A: Allocator, B: Allocator> Told<'m, 'a, A, B> {
     pub fn first_at(&self, number: usize) -> usize
         ensures { result ≡ first_at self.now number }
     {
-        match tops_at(&self.types, number).first() {
-            Some(top) => top.first,
-            None => 0,
-        }
+        tops_at(&self.types, number)
+            .first()
+            .map_or(0, |top| top.first)
     }
 
     /// Whether a term of a type fits a slot of another, both by their numbers. Where both have many tops, what is found is kept.

@@ -1,6 +1,6 @@
 //! The types of a domain with their parents, looked up by name.
 
-ghost use Rattle.std.specs.Prelude.{◌≡◌, ◌<◌, ℕ, List, [], IsTrue, map, not, filter, length, IfOk, OnOk};
+ghost use Rattle.std.specs.Prelude.{◌≡◌, List, [], ℕ, IsTrue, map, not, filter, IfOk, OnOk};
 ghost use Rattle.std.specs.List.{list_any};
 ghost use Rattle.pddl_domain.specs.Declarations.{type_view};
 ghost use Rattle.pddl_task.specs.Names.{is_in, repeated, item_of};
@@ -84,7 +84,7 @@ impl<'m, 'a, A: Allocator, B: Allocator> Types<'m, 'a, A, B> {
     }
 
     /// The span of a type, or one behind those of all types where the name is none.
-    pub fn span(&self, name: &[u8]) -> Span
+    fn span(&self, name: &[u8]) -> Span
         ensures { result ≡ span_of self.now name.now }
     {
         match self.parents.get_index_of(name) {

@@ -10,11 +10,11 @@ use Rattle.pddl_sizes.proofs.ObjectSums.{none_under, next_top}
 use Rattle.pddl_sizes.proofs.object_order.ObjectOrder.objects_under.Goals as goal
 
 pub loop-top-init : goal.loop-top-init
-loop-top-init g c = λ f. ap (sum_by f) c.new-found.ensures.items ∙ none_under c.args.self.now c.args.tops.now f
+loop-top-init g c = λ f. ap (sum_by f) c.new-found.ensures.items ∙ none_under c.args.self.now.numbers.items c.args.tops.now f
 
 pub loop-top-preserved : goal.loop-top-preserved
 loop-top-preserved g c = λ f.
-    let next = next_top c.args.self.now c.args.tops.now c.requires c.loop-top.top-index (record { first = 0; last = 0 }) c.loop-top-test.true f in
+    let next = next_top c.args.self.now.numbers.items c.args.tops.now c.requires c.loop-top.top-index (record { first = 0; last = 0 }) c.loop-top-test.true f in
     let added = ap (sum_by f) c.in_ok-extend_from_slice.ensures.items ∙ sum_by-append f c.loop-top.found.items c.under.result.now in
     let so_far = c.loop-top.invariant f in
     omega (arith, next, added, so_far, c.under.ensures f)
@@ -23,5 +23,5 @@ pub returns : goal.returns
 returns g c =
     let test = some_holds c.args.tops.now in
     let found = c.sort_unstable.new.self.items in
-    same_rising found (places_from 0 test c.args.self.now) (IsNonDecreasingBy-from_sort (λ n. n) found c.sort_unstable.ensures.sorted) (places_rise test c.args.self.now 0) (λ f.
+    same_rising found (places_from 0 test c.args.self.now.numbers.items) (IsNonDecreasingBy-from_sort (λ n. n) found c.sort_unstable.ensures.sorted) (places_rise test c.args.self.now.numbers.items 0) (λ f.
     sum_by-IsPermutation f c.loop-top.found.items found c.sort_unstable.ensures.permutation ∙ rw (take_all c.loop-top.top-index c.args.tops.now c.loop-top-test.false) at (c.loop-top.invariant f))

@@ -9,7 +9,9 @@ invariant_of-result g c =
     let sorted = c.sort_unstable_by_key.new.self.items in
     let many = length c.args.numbers.items in
     let all = rw c.in_ok-objects.was at (items_from_collect c.collect.result c.collect.ensures.ran (YieldsList-from_range 0 c.len.result many refl (omega (arith, c.len.ensures)))) in
-    ∣ record {
-      all = subst (λ os. IsPermutation os sorted) all c.sort_unstable_by_key.ensures.permutation;
-      rising = IsNonDecreasingBy-from_sort_by_key (number_at c.args.numbers.items) sorted c.sort_unstable_by_key.ensures.sorted (λ a r q k. search rules);
-    } ∣₁
+    record {
+      ordered = ∣ record {
+        all = subst (λ os. IsPermutation os sorted) all c.sort_unstable_by_key.ensures.permutation;
+        rising = IsNonDecreasingBy-from_sort_by_key (number_at c.args.numbers.items) sorted c.sort_unstable_by_key.ensures.sorted (λ a r q k. search rules);
+      } ∣₁;
+    }
