@@ -22,10 +22,7 @@ pub struct ObjectOrder<'a, B: Allocator> {
 fn type_number(numbers: &[usize], object: usize) -> usize
     ensures { result ≡ number_at numbers.now object }
 {
-    match numbers.get(object) {
-        Some(number) => *number,
-        None => 0,
-    }
+    numbers.get(object).map_or(0, |number| *number)
 }
 
 impl<'a, B: Allocator> ObjectOrder<'a, B> {
