@@ -119,13 +119,11 @@ impl<'m, 'a, A: Allocator, B: Allocator> Types<'m, 'a, A, B> {
             → IsTrue (is_in (types_of self.now.declared) n) → result ≡ list_any (is_under (pairs self.now.declared) n) slot }
     {
         let _ = &self.spans;
-        hold_all(
-            tops,
-            &[Span {
-                first: number,
-                last: number,
-            }],
-        )
+        let only = Span {
+            first: number,
+            last: number,
+        };
+        hold_all(tops, &[only])
     }
 
     /// The same, where each primitive is looked up.
