@@ -5,7 +5,7 @@ ghost use Rattle.pddl_domain.specs.Domains.{domain_view};
 ghost use Rattle.pddl_problem.specs.Problems.{problem_view};
 ghost use Rattle.pddl_task.specs.Linked.{fault_in, domain_faults, faults, rules};
 ghost use Rattle.pddl_faults.specs.Passes.{Verdict};
-ghost use Rattle.pddl_types.specs.TypeSpans.{IsEmpty};
+ghost use Rattle.pddl_types.specs.Objects.{AreSeen};
 ghost use Rattle.pddl_types.specs.Signatures.{IsNothing};
 ghost use Rattle.pddl_names.specs.FaultParts.{problem_in, part_rules};
 ghost use Rattle.pddl_names.specs.Held.{HoldAll};
@@ -39,7 +39,7 @@ fn look_at_files<'t, 'm, 'a, A: Allocator, B: Allocator>(
     listed: &mut Listed<'m, 'a, A, B>,
     declared: &mut Declared<'m, 'a, A, B>,
 ) -> Result<(), LinkFault<'m>>
-    requires listed { IsEmpty listed.old }
+    requires listed { AreSeen declared.old.told [] listed.old }
     requires declared { IsNothing declared.old }
     requires told { declared.old.told ≡ [] }
     ensures held { OnOk result (HoldAll (domain_view files.now.domain.now) (problem_in files.now.problem) files.now.types.now listed.new declared.new) }
@@ -55,15 +55,15 @@ fn order_behind_types<'t, 'm, 'a, A: Allocator, B: Allocator>(
     listed: &mut Listed<'m, 'a, A, B>,
     declared: &mut Declared<'m, 'a, A, B>,
 ) -> Result<ObjectOrder<'a, B>, LinkFault<'m>>
-    requires listed { IsEmpty listed.old }
+    requires listed { AreSeen declared.old.told [] listed.old }
     requires declared { IsNothing declared.old }
     requires told { declared.old.told ≡ [] }
-    ensures held { IfOk result (HoldBehindTypes (domain_view files.now.domain.now) (problem_in files.now.problem) files.now.types.now listed.new declared.new) }
+    ensures held { IfOk result (λ order. HoldBehindTypes (domain_view files.now.domain.now) (problem_in files.now.problem) files.now.types.now listed.new declared.new order.numbers.items) }
     ensures verdict { Verdict (faults_of files.now (drop 3 rules)) result }
 {
     look_at_files(files, listed, declared)?;
+    let order = listed.order(&declared.told)?;
     declared.add_actions(files.types, files.domain)?;
-    let order = ObjectOrder::of(files.alloc, &listed.spans)?;
     files.look_at_goal(listed, &order).and(Ok(order))
 }
 
@@ -75,7 +75,7 @@ fn link_files<'m, 'a, A: Allocator, B: Allocator>(
     hashed: Hashed,
 ) -> Result<Linked<'m, 'a, A, B>, LinkFault<'m>>
     ensures types { IfOk result (λ l. l.types.declared ≡ (domain_view domain.now).types) }
-    ensures held { IfOk result (λ l. HoldBehindTypes (domain_view domain.now) (problem_in problem.entry) l.types l.listed l.declared l.order) }
+    ensures held { IfOk result (λ l. HoldBehindTypes (domain_view domain.now) (problem_in problem.entry) l.types l.listed l.declared l.order.numbers.items) }
     ensures verdict { Verdict (map (fault_in (domain_view domain.now) (problem_in problem.entry)) (drop 1 rules)) result }
 {
     type_twice(alloc, domain)?;

@@ -56,7 +56,7 @@ impl<'m, 'a, A: Allocator, B: Allocator> Model for Task<'m, 'a, A, B> {
 
     ghost view = { λ t. files (domain_view t.domain.now) (problem_view t.problem.now) };
 
-    ghost invariant = { λ t. AreTablesOf (domain_view t.domain.now) (problem_view t.problem.now) t.types t.listed t.declared t.order };
+    ghost invariant = { λ t. AreTablesOf (domain_view t.domain.now) (problem_view t.problem.now) t.types t.listed t.declared t.order.numbers.items };
 }
 
 /// Whether objects that are asked for have these names, in their order.
@@ -91,7 +91,7 @@ impl<'m, 'a, A: Allocator, B: Allocator> Task<'m, 'a, A, B> {
         declared: Declared<'m, 'a, A, B>,
         order: ObjectOrder<'a, B>,
     ) -> Task<'m, 'a, A, B>
-        requires { AreTablesOf (domain_view domain.now) (problem_view problem.now) types listed declared order }
+        requires { AreTablesOf (domain_view domain.now) (problem_view problem.now) types listed declared order.numbers.items }
         ensures { result ≡ files (domain_view domain.now) (problem_view problem.now) }
     {
         Task {
@@ -185,7 +185,10 @@ impl<'m, 'a, A: Allocator, B: Allocator> Task<'m, 'a, A, B> {
             → result ≡ option_map_or (λ o. fits (pairs (task_of_files self.now).types) o.of x.of) (slice_get (task_of_files self.now).objects object) false }
     {
         let tops = self.declared.parameter_tops(action, parameter);
-        self.listed.fits_by(&self.types, object, tops)
+        match self.order.number(object) {
+            Some(number) => self.types.is_under_tops(number, tops),
+            None => false,
+        }
     }
 
     /// Whether the object of a number fits a type; past the last there is none that does.
@@ -193,7 +196,7 @@ impl<'m, 'a, A: Allocator, B: Allocator> Task<'m, 'a, A, B> {
         ensures { result ≡ option_map_or (λ o. fits (pairs (task_of_files self.now).types) o.of types.now)
             (slice_get (task_of_files self.now).objects object) false }
     {
-        self.listed.fits(&self.types, object, types)
+        self.fitting_by().fits(object, types)
     }
 
     /// What finds the objects that fit a type.

@@ -9,15 +9,12 @@ use Rattle.pddl_domain.specs.Domains.{DomainValue}
 use Rattle.pddl_task.specs.Types.{pairs}
 use Rattle.pddl_task.specs.Settings.{function_signatures, setting}
 use Rattle.pddl_types.specs.KnownNames.{object_in}
-use Rattle.pddl_types.specs.TypeSpans.{TypesValue, IsTold, IsEmpty, are_types}
+use Rattle.pddl_types.specs.TypeSpans.{TypesValue, IsTold, are_types}
 use Rattle.pddl_types.specs.Told.{ToldValue, IsAt, AreAt, AreDistinct, AreTold, AreKept}
-use Rattle.pddl_types.specs.Objects.{AreSeen}
 use Rattle.pddl_types.specs.Signatures.{AreSlotsAt, AreFirst, HaveSymbols}
 use Rattle.pddl_names.specs.Uses.{place_faults, IsBound}
 use Rattle.pddl_types.specs.declared.declared.Declared.{Declared}
 use Rattle.pddl_names.specs.declared.known.Known.{Known}
-use Rattle.pddl_types.specs.declared.listed.Listed.{Listed}
-use Rattle.pddl_types.proofs.HeldEach.{each_none}
 use Rattle.pddl_names.proofs.SameSettings.{faults_alike}
 use Rattle.pddl_types.proofs.SignatureTables.{have_still}
 
@@ -36,9 +33,6 @@ none_twice = tt
 
 pub told_none : (t : TypesValue) (told : ToldValue) → told ≡ [] → AreTold t told
 told_none t told none = rw none (record { once = none_twice; each = All-nil (λ e. IsTold t e.0 e.1 × IsTrue (are_types t.declared e.0)) })
-
-pub seen_none : {A B : Type 0} (told : ToldValue) (listed : Listed A B) → IsEmpty listed → AreSeen told [] listed
-seen_none told listed none = record { objects = ap (map object_in) none.objects; types = rw (none.objects, none.types) (each_none (IsAt told)) }
 
 -- in an empty scope nothing is bound
 pub nothing_bound : {A B : Type 0} (k : Known A B) (told : ToldValue) (scope : List (TypedValue × ℕ)) → scope ≡ [] → AreSlotsAt told k.predicates.now.entries → AreSlotsAt told k.functions.now.entries

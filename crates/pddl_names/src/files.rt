@@ -9,10 +9,10 @@ ghost use Rattle.pddl_task.specs.Settings.{objects_of, in_domain, in_problem};
 ghost use Rattle.pddl_task.specs.Faults.{large_goals};
 ghost use Rattle.pddl_faults.specs.Passes.{Passes};
 ghost use Rattle.pddl_faults.specs.Found.{IsFound};
-ghost use Rattle.pddl_sizes.specs.ObjectOrders.{IsOrderOf};
 ghost use Rattle.pddl_types.specs.KnownNames.{object_in};
-ghost use Rattle.pddl_types.specs.TypeSpans.{AreSingle, IsEmpty, AreListed};
+ghost use Rattle.pddl_types.specs.TypeSpans.{AreNumbered};
 ghost use Rattle.pddl_types.specs.Told.{unknown_among};
+ghost use Rattle.pddl_types.specs.Objects.{AreSeen};
 ghost use Rattle.pddl_types.specs.Signatures.{IsNothing};
 ghost use Rattle.pddl_names.specs.Uses.{place_faults};
 ghost use Rattle.pddl_names.specs.FaultParts.{problem_in, joined, declared_typed, action_faults, domain_parts, problem_parts};
@@ -98,7 +98,7 @@ impl<'t, 'm, 'a, A: Allocator, B: Allocator> Files<'t, 'm, 'a, A, B> {
         listed: &mut Listed<'m, 'a, A, B>,
         declared: &mut Declared<'m, 'a, A, B>,
     ) -> Result<Result<(), LinkFault<'m>>, LinkFault<'m>>
-        requires listed { IsEmpty listed.old }
+        requires listed { AreSeen declared.old.told [] listed.old }
         requires declared { IsNothing declared.old }
         requires told { declared.old.told ≡ [] }
         ensures passes { Passes 23 (unknown_among self.now.types.now.declared (declared_typed (domain_view self.now.domain.now))) result }
@@ -165,10 +165,8 @@ impl<'t, 'm, 'a, A: Allocator, B: Allocator> Files<'t, 'm, 'a, A, B> {
         listed: &Listed<'m, 'a, A, B>,
         order: &ObjectOrder<'a, B>,
     ) -> Result<(), LinkFault<'m>>
-        requires listed { AreListed self.now.types.now listed.now }
-        requires single { AreSingle self.now.types.now.declared (map object_in listed.now.objects.entries) }
         requires objects { map object_in listed.now.objects.entries ≡ objects_of (domain_view self.now.domain.now) (problem_in self.now.problem) }
-        requires ordered { ∥ IsOrderOf listed.now.spans.items order.now ∥₁ }
+        requires numbered { AreNumbered self.now.types.now (map object_in listed.now.objects.entries) order.now.numbers.items }
         ensures { Passes 35 (large_goals (domain_view self.now.domain.now) (problem_in self.now.problem)) result }
     {
         match self.problem {

@@ -1,81 +1,77 @@
--- The objects under tops that are apart: by sums over an order of all objects, and as parts of it.
+-- The objects under tops that are apart: by sums over their places, and as parts of an order of all.
 use Rattle.std.proofs.Common.{◌≡◌, ℕ, zero, suc, ◌+◌, ◌-◌, ◌<◌, ◌≤◌, Bool, true, false, cond, ltb, leb, ◌&&◌, List, [], ◌∷◌, filter, length, take, drop, refl, sym, ap, ◌∙◌, subst, arith, slice_index_or}
 use Rattle.std.proofs.Math.Nat.{ℕ_set}
 use Rattle.std.specs.Coded.{le_prop}
 use Rattle.std.specs.List.{sum_by, range_with_len}
 use Rattle.std.proofs.lemmas.Bool.{leb-true, lt-leb, ltb-true, ltb-false, and_parts}
-use Rattle.std.proofs.lemmas.List.{get_or_default, get_or-take, length-take-le, take_all, take_rest}
+use Rattle.std.proofs.lemmas.List.{get_or_default, get_or-take, length-take-le, take_rest}
 use Rattle.std.proofs.lemmas.List.Folds.{list_any_more, Any-from_list_any}
 use Rattle.std.proofs.lemmas.List.Sorted.{sum_by-IsPermutation}
 use Rattle.std.specs.List.Sorted.{IsNonDecreasingBy, IsPartitionPoint}
 use Rattle.std.proofs.Math.Logic.{∥∥₁_elim}
 use Rattle.std.proofs.Math.Bool.{and-false}
 use Rattle.pddl_task.specs.Tasks.{places_from}
+use Rattle.pddl_forest.specs.Forests.{number_at}
 use Rattle.pddl_forest.specs.Spans.{holds, some_holds, span_at, AreApart}
 use Rattle.pddl_forest.specs.declared.spans.Span.{Span}
 use Rattle.pddl_forest.proofs.ApartSpans.{held}
 use Rattle.pddl_sizes.specs.ObjectOrders.{IsOrderOf}
-use Rattle.pddl_sizes.specs.declared.object_order.ObjectOrder.{ObjectOrder}
-use Rattle.pddl_sizes.proofs.ListSums.{if_passes, if_either, sum_filter, sum_two, sum_ones, few_pass, places_are}
+use Rattle.pddl_sizes.proofs.ListSums.{if_passes, if_either, sum_filter, sum_two, places_are}
 
-module _ (spans tops : List Span) (order : List ℕ) where
-  abbrev number : ℕ → ℕ
-  number o = (span_at spans o).first
+module _ (numbers : List ℕ) where
+  abbrev all : List ℕ
+  all = range_with_len 0 (length numbers)
 
-  -- over those that are under so many tops
-  abbrev pub sum_under : (ℕ → ℕ) → ℕ → ℕ
-  sum_under f i = sum_by (λ o. if_passes (some_holds (take i tops) (number o)) (f o)) order
+  abbrev sum_if : (ℕ → Bool) → (ℕ → ℕ) → List ℕ → ℕ
+  sum_if test f = sum_by (λ o. if_passes (test (number_at numbers o)) (f o))
 
-  pub none_under : (f : ℕ → ℕ) → 0 ≡ sum_under f 0
-  none_under f =
-      let g : ℕ → ℕ = λ o. if_passes (some_holds (take 0 tops) (number o)) (f o) in
-      omega (arith, sum_two g g g (λ o. refl) order)
+  sum_places : (test : ℕ → Bool) (f : ℕ → ℕ) → sum_by f (places_from 0 test numbers) ≡ sum_if test f all
+  sum_places test f = ap (sum_by f) (sym (places_are test numbers 0)) ∙ sum_filter (λ o. test (number_at numbers o)) f all
 
-  -- no more are than there are
-  pub few_under : (i : ℕ) → sum_under (λ _. 1) i ≤ length order
-  few_under i =
-      let test : ℕ → Bool = λ o. some_holds (take i tops) (number o) in
-      omega (arith, sum_filter test (λ _. 1) order, sum_ones (filter test order), few_pass test order)
+  -- all objects stand in an order once
+  pub in_order : (order : List ℕ) (test : ℕ → Bool) (f : ℕ → ℕ) → ∥ IsOrderOf numbers order ∥₁ → sum_by f (filter (λ o. test (number_at numbers o)) order) ≡ sum_by f (places_from 0 test numbers)
+  in_order order test f ordered =
+      sum_filter (λ o. test (number_at numbers o)) f order
+      ∙ ∥∥₁_elim ordered (hlevel ℕ_set) (λ is. sum_by-IsPermutation (λ o. if_passes (test (number_at numbers o)) (f o)) all order is.all) ∙ sym (sum_places test f)
 
-  module _ (apart : AreApart tops) (i : ℕ) (none : Span) (low : i < length tops) where
-    abbrev top : Span
-    top = slice_index_or tops i none
+  -- their types have numbers that do not fall
+  pub rising : (order : List ℕ) → ∥ IsOrderOf numbers order ∥₁ → IsNonDecreasingBy (number_at numbers) order
+  rising order ordered = λ i j d le low. ∥∥₁_elim ordered (hlevel le_prop) (λ is. is.rising i j d le low)
 
-    no_other : (n : ℕ) → some_holds (take i tops) n ≡ true → holds top n ≡ true → ⊥
-    no_other n before here =
-        let (k, s, k_low, s_is, on) = Any-from_list_any (λ t. holds t n) (take i tops) before in
-        let few = length-take-le i tops (omega (arith, low)) in
-        let past = apart.behind k i (omega (arith, k_low, few)) low in
-        let at : span_at tops k ≡ s = sym (get_or-take i tops k _ (omega (arith, k_low, few))) ∙ get_or_default (take i tops) k _ s k_low ∙ s_is in
-        let also : span_at tops i ≡ top = get_or_default tops i _ none low in
-        let to = leb-true n s.last (and_parts (leb s.first n) (leb n s.last) on).1 in
-        let from = leb-true top.first n (and_parts (leb top.first n) (leb n top.last) here).0 in
-        omega (arith, past, to, from, ap (λ t. t.last) at, ap (λ t. t.first) also)
+  module _ (tops : List Span) where
+    -- over those that are under so many tops
+    abbrev pub sum_under : (ℕ → ℕ) → ℕ → ℕ
+    sum_under f i = sum_by f (places_from 0 (some_holds (take i tops)) numbers)
 
-    one_of : (n m : ℕ) → if_passes (some_holds (take (i + 1) tops) n) m ≡ if_passes (some_holds (take i tops) n) m + if_passes (holds top n) m
-    one_of n m =
-        ap (λ b. if_passes b m) (list_any_more (λ t. holds t n) tops i none low) ∙ if_either (some_holds (take i tops) n) (holds top n) m (no_other n)
+    pub none_under : (f : ℕ → ℕ) → 0 ≡ sum_under f 0
+    none_under f =
+        let g : ℕ → ℕ = λ o. if_passes (some_holds (take 0 tops) (number_at numbers o)) (f o) in
+        omega (arith, sum_two g g g (λ o. refl) all, sum_places (some_holds (take 0 tops)) f)
 
-    pub next_top : (f : ℕ → ℕ) → sum_under f (i + 1) ≡ sum_under f i + sum_by f (filter (λ o. holds top (number o)) order)
-    next_top f =
-        sum_two (λ o. if_passes (some_holds (take i tops) (number o)) (f o)) (λ o. if_passes (holds top (number o)) (f o)) (λ o. if_passes (some_holds (take (i + 1) tops) (number o)) (f o)) (λ o. one_of (number o) (f o)) order
-        ∙ ap (λ n. sum_under f i + n) (sym (sum_filter (λ o. holds top (number o)) f order))
+    module _ (apart : AreApart tops) (i : ℕ) (none : Span) (low : i < length tops) where
+      abbrev top : Span
+      top = slice_index_or tops i none
 
--- all objects stand in the order once
-pub sum_under_all : {B : Type 0} (spans tops : List Span) (order : ObjectOrder B) (i : ℕ) (f : ℕ → ℕ) → ∥ IsOrderOf spans order ∥₁ → length tops ≤ i
-    → sum_under spans tops order.objects.items f i ≡ sum_by f (places_from 0 (λ s. some_holds tops s.first) spans)
-sum_under_all spans tops order i f ordered past =
-    let test : Span → Bool = λ s. some_holds tops s.first in
-    let none : Span = record { first = length spans; last = length spans } in
-    let g : ℕ → ℕ = λ o. if_passes (test (span_at spans o)) (f o) in
-    ap (λ ts. sum_by (λ o. if_passes (some_holds ts (span_at spans o).first) (f o)) order.objects.items) (take_all i tops past)
-    ∙ ∥∥₁_elim ordered (hlevel ℕ_set) (λ is. sum_by-IsPermutation g (range_with_len 0 (length spans)) order.objects.items is.all)
-    ∙ sym (sum_filter (λ o. test (span_at spans o)) f (range_with_len 0 (length spans)))
-    ∙ ap (sum_by f) (places_are test spans none)
+      no_other : (n : ℕ) → some_holds (take i tops) n ≡ true → holds top n ≡ true → ⊥
+      no_other n before here =
+          let (k, s, k_low, s_is, on) = Any-from_list_any (λ t. holds t n) (take i tops) before in
+          let few = length-take-le i tops (omega (arith, low)) in
+          let past = apart.behind k i (omega (arith, k_low, few)) low in
+          let at : span_at tops k ≡ s = sym (get_or-take i tops k _ (omega (arith, k_low, few))) ∙ get_or_default (take i tops) k _ s k_low ∙ s_is in
+          let also : span_at tops i ≡ top = get_or_default tops i _ none low in
+          let to = leb-true n s.last (and_parts (leb s.first n) (leb n s.last) on).1 in
+          let from = leb-true top.first n (and_parts (leb top.first n) (leb n top.last) here).0 in
+          omega (arith, past, to, from, ap (λ t. t.last) at, ap (λ t. t.first) also)
 
--- their types have numbers that do not fall
-pub rising : {B : Type 0} (spans : List Span) (order : ObjectOrder B) → ∥ IsOrderOf spans order ∥₁ → IsNonDecreasingBy (λ o. (span_at spans o).first) order.objects.items
-rising spans order ordered = λ i j d le low. ∥∥₁_elim ordered (hlevel le_prop) (λ is. is.rising i j d le low)
+      one_of : (n m : ℕ) → if_passes (some_holds (take (i + 1) tops) n) m ≡ if_passes (some_holds (take i tops) n) m + if_passes (holds top n) m
+      one_of n m =
+          ap (λ b. if_passes b m) (list_any_more (λ t. holds t n) tops i none low) ∙ if_either (some_holds (take i tops) n) (holds top n) m (no_other n)
+
+      pub next_top : (f : ℕ → ℕ) → sum_under f (i + 1) ≡ sum_under f i + sum_by f (places_from 0 (holds top) numbers)
+      next_top f =
+          let both = sum_two (λ o. if_passes (some_holds (take i tops) (number_at numbers o)) (f o)) (λ o. if_passes (holds top (number_at numbers o)) (f o)) (λ o. if_passes (some_holds (take (i + 1) tops) (number_at numbers o)) (f o))
+          (λ o. one_of (number_at numbers o) (f o)) all in
+          omega (arith, both, sum_places (some_holds (take (i + 1) tops)) f, sum_places (some_holds (take i tops)) f, sum_places (holds top) f)
 
 -- ---- a part of an order
 

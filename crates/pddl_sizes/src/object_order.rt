@@ -1,62 +1,69 @@
 //! Objects in the order of the numbers of their types.
 
-ghost use Rattle.std.specs.Prelude.{◌≡◌, filter, length, IfOk};
-ghost use Rattle.pddl_forest.specs.Spans.{holds, some_holds, span_at, AreApart};
+ghost use Rattle.std.specs.Prelude.{◌≡◌, ℕ, filter, length, slice_get, IfOk};
+ghost use Rattle.std.specs.List.{sum_by};
+ghost use Rattle.pddl_forest.specs.Forests.{number_at};
+ghost use Rattle.pddl_forest.specs.Spans.{holds, some_holds, AreApart};
 ghost use Rattle.pddl_task.specs.Tasks.{places_from};
 ghost use Rattle.pddl_sizes.specs.ObjectOrders.{IsOrderOf};
 
 use pddl_forest::Span;
 use std::alloc::{AllocError, Allocator};
 
-/// The numbers of objects, in the order of the numbers of their types. So those whose types are under one stand side by side.
+/// The numbers of the types of objects, and the objects in their order. So those whose types are under one stand side by side.
 #[derive(Drop)]
 pub struct ObjectOrder<'a, B: Allocator> {
+    pub numbers: Vec<usize, &'a B>,
     objects: Vec<usize, &'a B>,
+    ghost ordered: { ∥ IsOrderOf numbers.items objects.items ∥₁ },
 }
 
-/// The number of the type of an object, where the types of objects have these spans.
-fn type_number(spans: &[Span], object: usize) -> usize
-    ensures { result ≡ (span_at spans.now object).first }
+/// The number of the type of an object, or 0 past the last.
+fn type_number(numbers: &[usize], object: usize) -> usize
+    ensures { result ≡ number_at numbers.now object }
 {
-    match spans.get(object) {
-        Some(span) => span.first,
-        None => spans.len(),
-    }
+    numbers.get(object).map_or(0, |number| *number)
 }
 
 impl<'a, B: Allocator> ObjectOrder<'a, B> {
-    /// That of objects whose types have these spans.
+    /// That of objects whose types have these numbers.
     ///
     /// Fails where memory for it is refused.
-    pub fn of(alloc: &'a B, spans: &[Span]) -> Result<ObjectOrder<'a, B>, AllocError>
-        ensures { IfOk result (λ order. ∥ IsOrderOf spans.now order ∥₁) }
+    pub fn of(numbers: Vec<usize, &'a B>) -> Result<ObjectOrder<'a, B>, AllocError>
+        ensures { IfOk result (λ order. order.numbers.items ≡ numbers.entry.items) }
     {
-        let mut objects: Vec<usize, &'a B> = (0..spans.len()).collect(alloc)?;
-        objects.sort_unstable_by_key(|object| type_number(spans, *object));
-        Ok(ObjectOrder { objects })
+        let mut objects: Vec<usize, &'a B> = (0..numbers.len()).collect(*numbers.allocator())?;
+        objects.sort_unstable_by_key(|object| type_number(&numbers, *object));
+        Ok(ObjectOrder { numbers, objects })
+    }
+
+    /// The number of the type of an object, or `None` past the last.
+    pub fn number(&self, object: usize) -> Option<usize>
+        ensures { result ≡ slice_get self.now.numbers.items object }
+    {
+        self.numbers.get(object).copied()
     }
 
     /// The objects whose types have numbers in a span.
-    fn under(&self, spans: &[Span], top: Span) -> &[usize]
-        requires { ∥ IsOrderOf spans.now self.now ∥₁ }
-        ensures { result.now ≡ filter (λ o. holds top (span_at spans.now o).first) self.now.objects.items }
+    fn under(&self, top: Span) -> &[usize]
+        ensures { (f : ℕ → ℕ) → sum_by f result.now ≡ sum_by f (places_from 0 (holds top) self.now.numbers.items) }
     {
+        let numbers = self.numbers.as_slice();
         let objects = self.objects.as_slice();
-        let start = objects.partition_point(|object| type_number(spans, *object) < top.first);
+        let start = objects.partition_point(|object| type_number(numbers, *object) < top.first);
         let from = &objects[start..];
-        let many = from.partition_point(|object| type_number(spans, *object) <= top.last);
+        let many = from.partition_point(|object| type_number(numbers, *object) <= top.last);
         &from[..many]
     }
 
     /// How many objects have types whose numbers are in some of these spans.
-    pub fn count(&self, spans: &[Span], tops: &[Span]) -> usize
-        requires order { ∥ IsOrderOf spans.now self.now ∥₁ }
-        requires apart { AreApart tops.now }
-        ensures { result ≡ length (filter (λ s. some_holds tops.now s.first) spans.now) }
+    pub fn count(&self, tops: &[Span]) -> usize
+        requires { AreApart tops.now }
+        ensures { result ≡ length (filter (some_holds tops.now) self.now.numbers.items) }
     {
         let mut count = 0;
         for top in tops {
-            count += self.under(spans, *top).len();
+            count += self.under(*top).len();
         }
         count
     }
@@ -67,16 +74,14 @@ impl<'a, B: Allocator> ObjectOrder<'a, B> {
     pub fn objects_under<'c, C: Allocator>(
         &self,
         alloc: &'c C,
-        spans: &[Span],
         tops: &[Span],
     ) -> Result<Vec<usize, &'c C>, AllocError>
-        requires order { ∥ IsOrderOf spans.now self.now ∥₁ }
-        requires apart { AreApart tops.now }
-        ensures { IfOk result (λ objects. objects.items ≡ places_from 0 (λ s. some_holds tops.now s.first) spans.now) }
+        requires { AreApart tops.now }
+        ensures { IfOk result (λ objects. objects.items ≡ places_from 0 (some_holds tops.now) self.now.numbers.items) }
     {
         let mut found = Vec::new(alloc);
         for top in tops {
-            found.extend_from_slice(self.under(spans, *top))?;
+            found.extend_from_slice(self.under(*top))?;
         }
         found.sort_unstable();
         Ok(found)

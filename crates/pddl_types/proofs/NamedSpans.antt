@@ -1,19 +1,17 @@
 -- Types by their spans: what is under a type is what has its first number in the type's span.
-use Rattle.std.proofs.Common.{◌≡◌, ℕ, ◌<◌, ◌≤◌, Bool, true, false, ◌&&◌, eqb, leb, List, [], ◌∷◌, map, length, refl, sym, ap, ◌∙◌, subst, arith, inl, inr, eqb-true, leb-true}
+use Rattle.std.proofs.Common.{◌≡◌, ℕ, ◌<◌, ◌≤◌, Bool, true, false, ◌&&◌, eqb, leb, List, map, length, refl, sym, ap, ◌∙◌, subst, arith, eqb-true, leb-true}
 use Rattle.std.specs.Prelude.{◌↔◌, IsTrue, Contains}
 use Rattle.std.specs.Cmp.{both_ways}
-use Rattle.std.specs.List.{list_any, slice_index_or}
+use Rattle.std.specs.List.{list_any}
 use Rattle.std.proofs.lemmas.List.{length-map, get_or_past}
-use Rattle.std.proofs.lemmas.List.Sorted.{IsPermutation-refl}
-use Rattle.pddl_forest.specs.Spans.{holds, some_holds, hold_all, AreTops, AreSpans}
+use Rattle.pddl_forest.specs.Spans.{holds, some_holds, hold_all, AreSpans}
 use Rattle.pddl_forest.specs.declared.spans.Span.{Span}
-use Rattle.pddl_forest.proofs.ApartSpans.{are_tops}
 use Rattle.pddl_domain.specs.Declarations.{TypeValue}
 use Rattle.pddl_task.specs.Names.{Name, is_in, number_in}
 use Rattle.pddl_task.specs.Types.{types_of, pairs, is_under, is_subtype, fits}
 use Rattle.pddl_types.specs.TypeTables.{Row, names_in, parents_in, StandsAt, IsTypeTable}
 use Rattle.pddl_types.specs.TypeSpans.{TypesValue, span_of, IsTold, DoTell, are_types}
-use Rattle.pddl_task.proofs.Lists.{and_left, and_right, any_found, found_any, all_found, found_all, has_cases, has_none, mapped_is, is_mapped}
+use Rattle.pddl_task.proofs.Lists.{and_left, and_right, any_found, found_any, all_found, found_all, mapped_is, is_mapped}
 use Rattle.pddl_task.proofs.Subtypes.{is_under_decides, under_found, under_through}
 use Rattle.pddl_types.proofs.TypeParents.{same_types}
 use Rattle.pddl_types.proofs.TypePlaces.{below, number_past}
@@ -103,8 +101,8 @@ module _ (t : TypesValue) (h : AreInTable t) where
       (both_test n m type (type_if m (omega (arith, from, w)))).0 yes)
       (λ yes. (both_test n m type (sym (same_types t.declared n m h.2.0 yes) ∙ type)).1 yes)
 
-  pub test_told : (n m : Name) (low over : Span) → is_type n ≡ true → low ≡ span_of t n → over ≡ span_of t m → holds over low.first ≡ under n m
-  test_told n m low over known is also = ap (λ s. holds s low.first) also ∙ ap (λ (s : Span). holds (span_of t m) s.first) is ∙ is_test n m known
+  pub test_told : (n m : Name) (number : ℕ) (over : Span) → is_type n ≡ true → number ≡ (span_of t n).first → over ≡ span_of t m → holds over number ≡ under n m
+  test_told n m number over known is also = ap (λ s. holds s number) also ∙ ap (holds (span_of t m)) is ∙ is_test n m known
 
   through : (n m u : Name) → under n m ≡ true → under m u ≡ true → under n u ≡ true
   through n m u low high =
@@ -115,7 +113,7 @@ module _ (t : TypesValue) (h : AreInTable t) where
   -- a top is the span of one of the names
   top_of : (names : List Name) (tops : List Span) (s : Span) → IsTold t names tops → Contains tops s → (m : Name) × Contains names m × (span_of t m ≡ s)
   top_of names tops s told there =
-      let one = any_found (is_same s) (map (span_of t) names) (told.each s there) in
+      let one = any_found (is_same s) (map (span_of t) names) (told.tops_are.each s there) in
       let m = mapped_is (span_of t) names one.0 one.1 in
       (m.0, m.1, m.2 ∙ sym (same_span s one.0 one.2))
 
@@ -133,7 +131,7 @@ module _ (t : TypesValue) (h : AreInTable t) where
       (λ yes. let m = in_top slot tops n told yes in found_any (under n) slot m.0 m.1 (sym (is_test n m.0 type) ∙ m.3))
       (λ yes.
       let m = any_found (under n) slot yes in
-      let u = in_top slot tops m.0 told (told.all (span_of t m.0) (is_mapped (span_of t) slot m.0 m.1)) in
+      let u = in_top slot tops m.0 told (told.tops_are.all (span_of t m.0) (is_mapped (span_of t) slot m.0 m.1)) in
       let up = through n m.0 u.0 m.2 (sym (is_test m.0 u.0 (sym (same_types t.declared n m.0 h.2.0 m.2) ∙ type)) ∙ u.3) in
       found_any (λ s. holds s (span_of t n).first) tops (span_of t u.0) u.2 (is_test n u.0 type ∙ up))
 
@@ -143,7 +141,7 @@ module _ (t : TypesValue) (h : AreInTable t) where
   tops_fit types slot told tops first second known =
       both_ways (hold_all tops told) (fits (pairs t.declared) types slot)
       (λ yes. found_all (λ n. list_any (under n) slot) types (λ n there.
-      let m = in_top types told n first (first.all (span_of t n) (is_mapped (span_of t) types n there)) in
+      let m = in_top types told n first (first.tops_are.all (span_of t n) (is_mapped (span_of t) types n there)) in
       let u = any_found (under m.0) slot (sym (do_tell m.0 slot tops second (type m.0 m.1)) ∙ all_found (λ s. some_holds tops s.first) told yes (span_of t m.0) m.2) in
       found_any (under n) slot u.0 u.1 (through n m.0 u.0 (sym (is_test n m.0 (type n there)) ∙ m.3) u.2)))
       (λ yes. found_all (λ s. some_holds tops s.first) told (λ s there.
@@ -157,10 +155,3 @@ module _ (t : TypesValue) (h : AreInTable t) where
 pub subtype_is : (declared : List TypeValue) (sub over : Name) (told : Bool) → is_in (types_of declared) sub ≡ true → is_in (types_of declared) over ≡ true → told ≡ is_under (pairs declared) sub over
     → told ≡ is_subtype declared sub over
 subtype_is declared sub over told one other is = rw (one, other) is
-
--- the span of a name alone
-pub told_alone : (t : TypesValue) (n : Name) (s : Span) → s.first ≤ s.last → s ≡ span_of t n → IsTold t (n ∷ []) (s ∷ [])
-told_alone t n s low is =
-    subst (λ u. AreTops (u ∷ []) (s ∷ [])) is
-    (are_tops (s ∷ []) (s ∷ []) (IsPermutation-refl (s ∷ [])) (λ i j d le inside. let first : i ≡ j = omega (arith, le, inside) in omega (arith, ap (λ k. (slice_index_or (s ∷ []) k d).first) first))
-    (λ u there. elim (has_cases s [] u there) as (λ _. u.first ≤ u.last) [ inl one ↦ subst (λ (v : Span). v.first ≤ v.last) one low | inr none ↦ absurd (has_none u none) ]))

@@ -1,13 +1,13 @@
 -- Names with their types, one after another, beside a table of each at its first place.
-use Rattle.std.proofs.Common.{◌≡◌, ℕ, ◌+◌, ◌<◌, ◌≤◌, ◌==◌, Bool, true, false, ◌||◌, not, cond, List, [], ◌∷◌, ◌++◌, map, filter, length, get_or, drop, Some, None, Result, Ok, refl, ap, sym, ◌∙◌, subst, bytes_eq, position, arith}
+use Rattle.std.proofs.Common.{◌≡◌, ℕ, ◌+◌, ◌<◌, ◌≤◌, ◌==◌, Bool, true, false, ◌||◌, not, cond, List, [], ◌∷◌, ◌++◌, map, filter, length, get_or, drop, Some, None, Result, refl, ap, sym, ◌∙◌, subst, bytes_eq, position, arith}
 use Rattle.std.specs.Prelude.{find, is_some, slice_get}
 use Rattle.std.specs.Borrow.{Bor}
 use Rattle.std.specs.Cmp.Lexicographic.{nat_list_eq_equiv}
 use Rattle.std.specs.Map.{keys_of}
 use Rattle.std.specs.Option.{option_map_or}
-use Rattle.std.proofs.lemmas.List.{drop_all, take_all, map-append}
+use Rattle.std.proofs.lemmas.List.{drop_all, take_all, length-map, map-append}
 use Rattle.std.proofs.lemmas.List.Elements.{filter-append}
-use Rattle.std.proofs.lemmas.Option.{slice_get_read, slice_get_within, slice_get-get_or}
+use Rattle.std.proofs.lemmas.Option.{slice_get_within, slice_get-get_or}
 use Rattle.indexmap.specs.IndexMap.{insert_entry}
 use Rattle.indexmap.proofs.MapLemmas.{Missing-position, insert_entry-absent}
 use Rattle.pddl_formula.specs.TypedLists.{TypedValue, typed_view}
@@ -16,7 +16,7 @@ use Rattle.pddl_task.specs.Names.{Name, same_names, is_in, item_of, is_named, fi
 use Rattle.pddl_task.proofs.Lists.{append-none, bytes_same, some_at}
 use Rattle.pddl_faults.specs.declared.fault.LinkFault.{LinkFault}
 use Rattle.pddl_faults.specs.Found.{IsFound, numbered}
-use Rattle.pddl_faults.proofs.FoundFaults.{IsFoundUpTo, up_to_none, up_to_more, up_to_all}
+use Rattle.pddl_faults.proofs.FoundFaults.{IsFoundUpTo, up_to_more, up_to_all}
 use Rattle.pddl_faults.proofs.ListTurns.{seen_more, views_drop}
 use Rattle.pddl_faults.proofs.SeenItems.{seen_at}
 use Rattle.pddl_faults.proofs.PutValues.{is_there}
@@ -74,14 +74,16 @@ module _ {A : Type 0} (es : List (Bor (List ℕ) × Bor (Typed A))) (seen : List
   pushed b is = firsts_push seen x ∙ ap (λ c. firsts seen ++ cond c [] (x ∷ [])) (sym (is_there seen x.item) ∙ is)
 
   -- a name that is there is at odds where its number is another, and nothing is put
-  pub seen_there : (told : ToldValue) (numbers : List ℕ) (number known place : ℕ) → AreDistinct told → IsAt told x.of number → AreAt told (map object_in es) numbers
-      → position (λ k. bytes_eq n k.now) (keys_of es) ≡ Some place → place < length numbers → known ≡ get_or numbers place known
-      → (is_off seen x ≡ not (known == number)) × (map object_in es ≡ firsts (seen ++ x ∷ []))
-  seen_there told numbers number known place once at are is low read =
-      let (y, there) = some_at (map object_in es) place (omega (arith, low, are.many)) in
-      let found : find (is_named x.item) seen ≡ Some y = sym found_seen ∙ object_found es n place is ∙ there in
-      let told_of = are.each place known y there (slice_get_read numbers (length numbers) place known refl low read) in (
-        ap (λ o. option_map_or (λ (z : TypedValue). not (same_names z.of x.of)) o false) found ∙ ap not (sym (one_number told once y.of x.of known number told_of at)),
+  pub seen_there : (told : ToldValue) (numbers : List ℕ) (number place : ℕ) → AreDistinct told → IsAt told x.of number → AreAt told (map object_in es) numbers
+      → position (λ k. bytes_eq n k.now) (keys_of es) ≡ Some place → place < length es
+      → (known : ℕ) × (slice_get numbers place ≡ Some known) × (is_off seen x ≡ not (known == number)) × (map object_in es ≡ firsts (seen ++ x ∷ []))
+  seen_there told numbers number place once at are is low =
+      let (y, there) = some_at (map object_in es) place (omega (arith, low, length-map es object_in)) in
+      let (known, read) = some_at numbers place (omega (arith, low, length-map es object_in, are.many)) in
+      let found : find (is_named x.item) seen ≡ Some y = sym found_seen ∙ object_found es n place is ∙ there in (
+        known,
+        read,
+        ap (λ o. option_map_or (λ (z : TypedValue). not (same_names z.of x.of)) o false) found ∙ ap not (sym (one_number told once y.of x.of known number (are.each place known y there read) at)),
         same ∙ sym (append-none (firsts seen)) ∙ sym (pushed true (ap is_some found)),
       )
 
@@ -119,14 +121,6 @@ pub record PutUpTo {A B : Type 0} (told : ToldValue) (seen : List TypedValue) (x
   pub so_far : IsFoundUpTo (numbered 24 (off_types (seen_at typed_view seen xs i) (map typed_view (drop i xs)))) (numbered 24 (off_types seen (map typed_view xs))) found
 
 module _ {A B : Type 0} {told : ToldValue} {seen : List TypedValue} {xs : List (Typed A)} where
-  pub put_none : {listed : Listed A B} → AreSeen told seen listed → PutUpTo told seen xs 0 listed (Ok tt)
-  put_none {listed} are =
-      let nothing : seen_at typed_view seen xs 0 ≡ seen = append-none seen in
-      record {
-        are = subst (λ ys. AreSeen told ys listed) (sym nothing) are;
-        so_far = subst (λ ys. IsFoundUpTo (numbered 24 (off_types ys (map typed_view xs))) (numbered 24 (off_types seen (map typed_view xs))) (Ok tt)) (sym nothing) up_to_none;
-      }
-
   -- one more
   pub put_more : {listed next : Listed A B} {i : ℕ} {found both : Result (Unit {0}) LinkFault} (x : Typed A) (now : Result (Unit {0}) LinkFault) → i < length xs → x ≡ get_or xs i x
       → ((us vs : List (ℕ × Name)) → IsFound us found → IsFound vs now → IsFound (us ++ vs) both) → IsFound (numbered 24 (word_if (is_off (seen_at typed_view seen xs i) (typed_view x)) x.name)) now
@@ -156,4 +150,4 @@ module _ {A B : Type 0} {told : ToldValue} {seen : List TypedValue} {xs : List (
 
 pub seen_still : {A B : Type 0} {before after : ToldValue} {seen : List TypedValue} {listed : Listed A B} → AreKept before after → AreSeen before seen listed → AreSeen after seen listed
 seen_still {before = before} {after} {listed = listed} kept are =
-    record { objects = are.objects; types = still_all before after (map object_in listed.objects.entries) listed.types.items kept are.types }
+    record { named = are.named; objects = are.objects; types = still_all before after (map object_in listed.objects.entries) listed.types.items kept are.types }

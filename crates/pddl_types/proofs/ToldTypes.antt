@@ -119,7 +119,7 @@ module _ {t : TypesValue} {told : ToldValue} (are : AreTold t told) where
     where
       one : (o : Option Entry) → slice_get told n ≡ o → AreApart (tops_at told n)
       one None none = rw none apart_none
-      one (Some e) there = rw there (each_of n e there).0.apart
+      one (Some e) there = rw there (each_of n e there).0.tops_are.apart
 
   -- where tops decide, those of two numbers do
   pub decided_there :

@@ -3,7 +3,7 @@ use Rattle.std.specs.Prelude.{◌≡◌, ℕ, Bool, false, not, List, Option, So
 use Rattle.std.specs.Option.{option_map_or}
 use Rattle.pddl_formula.specs.TypedLists.{TypedValue}
 use Rattle.pddl_task.specs.Names.{Name, item_of, is_named, same_names, firsts, wrong_words}
-use Rattle.pddl_types.specs.KnownNames.{object_in}
+use Rattle.pddl_types.specs.KnownNames.{AreNamed, object_in}
 use Rattle.pddl_types.specs.Told.{ToldValue, IsAt, AreAt}
 use Rattle.pddl_types.specs.declared.listed.Listed.{Listed}
 
@@ -21,7 +21,8 @@ is_off before x = option_map_or (λ y. not (same_names y.of x.of)) (find (is_nam
 abbrev pub off_types : List TypedValue → List TypedValue → List Name
 off_types = wrong_words is_off item_of
 
--- of what was seen, each name is listed at its first place, with the number of its type
+-- of what was seen, each name is listed at its first place, with what it names and the number of its type
 pub record AreSeen {A B : Type 0} (told : ToldValue) (seen : List TypedValue) (listed : Listed A B) : Type 0 where
+  pub named : AreNamed listed.objects.entries
   pub objects : map object_in listed.objects.entries ≡ firsts seen
   pub types : AreAt told (map object_in listed.objects.entries) listed.types.items

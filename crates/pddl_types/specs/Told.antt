@@ -30,6 +30,10 @@ told_in entries = map (λ e. (e.0.now, e.1.items)) entries
 abbrev pub tops_at : ToldValue → ℕ → List Span
 tops_at told number = option_map_or (λ e. e.1) (slice_get told number) []
 
+-- the first number of these, or 0 where there are none
+abbrev pub first_at : ToldValue → ℕ → ℕ
+first_at told number = option_map_or (λ s. s.first) (slice_get (tops_at told number) 0) 0
+
 -- the type of a number
 abbrev pub IsAt : ToldValue → List Name → ℕ → Type 0
 IsAt told names number = option_map (λ e. e.0) (slice_get told number) ≡ Some names

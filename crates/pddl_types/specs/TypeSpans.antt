@@ -1,5 +1,5 @@
 -- Types by spans of numbers: what is under a type has its numbers in the type's span. Own.
-use Rattle.std.specs.Prelude.{◌≡◌, ◌<◌, ◌≤◌, ℕ, Bool, false, IsTrue, List, [], ◌∷◌, Some, map, length, slice_get, Contains}
+use Rattle.std.specs.Prelude.{◌≡◌, ◌<◌, ℕ, Bool, IsTrue, List, [], ◌∷◌, Some, map, length, slice_get}
 use Rattle.std.specs.List.{list_any, list_all}
 use Rattle.pddl_forest.specs.Spans.{some_holds, span_at, AreTops}
 use Rattle.pddl_forest.specs.declared.spans.Span.{Span}
@@ -7,8 +7,6 @@ use Rattle.pddl_formula.specs.TypedLists.{TypedValue}
 use Rattle.pddl_domain.specs.Declarations.{TypeValue}
 use Rattle.pddl_task.specs.Names.{Name, is_in, number_in}
 use Rattle.pddl_task.specs.Types.{types_of, pairs, is_under}
-use Rattle.pddl_types.specs.KnownNames.{AreNamed, object_in}
-use Rattle.pddl_types.specs.declared.listed.Listed.{Listed}
 
 -- the types that are declared, and the names of all types with their spans, in the order of a table
 pub record TypesValue : Type 0 where
@@ -22,9 +20,10 @@ span_of t n = span_at t.spans (number_in t.names n)
 
 -- ---- what is told of types
 
--- tops of a type's primitives
-abbrev pub IsTold : TypesValue → List Name → List Span → Type 0
-IsTold t names tops = AreTops (map (span_of t) names) tops
+-- tops of a type's primitives, of which there are some
+pub record IsTold (t : TypesValue) (names : List Name) (tops : List Span) : Type 0 where
+  pub some : 0 < length names
+  pub tops_are : AreTops (map (span_of t) names) tops
 
 -- all names are types
 abbrev pub are_types : List TypeValue → List Name → Bool
@@ -37,33 +36,16 @@ DoTell t = (n : Name) (slot : List Name) (tops : List Span) → IsTold t slot to
 
 -- ---- objects
 
--- the type has one primitive, which is one of the domain's types
-abbrev pub is_single : List TypeValue → List Name → Bool
-is_single declared (n ∷ []) = is_in (types_of declared) n
-is_single declared _ = false
-
--- each object has such a type
-abbrev pub AreSingle : List TypeValue → List TypedValue → Type 0
-AreSingle declared objects = (o : TypedValue) → Contains objects o → IsTrue (is_single declared o.of)
-
--- the span, of a number at least, is that of the one primitive of a type, which has some, if there is one alone
-pub record IsOnlySpan (t : TypesValue) (types : List Name) (s : Span) : Type 0 where
-  pub own : s.first ≤ s.last
-  pub some : 0 < length types
-  pub only : (n : Name) → types ≡ n ∷ [] → s ≡ span_of t n
-
 -- each of some objects has a value, of which this holds with its type
 pub record HaveEach {T : Type 0} (Holds : List Name → T → Type 0) (objects : List TypedValue) (values : List T) : Type 0 where
   pub many : length values ≡ length objects
   pub each : (k : ℕ) (v : T) (x : TypedValue) → slice_get objects k ≡ Some x → slice_get values k ≡ Some v → Holds x.of v
 
--- no objects are listed
-pub record IsEmpty {A B : Type 0} (l : Listed A B) : Type 0 where
-  pub objects : l.objects.entries ≡ []
-  pub types : l.types.items ≡ []
-  pub spans : l.spans.items ≡ []
+-- the type has one primitive, which is one of the domain's types, and has this number
+pub record IsNumberOf (t : TypesValue) (types : List Name) (number : ℕ) : Type 0 where
+  pub one : map (λ n. (span_of t n).first) types ≡ number ∷ []
+  pub known : IsTrue (are_types t.declared types)
 
--- objects that are listed stand each under its own name, with such a span
-pub record AreListed {A B : Type 0} (t : TypesValue) (l : Listed A B) : Type 0 where
-  pub named : AreNamed l.objects.entries
-  pub spans : HaveEach (IsOnlySpan t) (map object_in l.objects.entries) l.spans.items
+-- each of some objects has a type of such a number
+abbrev pub AreNumbered : TypesValue → List TypedValue → List ℕ → Type 0
+AreNumbered t objects numbers = HaveEach (IsNumberOf t) objects numbers

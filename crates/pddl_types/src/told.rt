@@ -7,7 +7,7 @@ ghost use Rattle.pddl_task.specs.Names.{is_in};
 ghost use Rattle.pddl_task.specs.Types.{types_of, pairs, fits};
 ghost use Rattle.pddl_faults.specs.Passes.{Passes};
 ghost use Rattle.pddl_types.specs.TypeSpans.{TypesValue, IsTold, are_types};
-ghost use Rattle.pddl_types.specs.Told.{told_in, tops_at, IsAt, AreAt, AreTold, AreKept, unknown_among};
+ghost use Rattle.pddl_types.specs.Told.{told_in, tops_at, first_at, IsAt, AreAt, AreTold, AreKept, unknown_among};
 
 use crate::types::Types;
 use indexmap::IndexMap;
@@ -139,6 +139,15 @@ impl<'m, 'a, A: Allocator, B: Allocator> Told<'m, 'a, A, B> {
         ensures told { (t : TypesValue) (names : List (List ℕ)) → AreTold t self.now → IsAt self.now names number → IsTold t names result.now × IsTrue (are_types t.declared names) }
     {
         tops_at(&self.types, number)
+    }
+
+    /// The first number of these tops, or 0 where there are none.
+    pub fn first_at(&self, number: usize) -> usize
+        ensures { result ≡ first_at self.now number }
+    {
+        tops_at(&self.types, number)
+            .first()
+            .map_or(0, |top| top.first)
     }
 
     /// Whether a term of a type fits a slot of another, both by their numbers. Where both have many tops, what is found is kept.

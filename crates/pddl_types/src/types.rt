@@ -1,6 +1,6 @@
 //! The types of a domain with their parents, looked up by name.
 
-ghost use Rattle.std.specs.Prelude.{◌≡◌, ◌<◌, ℕ, List, [], IsTrue, map, not, filter, length, IfOk, OnOk};
+ghost use Rattle.std.specs.Prelude.{◌≡◌, List, [], ℕ, IsTrue, map, not, filter, IfOk, OnOk};
 ghost use Rattle.std.specs.List.{list_any};
 ghost use Rattle.pddl_domain.specs.Declarations.{type_view};
 ghost use Rattle.pddl_task.specs.Names.{is_in, repeated, item_of};
@@ -8,7 +8,7 @@ ghost use Rattle.pddl_task.specs.Types.{types_of, pairs, is_under, is_subtype, f
 ghost use Rattle.pddl_forest.specs.Spans.{AreApart, hold_all};
 ghost use Rattle.pddl_faults.specs.Passes.{Passes};
 ghost use Rattle.pddl_types.specs.TypeTables.{cycle_in};
-ghost use Rattle.pddl_types.specs.TypeSpans.{span_of, IsTold, DoTell, are_types, IsOnlySpan};
+ghost use Rattle.pddl_types.specs.TypeSpans.{span_of, IsTold, DoTell, are_types};
 
 use crate::type_table::{parent_table, spans_of};
 use indexmap::IndexMap;
@@ -84,7 +84,7 @@ impl<'m, 'a, A: Allocator, B: Allocator> Types<'m, 'a, A, B> {
     }
 
     /// The span of a type, or one behind those of all types where the name is none.
-    pub fn span(&self, name: &[u8]) -> Span
+    fn span(&self, name: &[u8]) -> Span
         ensures { result ≡ span_of self.now name.now }
     {
         match self.parents.get_index_of(name) {
@@ -96,31 +96,12 @@ impl<'m, 'a, A: Allocator, B: Allocator> Types<'m, 'a, A, B> {
         }
     }
 
-    /// The span of the one primitive of a type. Nothing is promised of it where the type has several.
-    pub fn single_span<N: Allocator>(&self, types: &TypeNames<N>) -> Span
-        ensures { IsOnlySpan self.now types.now result }
-    {
-        let _ = &self.spans;
-        self.span(types.as_slice()[0].as_bytes())
-    }
-
     /// Whether a type is a subtype of another, or that type itself; no name that is no type is either.
     pub fn is_a(&self, sub: &[u8], over: &[u8]) -> bool
         ensures { result ≡ is_subtype self.now.declared sub.now over.now }
     {
         let _ = &self.spans;
         self.contains(sub) && self.contains(over) && self.span(over).holds(self.span(sub).first)
-    }
-
-    /// Whether a term of a type of which the first spans are told fits a slot of which the second are. The term's has known primitives.
-    pub fn fits(&self, told: &[Span], tops: &[Span]) -> bool
-        requires tops { AreApart tops.now }
-        requires told { 1 < length told.now → AreApart told.now }
-        ensures { (types slot : List (List ℕ)) → IsTold self.now types told.now → IsTold self.now slot tops.now
-            → IsTrue (are_types self.now.declared types) → result ≡ fits (pairs self.now.declared) types slot }
-    {
-        let _ = &self.spans;
-        hold_all(tops, told)
     }
 
     /// Tops tell of two types whether one fits the other.
@@ -131,13 +112,27 @@ impl<'m, 'a, A: Allocator, B: Allocator> Types<'m, 'a, A, B> {
         let _ = &self.spans;
     }
 
-    /// Whether a type of this span is under some primitive of a slot's type, each of which is looked up.
-    pub fn is_under_some<S: Allocator>(&self, span: Span, slot: &TypeNames<S>) -> bool
-        ensures { (n : List ℕ) → span ≡ span_of self.now n → IsTrue (is_in (types_of self.now.declared) n) → result ≡ list_any (is_under (pairs self.now.declared) n) slot.now }
+    /// Whether a type of this number is under some primitive of a slot's type with these tops.
+    pub fn is_under_tops(&self, number: usize, tops: &[Span]) -> bool
+        requires { AreApart tops.now }
+        ensures { (slot : List (List ℕ)) (n : List ℕ) → IsTold self.now slot tops.now → number ≡ (span_of self.now n).first
+            → IsTrue (is_in (types_of self.now.declared) n) → result ≡ list_any (is_under (pairs self.now.declared) n) slot }
+    {
+        let _ = &self.spans;
+        let only = Span {
+            first: number,
+            last: number,
+        };
+        hold_all(tops, &[only])
+    }
+
+    /// The same, where each primitive is looked up.
+    pub fn is_under_some<S: Allocator>(&self, number: usize, slot: &TypeNames<S>) -> bool
+        ensures { (n : List ℕ) → number ≡ (span_of self.now n).first → IsTrue (is_in (types_of self.now.declared) n) → result ≡ list_any (is_under (pairs self.now.declared) n) slot.now }
     {
         let _ = &self.spans;
         for primitive in slot.as_slice() {
-            if self.span(primitive.as_bytes()).holds(span.first) {
+            if self.span(primitive.as_bytes()).holds(number) {
                 return true;
             }
         }

@@ -28,3 +28,6 @@ returns-clause-verdict g c =
     let d = domain_view c.args.domain.now in
     decided_after {T = Unit {0}} (fault 21 (types_twice d ++ []) ∷ fault 22 (type_cycles d ++ []) ∷ []) (map (fault_in d (problem_in c.args.problem)) (drop 3 rules)) (Err c.in-Err.fault)
     (append-none (types_twice d) ∙ c.in_ok-type_twice.ensures, (append-none (type_cycles d) ∙ c.in_ok-types.ensures.cycle, tt)) c.in-Err.ensures.verdict
+
+pub order_behind_types-requires-clause-listed : goal.order_behind_types-requires-clause-listed
+order_behind_types-requires-clause-listed g c = c.new-listed.ensures c.new-declared.result.told

@@ -1,4 +1,4 @@
-use Rattle.std.proofs.Common.{List, map, Result, Ok, Err, refl, subst, IfOk}
+use Rattle.std.proofs.Common.{List, Result, Ok, Err, refl, IfOk}
 use Rattle.std.specs.Result.{result_and}
 use Rattle.std.proofs.lemmas.Result.{err_from_is_err_and}
 use Rattle.pddl_domain.specs.Domains.{domain_view}
@@ -7,11 +7,9 @@ use Rattle.pddl_task.specs.Linked.{Fault}
 use Rattle.pddl_faults.specs.declared.fault.LinkFault.{LinkFault}
 use Rattle.pddl_faults.specs.Passes.{fault_of, Verdict}
 use Rattle.pddl_faults.proofs.Verdicts.{decided_after}
-use Rattle.pddl_sizes.specs.ObjectOrders.{IsOrderOf}
-use Rattle.pddl_types.specs.KnownNames.{object_in}
 use Rattle.pddl_names.specs.FaultParts.{problem_in, part_rules, goal_rules}
 use Rattle.pddl_link.specs.Stages.{faults_of}
-use Rattle.pddl_link.proofs.NamedWell.{declared_once, actions_right, single_objects}
+use Rattle.pddl_link.proofs.NamedWell.{declared_once, actions_right, objects_numbered}
 use Rattle.pddl_link.proofs.Stages.{stage_first, none_left, alone_verdict}
 use Rattle.pddl_link.proofs.linked.order_behind_types.Goals as goal
 
@@ -28,13 +26,12 @@ returns-in_err-add_actions-clause-verdict g c =
     let none = actions_right (domain_view f.domain.now) (problem_in f.problem) c.in_ok-look_at_files.ensures.verdict f.types.now.declared f.typed in
     rw (p.1, p.2) (none_left _ (fault_of c.in_err-add_actions.field-0.0) _ none c.in_err-add_actions.ensures.passes)
 
-pub look_at_goal-requires-clause-single : goal.look_at_goal-requires-clause-single
-look_at_goal-requires-clause-single g c =
+pub look_at_goal-requires-clause-numbered : goal.look_at_goal-requires-clause-numbered
+look_at_goal-requires-clause-numbered g c =
     let f = c.args.files.now in
-    let listed = c.look_at_files.new.listed in
     let held = c.in_ok-look_at_files.ensures.held in
-    single_objects (domain_view f.domain.now) (problem_in f.problem) c.in_ok-look_at_files.ensures.verdict f.types.now (map object_in listed.objects.entries) listed.spans.items f.typed
-    held.objects_are.objects held.listed_are.spans
+    rw c.in_ok-order.ensures
+    (objects_numbered (domain_view f.domain.now) (problem_in f.problem) c.in_ok-look_at_files.ensures.verdict held.symbols.told held.objects_are.types held.objects_are.objects)
 
 -- what holds of what is given on
 held_on : {U T E : Type 0} (r : Result U E) (x : T) (P : T → Type 0) → P x → IfOk (result_and r (Ok x)) P
@@ -46,17 +43,15 @@ returns-clause-held g c =
     let f = c.args.files.now in
     let d = domain_view f.domain.now in
     let p = problem_in f.problem in
-    let listed = c.look_at_files.new.listed in
     let named = c.in_ok-look_at_files.ensures.verdict in
     let held = c.in_ok-look_at_files.ensures.held in
     rw c.and.ensures
     (held_on c.look_at_goal.result c.in_ok-order.order _
     (record {
       declared_are = c.in_ok-add_actions.ensures.declared (declared_once d p named);
-      ordered = subst (λ spans. ∥ IsOrderOf spans c.in_ok-order.order ∥₁) c.deref.ensures.value c.in_ok-order.ensures;
+      named = held.objects_are.named;
       objects_are = held.objects_are.objects;
-      spans_are = held.listed_are;
-      single = single_objects d p named f.types.now (map object_in listed.objects.entries) listed.spans.items f.typed held.objects_are.objects held.listed_are.spans;
+      numbered = rw c.in_ok-order.ensures (objects_numbered d p named held.symbols.told held.objects_are.types held.objects_are.objects);
     }))
 
 -- a verdict is that of what is given on

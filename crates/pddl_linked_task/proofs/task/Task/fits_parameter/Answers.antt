@@ -1,20 +1,21 @@
-use Rattle.std.proofs.Common.{false, map, ap, ◌∙◌}
-use Rattle.std.specs.List.{slice_get}
-use Rattle.std.specs.Option.{option_map_or}
-use Rattle.pddl_formula.specs.TypedLists.{TypedValue}
+use Rattle.std.proofs.Common.{sym, ◌∙◌}
 use Rattle.pddl_domain.specs.Domains.{domain_view}
-use Rattle.pddl_task.specs.Types.{pairs, fits}
-use Rattle.pddl_types.specs.KnownNames.{object_in}
+use Rattle.pddl_types.proofs.FittingSpans.{object_fits, none_fits}
 use Rattle.pddl_linked_task.proofs.task.Task.fits_parameter.Goals as goal
 
-pub returns : goal.returns
-returns g c =
+pub returns-in-Some : goal.returns-in-Some
+returns-in-Some g c =
     let t = c.self.inside in
-    let d = domain_view t.domain.now in
+    let h = c.self.invariant in
     rw (← c.self.view_is) (λ a x here there.
-    c.fits_by.ensures x.of (c.parameter_tops-tops.ensures.told t.types d a x c.self.invariant.behind.declared_are here there)
-    ∙ ap (λ ds. option_map_or (λ (o : TypedValue). fits (pairs ds) o.of x.of) (slice_get (map object_in t.listed.objects.entries) c.args.object) false) c.self.invariant.types_are
-    ∙ ap (λ os. option_map_or (λ (o : TypedValue). fits (pairs d.types) o.of x.of) (slice_get os c.args.object) false) c.self.invariant.behind.objects_are)
+    let told = c.parameter_tops-tops.ensures.told t.types (domain_view t.domain.now) a x h.behind.declared_are here there in
+    rw (h.types_are, h.behind.objects_are) at
+    (object_fits x.of h.behind.numbered c.args.object c.in-Some.number c.is_under_tops.result (sym c.number.ensures ∙ c.in-Some.is) (λ n. c.is_under_tops.ensures x.of n told)))
 
-pub fits_by-requires-clause-apart : goal.fits_by-requires-clause-apart
-fits_by-requires-clause-apart g c = c.parameter_tops-tops.ensures.apart c.self.inside.types c.self.invariant.behind.declared_are.told
+pub returns-in-None : goal.returns-in-None
+returns-in-None g c =
+    let h = c.self.invariant in
+    rw (← c.self.view_is) (λ a x here there. rw (h.types_are, h.behind.objects_are) at (none_fits x.of h.behind.numbered c.args.object (sym c.number.ensures ∙ c.in-None.is)))
+
+pub is_under_tops-requires : goal.is_under_tops-requires
+is_under_tops-requires g c = c.parameter_tops-tops.ensures.apart c.self.inside.types c.self.invariant.behind.declared_are.told

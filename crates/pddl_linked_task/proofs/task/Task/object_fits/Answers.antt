@@ -1,16 +1,4 @@
-use Rattle.std.proofs.Common.{false, map, ap, ◌∙◌}
-use Rattle.std.specs.List.{slice_get}
-use Rattle.std.specs.Option.{option_map_or}
-use Rattle.pddl_formula.specs.TypedLists.{TypedValue}
-use Rattle.pddl_domain.specs.Domains.{domain_view}
-use Rattle.pddl_task.specs.Types.{pairs, fits}
-use Rattle.pddl_types.specs.KnownNames.{object_in}
 use Rattle.pddl_linked_task.proofs.task.Task.object_fits.Goals as goal
 
 pub returns : goal.returns
-returns g c =
-    let t = c.self.inside in
-    let slot = c.args.types.now in
-    rw (← c.self.view_is) (c.fits.ensures
-    ∙ ap (λ ds. option_map_or (λ (o : TypedValue). fits (pairs ds) o.of slot) (slice_get (map object_in t.listed.objects.entries) c.args.object) false) c.self.invariant.types_are
-    ∙ ap (λ os. option_map_or (λ (o : TypedValue). fits (pairs (domain_view t.domain.now).types) o.of slot) (slice_get os c.args.object) false) c.self.invariant.behind.objects_are)
+returns g c = rw (c.fitting_by.ensures.types, c.fitting_by.ensures.objects) at c.fits.ensures

@@ -19,8 +19,7 @@ returns-clause-held g c =
         functions = record { first = h.symbols.functions.first; slots = b.functions };
         actions = h.symbols.actions;
       };
-      listed_are = h.listed_are;
-      constants_are = record { objects = h.constants_are.objects; types = b.objects };
+      constants_are = record { named = h.constants_are.named; objects = h.constants_are.objects; types = b.objects };
     }
 
 pub returns-clause-found : goal.returns-clause-found

@@ -9,12 +9,12 @@ use Rattle.pddl_faults.proofs.PassedParts.{pass_front, pass_back}
 use Rattle.pddl_names.proofs.FoundParts.{passed_part}
 use Rattle.pddl_faults.proofs.FoundFaults.{passed_as}
 use Rattle.pddl_types.proofs.ObjectTables.{seen_still}
-use Rattle.pddl_names.proofs.HeldFiles.{told_none, seen_none}
+use Rattle.pddl_names.proofs.HeldFiles.{told_none}
 use Rattle.pddl_types.proofs.UnknownTypes.{unknown-append}
 use Rattle.pddl_names.proofs.files.Files.look_at_domain.Goals as goal
 
-pub add-requires-clause-told : goal.add-requires-clause-told
-add-requires-clause-told g c = told_none c.args.self.now.types.now c.args.declared.now.told c.requires.told
+pub add-requires : goal.add-requires
+add-requires g c = told_none c.args.self.now.types.now c.args.declared.now.told c.requires.told
 
 pub returns-in_err-constants-clause-passes : goal.returns-in_err-constants-clause-passes
 returns-in_err-constants-clause-passes g c =
@@ -32,17 +32,16 @@ returns-in_err-symbols-clause-passes g c =
 
 pub look_at_actions-actions-requires : goal.look_at_actions-actions-requires
 look_at_actions-actions-requires g c =
-    let seen = (c.in_ok-constants.ensures.seen [] (seen_none c.args.declared.now.told c.args.listed.now c.requires.listed)).1 in
+    let seen = (c.in_ok-constants.ensures.seen [] c.requires.listed).1 in
     let still = seen_still c.add_symbols.ensures.kept seen in
     record {
       symbols = c.in_ok-symbols.ensures.held;
-      listed_are = record { named = c.in_ok-constants.ensures.listed.named; spans = c.in_ok-constants.ensures.listed.spans };
-      constants_are = record { objects = still.objects; types = still.types };
+      constants_are = record { named = still.named; objects = still.objects; types = still.types };
     }
 
 pub returns-clause-found : goal.returns-clause-found
 returns-clause-found g c =
-    let seen = c.in_ok-constants.ensures.seen [] (seen_none c.args.declared.now.told c.args.listed.now c.requires.listed) in
+    let seen = c.in_ok-constants.ensures.seen [] c.requires.listed in
     c.lower-3.ensures.found _ _ seen.0
     (c.lower-2.ensures.found _ _ c.in_ok-symbols.ensures.found
     (c.lower.ensures.found _ _ c.look_at_actions-actions.ensures.found

@@ -27,7 +27,6 @@ returns-in_err-objects-in-Some-clause-found g c =
 pub look_at_places-places-requires : goal.look_at_places-places-requires
 look_at_places-places-requires g c = record {
   symbols = symbols_still c.add.ensures.kept c.add.ensures.told c.requires.symbols;
-  listed_are = c.in_ok-objects-in-Some.ensures.listed;
   objects_are = (c.in_ok-objects-in-Some.ensures.seen (domain_view c.args.self.now.domain.now).constants c.requires.constants_are).1;
 }
 

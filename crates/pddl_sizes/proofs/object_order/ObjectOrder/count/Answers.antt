@@ -1,29 +1,29 @@
-use Rattle.std.proofs.Common.{◌+◌, Bool, ap, ◌∙◌, arith}
-use Rattle.std.specs.List.{sum_by}
+use Rattle.std.proofs.Common.{◌+◌, take, ◌∙◌, arith}
+use Rattle.std.proofs.lemmas.List.{take_all}
 use Rattle.pddl_forest.specs.Spans.{some_holds}
-use Rattle.pddl_forest.specs.declared.spans.Span.{Span}
 use Rattle.pddl_task.specs.Tasks.{places_from}
-use Rattle.pddl_sizes.proofs.ListSums.{sum_ones, places_many}
-use Rattle.pddl_sizes.proofs.ObjectSums.{none_under, few_under, next_top, sum_under_all}
+use Rattle.pddl_sizes.proofs.ListSums.{sum_ones, few_pass, places_many}
+use Rattle.pddl_sizes.proofs.ObjectSums.{none_under, next_top}
 use Rattle.pddl_sizes.proofs.object_order.ObjectOrder.count.Goals as goal
 
 pub loop-top-init : goal.loop-top-init
-loop-top-init g c = none_under c.args.spans.now c.args.tops.now c.args.self.now.objects.items (λ _. 1)
+loop-top-init g c = none_under c.args.self.now.numbers.items c.args.tops.now (λ _. 1)
 
 pub overflow_add-count : goal.overflow_add-count
 overflow_add-count g c =
-    let order = c.args.self.now.objects in
-    let next = next_top c.args.spans.now c.args.tops.now order.items c.requires.apart c.loop-top.top-index (record { first = 0; last = 0 }) c.loop-top-test.true (λ _. 1) in
-    let few = few_under c.args.spans.now c.args.tops.now order.items (c.loop-top.top-index + 1) in
-    omega (arith, next, few, c.loop-top.invariant, ap (sum_by (λ _. 1)) c.under.ensures, sum_ones c.under.result.now, order.ok.0, order.ok.1, order.small)
+    let held = c.args.self.now.numbers in
+    let numbers = held.items in
+    let test = some_holds (take (c.loop-top.top-index + 1) c.args.tops.now) in
+    let next = next_top numbers c.args.tops.now c.requires c.loop-top.top-index (record { first = 0; last = 0 }) c.loop-top-test.true (λ _. 1) in
+    let all = sum_ones (places_from 0 test numbers) ∙ places_many test 0 numbers in
+    omega (arith, next, all, few_pass test numbers, c.loop-top.invariant, c.under.ensures (λ _. 1), sum_ones c.under.result.now, held.ok.0, held.ok.1, held.small)
 
 pub loop-top-preserved : goal.loop-top-preserved
 loop-top-preserved g c =
-    let next = next_top c.args.spans.now c.args.tops.now c.args.self.now.objects.items c.requires.apart c.loop-top.top-index (record { first = 0; last = 0 }) c.loop-top-test.true (λ _. 1) in
-    omega (arith, next, c.loop-top.invariant, ap (sum_by (λ _. 1)) c.under.ensures, sum_ones c.under.result.now)
+    let next = next_top c.args.self.now.numbers.items c.args.tops.now c.requires c.loop-top.top-index (record { first = 0; last = 0 }) c.loop-top-test.true (λ _. 1) in
+    omega (arith, next, c.loop-top.invariant, c.under.ensures (λ _. 1), sum_ones c.under.result.now)
 
 pub returns : goal.returns
 returns g c =
-    let spans = c.args.spans.now in
-    let test : Span → Bool = λ s. some_holds c.args.tops.now s.first in
-    c.loop-top.invariant ∙ sum_under_all spans c.args.tops.now c.args.self.now c.loop-top.top-index (λ _. 1) c.requires.order c.loop-top-test.false ∙ sum_ones (places_from 0 test spans) ∙ places_many test 0 spans
+    let test = some_holds c.args.tops.now in
+    rw (take_all c.loop-top.top-index c.args.tops.now c.loop-top-test.false) at c.loop-top.invariant ∙ sum_ones (places_from 0 test c.args.self.now.numbers.items) ∙ places_many test 0 c.args.self.now.numbers.items

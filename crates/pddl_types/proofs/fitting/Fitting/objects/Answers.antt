@@ -6,4 +6,4 @@ use Rattle.pddl_types.proofs.fitting.Fitting.objects.Goals as goal
 pub returns : goal.returns
 returns g c =
     let f = c.args.self.now in
-    rw (fitting_places c.args.slot.now c.in_ok-tops.ensures.tell f.single f.objects.spans c.deref.ensures.value (subst (IsTold f.types.now c.args.slot.now) (sym c.deref-2.ensures.value) c.in_ok-tops.ensures.told)) at c.objects_under.ensures
+    rw (fitting_places c.args.slot.now f.numbered c.in_ok-tops.ensures.tell (subst (IsTold f.types.now c.args.slot.now) (sym c.deref.ensures.value) c.in_ok-tops.ensures.told)) at c.objects_under.ensures

@@ -6,5 +6,4 @@ use Rattle.pddl_types.proofs.fitting.FittingFittingCount.fitting_count.Goals as 
 pub returns-in-Ok : goal.returns-in-Ok
 returns-in-Ok g c =
     let f = c.args.self.now in
-    c.count.ensures
-    ∙ fitting_many c.args.types.now c.in-Ok.ensures.tell f.single f.objects.spans c.deref.ensures.value (subst (IsTold f.types.now c.args.types.now) (sym c.deref-in-Ok.ensures.value) c.in-Ok.ensures.told)
+    c.count.ensures ∙ fitting_many c.args.types.now f.numbered c.in-Ok.ensures.tell (subst (IsTold f.types.now c.args.types.now) (sym c.deref.ensures.value) c.in-Ok.ensures.told)

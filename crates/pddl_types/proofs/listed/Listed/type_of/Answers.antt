@@ -1,6 +1,6 @@
-use Rattle.std.proofs.Common.{map, slice_get, sym, ap, ◌∙◌}
+use Rattle.std.proofs.Common.{map, sym}
 use Rattle.pddl_types.specs.KnownNames.{object_in}
-use Rattle.pddl_types.proofs.ListedObjects.{object_found, none_found, copied_is, at_of}
+use Rattle.pddl_types.proofs.ListedObjects.{object_found, none_found, at_of}
 use Rattle.pddl_types.proofs.listed.Listed.type_of.Goals as goal
 
 pub returns-in_err-place : goal.returns-in_err-place
@@ -9,7 +9,5 @@ returns-in_err-place g c = λ told are. rw (c.from_residual.ensures, none_found 
 pub returns : goal.returns
 returns g c = λ told are.
     let i = c.in_ok-place.place in
-    let xs = c.args.self.now.types.items in
-    let same = c.copied.ensures ∙ copied_is c.get.result c.deref.result.now i c.get.ensures.lookup.0 c.get.ensures.lookup.1 ∙ ap (λ ys. slice_get ys i) c.deref.ensures.value in
-    rw (object_found c.args.self.now.objects.entries c.args.name.now i (sym c.in_ok-place.ensures.index), same)
-    (at_of told (map object_in c.args.self.now.objects.entries) xs i are)
+    let l = c.args.self.now in
+    rw (object_found l.objects.entries c.args.name.now i (sym c.in_ok-place.ensures.index), c.type_at.ensures) (at_of told (map object_in l.objects.entries) l.types.items i are)

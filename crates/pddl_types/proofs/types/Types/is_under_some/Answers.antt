@@ -11,12 +11,12 @@ loop-primitive-init g c = λ n is type. ap (list_any (is_under (pairs c.args.sel
 
 pub loop-primitive-preserved : goal.loop-primitive-preserved
 loop-primitive-preserved g c = λ n is type.
-    let told = test_told c.args.self.now (in_table c.self.view_is c.self.invariant) n c.as_bytes.result.now c.args.span c.span.result type is c.span.ensures ∙ ap (is_under (pairs c.args.self.now.declared) n) c.as_bytes.ensures.value in
+    let told = test_told c.args.self.now (in_table c.self.view_is c.self.invariant) n c.as_bytes.result.now c.args.number c.span.result type is c.span.ensures ∙ ap (is_under (pairs c.args.self.now.declared) n) c.as_bytes.ensures.value in
     rw (rest_is c.as_slice-primitive-items.result.now c.loop-primitive.primitive-index c.primitive-item.result c.loop-primitive-test.true c.primitive-item.is, ← told, ← c.holds.ensures, c.if-holds.false) at (c.loop-primitive.invariant n is type)
 
 pub returns-then-holds : goal.returns-then-holds
 returns-then-holds g c = λ n is type.
-    let told = test_told c.args.self.now (in_table c.self.view_is c.self.invariant) n c.as_bytes.result.now c.args.span c.span.result type is c.span.ensures ∙ ap (is_under (pairs c.args.self.now.declared) n) c.as_bytes.ensures.value in
+    let told = test_told c.args.self.now (in_table c.self.view_is c.self.invariant) n c.as_bytes.result.now c.args.number c.span.result type is c.span.ensures ∙ ap (is_under (pairs c.args.self.now.declared) n) c.as_bytes.ensures.value in
     rw (rest_is c.as_slice-primitive-items.result.now c.loop-primitive.primitive-index c.primitive-item.result c.loop-primitive-test.true c.primitive-item.is, ← told, ← c.holds.ensures, c.if-holds.true) at (c.loop-primitive.invariant n is type)
 
 pub returns : goal.returns

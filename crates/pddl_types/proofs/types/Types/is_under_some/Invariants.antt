@@ -9,5 +9,5 @@ use Rattle.pddl_types.proofs.types.Types.is_under_some.Given as goal
 -- the primitives that are left tell as much as all
 abbrev pub invariant-loop-primitive : goal.invariant-loop-primitive
 invariant-loop-primitive g l =
-    (n : Name) → l.span ≡ span_of l.self n → IsTrue (is_in (types_of l.self.declared) n)
+    (n : Name) → l.number ≡ (span_of l.self n).first → IsTrue (is_in (types_of l.self.declared) n)
     → list_any (is_under (pairs l.self.declared) n) (drop l.primitive-index l.primitive-items) ≡ list_any (is_under (pairs l.self.declared) n) l.slot

@@ -1,4 +1,4 @@
-use Rattle.std.proofs.Common.{[], take, sym, ap, ◌∙◌}
+use Rattle.std.proofs.Common.{[], take, sym, ap, ◌∙◌, rules}
 use Rattle.std.proofs.lemmas.List.{take_all}
 use Rattle.pddl_faults.proofs.ListTurns.{seen_more}
 use Rattle.pddl_types.specs.TypeSpans.{span_of}
@@ -18,7 +18,10 @@ keep_tops-requires g c =
     all_some c.args.self.now (in_table c.self.view_is c.self.invariant) (take c.loop-primitive.primitive-index c.as_slice-primitives.result.now) c.loop-primitive.tops.items c.loop-primitive.invariant
 
 pub returns-clause-told : goal.returns-clause-told
-returns-clause-told g c = rw (c.loop-primitive.invariant, take_all c.loop-primitive.primitive-index c.as_slice-primitives.result.now c.loop-primitive-test.false, c.as_slice-primitives.ensures.value) at c.keep_tops.ensures
+returns-clause-told g c = record {
+  some = search rules;
+  tops_are = rw (c.loop-primitive.invariant, take_all c.loop-primitive.primitive-index c.as_slice-primitives.result.now c.loop-primitive-test.false, c.as_slice-primitives.ensures.value) at c.keep_tops.ensures;
+}
 
 pub returns-clause-tell : goal.returns-clause-tell
 returns-clause-tell g c = do_tell c.args.self.now (in_table c.self.view_is c.self.invariant)
