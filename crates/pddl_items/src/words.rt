@@ -59,10 +59,10 @@ pub fn is_dash<A: Allocator>(item: &Item<'_, A>) -> bool
 /// The name that an item spells, or `None` where it spells none (Kovacs, `<name>`).
 ///
 /// Fails where memory for the name is refused.
-pub fn name_of<A: Allocator, B: Allocator>(
-    alloc: B,
+pub fn name_of<'a, A: Allocator, B: Allocator>(
+    alloc: &'a B,
     item: &Item<'_, A>,
-) -> Result<Option<Name<B>>, AllocError>
+) -> Result<Option<Name<&'a B>>, AllocError>
     ensures { IfOk result (λ name. name ≡ name_at (item_tree item.now)) }
 {
     match item {

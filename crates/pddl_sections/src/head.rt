@@ -34,11 +34,11 @@ pub fn span_of<A: Allocator>(item: &Item<'_, A>) -> Span
 /// else the second (own). `word` is in lower case; the case of letters in the file does not count.
 ///
 /// Fails where memory for the name's bytes is refused.
-pub fn open_file<'i, 't, A: Allocator, B: Allocator>(
-    alloc: B,
+pub fn open_file<'i, 't, 'a, A: Allocator, B: Allocator>(
+    alloc: &'a B,
     word: &[u8],
     items: &'i [Item<'t, A>],
-) -> Result<Result<Opening<'i, 't, A, B>, Span>, AllocError>
+) -> Result<Result<Opening<'i, 't, A, &'a B>, Span>, AllocError>
     requires { folded word.now ≡ word.now }
     ensures { IfOk result (λ head. MatchResult head
         (λ opening. IsOpened word.now opening.name (items_view opening.sections.now) (items_view items.now))
@@ -57,11 +57,11 @@ pub fn open_file<'i, 't, A: Allocator, B: Allocator>(
 }
 
 /// The name and the sections of the file that an item is.
-fn opening_at<'i, 't, A: Allocator, B: Allocator>(
-    alloc: B,
+fn opening_at<'i, 't, 'a, A: Allocator, B: Allocator>(
+    alloc: &'a B,
     word: &[u8],
     item: &'i Item<'t, A>,
-) -> Result<Option<Opening<'i, 't, A, B>>, AllocError>
+) -> Result<Option<Opening<'i, 't, A, &'a B>>, AllocError>
     requires { folded word.now ≡ word.now }
     ensures { IfOk result (λ found. option_map opening_view found ≡ opening_at word.now (item_view item.now)) }
 {
@@ -72,11 +72,11 @@ fn opening_at<'i, 't, A: Allocator, B: Allocator>(
 }
 
 /// The name and the sections of the file whose items, inside its parentheses, these are.
-fn opening_of<'i, 't, A: Allocator, B: Allocator>(
-    alloc: B,
+fn opening_of<'i, 't, 'a, A: Allocator, B: Allocator>(
+    alloc: &'a B,
     word: &[u8],
     items: &'i [Item<'t, A>],
-) -> Result<Option<Opening<'i, 't, A, B>>, AllocError>
+) -> Result<Option<Opening<'i, 't, A, &'a B>>, AllocError>
     requires { folded word.now ≡ word.now }
     ensures { IfOk result (λ found. option_map opening_view found ≡ opening_of word.now (items_view items.now)) }
 {
@@ -93,11 +93,11 @@ fn opening_of<'i, 't, A: Allocator, B: Allocator>(
 }
 
 /// The name in `(WORD NAME)`.
-fn title_at<A: Allocator, B: Allocator>(
-    alloc: B,
+fn title_at<'a, A: Allocator, B: Allocator>(
+    alloc: &'a B,
     word: &[u8],
     item: &Item<'_, A>,
-) -> Result<Option<Name<B>>, AllocError>
+) -> Result<Option<Name<&'a B>>, AllocError>
     requires { folded word.now ≡ word.now }
     ensures { IfOk result (λ name. name ≡ title_at word.now (item_tree item.now)) }
 {
@@ -108,11 +108,11 @@ fn title_at<A: Allocator, B: Allocator>(
 }
 
 /// The name in `WORD NAME`.
-fn title_of<A: Allocator, B: Allocator>(
-    alloc: B,
+fn title_of<'a, A: Allocator, B: Allocator>(
+    alloc: &'a B,
     word: &[u8],
     items: &[Item<'_, A>],
-) -> Result<Option<Name<B>>, AllocError>
+) -> Result<Option<Name<&'a B>>, AllocError>
     requires { folded word.now ≡ word.now }
     ensures { IfOk result (λ name. name ≡ title_of word.now (item_trees items.now)) }
 {

@@ -7,9 +7,9 @@ module _ {A : Type 0} where
   -- the bytes
   abbrev pub letters_of : NameText A → List ℕ
   letters_of (Few len bytes) = take len bytes
-  letters_of (Many text) = text.items
+  letters_of (Many text) = text.value.items
 
   -- those in the value itself are as many as there is room for
   abbrev pub HasRoom : NameText A → Type 0
-  HasRoom (Few len bytes) = (len ≤ 31) × (length bytes ≡ 31)
+  HasRoom (Few len bytes) = (len ≤ 22) × (length bytes ≡ 22)
   HasRoom (Many text) = Unit {0}

@@ -13,14 +13,14 @@ use std::hash::{Hash, Hasher};
 use std::marker::Model;
 
 /// The most bytes of a name that lie in the value itself.
-const FEW: usize = 31;
+const FEW: usize = 22;
 
 /// The bytes of a name: in the value itself where they are few, as those of most names are, and else in an allocation.
 #[derive(Drop)]
 enum NameText<A: Allocator> {
     /// So many of the bytes; zeros are behind them.
     Few(u8, [u8; FEW]),
-    Many(Vec<u8, A>),
+    Many(Box<Vec<u8, A>, A>),
 }
 
 /// A name: an ASCII letter, then letters, digits, `-` and `_`, its letters in lower case
@@ -57,11 +57,11 @@ fn folded(text: &[u8]) -> [u8; FEW]
     bytes
 }
 
-impl<A: Allocator> Name<A> {
+impl<'a, B: Allocator> Name<&'a B> {
     /// The name that a text spells, in any case of its letters, or `None` for what is no name.
     ///
-    /// Fails where memory for the name's bytes is refused; of a name of up to 31 bytes none is asked for.
-    pub fn new(alloc: A, text: &[u8]) -> Result<Option<Name<A>>, AllocError>
+    /// Fails where memory for the name's bytes is refused; of a name of up to 22 bytes none is asked for.
+    pub fn new(alloc: &'a B, text: &[u8]) -> Result<Option<Name<&'a B>>, AllocError>
         ensures { IfOk result (λ name. name ≡ name_of text.now) }
     {
         let len = text.len();
@@ -78,14 +78,16 @@ impl<A: Allocator> Name<A> {
             let folded = text.to_ascii_lowercase(alloc)?;
             if is_name(&folded) {
                 Ok(Some(Name {
-                    text: NameText::Many(folded),
+                    text: NameText::Many(Box::new(alloc, folded)?),
                 }))
             } else {
                 Ok(None)
             }
         }
     }
+}
 
+impl<A: Allocator> Name<A> {
     /// The name's bytes, in lower case.
     pub fn as_bytes(&self) -> &[u8]
         ensures value { result.now ≡ self.now }

@@ -290,11 +290,11 @@ file
 copy lamps
 good format domain
 
-row names of 31 letters, of 32 and of many, whose growths are refused
-growths 5
-file (define (domain ABCDEFGHIJKLMNOPQRSTUVWXYZABCDE) (:predicates (ABCDEFGHIJKLMNOPQRSTUVWXYZABCDEF) (abcdefghijklmnopqrstuvwxyzabcde) (Abcdefghijklmnopqrstuvwxyz-abcdefghijklmnopqrstuvwxyz_0123456789)))
-| (define (domain abcdefghijklmnopqrstuvwxyzabcde)
-|   (:predicates (abcdefghijklmnopqrstuvwxyzabcdef) (abcdefghijklmnopqrstuvwxyzabcde) (abcdefghijklmnopqrstuvwxyz-abcdefghijklmnopqrstuvwxyz_0123456789))
+row names of 22 letters, of 23 and of many, whose growths are refused
+growths 7
+file (define (domain ABCDEFGHIJKLMNOPQRSTUV) (:predicates (ABCDEFGHIJKLMNOPQRSTUVW) (abcdefghijklmnopqrstuv) (Abcdefghijklmnopqrstuvwxyz-abcdefghijklmnopqrstuvwxyz_0123456789)))
+| (define (domain abcdefghijklmnopqrstuv)
+|   (:predicates (abcdefghijklmnopqrstuvw) (abcdefghijklmnopqrstuv) (abcdefghijklmnopqrstuvwxyz-abcdefghijklmnopqrstuvwxyz_0123456789))
 | )
 good format domain
 ";

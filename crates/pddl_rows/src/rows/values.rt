@@ -162,19 +162,19 @@ file
 | none
 good list names
 
-row a name of 31 letters, which takes no memory of its own
-file ABCDEFGHIJKLMNOPQRSTUVWXYZABCDE
-| abcdefghijklmnopqrstuvwxyzabcde
+row a name of 22 letters, which takes no memory of its own
+file ABCDEFGHIJKLMNOPQRSTUV
+| abcdefghijklmnopqrstuv
 good list names
 
-row a name of 32 letters, whose growth is refused
-growths 1
-file ABCDEFGHIJKLMNOPQRSTUVWXYZABCDEF
-| abcdefghijklmnopqrstuvwxyzabcdef
+row a name of 23 letters, whose growths are refused
+growths 2
+file ABCDEFGHIJKLMNOPQRSTUVW
+| abcdefghijklmnopqrstuvw
 good list names
 
-row a text of 32 bytes that is no name
-file abcdefghijklmnopqrstuvwxyzabcde?
+row a text of 23 bytes that is no name
+file abcdefghijklmnopqrstuv?
 | none
 good list names
 ";
