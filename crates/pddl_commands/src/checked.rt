@@ -84,37 +84,39 @@ fn judged_problem<'a, A: Allocator, B: Allocator>(
     }
 }
 
-/// What `domain` prints for a text, and the outcome.
+/// What `domain` prints for a text, and the outcome. The text is let go once it is read.
 pub fn checked_domain<'a, B: Allocator>(
     alloc: &'a B,
-    text: &[u8],
+    text: Vec<u8, &'a B>,
 ) -> Result<Formatted<'a, B>, AllocError>
-    ensures { IfOk result (λ answer. IsDomainChecked text.now answer.0.items answer.1) }
+    ensures { IfOk result (λ answer. IsDomainChecked text.entry.items answer.0.items answer.1) }
 {
-    match read_domain(alloc, text) {
+    match read_domain(alloc, &text) {
         Ok(domain) => {
+            drop(text);
             let answer = judged_domain(alloc, &domain);
             let_go_domain(domain);
             answer
         }
-        Err(fault) => refused_domain(alloc, text, &fault),
+        Err(fault) => refused_domain(alloc, &text, &fault),
     }
 }
 
-/// What `problem` prints for the text of a problem with a domain, and the outcome.
+/// What `problem` prints for the text of a problem with a domain, and the outcome. The text is let go once it is read.
 pub fn checked_problem<'a, B: Allocator>(
     alloc: &'a B,
     domain: &Domain<&'a B>,
-    text: &[u8],
+    text: Vec<u8, &'a B>,
 ) -> Result<Formatted<'a, B>, AllocError>
-    ensures { IfOk result (λ answer. ForProblem (IsProblemJudged (domain_view domain.now)) text.now answer.0.items answer.1) }
+    ensures { IfOk result (λ answer. ForProblem (IsProblemJudged (domain_view domain.now)) text.entry.items answer.0.items answer.1) }
 {
-    match read_problem(alloc, text) {
+    match read_problem(alloc, &text) {
         Ok(problem) => {
+            drop(text);
             let answer = judged_problem(alloc, domain, &problem);
             let_go_problem(problem);
             answer
         }
-        Err(fault) => refused_problem(alloc, text, &fault),
+        Err(fault) => refused_problem(alloc, &text, &fault),
     }
 }

@@ -35,7 +35,7 @@ fn read_domain_checked<'a, B: Allocator, S: Source>(
     ensures stands { (given : List ℕ) × Consumes (S.remaining source.old) (S.remaining source.new) given }
 {
     match read_file(alloc, Kind::Domain, source)? {
-        Content::Text(text) => or_memory(checked_domain(alloc, &text)),
+        Content::Text(text) => or_memory(checked_domain(alloc, text)),
         Content::TooLong(line) => Ok((line, Outcome::Refused)),
     }
 }
@@ -57,7 +57,7 @@ fn read_problem_checked<'a, B: Allocator, S: Source>(
     ensures stands { (given : List ℕ) × Consumes (S.remaining source.old) (S.remaining source.new) given }
 {
     match read_file(alloc, Kind::Problem, source)? {
-        Content::Text(text) => or_memory(checked_problem(alloc, domain, &text)),
+        Content::Text(text) => or_memory(checked_problem(alloc, domain, text)),
         Content::TooLong(line) => Ok((line, Outcome::Refused)),
     }
 }
@@ -85,6 +85,7 @@ fn read_both<'a, B: Allocator, S: Source, T: Source>(
     match read_file(alloc, Kind::Domain, domain)? {
         Content::Text(text) => match read_domain(alloc, &text) {
             Ok(read) => {
+                drop(text);
                 let answer = read_problem_checked(alloc, &read, problem);
                 let_go_domain(read);
                 answer

@@ -25,37 +25,39 @@ fn good<'a, B: Allocator>(
     Ok((printed?, Outcome::Good))
 }
 
-/// What is printed for a domain's text, and the outcome.
+/// What is printed for a domain's text, and the outcome. The text is let go once it is read.
 pub(crate) fn formatted_domain<'a, B: Allocator>(
     alloc: &'a B,
-    text: &[u8],
+    text: Vec<u8, &'a B>,
 ) -> Result<Formatted<'a, B>, AllocError>
-    ensures { IfOk result (λ answer. IsFormatted Kind.Domain text.now answer.0.items answer.1) }
+    ensures { IfOk result (λ answer. IsFormatted Kind.Domain text.entry.items answer.0.items answer.1) }
 {
-    match read_domain(alloc, text) {
+    match read_domain(alloc, &text) {
         Ok(domain) => {
+            drop(text);
             let printed = domain_text(alloc, &domain);
             let_go_domain(domain);
             good(printed)
         }
-        Err(fault) => refused_domain(alloc, text, &fault),
+        Err(fault) => refused_domain(alloc, &text, &fault),
     }
 }
 
-/// What is printed for a problem's text, and the outcome.
+/// What is printed for a problem's text, and the outcome. The text is let go once it is read.
 pub(crate) fn formatted_problem<'a, B: Allocator>(
     alloc: &'a B,
-    text: &[u8],
+    text: Vec<u8, &'a B>,
 ) -> Result<Formatted<'a, B>, AllocError>
-    ensures { IfOk result (λ answer. IsFormatted Kind.Problem text.now answer.0.items answer.1) }
+    ensures { IfOk result (λ answer. IsFormatted Kind.Problem text.entry.items answer.0.items answer.1) }
 {
-    match read_problem(alloc, text) {
+    match read_problem(alloc, &text) {
         Ok(problem) => {
+            drop(text);
             let printed = problem_text(alloc, &problem);
             let_go_problem(problem);
             good(printed)
         }
-        Err(fault) => refused_problem(alloc, text, &fault),
+        Err(fault) => refused_problem(alloc, &text, &fault),
     }
 }
 

@@ -48,7 +48,8 @@ fn read_turn<'a, B: Allocator>(
         → IfOk result (AddsTurn text.now words at.new seen (domain_view domain.old) (domain_view domain.new)) }
     ensures further { IfOk result (λ next. IfSome next (λ _. (at.old < at.new) × (at.new ≤ length text.now))) }
 {
-    match next_item(alloc, text, at, DEEPEST - 1)? {
+    let mut lists = Vec::new(alloc);
+    match next_item(alloc, text, at, DEEPEST - 1, &mut lists)? {
         NextItem::Item(section) => keep_section(alloc, domain, seen, section),
         NextItem::End(Some(_)) => Ok(None),
         NextItem::End(None) => Err(Stop::Wrong),

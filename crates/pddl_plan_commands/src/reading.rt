@@ -79,6 +79,7 @@ fn read_problem_and_plan<'a, B: Allocator, S: Source, T: Source>(
     match read_file(alloc, Kind::Problem, problem)? {
         Content::Text(text) => match read_problem(alloc, &text) {
             Ok(read) => {
+                drop(text);
                 let answer = read_plan_checked(alloc, domain, &read, plan, wanted);
                 let_go_problem(read);
                 answer
@@ -120,6 +121,7 @@ pub(crate) fn read_each<'a, B: Allocator, S: Source, T: Source, U: Source>(
     match read_file(alloc, Kind::Domain, domain)? {
         Content::Text(text) => match read_domain(alloc, &text) {
             Ok(read) => {
+                drop(text);
                 let answer = read_problem_and_plan(alloc, &read, problem, plan, wanted);
                 let_go_domain(read);
                 answer

@@ -74,8 +74,9 @@ fn add_inits<'a, B: Allocator>(
     ensures inits { (words : List PlacedWord) → LexedTo text.now words at.old → OnOk result (ReadsInits text.now words at.new (map init_view inits.new.items)) }
     ensures further { OnOk result ((at.old < at.new) × (at.new ≤ length text.now)) }
 {
+    let mut lists = Vec::new(alloc);
     loop {
-        match next_item(alloc, text, at, DEEPEST - 2)? {
+        match next_item(alloc, text, at, DEEPEST - 2, &mut lists)? {
             NextItem::Item(item) => add_init(alloc, inits, item)?,
             NextItem::End(Some(_)) => return Ok(()),
             NextItem::End(None) => return Err(Stop::Wrong),
@@ -140,7 +141,8 @@ fn read_turn<'a, B: Allocator>(
         → IfOk result (FillsTurn text.now words at.new seen (slots_view slots.old) (slots_view slots.new)) }
     ensures further { IfOk result (λ next. IfSome next (λ _. (at.old < at.new) × (at.new ≤ length text.now))) }
 {
-    match next_item(alloc, text, at, DEEPEST - 1)? {
+    let mut lists = Vec::new(alloc);
+    match next_item(alloc, text, at, DEEPEST - 1, &mut lists)? {
         NextItem::Item(section) => keep_section(alloc, slots, seen, section),
         NextItem::End(Some(_)) => Ok(None),
         NextItem::End(None) => Err(Stop::Wrong),

@@ -1,7 +1,7 @@
 -- Items that are read one by one.
-use Rattle.std.proofs.Common.{◌≡◌, ℕ, suc, ◌-◌, ◌<◌, ◌≤◌, List, [], ◌∷◌, ◌++◌, length, refl, subst, ◌∙◌, arith}
+use Rattle.std.proofs.Common.{◌≡◌, ℕ, suc, ◌-◌, ◌<◌, ◌≤◌, List, [], ◌∷◌, ◌++◌, length, take, drop, refl, ap, subst, ◌∙◌, arith}
 use Rattle.std.specs.Prelude.{Option, Some, None, Result, Ok, Err, IfOk}
-use Rattle.std.proofs.lemmas.List.{append_assoc}
+use Rattle.std.proofs.lemmas.List.{append_assoc, length-take, take-append-le, drop-append-le}
 use Rattle.pddl_token.specs.declared.token.TokenKind.TheVariants.{Open}
 use Rattle.pddl_token.specs.declared.token.Span.{Span}
 use Rattle.pddl_token.specs.Spelling.{PlacedWord}
@@ -10,7 +10,7 @@ use Rattle.pddl_scan.specs.declared.fault.TextFault.{TextFault}
 use Rattle.pddl_scan.specs.Scanning.{LexedTo}
 use Rattle.pddl_text.specs.Lists.{AreItems, none, nested}
 use Rattle.pddl_text.specs.Texts.{HasItems}
-use Rattle.pddl_text.specs.NextItems.{ReadsOn, ReadsItems, Closes}
+use Rattle.pddl_text.specs.Inner.NextItems.{ReadsOn, ReadsItems, Closes}
 use Rattle.pddl_text.specs.declared.in_turn.NextItem.{NextItem}
 use Rattle.pddl_text.specs.declared.in_turn.NextItem.TheVariants.{Item, End}
 
@@ -19,9 +19,9 @@ regroup : (words : List PlacedWord) (opening : PlacedWord) (more : List PlacedWo
 regroup words opening more closing = append_assoc (words ++ opening ∷ []) more (closing ∷ []) ∙ append_assoc words (opening ∷ []) (more ++ closing ∷ [])
 
 -- a list whose items and end were read
-pub list_on : {A : Type 0} (text : List ℕ) (words : List PlacedWord) (opening : PlacedWord) (levels : ℕ) (items : List Placed) (start at : ℕ) (end : Result (Option ℕ) TextFault) (r : Result (NextItem A) TextFault)
-    → opening.kind ≡ Open → opening.span.start ≡ start → 0 < levels → IfOk end (ReadsItems text (words ++ opening ∷ []) (levels - 1) items at) → Closes items start end r → IfOk r (ReadsOn text words levels at)
-list_on text words opening levels items start at (Ok (Some e)) (Ok (Item item)) is_open starts some (more, form, (w, is_close, ends, lexed)) is =
+pub list_on : {A : Type 0} (text : List ℕ) (words : List PlacedWord) (opening : PlacedWord) (levels : ℕ) (items : List Placed) (start at : ℕ) (end : Option ℕ) (r : Result (NextItem A) TextFault)
+    → opening.kind ≡ Open → opening.span.start ≡ start → 0 < levels → ReadsItems text (words ++ opening ∷ []) (levels - 1) items at end → Closes items start end r → IfOk r (ReadsOn text words levels at)
+list_on text words opening levels items start at (Some e) (Ok (Item item)) is_open starts some (more, form, (w, is_close, ends, lexed)) is =
     let own : Span = record { start = opening.span.start; end = w.span.end } in
     let told : Span = record { start = start; end = e } in
     let same : own ≡ told = λ i. record { start = starts i; end = ends i } in
@@ -32,10 +32,20 @@ list_on text words opening levels items start at (Ok (Some e)) (Ok (Item item)) 
       subst (λ ws. LexedTo text ws at) (regroup words opening more w) lexed,
       rw (is, ← same) (subst (λ n. AreItems n (opening ∷ (more ++ w ∷ [])) whole) deep list),
     )
-list_on text words opening levels items start at (Ok (Some e)) (Ok (End other)) is_open starts some read is = absurd is
-list_on text words opening levels items start at (Ok None) (Ok next) is_open starts some read is = absurd is
-list_on text words opening levels items start at (Err fault) (Ok next) is_open starts some read is = absurd is
+list_on text words opening levels items start at (Some e) (Ok (End other)) is_open starts some read is = absurd is
+list_on text words opening levels items start at None (Ok next) is_open starts some read is = absurd is
 list_on text words opening levels items start at end (Err fault) is_open starts some read is = tt
+
+-- ---- what stands behind those that were there
+
+-- one more is put there
+pub one_behind : {X : Type 0} (old now next : List X) (x : X) → take (length old) now ≡ old → next ≡ now ++ x ∷ []
+    → (take (length old) next ≡ old) × (drop (length old) next ≡ drop (length old) now ++ x ∷ [])
+one_behind old now next x front is =
+    let low : length old ≤ length now = omega (arith, ap length front, length-take (length old) now) in
+    (ap (take (length old)) is ∙ take-append-le (length old) now (x ∷ []) low ∙ front, ap (drop (length old)) is ∙ drop-append-le (length old) now (x ∷ []) low)
+
+-- ---- a text's end
 
 -- what was read up to the text's end is the text's
 pub whole_text : {V : Type 0} (text : List ℕ) (at : ℕ) (view : V → List Placed) (items : List Placed) (end : Result (Option ℕ) TextFault) (r : Result V TextFault) → length text ≤ 16777216

@@ -2,7 +2,6 @@ pub mod Spans
 pub mod StandsFor
 pub mod Lists
 pub mod Texts
-pub mod NextItems
 pub mod Pieces
 pub mod Positions
 pub mod LineStarts

@@ -1,11 +1,11 @@
 //! The items of a text one by one, for who reads a long list and keeps no more of it than one item at a time.
 
-ghost use Rattle.std.specs.Prelude.{◌≡◌, ◌<◌, ◌≤◌, ◌++◌, ◌∷◌, [], List, length, IfOk};
+ghost use Rattle.std.specs.Prelude.{◌≡◌, ◌<◌, ◌≤◌, ◌++◌, ◌∷◌, [], List, drop, length, take, IfOk, OnOk};
 ghost use Rattle.pddl_token.specs.declared.token.TokenKind.{TokenKind};
 ghost use Rattle.pddl_token.specs.Spelling.{PlacedWord};
 ghost use Rattle.pddl_scan.specs.Scanning.{LexedTo};
 ghost use Rattle.pddl_items.specs.Items.{items_view};
-ghost use Rattle.pddl_text.specs.NextItems.{EndsAt, ReadsOn, ReadsItems, IfRead, IfClosed, Closes};
+ghost use Rattle.pddl_text.specs.Inner.NextItems.{EndsAt, ReadsOn, ReadsItems, IfRead, IfClosed, Closes};
 
 use crate::lexer::next_token;
 use pddl_items::Item;
@@ -24,6 +24,9 @@ pub enum NextItem<'t, A: Allocator> {
 
 /// What stands next in a text behind a place, where lists may stand so many levels deep. The place moves behind it.
 ///
+/// Items of lists whose end has not come stand behind those of `lists`, which has the same items again when the next one is answered. So a list
+/// takes just the memory that it needs, and a buffer that serves for one item after the other grows no more than once.
+///
 /// # Errors
 ///
 /// Some fault of the text that stands in what is read, which need not be the first; [`TextFault::Memory`] where memory is refused.
@@ -33,17 +36,19 @@ pub fn next_item<'t, 'a, B: Allocator>(
     text: &'t [u8],
     at: &mut usize,
     levels: usize,
+    lists: &mut Vec<Item<'t, &'a B>, &'a B>,
 ) -> Result<NextItem<'t, &'a B>, TextFault>
     requires short { length text.now ≤ LONGEST }
     ensures next { (words : List PlacedWord) → LexedTo text.now words at.old → IfOk result (ReadsOn text.now words levels at.new) }
     ensures further { IfOk result (IfRead ((at.old < at.new) × (at.new ≤ length text.now))) }
+    ensures lists { OnOk result (lists.new.items ≡ lists.old.items) }
 {
     let Some(token) = next_token(text, *at)? else {
         return Ok(NextItem::End(None));
     };
     *at = token.span.end as usize;
     match token.kind {
-        TokenKind::Open => next_list(alloc, text, at, levels, token.span.start),
+        TokenKind::Open => next_list(alloc, text, at, levels, lists, token.span.start),
         TokenKind::Close => Ok(NextItem::End(Some(token.span.end))),
         _ => Ok(NextItem::Item(Item::Word(token))),
     }
@@ -56,36 +61,44 @@ fn next_list<'t, 'a, B: Allocator>(
     text: &'t [u8],
     at: &mut usize,
     levels: usize,
+    lists: &mut Vec<Item<'t, &'a B>, &'a B>,
     start: u32,
 ) -> Result<NextItem<'t, &'a B>, TextFault>
     requires short { length text.now ≤ LONGEST }
     ensures next { (words : List PlacedWord) (opening : PlacedWord) → opening.kind ≡ TokenKind.Open → opening.span.start ≡ start
         → LexedTo text.now (words ++ opening ∷ []) at.old → IfOk result (ReadsOn text.now words levels at.new) }
     ensures further { IfOk result (λ _. (at.old < at.new) × (at.new ≤ length text.now)) }
+    ensures lists { OnOk result (lists.new.items ≡ lists.old.items) }
 {
     if levels == 0 {
         return Err(TextFault::TooDeep { at: start });
     }
-    let mut items = Vec::new(alloc);
-    let end = add_items(alloc, text, at, levels - 1, &mut items);
-    closed(items, start, end)
+    let begins = lists.len();
+    let end = add_items(alloc, text, at, levels - 1, lists)?;
+    closed(lists, begins, start, end)
 }
 
-/// The list of some items, where its end was read.
-fn closed<'t, A: Allocator>(
-    items: Vec<Item<'t, A>, A>,
+/// The list of the items from a place of a buffer on, where its end was read. They leave the buffer into memory for as much.
+fn closed<'t, 'a, B: Allocator>(
+    lists: &mut Vec<Item<'t, &'a B>, &'a B>,
+    begins: usize,
     start: u32,
-    end: Result<Option<u32>, TextFault>,
-) -> Result<NextItem<'t, A>, TextFault>
-    ensures { Closes (items_view items.entry.items) start end result }
+    end: Option<u32>,
+) -> Result<NextItem<'t, &'a B>, TextFault>
+    requires { begins ≤ length lists.old.items }
+    ensures before { OnOk result (lists.new.items ≡ take begins lists.old.items) }
+    ensures closes { Closes (items_view (drop begins lists.old.items)) start end result }
 {
-    match end? {
-        Some(end) => Ok(NextItem::Item(Item::List(items, Span { start, end }))),
+    match end {
+        Some(end) => {
+            let items = lists.split_off(begins)?;
+            Ok(NextItem::Item(Item::List(items, Span { start, end })))
+        }
         None => Err(TextFault::Unclosed { at: start }),
     }
 }
 
-/// Puts the items up to the next end into an empty list, and answers the end.
+/// Puts the items up to the next end behind those of a list, and answers the end.
 #[cycle(items)]
 pub(crate) fn add_items<'t, 'a, B: Allocator>(
     alloc: &'a B,
@@ -95,13 +108,13 @@ pub(crate) fn add_items<'t, 'a, B: Allocator>(
     items: &mut Vec<Item<'t, &'a B>, &'a B>,
 ) -> Result<Option<u32>, TextFault>
     requires short { length text.now ≤ LONGEST }
-    requires empty { items.old.items ≡ [] }
     ensures items { (words : List PlacedWord) → LexedTo text.now words at.old
-        → IfOk result (ReadsItems text.now words levels (items_view items.new.items) at.new) }
+        → IfOk result (ReadsItems text.now words levels (items_view (drop (length items.old.items) items.new.items)) at.new) }
+    ensures before { OnOk result (take (length items.old.items) items.new.items ≡ items.old.items) }
     ensures further { IfOk result (IfClosed ((at.old < at.new) × (at.new ≤ length text.now))) }
 {
     loop {
-        match next_item(alloc, text, at, levels)? {
+        match next_item(alloc, text, at, levels, items)? {
             NextItem::Item(item) => items.push(item)?,
             NextItem::End(end) => return Ok(end),
         }

@@ -1,12 +1,12 @@
 //! The words, lists and places of PDDL texts.
 //!
 //! [`lex`] gives the words of a text as tokens, [`lists`] the lists that tokens form, and [`items_of`] both at once. [`next_token`] and [`next_item`] give words and
-//! items one by one, to who goes over a text that is right; which fault a text has, they don't say.
+//! items one by one, to who goes over a text that is right; which fault a text has is not told by the latter.
 //! [`position`] gives the line and column of a place. A place is a number of bytes from the beginning of the text. Of a text that comes in pieces, of
 //! which none is kept, a [`PlanLexer`] gives the words and [`Places`] the positions.
 //!
 //! Each of these calls answers exactly what the definitions give, and else the fault that stands first: those of `pddl_token` say which words spell a text, those of
-//! `pddl_scan` what its faults are and what is read of a text in pieces, and those in `specs/` the rest: `Lists`, `Texts` (both together), `Positions`, and `NextItems` (items one by one), `StandsFor` and `LineStarts` (texts in pieces). The functions with no body are laws
+//! `pddl_scan` what its faults are and what is read of a text in pieces, and those in `specs/` the rest: `Lists`, `Texts` (both together), `Positions`, and `StandsFor` and `LineStarts` (texts in pieces). The functions with no body are laws
 //! on these definitions, for the crates above: a text has at most one reading and at most one fault, and texts that are written in canonical form read back.
 #![tactic(auto)]
 

@@ -12,7 +12,7 @@ returns-in-Text g c =
     let content = subst (IsContent Problem (g.S.Source.remaining c.args.source.now) (g.S.Source.at_end c.read_file.new.source)) c.in-Text.is c.in_ok-text.ensures.content in
     record {
       answer = if_made c.formatted_problem.result c.or_memory.result _ _ c.or_memory.ensures
-          (λ answer is. (c.in-Text.text.items, content.0, subst (λ text. IsFormatted Problem text answer.0.items answer.1) c.deref.ensures.value is)) c.formatted_problem.ensures;
+          (λ answer is. (c.in-Text.text.items, content.0, is)) c.formatted_problem.ensures;
       read = if_made c.formatted_problem.result c.or_memory.result _ _ c.or_memory.ensures (λ answer is. inl content.1) c.formatted_problem.ensures;
       good_at_end = if_made c.formatted_problem.result c.or_memory.result _ _ c.or_memory.ensures (λ answer is good. content.1) c.formatted_problem.ensures;
       none_failed = on_any c.or_memory.result c.in_ok-text.ensures.none_failed;

@@ -1,4 +1,4 @@
-use Rattle.std.proofs.Common.{◌≤◌, ◌++◌, ◌+◌, ◌-◌, ◌*◌, List, length}
+use Rattle.std.proofs.Common.{◌≡◌, ◌≤◌, ◌++◌, ◌+◌, ◌-◌, ◌*◌, List, length, take, drop}
 use Rattle.pddl_token.specs.Spelling.{PlacedWord}
 use Rattle.pddl_scan.specs.Scanning.{LexedTo}
 use Rattle.pddl_items.specs.Items.{items_view}
@@ -17,7 +17,9 @@ decreases-add_items g l = 3 * l.levels + 3
 -- the items so far are those of the words that were read
 abbrev pub invariant-add_items-loop-item : goal.invariant-add_items-loop-item
 invariant-add_items-loop-item g l = record {
-  read : (words : List PlacedWord) → LexedTo l.text words l.initial.at → (more : List PlacedWord) × LexedTo l.text (words ++ more) l.at × AreItems l.levels more (items_view l.items.items);
+  read : (words : List PlacedWord) → LexedTo l.text words l.initial.at
+      → (more : List PlacedWord) × LexedTo l.text (words ++ more) l.at × AreItems l.levels more (items_view (drop (length l.initial.items.items) l.items.items));
+  before : take (length l.initial.items.items) l.items.items ≡ l.initial.items.items;
   further : l.initial.at ≤ l.at;
 }
 

@@ -6,4 +6,4 @@ use Rattle.pddl_text.proofs.texts.read_items.Goals as goal
 pub returns : goal.returns
 returns g c =
     whole_text c.args.text.now c.add_items-end.new.at (λ whole. items_view whole.items) (items_view c.add_items-end.new.items.items) c.add_items-end.result c.if_whole.result (omega arith)
-    (c.add_items-end.ensures.items [] (search rules)) c.if_whole.ensures
+    (rw c.new-items.ensures.items at (c.add_items-end.ensures.items [] (search rules))) c.if_whole.ensures

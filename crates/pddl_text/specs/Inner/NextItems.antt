@@ -39,7 +39,7 @@ abbrev pub IsList : {A : _} → List Placed → ℕ → ℕ → NextItem A → T
 IsList items start end (Item item) = item_view item ≡ placed_node (record { start = start; end = end }) (placed_of items)
 IsList items start end (End _) = ⊥
 
-abbrev pub Closes : {A : _} → List Placed → ℕ → Result (Option ℕ) TextFault → Result (NextItem A) TextFault → Type 0
-Closes items start (Ok (Some end)) (Ok next) = IsList items start end next
-Closes items start _ (Ok next) = ⊥
+abbrev pub Closes : {A : _} → List Placed → ℕ → Option ℕ → Result (NextItem A) TextFault → Type 0
+Closes items start (Some end) (Ok next) = IsList items start end next
+Closes items start None (Ok next) = ⊥
 Closes items start end (Err fault) = Unit {0}
