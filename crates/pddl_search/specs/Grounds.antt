@@ -1,11 +1,17 @@
--- Predicates and functions of objects that compare as equal are the same: what a table's keys have to show.
+-- Predicates and functions of objects, as items of `:init` have them. Those that compare as equal are the same, which is what a table's keys have to show.
 use Rattle.std.specs.Prelude.{◌≡◌, true, bytes_eq}
 use Rattle.std.proofs.Common.{ap, ◌∙◌}
 use Rattle.std.specs.Cmp.{IsEquivalence, and_equiv, on_equiv, first_so, second_so}
 use Rattle.std.specs.Cmp.Lexicographic.{pointwise_decides, bytes_decides, lists_equiv, nat_list_eq_equiv}
-use Rattle.pddl_problem.specs.Inits.{GroundValue}
+use Rattle.pddl_problem.specs.Inits.{GroundValue, InitValue, holds, fails, value}
 use Rattle.pddl_task.specs.Names.{same_names}
 use Rattle.pddl_task.specs.Faults.{same_ground}
+
+-- the predicate or the function of an item, with its objects
+abbrev pub ground_in : InitValue → GroundValue
+ground_in (holds f) = f
+ground_in (fails f) = f
+ground_in (value f n) = f
 
 pub ground_equiv : IsEquivalence same_ground
 ground_equiv = and_equiv (on_equiv (λ (g : GroundValue). g.name) nat_list_eq_equiv) (on_equiv (λ (g : GroundValue). g.objects) (lists_equiv nat_list_eq_equiv))

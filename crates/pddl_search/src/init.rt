@@ -7,7 +7,7 @@ ghost use Rattle.pddl_task.specs.Faults.{contradicts, init_name, clashing, wrong
 ghost use Rattle.pddl_faults.specs.Passes.{fault_of, Passes};
 ghost use Rattle.pddl_search.specs.Claims.{claim_in, wrong_in, fault_number, is_failure};
 
-use crate::ground::Ground;
+use crate::ground::{Ground, name_of};
 use indexmap::IndexMap;
 use pddl_faults::LinkFault;
 use pddl_hash::Hashed;
@@ -25,25 +25,20 @@ enum Claimed {
 fn claim<'d, A: Allocator>(item: &'d InitItem<A>, kind: Claimed) -> Option<(Ground<'d, A>, u64)>
     ensures { result ≡ claim_in kind (init_view item.now) }
 {
-    let (name, objects, number) = match (kind, item) {
-        (Claimed::Literals, InitItem::Holds(fact)) => (fact.predicate.as_bytes(), &fact.objects, 1),
-        (Claimed::Literals, InitItem::Fails(fact)) => (fact.predicate.as_bytes(), &fact.objects, 0),
-        (Claimed::Values, InitItem::Value(call, amount)) => {
-            (call.function.as_bytes(), &call.objects, amount.billionths())
-        }
+    let number = match (kind, item) {
+        (Claimed::Literals, InitItem::Holds(_)) => 1,
+        (Claimed::Literals, InitItem::Fails(_)) => 0,
+        (Claimed::Values, InitItem::Value(_, amount)) => amount.billionths(),
         _ => return None,
     };
-    Some((Ground::of(name, objects), number))
+    Some((Ground::of(item), number))
 }
 
 /// The fault of an item that is wrong.
 fn wrong_item<'d, A: Allocator>(item: &'d InitItem<A>, kind: Claimed) -> LinkFault<'d>
     ensures { fault_of result ≡ Some (fault_number kind, init_name (init_view item.now)) }
 {
-    let name = match item {
-        InitItem::Holds(fact) | InitItem::Fails(fact) => fact.predicate.as_bytes(),
-        InitItem::Value(call, _) => call.function.as_bytes(),
-    };
+    let name = name_of(item);
     match kind {
         Claimed::Literals => LinkFault::InitContradiction(name),
         Claimed::Values => LinkFault::CostValue(name),
