@@ -32,7 +32,7 @@ fn read_formatted_domain<'a, B: Allocator, S: Source>(
     ensures stands { (given : List ℕ) × Consumes (S.remaining source.old) (S.remaining source.new) given }
 {
     match read_file(alloc, Kind::Domain, source)? {
-        Content::Text(text) => or_memory(formatted_domain(alloc, &text)),
+        Content::Text(text) => or_memory(formatted_domain(alloc, text)),
         Content::TooLong(line) => Ok((line, Outcome::Refused)),
     }
 }
@@ -52,7 +52,7 @@ fn read_formatted_problem<'a, B: Allocator, S: Source>(
     ensures stands { (given : List ℕ) × Consumes (S.remaining source.old) (S.remaining source.new) given }
 {
     match read_file(alloc, Kind::Problem, source)? {
-        Content::Text(text) => or_memory(formatted_problem(alloc, &text)),
+        Content::Text(text) => or_memory(formatted_problem(alloc, text)),
         Content::TooLong(line) => Ok((line, Outcome::Refused)),
     }
 }

@@ -42,7 +42,7 @@ fn format_plans(rt: HostRuntime) -> Result<(), Fail> {
 
 #[test]
 fn format_problems(rt: HostRuntime) -> Result<(), Fail> {
-    all_hold(&rt, rows::FORMAT_PROBLEMS, 21)
+    all_hold(&rt, rows::FORMAT_PROBLEMS, 24)
 }
 
 #[test]

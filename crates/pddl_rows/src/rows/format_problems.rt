@@ -98,6 +98,30 @@ file
 copy two
 good format problem
 
+row a comment and capitals before :init
+file (define (problem p) (:domain d) ( ; what holds\n :INIT (At truck Depot)) (:goal ()))
+| (define (problem p)
+|   (:domain d)
+|   (:init (at truck depot))
+|   (:goal (and))
+| )
+good format problem
+
+row lists in lists of no, one and several items, whose growths are refused
+growths 9
+file (define (problem p) (:domain d) (:init (p) (q a b c d e f) (= (f a) 1) (p)) (:goal (and (or) (p) (and (q a b c d e f) (not (or (p) (and (p))))) (q a b c d e f))))
+| (define (problem p)
+|   (:domain d)
+|   (:init (p) (q a b c d e f) (= (f a) 1) (p))
+|   (:goal (and (or) (p) (and (q a b c d e f) (not (or (p) (and (p))))) (q a b c d e f)))
+| )
+good format problem
+
+row a list in a list that does not end
+file (define (problem p) (:domain d) (:init (p) (q a (b))
+| problem: fault 7 Unclosed at 1:1
+refused format problem
+
 row the deepest goal
 part (define (problem p) (:domain d) (:init) (:goal\s
 times 125 (and\s
