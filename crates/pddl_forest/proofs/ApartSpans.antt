@@ -12,7 +12,6 @@ use Rattle.std.specs.List.{AllPairs, slice_index_or, dedup, dedup_from}
 use Rattle.std.specs.List.Sorted.{IsNonDecreasingBy, IsPartitionPoint, IsPartitionedBy, IsPermutation}
 use Rattle.pddl_forest.specs.Spans.{holds, some_holds, span_at, AreApart, AreTops}
 use Rattle.pddl_forest.specs.declared.spans.Span.{Span}
-use Rattle.pddl_forest.proofs.Lists.{nowhere, in_cases}
 
 pub held : (s : Span) (n : ℕ) → s.first ≤ n → n ≤ s.last → holds s n ≡ true
 held s n from to = and_from (leb s.first n) (leb n s.last) (le-leb s.first n from) (le-leb n s.last to)
@@ -52,6 +51,13 @@ module _ (spans : List Span) (n behind : ℕ) (apart : AreApart spans) (bound : 
       (λ none. omega (arith, none, begun), λ d. ap (λ t. holds t n) (ap (λ i. slice_index_or spans i d) at ∙ get_or_default spans k d s low ∙ is) ∙ on)
 
 -- ---- tops
+
+nowhere : {X : Type 0} (i : X) → Contains [] i → ⊥
+nowhere i (k, low, is) = omega (arith, low)
+
+in_cases : {X : Type 0} (x : X) (xs : List X) (i : X) → Contains (x ∷ xs) i → (x ≡ i) ⊎ Contains xs i
+in_cases x xs i (zero, low, is) = inl is
+in_cases x xs i (suc k, low, is) = inr (k, omega (arith, low), is)
 
 -- a span begins within one that is kept
 abbrev pub within : Span → Span → Bool
