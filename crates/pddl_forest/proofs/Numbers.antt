@@ -4,40 +4,42 @@ use Rattle.std.proofs.lemmas.Bool.{and_from, and_parts, cases_Bool, cases_eq, co
 use Rattle.std.proofs.lemmas.List.{get_or_default, get_or-replicate, get_or-set_same, get_or-set_other, length-replicate, length-set}
 use Rattle.std.proofs.lemmas.List.Folds.{sum_by-replicate}
 use Rattle.std.proofs.lemmas.List.Sums.{get_or-le-sum_by, sum_by-set}
-use Rattle.std.specs.List.{sum, slice_index_or}
+use Rattle.std.specs.List.{sum}
 use Rattle.pddl_forest.specs.Forests.{parent_of, up, IsUnder, number_at}
 use Rattle.pddl_forest.specs.Spans.{holds, span_at, AreSpans}
 use Rattle.pddl_forest.specs.declared.spans.Span.{Span}
-use Rattle.pddl_forest.specs.Inner.{turn_of, under, IsOrder, AreUnder}
+use Rattle.pddl_forest.specs.Inner.{turn_of, under, IsOrder, AreUnder, at}
 use Rattle.pddl_forest.proofs.Turns.{turn_few, at_turn}
 
--- the span at a place
-abbrev pub at : List Span → ℕ → Span
-at spans i = slice_index_or spans i (record { first = 0; last = 0 })
+-- A place has a span where each number is that of some place: its first numbers are its own, so many as are still to come under it, and all are of places under it.
+pub record HasSpan (ps : List ℕ) (owner : ℕ → ℕ) (i many : ℕ) (s : Span) : Type 0 where
+  pub own : (m : ℕ) → s.first ≤ m → m ≤ s.first + many → owner m ≡ i
+  pub last : s.first + many ≤ s.last
+  pub low : s.last < length ps
+  pub held : (m : ℕ) → m < length ps → (holds s m ≡ true) ↔ IsUnder ps (owner m) i
 
--- From a turn on, places have spans. Each number is for now that of a place, which has the first numbers of its span for itself and for what is still to come under it.
+-- From a turn on, places have spans. Each number is for now that of one of them.
 pub record AreNumbered (ps order : List ℕ) (spans : List Span) (turn : ℕ) : Type 0 where
   pub owner : ℕ → ℕ
   pub long : length spans ≡ length ps
   pub numbered : (m : ℕ) → (owner m < length ps) × (turn ≤ turn_of order (owner m))
-  pub own : (i m : ℕ) → i < length ps → turn ≤ turn_of order i → (at spans i).first ≤ m → m ≤ (at spans i).first + under ps order turn i → owner m ≡ i
-  pub last : (i : ℕ) → i < length ps → turn ≤ turn_of order i → (at spans i).first + under ps order turn i ≤ (at spans i).last
-  pub low : (i : ℕ) → i < length ps → turn ≤ turn_of order i → (at spans i).last < length ps
-  pub held : (i m : ℕ) → i < length ps → turn ≤ turn_of order i → m < length ps → (holds (at spans i) m ≡ true) ↔ IsUnder ps (owner m) i
+  pub each : (i : ℕ) → i < length ps → turn ≤ turn_of order i → HasSpan ps owner i (under ps order turn i) (at spans i)
 
 -- all have one
 pub are_spans : {ps order : List ℕ} {spans : List Span} → AreNumbered ps order spans 0 → AreSpans ps spans
 are_spans {ps} {order} {spans} h = record {
   many = h.long;
-  some = λ i low. rw (read i low) (omega (arith, h.last i low (omega arith)));
-  low = λ i low. rw (read i low) (h.low i low (omega arith));
-  under = λ i g low also. rw (read i low, read g also)
-      (subst (λ k. (holds (at spans g) (at spans i).first ≡ true) ↔ IsUnder ps k g) (h.own i (at spans i).first low (omega arith) (omega arith) (omega arith))
-      (h.held g (at spans i).first also (omega arith) (omega (arith, h.last i low (omega arith), h.low i low (omega arith)))));
+  some = λ i low. rw (read i low) (omega (arith, (has i low).last));
+  low = λ i low. rw (read i low) (has i low).low;
+  under = λ i g low also. rw (read i low, read g also) (subst (λ k. (holds (at spans g) (at spans i).first ≡ true) ↔ IsUnder ps k g) ((has i low).own (at spans i).first (omega arith) (omega arith))
+      ((has g also).held (at spans i).first (omega (arith, (has i low).last, (has i low).low))));
 }
   where
     read : (i : ℕ) → i < length ps → span_at spans i ≡ at spans i
     read i low = get_or_default spans i _ _ (omega (arith, low, h.long))
+
+    has : (i : ℕ) → i < length ps → HasSpan ps h.owner i 0 (at spans i)
+    has i low = h.each i low (omega arith)
 
 module _ {ps order : List ℕ} (o : IsOrder ps order) where
   -- the place that a turn is for, and its parent, which comes later
@@ -80,8 +82,7 @@ module _ {ps order : List ℕ} (o : IsOrder ps order) where
       let low : t < length order = omega (arith, few) in
       let more : ℕ = number_at ns (q low) + number_at ns (p low) + 1 in
       let first = sum_by-set (λ n. n) ns (q low) more 0 (omega (arith, q_low low, long)) in
-      let second = sum_by-set (λ n. n) (slice_set ns (q low) more) (p low) 0 0 (omega (arith, p_low low, long, length-set ns (q low) more)) in
-      (
+      let second = sum_by-set (λ n. n) (slice_set ns (q low) more) (p low) 0 0 (omega (arith, p_low low, long, length-set ns (q low) more)) in (
         slice_set (slice_set ns (q low) more) (p low) 0,
         length-set (slice_set ns (q low) more) (p low) 0 ∙ length-set ns (q low) more ∙ long,
         omega (arith, first, second, get_or-set_other ns (q low) (p low) more 0 (apart low), is),
@@ -124,24 +125,17 @@ module _ {ps order : List ℕ} (o : IsOrder ps order) where
   top_numbered spans long = record {
     owner = λ _. 0;
     long = length-set spans 0 _ ∙ long;
-    numbered = λ _. (some, after');
-    own = λ i m low after _ _. sym (is_top i low after);
-    last = λ i low after. rw (is_top i low after, here) (omega (arith, under_few (length order) 0 (omega arith) some after', o.few));
-    low = λ i low after. rw (is_top i low after, here) (omega (arith, some));
-    held = λ i m low after inside. rw (is_top i low after, here) (λ _. (0, refl), λ _. and_from (leb 0 m) (leb m (length ps - 1)) (le-leb 0 m (omega arith)) (le-leb m (length ps - 1) (omega (arith, inside))));
+    numbered = λ _. (omega (arith, o.few), omega (arith, o.above));
+    each = λ i low after. elim (cases_eq i 0) as (λ _. HasSpan ps (λ _. 0) i (under ps order (length order) i) (at (slice_set spans 0 (record { first = 0; last = length ps - 1 })) i)) [
+      | inl is ↦ rw (is, get_or-set_same spans 0 (record { first = 0; last = length ps - 1 }) (record { first = 0; last = 0 }) (omega (arith, o.few, long))) record {
+        own = λ m _ _. refl;
+        last = omega (arith, under_few (length order) 0 (omega arith) (omega (arith, o.few)) (omega (arith, o.above)), o.few);
+        low = omega (arith, o.few);
+        held = λ m inside. (λ _. (0, refl), λ _. and_from (leb 0 m) (leb m (length ps - 1)) (le-leb 0 m (omega arith)) (le-leb m (length ps - 1) (omega (arith, inside))));
+      }
+      | inr other ↦ absurd (omega (arith, o.ahead i low other, turn_few order (parent_of ps i), after))
+    ];
   }
-    where
-      some : 0 < length ps
-      some = omega (arith, o.few)
-
-      after' : length order ≤ turn_of order 0
-      after' = omega (arith, o.above)
-
-      is_top : (i : ℕ) → i < length ps → length order ≤ turn_of order i → i ≡ 0
-      is_top i low after = elim (cases_eq i 0) as (λ _. i ≡ 0) [ inl is ↦ is | inr other ↦ absurd (omega (arith, o.ahead i low other, turn_few order (parent_of ps i), after)) ]
-
-      here : at (slice_set spans 0 (record { first = 0; last = length ps - 1 })) 0 ≡ record { first = 0; last = length ps - 1 }
-      here = get_or-set_same spans 0 _ _ (omega (arith, some, long))
 
   -- what is over a place comes no earlier
   climbs : (n i : ℕ) → i < length ps → turn_of order i ≤ turn_of order (up ps n i)
@@ -165,20 +159,11 @@ module _ {ps order : List ℕ} (o : IsOrder ps order) where
     abbrev next : List Span
     next = slice_set spans (p low) span
 
-    q_after : turn + 1 ≤ turn_of order (q low)
-    q_after = omega (arith, later low)
+    over : HasSpan ps h.owner (q low) (under ps order (turn + 1) (q low)) (at spans (q low))
+    over = h.each (q low) (q_low low) (omega (arith, later low))
 
     fits : last < length ps
-    fits = omega (arith, h.last (q low) (q_low low) q_after, h.low (q low) (q_low low) q_after, under_parent low)
-
-    here : at next (p low) ≡ span
-    here = get_or-set_same spans (p low) span (record { first = 0; last = 0 }) (omega (arith, p_low low, h.long))
-
-    kept : (i : ℕ) → i ≢ p low → at next i ≡ at spans i
-    kept i other = get_or-set_other spans (p low) i span (record { first = 0; last = 0 }) other
-
-    passed : (i : ℕ) → i ≢ p low → turn ≤ turn_of order i → turn + 1 ≤ turn_of order i
-    passed i other after = let differ : turn_of order i ≢ turn = λ e. other (sym (at_turn order i (omega (arith, e, low))) ∙ ap (number_at order) e) in omega (arith, after, differ)
+    fits = omega (arith, over.last, over.low, under_parent low)
 
     grown : (i : ℕ) → under ps order turn i ≤ under ps order (turn + 1) i
     grown i = elim (cases_eq i (q low)) as (λ _. under ps order turn i ≤ under ps order (turn + 1) i) [ inl is ↦ rw is (omega (arith, under_parent low)) | inr other ↦ omega (arith, under_other low i other) ]
@@ -188,87 +173,85 @@ module _ {ps order : List ℕ} (o : IsOrder ps order) where
     taken m on =
         let (from, to) = and_parts (leb first m) (leb m last) on in
         let from = leb-true first m from in
-        (h.own (q low) m (q_low low) q_after (omega (arith, from)) (omega (arith, leb-true m last to, under_parent low)), from)
+        (over.own m (omega (arith, from)) (omega (arith, leb-true m last to, under_parent low)), from)
 
     abbrev owner : ℕ → ℕ
     owner m = cond (holds span m) (p low) (h.owner m)
-
-    own : (i m : ℕ) → i < length ps → turn ≤ turn_of order i → (at next i).first ≤ m → m ≤ (at next i).first + under ps order turn i → owner m ≡ i
-    own i m i_low after = elim (cases_eq i (p low)) as (λ _. (at next i).first ≤ m → m ≤ (at next i).first + under ps order turn i → owner m ≡ i) [
-      | inl is ↦ rw (is, here) (λ from to. rw (and_from (leb first m) (leb m last) (le-leb first m from) (le-leb m last to)) refl)
-      | inr other ↦ rw (kept i other) (λ from to.
-          let was = h.own i m i_low (passed i other after) from (omega (arith, to, grown i)) in
-          cond_both (holds span m) (p low) (h.owner m) (λ k. k ≡ i)
-              (λ on. let (is, begun) = taken m on in let e = ap (λ k. (at spans k).first + under ps order turn k) (sym was ∙ is) in absurd (omega (arith, e, to, begun))) (λ _. was))
-    ]
 
     -- a way from the place to another begins with its parent
     step : {i k : ℕ} → i ≢ p low → parent_of ps (p low) ≡ k → IsUnder ps (p low) i → IsUnder ps k i
     step other e (zero, is) = absurd (other (sym is))
     step other e (suc n, is) = (n, ap (up ps n) (sym e) ∙ is)
 
-    held : (i m : ℕ) → i < length ps → turn ≤ turn_of order i → m < length ps → (holds (at next i) m ≡ true) ↔ IsUnder ps (owner m) i
-    held i m i_low after inside = elim (cases_eq i (p low)) as (λ _. (holds (at next i) m ≡ true) ↔ IsUnder ps (owner m) i) [
-      | inl is ↦ rw (is, here) (elim (cases_Bool (holds span m)) as (λ _. (holds span m ≡ true) ↔ IsUnder ps (owner m) (p low)) [
+    is_numbered : (m : ℕ) → (owner m < length ps) × (turn ≤ turn_of order (owner m))
+    is_numbered m = cond_both (holds span m) (p low) (h.owner m) (λ i. (i < length ps) × (turn ≤ turn_of order i)) (λ _. (p_low low, omega (arith, o.once turn low)))
+        (λ _. ((h.numbered m).0, omega (arith, (h.numbered m).1)))
+
+    new_span : HasSpan ps owner (p low) (under ps order turn (p low)) span
+    new_span = record {
+      own = λ m from to. rw (and_from (leb first m) (leb m last) (le-leb first m from) (le-leb m last to)) refl;
+      last = omega arith;
+      low = fits;
+      held = λ m inside. elim (cases_Bool (holds span m)) as (λ _. (holds span m ≡ true) ↔ IsUnder ps (owner m) (p low)) [
         | inl on ↦ rw on (λ _. (0, refl), λ _. refl)
         | inr off ↦ rw off (λ e. absurd (true≢false (sym e)), λ (n, e). absurd (omega (arith, climbs n (h.owner m) (h.numbered m).0, (h.numbered m).1, ap (turn_of order) e, o.once turn low)))
-      ])
-      | inr other ↦ rw (kept i other)
-          let was = h.held i m i_low (passed i other after) inside in
-          elim (cases_Bool (holds span m)) as (λ _. (holds (at spans i) m ≡ true) ↔ IsUnder ps (owner m) i) [
-            | inl on ↦ let e = q_is low ∙ sym (taken m on).0 in rw on (λ to. let (n, is) = was.0 to in (suc n, ap (up ps n) e ∙ is), λ way. was.1 (step other e way))
-            | inr off ↦ rw off was
-          ]
-    ]
+      ];
+    }
+
+    other_span : (i : ℕ) → i ≢ p low → HasSpan ps h.owner i (under ps order (turn + 1) i) (at spans i) → HasSpan ps owner i (under ps order turn i) (at spans i)
+    other_span i other was = record {
+      own = λ m from to.
+          let e = was.own m from (omega (arith, to, grown i)) in
+          cond_both (holds span m) (p low) (h.owner m) (λ k. k ≡ i)
+          (λ on. let (is, begun) = taken m on in let same = ap (λ k. (at spans k).first + under ps order turn k) (sym e ∙ is) in absurd (omega (arith, same, to, begun))) (λ _. e);
+      last = omega (arith, was.last, grown i);
+      low = was.low;
+      held = λ m inside. elim (cases_Bool (holds span m)) as (λ _. (holds (at spans i) m ≡ true) ↔ IsUnder ps (owner m) i) [
+        | inl on ↦
+            let e = q_is low ∙ sym (taken m on).0 in
+            rw on (λ to. let (n, is) = (was.held m inside).0 to in (suc n, ap (up ps n) e ∙ is), λ way. (was.held m inside).1 (step other e way))
+        | inr off ↦ rw off (was.held m inside)
+      ];
+    }
 
     one_numbered : AreNumbered ps order next turn
     one_numbered = record {
       owner = owner;
       long = length-set spans (p low) _ ∙ h.long;
-      numbered = λ m. cond_both (holds span m) (p low) (h.owner m) (λ i. (i < length ps) × (turn ≤ turn_of order i)) (λ _. (p_low low, omega (arith, o.once turn low))) (λ _. ((h.numbered m).0, omega (arith, (h.numbered m).1)));
-      own = own;
-      last = λ i i_low after. elim (cases_eq i (p low)) as (λ _. (at next i).first + under ps order turn i ≤ (at next i).last) [
-        | inl is ↦ rw (is, here) (omega arith)
-        | inr other ↦ rw (kept i other) (omega (arith, h.last i i_low (passed i other after), grown i))
+      numbered = is_numbered;
+      each = λ i i_low after. elim (cases_eq i (p low)) as (λ _. HasSpan ps owner i (under ps order turn i) (at next i)) [
+        | inl is ↦ rw (is, get_or-set_same spans (p low) span (record { first = 0; last = 0 }) (omega (arith, p_low low, h.long))) new_span
+        | inr other ↦
+            let differ : turn_of order i ≢ turn = λ e. other (sym (at_turn order i (omega (arith, e, low))) ∙ ap (number_at order) e) in
+            rw (get_or-set_other spans (p low) i span (record { first = 0; last = 0 }) other) (other_span i other (h.each i i_low (omega (arith, after, differ))))
       ];
-      low = λ i i_low after. elim (cases_eq i (p low)) as (λ _. (at next i).last < length ps) [ inl is ↦ rw (is, here) fits | inr other ↦ rw (kept i other) (h.low i i_low (passed i other after)) ];
-      held = held;
     }
 
   -- as it is written from the end of the order
   module _ {ns : List ℕ} {spans : List Span} {turns : ℕ} (more : 0 < turns) (few : turns ≤ length order) (u : AreUnder ps order turns ns) (h : AreNumbered ps order spans turns) where
-    abbrev turn : ℕ
-    turn = turns - 1
+    pub low : turns - 1 < length order
+    low = omega (arith, more, few)
 
-    turns_is : turns ≡ turn + 1
-    turns_is = omega (arith, more)
+    before : turns ≡ turns - 1 + 1
+    before = omega (arith, more)
 
-    turn_low : turn < length order
-    turn_low = omega (arith, more, few)
+    both : (number_at ns (p low) ≡ under ps order (turns - 1) (p low)) × (number_at ns (q low) ≡ under ps order (turns - 1) (q low) + (number_at ns (p low) + 1))
+    both = under_both low (subst (λ t. AreUnder ps order t ns) before u)
 
-    abbrev place : ℕ
-    place = number_at order turn
+    numbered_before : AreNumbered ps order spans (turns - 1 + 1)
+    numbered_before = subst (AreNumbered ps order spans) before h
 
-    abbrev parent : ℕ
-    parent = number_at ps place
+    pub written_fits : (number_at ns (p low) + 1 ≤ number_at ns (q low)) × ((at spans (q low)).first + number_at ns (q low) < length ps)
+    written_fits = (omega (arith, both.1), omega (arith, both.0, both.1, fits low numbered_before))
 
-    u' : AreUnder ps order (turn + 1) ns
-    u' = subst (λ t. AreUnder ps order t ns) turns_is u
+    pub written_under : AreUnder ps order (turns - 1) (slice_set ns (q low) (number_at ns (q low) - (number_at ns (p low) + 1)))
+    written_under = changed low (subst (λ t. AreUnder ps order t ns) before u) (omega (arith, both.1)) (λ i other. sym (under_other low i other))
 
-    both : (number_at ns place ≡ under ps order turn place) × (number_at ns parent ≡ under ps order turn parent + (number_at ns place + 1))
-    both = under_both turn_low u'
+    abbrev end : ℕ
+    end = (at spans (q low)).first + number_at ns (q low)
 
-    h' : AreNumbered ps order spans (turn + 1)
-    h' = subst (AreNumbered ps order spans) turns_is h
-
-    pub written_fits : (number_at ns place + 1 ≤ number_at ns parent) × ((at spans parent).first + number_at ns parent < length ps)
-    written_fits = (omega (arith, both.1), omega (arith, both.0, both.1, fits turn_low h'))
-
-    pub written_under : AreUnder ps order turn (slice_set ns parent (number_at ns parent - (number_at ns place + 1)))
-    written_under = changed turn_low u' (omega (arith, both.1)) (λ i other. sym (under_other turn_low i other))
-
-    pub written : AreNumbered ps order (slice_set spans place (record { first = (at spans parent).first + number_at ns parent - number_at ns place; last = (at spans parent).first + number_at ns parent })) turn
+    pub written : AreNumbered ps order (slice_set spans (p low) (record { first = end - number_at ns (p low); last = end })) (turns - 1)
     written =
-        let l : last turn_low h' ≡ (at spans parent).first + number_at ns parent = omega (arith, both.0, both.1) in
-        let f : first turn_low h' ≡ (at spans parent).first + number_at ns parent - number_at ns place = omega (arith, both.0, both.1) in
-        rw (sym f, sym l) (one_numbered turn_low h')
+        let l : last low numbered_before ≡ end = omega (arith, both.0, both.1) in
+        let f : first low numbered_before ≡ end - number_at ns (p low) = omega (arith, both.0, both.1) in
+        rw (sym f, sym l) (one_numbered low numbered_before)

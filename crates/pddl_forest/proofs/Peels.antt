@@ -31,8 +31,7 @@ first_peeled {ps} {left} {order} counted listed within = record {
   long = refl;
   counted = counted;
   listed = listed;
-  done = λ i low none. absurd (omega (arith, none));
-  still = λ i low _. get_or_default ps i 0 i low;
+  each = λ i low. (λ none. absurd (omega (arith, none)), λ _. get_or_default ps i 0 i low);
   behind = λ i low inside.
       let q = number_at ps i in
       let one = rw (eq-eqb q q refl) at (get_or-le-sum_by (λ p. cond (eqb q p) 1 0) ps i 0 low) in
@@ -59,7 +58,7 @@ module _ {ps left order : List ℕ} {turn place parent : ℕ} (h : ArePeeled ps 
   counts : (i : ℕ) → i < length ps → count_by (eqb i) fewer + cond (eqb i parent) 1 0 ≡ number_at left i
   counts i i_low =
       let changed = sum_by-set (λ q. cond (eqb i q) 1 0) h.kept place (length ps) 0 (omega (arith, place_low, h.long)) in
-      let now = rw (h.still place place_low (omega (arith, turn_is)) ∙ get_or_default ps place place 0 place_low ∙ over, ne_eqb i (length ps) (λ e. omega (arith, e, i_low))) at changed in
+      let now = rw ((h.each place place_low).1 (omega (arith, turn_is)) ∙ get_or_default ps place place 0 place_low ∙ over, ne_eqb i (length ps) (λ e. omega (arith, e, i_low))) at changed in
       omega (arith, now, h.counted.each i i_low)
 
   pub some : 1 ≤ number_at left parent
@@ -92,16 +91,13 @@ module _ {ps left order : List ℕ} {turn place parent : ℕ} (h : ArePeeled ps 
   long : length fewer ≡ length ps
   long = length-set h.kept place _ ∙ h.long
 
-  done : (i : ℕ) → i < length ps → turn_of order i < turn + 1 → number_at fewer i ≡ length ps
-  done i i_low before = elim (cases_eq i place) as (λ _. number_at fewer i ≡ length ps) [
-    | inl is ↦ rw is (get_or-set_same h.kept place (length ps) 0 (omega (arith, place_low, h.long)))
+  each : (i : ℕ) → i < length ps → (turn_of order i < turn + 1 → number_at fewer i ≡ length ps) × (turn + 1 ≤ turn_of order i → number_at fewer i ≡ parent_of ps i)
+  each i i_low = elim (cases_eq i place) as (λ _. (turn_of order i < turn + 1 → number_at fewer i ≡ length ps) × (turn + 1 ≤ turn_of order i → number_at fewer i ≡ parent_of ps i)) [
+    | inl is ↦ (λ _. rw is (get_or-set_same h.kept place (length ps) 0 (omega (arith, place_low, h.long))), λ after. absurd (omega (arith, after, ap (turn_of order) is, turn_is)))
     | inr other ↦
         let earlier : turn_of order i ≢ turn = λ e. other (sym (at_turn order i (omega (arith, e, low))) ∙ ap (number_at order) e ∙ at) in
-        get_or-set_other h.kept place i (length ps) 0 other ∙ h.done i i_low (omega (arith, before, earlier))
+        rw (get_or-set_other h.kept place i (length ps) 0 other) (λ before. (h.each i i_low).0 (omega (arith, before, earlier)), λ after. (h.each i i_low).1 (omega (arith, after)))
   ]
-
-  still : (i : ℕ) → i < length ps → turn + 1 ≤ turn_of order i → number_at fewer i ≡ parent_of ps i
-  still i i_low after = get_or-set_other h.kept place i (length ps) 0 (λ is. omega (arith, after, ap (turn_of order) is, turn_is)) ∙ h.still i i_low (omega (arith, after))
 
   pub peeled : number_at left parent - 1 ≢ 0 → ArePeeled ps less_left order (turn + 1)
   peeled more = record {
@@ -116,8 +112,7 @@ module _ {ps left order : List ℕ} {turn place parent : ℕ} (h : ArePeeled ps 
         | inr other ↦ listed i i_low other
       ];
     };
-    done = done;
-    still = still;
+    each = each;
     behind = h.behind;
   }
 
@@ -127,15 +122,17 @@ module _ {ps left order : List ℕ} {turn place parent : ℕ} (h : ArePeeled ps 
     long = long;
     counted = counted;
     listed = listed_more order parent less_left h.listed (omega arith) parent_low new (now ∙ none) listed;
-    done = λ i i_low before. done i i_low (grind (arith, before, low, turn_before order parent i, turn_past order parent i));
-    still = λ i i_low after. still i i_low (grind (arith, after, low, turn_before order parent i, turn_past order parent i));
+    each = λ i i_low. (
+      λ before. (each i i_low).0 (grind (arith, before, low, turn_before order parent i, turn_past order parent i)),
+      λ after. (each i i_low).1 (grind (arith, after, low, turn_before order parent i, turn_past order parent i)),
+    );
     behind = λ i i_low inside. elim (cases_eq (parent_of ps i) parent) as (λ _. turn_of (order ++ parent ∷ []) i < turn_of (order ++ parent ∷ []) (parent_of ps i)) [
       | inl is ↦
           let gone : turn_of order i < turn + 1 = elim (cases_lt (turn_of order i) (turn + 1)) as (λ _. turn_of order i < turn + 1) [
             | inl before ↦ before
             | inr after ↦
                 let one = get_or-le-sum_by (λ q. cond (eqb parent q) 1 0) fewer i 0 (omega (arith, i_low, long)) in
-                absurd (omega (arith, rw (eq-eqb parent _ (sym (still i i_low after ∙ is))) at one, counted.each parent parent_low, now, none))
+                absurd (omega (arith, rw (eq-eqb parent _ (sym ((each i i_low).1 after ∙ is))) at one, counted.each parent parent_low, now, none))
           ] in
           omega (arith, gone, low, turn_before order parent i, turn_new order parent new, ap (turn_of (order ++ parent ∷ [])) is)
       | inr other ↦ let before = turn_other order parent (parent_of ps i) other inside in omega (arith, h.behind i i_low before, before, turn_before order parent i, turn_before order parent (parent_of ps i))

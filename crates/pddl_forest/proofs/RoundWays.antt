@@ -1,15 +1,16 @@
 -- Places on ways that go round: those of which children are left where no more can be peeled off. Where there are none, the others are in order.
 use Rattle.std.proofs.Common.{◌≡◌, ◌≢◌, ◌↔◌, ℕ, zero, suc, ◌+◌, ◌-◌, ◌<◌, ◌≤◌, ◌==◌, not, cond, eqb, Bool, true≢false, List, [], ◌∷◌, length, slice_set, refl, sym, ap, ◌∙◌, arith, inl, inr}
-use Rattle.std.proofs.lemmas.Bool.{cases_eq, cases_lt, eq-eqb, ne_eqb}
+use Rattle.std.proofs.lemmas.Bool.{cases_Bool, cases_eq, cases_lt, eq-eqb, eqb-true, ne_eqb}
 use Rattle.std.proofs.lemmas.List.Folds.{list_any_at, Any-from_list_any}
 use Rattle.std.proofs.lemmas.List.{get_or_default, get_or-set_same, get_or-set_other, length-set}
+use Rattle.std.proofs.lemmas.List.FromFn.{get_or-range_with_len, length-range_with_len}
 use Rattle.std.proofs.lemmas.List.Sums.{sum_by-cons}
 use Rattle.std.specs.Prelude.{IsTrue}
-use Rattle.std.specs.List.{count_by, list_any}
+use Rattle.std.specs.List.{count_by, list_any, range_with_len}
 use Rattle.pddl_forest.specs.Forests.{parent_of, up, number_at}
 use Rattle.pddl_forest.specs.Rounds.{GoesRound, IsOnRound, HasRound, AreRounds}
 use Rattle.pddl_forest.specs.Inner.{turn_of, ArePeeled, GoRound, IsOrder, AreUnder}
-use Rattle.pddl_forest.proofs.Turns.{turn_few, two_or_few}
+use Rattle.pddl_forest.proofs.Turns.{turn_few, few_apart}
 
 -- so many steps, and so many more
 up_more : (ps : List ℕ) (m n i : ℕ) → up ps m (up ps n i) ≡ up ps (n + m) i
@@ -39,8 +40,8 @@ module _ {ps left order : List ℕ} (h : ArePeeled ps left order (length order))
   child i low some =
       let (k, inside, is) = counted_some h.kept i (λ none. some (h.counted.each i low ∙ none)) in
       let k_low : k < length ps = omega (arith, inside, h.long) in
-      let out : length order ≤ turn_of order k = elim (cases_lt (turn_of order k) (length order)) as (λ _. length order ≤ turn_of order k) [ inl before ↦ absurd (omega (arith, h.done k k_low before, is, low)) | inr past ↦ past ] in
-      (k, k_low, λ none. omega (arith, (h.listed.each k k_low).0 none, out), sym (h.still k k_low out) ∙ is)
+      let out : length order ≤ turn_of order k = elim (cases_lt (turn_of order k) (length order)) as (λ _. length order ≤ turn_of order k) [ inl before ↦ absurd (omega (arith, (h.each k k_low).0 before, is, low)) | inr past ↦ past ] in
+      (k, k_low, λ none. omega (arith, (h.listed.each k k_low).0 none, out), sym ((h.each k k_low).1 out) ∙ is)
 
   down : (i : ℕ) → i < length ps → number_at left i ≢ 0 → (n : ℕ) → (k : ℕ) × (k < length ps) × (number_at left k ≢ 0) × (up ps n k ≡ i)
   down i low some zero = (i, low, some, refl)
@@ -49,15 +50,23 @@ module _ {ps left order : List ℕ} (h : ArePeeled ps left order (length order))
       let (c, c_low, c_some, over) = child k k_low k_some in
       (c, c_low, c_some, ap (up ps n) over ∙ is)
 
+  -- no other places than there are can be on the way
   on_round : (i : ℕ) → i < length ps → number_at left i ≢ 0 → GoesRound ps i
   on_round i low some =
       let way = down i low some in
-      elim (two_or_few (length ps) (suc (length ps)) (λ n. (way n).0) (λ n _. (way n).1)) as (λ _. GoesRound ps i) [
-        | inl (a, b, less, _, same) ↦
+      let comes = λ (n : ℕ). eqb (up ps (suc n) i) i in
+      let steps = range_with_len 0 (length ps) in
+      elim (cases_Bool (list_any comes steps)) as (λ _. GoesRound ps i) [
+        | inl there ↦ let (_, n, _, _, on) = Any-from_list_any comes steps there in (n, eqb-true (up ps (suc n) i) i on)
+        | inr none ↦
+            let few = few_apart (length ps) (suc (length ps)) (λ n. (way n).0) (λ n _. (way n).1) (λ a b less inside same.
             let n : ℕ = b - (a + 1) in
             let e : a + suc n ≡ b = omega (arith, less) in
-            (n, ap (up ps (suc n)) (sym (way a).3) ∙ up_more ps (suc n) a (way a).0 ∙ ap (λ k. up ps k (way a).0) e ∙ ap (up ps b) same ∙ (way b).3)
-        | inr few ↦ absurd (omega (arith, few))
+            let round = ap (up ps (suc n)) (sym (way a).3) ∙ up_more ps (suc n) a (way a).0 ∙ ap (λ k. up ps k (way a).0) e ∙ ap (up ps b) same ∙ (way b).3 in
+            let at_n = get_or-range_with_len 0 (length ps) n 0 (omega (arith, e, inside)) in
+            let at_n : number_at steps n ≡ n = omega (arith, at_n) in
+            true≢false (sym (list_any_at comes steps n 0 (omega (arith, e, inside, length-range_with_len 0 (length ps))) (ap comes at_n ∙ eq-eqb _ i round)) ∙ none)) in
+            absurd (omega (arith, few))
       ]
 
   -- a place above which one is listed comes before it
@@ -68,10 +77,13 @@ module _ {ps left order : List ℕ} (h : ArePeeled ps left order (length order))
   pub go_round : GoRound ps left
   go_round = record {
     many = h.counted.long;
-    each = λ i low. (on_round i low, λ (n, round) none.
-        let inside = (h.listed.each i low).0 none in
-        let e = ap (turn_of order) round in
-        omega (arith, climbs (suc n) i low (omega (arith, e, inside)), e));
+    each = λ i low. (
+      on_round i low,
+      λ (n, round) none.
+          let inside = (h.listed.each i low).0 none in
+          let e = ap (turn_of order) round in
+          omega (arith, climbs (suc n) i low (omega (arith, e, inside)), e),
+    );
   }
 
   module _ (some : 0 < length ps) (no_round : HasRound ps → ⊥) where
@@ -104,13 +116,12 @@ module _ {ps left order : List ℕ} (h : ArePeeled ps left order (length order))
     in_order = record {
       top = top;
       within = λ i low. rw (get_or_default ps i 0 i low) (within i low);
-      few = elim (two_or_few (length ps - 1) (length order) (λ u. number_at order u - 1) (λ u low. omega (arith, h.listed.in_range u low, not_top u low))) as (λ _. length order < length ps) [
-        | inl (a, b, less, low, same) ↦
-            let a_low : a < length order = omega (arith, less, low) in
-            let is : number_at order a ≡ number_at order b = omega (arith, same, not_top a a_low, not_top b low) in
-            absurd (omega (arith, h.listed.once a a_low, ap (turn_of order) is, h.listed.once b low, less))
-        | inr few ↦ omega (arith, few, some)
-      ];
+      few =
+          let few = few_apart (length ps - 1) (length order) (λ u. number_at order u - 1) (λ u low. omega (arith, h.listed.in_range u low, not_top u low)) (λ a b less low same.
+          let a_low : a < length order = omega (arith, less, low) in
+          let is : number_at order a ≡ number_at order b = omega (arith, same, not_top a a_low, not_top b low) in
+          omega (arith, h.listed.once a a_low, ap (turn_of order) is, h.listed.once b low, less)) in
+          omega (arith, few, some);
       in_range = h.listed.in_range;
       once = h.listed.once;
       above = above;

@@ -1,11 +1,13 @@
--- At which turn a place stands in an order, and that two of many numbers below a bound are equal.
-use Rattle.std.proofs.Common.{◌≡◌, ◌≢◌, ℕ, zero, suc, ◌<◌, ◌≤◌, eqb, false, not, List, [], ◌∷◌, ◌++◌, ◌↔◌, ◌∙◌, length, refl, sym, ap, subst, arith, inl, inr, ◌⊎◌}
-use Rattle.std.proofs.lemmas.Bool.{cases_Bool, cases_eq, cases_lt, eq-eqb, eqb-true, ne_eqb, true≢false}
+-- At which turn a place stands in an order, and how many places can stand in one.
+use Rattle.std.proofs.Common.{◌≡◌, ◌≢◌, ℕ, ◌<◌, ◌≤◌, eqb, not, List, [], ◌∷◌, ◌++◌, ◌↔◌, ◌∙◌, map, length, refl, sym, ap, subst, arith, inl, inr}
+use Rattle.std.proofs.lemmas.Bool.{cases_eq, cases_lt, eq-eqb, eqb-true, ne_eqb}
 use Rattle.std.proofs.lemmas.List.{get_or_append_left, get_or_push, length_push}
-use Rattle.std.proofs.lemmas.List.Folds.{position_or_len_push}
+use Rattle.std.proofs.lemmas.List.Folds.{position_or_len_push, Any-from_list_any}
+use Rattle.std.proofs.lemmas.List.FromFn.{get_or-map-range_with_len, length-map-range_with_len}
 use Rattle.std.proofs.lemmas.List.Sums.{passes_at_first, prefix_len-le-length}
+use Rattle.std.proofs.lemmas.Map.Keys.{IsDistinct-from_apart}
 use Rattle.std.proofs.lemmas.Map.Steps.{length-le_from_distinct_below}
-use Rattle.std.specs.List.{list_any, AllByRecursion, IsDistinct}
+use Rattle.std.specs.List.{range_with_len}
 use Rattle.pddl_forest.specs.Forests.{number_at}
 use Rattle.pddl_forest.specs.Inner.{turn_of, AreListed}
 use borrow.Author.Count.{below_more}
@@ -55,58 +57,30 @@ module _ (order : List ℕ) (x : ℕ) where
       ];
     }
 
--- ---- many numbers below a bound
-
--- two of so many numbers are equal
-abbrev HasTwo : (ℕ → ℕ) → ℕ → Type 0
-HasTwo f m = (a b : ℕ) × (a < b) × (b < m) × (f a ≡ f b)
-
-abbrev values : (ℕ → ℕ) → ℕ → List ℕ
-values f zero = []
-values f (suc m) = f m ∷ values f m
-
-length-values : (f : ℕ → ℕ) (m : ℕ) → length (values f m) ≡ m
-length-values f zero = refl
-length-values f (suc m) = ap suc (length-values f m)
-
--- a number is one of them or none
-abbrev IsValue : (ℕ → ℕ) → ℕ → ℕ → Type 0
-IsValue f m x = ((k : ℕ) × (k < m) × (f k ≡ x)) ⊎ (AllByRecursion (λ y. eqb x y ≡ false) (values f m) × (list_any (eqb x) (values f m) ≡ false))
-
-is_value : (f : ℕ → ℕ) (m x : ℕ) → IsValue f m x
-is_value f zero x = inr (tt, refl)
-is_value f (suc m) x =
-    elim (cases_Bool (eqb x (f m))) as (λ _. IsValue f (suc m) x) [
-      | inl is ↦ inl (m, omega arith, sym (eqb-true x (f m) is))
-      | inr other ↦ elim (is_value f m x) as (λ _. IsValue f (suc m) x) [ inl (k, low, is) ↦ inl (k, omega (arith, low), is) | inr (apart, none) ↦ inr ((other, apart), rw (other, none) refl) ]
-    ]
-
-two_or_distinct : (f : ℕ → ℕ) (m : ℕ) → HasTwo f m ⊎ IsDistinct eqb (values f m)
-unfolding IsDistinct
-two_or_distinct f zero = inr tt
-two_or_distinct f (suc m) =
-    elim (two_or_distinct f m) as (λ _. HasTwo f (suc m) ⊎ IsDistinct eqb (values f (suc m))) [
-      | inl (a, b, less, low, same) ↦ inl (a, b, less, omega (arith, low), same)
-      | inr distinct ↦ elim (is_value f m (f m)) as (λ _. HasTwo f (suc m) ⊎ IsDistinct eqb (values f (suc m))) [ inl (k, low, is) ↦ inl (k, m, low, omega arith, is) | inr apart ↦ inr (apart.0, distinct) ]
-    ]
-
--- two of them are equal, or they are no more than the numbers below the bound
-pub two_or_few : (n m : ℕ) (f : ℕ → ℕ) → ((k : ℕ) → k < m → f k < n) → HasTwo f m ⊎ (m ≤ n)
-two_or_few n m f below =
-    elim (two_or_distinct f m) as (λ _. HasTwo f m ⊎ (m ≤ n)) [
-      | inl two ↦ inl two
-      | inr distinct ↦ inr (omega (arith, length-values f m, length-le_from_distinct_below (values f m) n distinct (λ x there.
-      elim (is_value f m x) as (λ _. x < n) [ inl (k, low, is) ↦ subst (λ y. y < n) is (below k low) | inr none ↦ absurd (true≢false (sym there ∙ none.1)) ])))
-    ]
+-- numbers below a bound of which no two are equal are no more than there are below it
+pub few_apart : (n m : ℕ) (f : ℕ → ℕ) → ((k : ℕ) → k < m → f k < n) → ((a b : ℕ) → a < b → b < m → f a ≢ f b) → m ≤ n
+few_apart n m f below apart =
+    let xs = map f (range_with_len 0 m) in
+    let long = length-map-range_with_len f 0 m in
+    let at_low = λ (k d : ℕ) (low : k < m). get_or-map-range_with_len f 0 m k k d low (omega arith) in
+    omega (
+      arith,
+      long,
+      length-le_from_distinct_below xs n
+          (IsDistinct-from_apart eqb xs (λ a b d less low.
+          let b_low : b < m = omega (arith, low, long) in
+          rw (at_low a d (omega (arith, less, b_low)), at_low b d b_low) (ne_eqb (f a) (f b) (apart a b less b_low))))
+          (λ x there.
+          let (k, y, inside, is, on) = Any-from_list_any (eqb x) xs there in
+          let low : k < m = omega (arith, inside, long) in
+          subst (λ z. z < n) (sym (at_low k y low) ∙ is ∙ sym (eqb-true x y on)) (below k low)),
+    )
 
 -- ---- places that are listed
 
 module _ {left order : List ℕ} {many : ℕ} (h : AreListed left order many) where
   pub few_listed : length order ≤ many
-  few_listed = elim (two_or_few many (length order) (number_at order) h.in_range) as (λ _. length order ≤ many) [
-    | inl (a, b, less, low, same) ↦ absurd (omega (arith, h.once a (omega (arith, less, low)), ap (turn_of order) same, h.once b low, less))
-    | inr few ↦ few
-  ]
+  few_listed = few_apart many (length order) (number_at order) h.in_range (λ a b less low same. omega (arith, h.once a (omega (arith, less, low)), ap (turn_of order) same, h.once b low, less))
 
   -- those from there on are not listed
   pub unlisted : (i : ℕ) → many ≤ i → length order ≤ turn_of order i

@@ -1,9 +1,10 @@
 -- What the code and the proofs go by: the places of a forest in an order in which each comes before its parent, how they are found and what is numbered in it.
 -- No public contract names these.
 use Rattle.std.specs.Prelude.{◌≡◌, ◌≢◌, ◌+◌, ◌≤◌, ◌<◌, ◌↔◌, cond, eqb, ℕ, zero, suc, List, length}
-use Rattle.std.specs.List.{count_by, position_or_len}
+use Rattle.std.specs.List.{count_by, position_or_len, slice_index_or}
 use Rattle.pddl_forest.specs.Forests.{parent_of, number_at}
 use Rattle.pddl_forest.specs.Rounds.{GoesRound}
+use Rattle.pddl_forest.specs.declared.spans.Span.{Span}
 
 -- the turn at which a place stands in an order, or how many stand there where it does not
 abbrev pub turn_of : List ℕ → ℕ → ℕ
@@ -26,8 +27,7 @@ pub record ArePeeled (ps left order : List ℕ) (turn : ℕ) : Type 0 where
   pub long : length kept ≡ length ps
   pub counted : AreCounted left kept (length ps)
   pub listed : AreListed left order (length ps)
-  pub done : (i : ℕ) → i < length ps → turn_of order i < turn → number_at kept i ≡ length ps
-  pub still : (i : ℕ) → i < length ps → turn ≤ turn_of order i → number_at kept i ≡ parent_of ps i
+  pub each : (i : ℕ) → i < length ps → (turn_of order i < turn → number_at kept i ≡ length ps) × (turn ≤ turn_of order i → number_at kept i ≡ parent_of ps i)
   pub behind : (i : ℕ) → i < length ps → turn_of order (parent_of ps i) < length order → turn_of order i < turn_of order (parent_of ps i)
 
 -- numbers are other than 0 for the places that are come to again from their parents, and only for these
@@ -54,3 +54,7 @@ under ps order (suc t) i = cond (eqb (number_at ps (number_at order t)) i) (unde
 pub record AreUnder (ps order : List ℕ) (turn : ℕ) (numbers : List ℕ) : Type 0 where
   pub long : length numbers ≡ length ps
   pub each : (i : ℕ) → i < length ps → number_at numbers i ≡ under ps order turn i
+
+-- the span at a place
+abbrev pub at : List Span → ℕ → Span
+at spans i = slice_index_or spans i (record { first = 0; last = 0 })

@@ -29,13 +29,19 @@ fn number_from_top(parents: &[usize], order: &[usize], under: &mut [usize], span
     ensures { AreSpans parents.now spans.new }
 {
     count_under(parents, order, under);
-    spans[0] = Span { first: 0, last: parents.len() - 1 };
+    spans[0] = Span {
+        first: 0,
+        last: parents.len() - 1,
+    };
     for turn in (0..order.len()).rev() {
         let place = order[turn];
         let parent = parents[place];
         let many = under[place];
         let last = spans[parent].first + under[parent];
-        spans[place] = Span { first: last - many, last };
+        spans[place] = Span {
+            first: last - many,
+            last,
+        };
         under[parent] -= many + 1;
     }
 }

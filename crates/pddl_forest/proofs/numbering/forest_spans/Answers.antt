@@ -12,7 +12,7 @@ pub has_round-requires-clause-round : goal.has_round-requires-clause-round
 has_round-requires-clause-round g c = rw c.deref_mut.ensures.value (go_round c.in_ok-left.ensures c.requires.within)
 
 pub spans_in-requires : goal.spans_in-requires
-spans_in-requires g c = 
+spans_in-requires g c =
     let h = c.has_round.ensures in
     let no_round = λ (round : HasRound c.args.parents.now). true≢false (sym (h.round.1 round) ∙ c.if-has_round.false) in
     let is : c.deref_mut-2.result.now ≡ c.has_round.new.numbers = c.deref_mut-2.ensures.value ∙ in_place c.has_round.new.numbers _ c.in_ok-left.left.len (omega (arith, c.in_ok-left.ensures.counted.long, h.numbers.many)) in
