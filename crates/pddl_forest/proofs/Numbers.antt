@@ -9,7 +9,7 @@ use Rattle.pddl_forest.specs.Forests.{parent_of, up, IsUnder, number_at}
 use Rattle.pddl_forest.specs.Spans.{holds, span_at, AreSpans}
 use Rattle.pddl_forest.specs.declared.spans.Span.{Span}
 use Rattle.pddl_forest.specs.Inner.{turn_of, under, IsOrder, AreUnder, at}
-use Rattle.pddl_forest.proofs.Turns.{turn_few, at_turn}
+use Rattle.pddl_forest.proofs.Peels.{turn_few, at_turn}
 
 -- A place has a span where each number is that of some place: its first numbers are its own, so many as are still to come under it, and all are of places under it.
 pub record HasSpan (ps : List ℕ) (owner : ℕ → ℕ) (i many : ℕ) (s : Span) : Type 0 where

@@ -1,13 +1,91 @@
--- Places that are peeled off in turn, each once no child of it is left.
-use Rattle.std.proofs.Common.{◌≡◌, ◌≢◌, ℕ, ◌+◌, ◌-◌, ◌<◌, ◌≤◌, cond, eqb, List, [], ◌∷◌, ◌++◌, ◌↔◌, take, length, slice_set, refl, sym, ap, ◌∙◌, subst, arith, inl, inr}
-use Rattle.std.proofs.lemmas.Bool.{cases_eq, cases_lt, eq-eqb, ne_eqb}
-use Rattle.std.proofs.lemmas.List.{get_or_default, get_or-set_same, get_or-set_other, length-set}
-use Rattle.std.proofs.lemmas.List.Sums.{count_by_more_no, count_by_more_yes, get_or-le-sum_by, sum_by-set}
+-- Places that are peeled off in turn, each once no child of it is left, and at which turn a place stands in their order.
+use Rattle.std.proofs.Common.{◌≡◌, ◌≢◌, ℕ, ◌<◌, ◌≤◌, eqb, not, List, [], ◌∷◌, ◌++◌, ◌↔◌, ◌∙◌, map, length, refl, sym, ap, subst, arith, inl, inr, ◌+◌, ◌-◌, cond, take, slice_set}
+use Rattle.std.proofs.lemmas.Bool.{cases_eq, cases_lt, eq-eqb, eqb-true, ne_eqb}
+use Rattle.std.proofs.lemmas.List.{get_or_append_left, get_or_push, length_push, get_or_default, get_or-set_same, get_or-set_other, length-set}
+use Rattle.std.proofs.lemmas.List.Folds.{position_or_len_push, Any-from_list_any}
+use Rattle.std.proofs.lemmas.List.FromFn.{get_or-map-range_with_len, length-map-range_with_len}
+use Rattle.std.proofs.lemmas.List.Sums.{passes_at_first, prefix_len-le-length, count_by_more_no, count_by_more_yes, get_or-le-sum_by, sum_by-set}
+use Rattle.std.proofs.lemmas.Map.Keys.{IsDistinct-from_apart}
+use Rattle.std.proofs.lemmas.Map.Steps.{length-le_from_distinct_below}
+use Rattle.std.specs.List.{range_with_len, count_by, slice_index_or}
+use Rattle.pddl_forest.specs.Forests.{number_at, parent_of}
+use Rattle.pddl_forest.specs.Inner.{turn_of, AreListed, AreCounted, ArePeeled}
+use borrow.Author.Count.{below_more}
 use Rattle.std.proofs.Math.Seq.{take-append_seam}
-use Rattle.std.specs.List.{count_by}
-use Rattle.pddl_forest.specs.Forests.{parent_of, number_at}
-use Rattle.pddl_forest.specs.Inner.{turn_of, AreCounted, AreListed, ArePeeled}
-use Rattle.pddl_forest.proofs.Turns.{at_turn, turn_before, turn_past, turn_new, turn_other, listed_more}
+
+pub turn_few : (order : List ℕ) (i : ℕ) → turn_of order i ≤ length order
+turn_few order i = prefix_len-le-length (λ x. not (eqb i x)) order
+
+pub at_turn : (order : List ℕ) (i : ℕ) → turn_of order i < length order → number_at order (turn_of order i) ≡ i
+at_turn order i low = sym (eqb-true i _ (passes_at_first (eqb i) order 0 low))
+
+-- ---- with one more place at the end
+
+module _ (order : List ℕ) (x : ℕ) where
+  abbrev next : List ℕ
+  next = order ++ x ∷ []
+
+  pub turn_before : (i : ℕ) → turn_of order i < length order → turn_of next i ≡ turn_of order i
+  turn_before i low = rw (position_or_len_push (eqb i) order x, ne_eqb (turn_of order i) (length order) (λ e. omega (arith, e, low))) refl
+
+  pub turn_past : (i : ℕ) → length order ≤ turn_of order i → length order ≤ turn_of next i
+  turn_past i past = rw (position_or_len_push (eqb i) order x, eq-eqb (turn_of order i) (length order) (omega (arith, turn_few order i, past))) (omega arith)
+
+  pub turn_new : length order ≤ turn_of order x → turn_of next x ≡ length order
+  turn_new past = rw (position_or_len_push (eqb x) order x, eq-eqb (turn_of order x) (length order) (omega (arith, turn_few order x, past)), eq-eqb x x refl) (omega arith)
+
+  pub turn_other : (i : ℕ) → i ≢ x → turn_of next i < length next → turn_of order i < length order
+  turn_other i other = elim (cases_lt (turn_of order i) (length order)) as (λ _. turn_of next i < length next → turn_of order i < length order) [
+    | inl before ↦ λ _. before
+    | inr past ↦ rw (position_or_len_push (eqb i) order x, eq-eqb (turn_of order i) (length order) (omega (arith, turn_few order i, past)), ne_eqb i x other) (λ inside. absurd (omega (arith, inside, length_push order x)))
+  ]
+
+  -- of which no child is left now, where there are no fewer places and the others are as they were
+  module _ {left : List ℕ} (now : List ℕ) {many more : ℕ} (h : AreListed left order many) (wider : many ≤ more) (low : x < more) (new : length order ≤ turn_of order x) (none : number_at now x ≡ 0)
+      (others : (i : ℕ) → i < more → i ≢ x → (number_at now i ≡ 0) ↔ (turn_of order i < length order)) where
+    each_turn : (u : ℕ) → u < length next → (number_at next u < more) × (turn_of next (number_at next u) ≡ u)
+    each_turn u inside = below_more (λ v. (number_at next v < more) × (turn_of next (number_at next v) ≡ v)) (length order)
+        (λ v before. let once = h.once v before in rw (get_or_append_left order (x ∷ []) 0 v before) (omega (arith, h.in_range v before, wider), turn_before _ (omega (arith, once, before)) ∙ once))
+        (rw (get_or_push order x 0 (length order) refl) (low, turn_new new)) u (omega (arith, inside, length_push order x))
+
+    pub listed_more : AreListed now next more
+    listed_more = record {
+      in_range = λ u inside. (each_turn u inside).0;
+      once = λ u inside. (each_turn u inside).1;
+      each = λ i i_low. elim (cases_eq i x) as (λ _. (number_at now i ≡ 0) ↔ (turn_of next i < length next)) [
+        | inl is ↦ (λ _. omega (arith, length_push order x, turn_new new, ap (turn_of next) is), λ _. ap (number_at now) is ∙ none)
+        | inr other ↦ let was = others i i_low other in (λ zeroth. omega (arith, length_push order x, was.0 zeroth, turn_before i), λ inside. was.1 (turn_other i other inside))
+      ];
+    }
+
+-- numbers below a bound of which no two are equal are no more than there are below it
+pub few_apart : (n m : ℕ) (f : ℕ → ℕ) → ((k : ℕ) → k < m → f k < n) → ((a b : ℕ) → a < b → b < m → f a ≢ f b) → m ≤ n
+few_apart n m f below apart =
+    let xs = map f (range_with_len 0 m) in
+    let long = length-map-range_with_len f 0 m in
+    let at_low = λ (k d : ℕ) (low : k < m). get_or-map-range_with_len f 0 m k k d low (omega arith) in
+    omega (
+      arith,
+      long,
+      length-le_from_distinct_below xs n
+          (IsDistinct-from_apart eqb xs (λ a b d less low.
+          let b_low : b < m = omega (arith, low, long) in
+          rw (at_low a d (omega (arith, less, b_low)), at_low b d b_low) (ne_eqb (f a) (f b) (apart a b less b_low))))
+          (λ x there.
+          let (k, y, inside, is, on) = Any-from_list_any (eqb x) xs there in
+          let low : k < m = omega (arith, inside, long) in
+          subst (λ z. z < n) (sym (at_low k y low) ∙ is ∙ sym (eqb-true x y on)) (below k low)),
+    )
+
+-- ---- places that are listed
+
+module _ {left order : List ℕ} {many : ℕ} (h : AreListed left order many) where
+  pub few_listed : length order ≤ many
+  few_listed = few_apart many (length order) (number_at order) h.in_range (λ a b less low same. omega (arith, h.once a (omega (arith, less, low)), ap (turn_of order) same, h.once b low, less))
+
+  -- those from there on are not listed
+  pub unlisted : (i : ℕ) → many ≤ i → length order ≤ turn_of order i
+  unlisted i past = grind (arith, h.in_range (turn_of order i), at_turn order i, past)
 
 -- a list of the same length in place of another's items
 pub in_place : {X : Type 0} (xs rest : List X) (n : ℕ) → n ≡ length xs → take n (xs ++ rest) ≡ xs
@@ -40,13 +118,19 @@ first_peeled {ps} {left} {order} counted listed within = record {
 
 -- ---- one place is peeled off
 
-module _ {ps left order : List ℕ} {turn place parent : ℕ} (h : ArePeeled ps left order turn) (low : turn < length order) (at : number_at order turn ≡ place) (over : number_at ps place ≡ parent)
+module _ {ps left order : List ℕ} {turn place : ℕ} (h : ArePeeled ps left order turn) (low : turn < length order) (read : place ≡ slice_index_or order turn place)
     (within : (i : ℕ) → i < length ps → number_at ps i < length ps) where
-  place_low : place < length ps
+  at : number_at order turn ≡ place
+  at = sym (read ∙ get_or_default order turn place 0 low)
+
+  abbrev parent : ℕ
+  parent = number_at ps place
+
+  pub place_low : place < length ps
   place_low = subst (λ i. i < length ps) at (h.listed.in_range turn low)
 
-  parent_low : parent < length ps
-  parent_low = subst (λ i. i < length ps) over (within place place_low)
+  pub parent_low : number_at ps place < length left
+  parent_low = omega (arith, within place place_low, h.counted.long)
 
   turn_is : turn_of order place ≡ turn
   turn_is = ap (turn_of order) (sym at) ∙ h.listed.once turn low
@@ -58,20 +142,20 @@ module _ {ps left order : List ℕ} {turn place parent : ℕ} (h : ArePeeled ps 
   counts : (i : ℕ) → i < length ps → count_by (eqb i) fewer + cond (eqb i parent) 1 0 ≡ number_at left i
   counts i i_low =
       let changed = sum_by-set (λ q. cond (eqb i q) 1 0) h.kept place (length ps) 0 (omega (arith, place_low, h.long)) in
-      let now = rw ((h.each place place_low).1 (omega (arith, turn_is)) ∙ get_or_default ps place place 0 place_low ∙ over, ne_eqb i (length ps) (λ e. omega (arith, e, i_low))) at changed in
+      let now = rw ((h.each place place_low).1 (omega (arith, turn_is)) ∙ get_or_default ps place place 0 place_low, ne_eqb i (length ps) (λ e. omega (arith, e, i_low))) at changed in
       omega (arith, now, h.counted.each i i_low)
 
-  pub some : 1 ≤ number_at left parent
-  some = omega (arith, rw (eq-eqb parent parent refl) at (counts parent parent_low))
+  pub some : 1 ≤ number_at left (number_at ps place)
+  some = omega (arith, rw (eq-eqb parent parent refl) at (counts parent (within place place_low)))
 
   new : length order ≤ turn_of order parent
-  new = elim (cases_lt (turn_of order parent) (length order)) as (λ _. length order ≤ turn_of order parent) [ inl before ↦ absurd (omega (arith, some, (h.listed.each parent parent_low).1 before)) | inr past ↦ past ]
+  new = grind (arith, some, (h.listed.each parent (within place place_low)).1)
 
   abbrev less_left : List ℕ
   less_left = slice_set left parent (number_at left parent - 1)
 
   now : number_at less_left parent ≡ number_at left parent - 1
-  now = get_or-set_same left parent (number_at left parent - 1) 0 (omega (arith, parent_low, h.counted.long))
+  now = get_or-set_same left parent (number_at left parent - 1) 0 parent_low
 
   others : (i : ℕ) → i ≢ parent → number_at less_left i ≡ number_at left i
   others i other = get_or-set_other left parent i (number_at left parent - 1) 0 other
@@ -83,7 +167,7 @@ module _ {ps left order : List ℕ} {turn place parent : ℕ} (h : ArePeeled ps 
   counted = record {
     long = length-set left parent _ ∙ h.counted.long;
     each = λ i i_low. elim (cases_eq i parent) as (λ _. number_at less_left i ≡ count_by (eqb i) fewer) [
-      | inl is ↦ rw (is, now) (omega (arith, rw (eq-eqb parent parent refl) at (counts parent parent_low)))
+      | inl is ↦ rw (is, now) (omega (arith, rw (eq-eqb parent parent refl) at (counts parent (within place place_low))))
       | inr other ↦ omega (arith, others i other, rw (ne_eqb i parent other) at (counts i i_low))
     ];
   }
@@ -99,7 +183,7 @@ module _ {ps left order : List ℕ} {turn place parent : ℕ} (h : ArePeeled ps 
         rw (get_or-set_other h.kept place i (length ps) 0 other) (λ before. (h.each i i_low).0 (omega (arith, before, earlier)), λ after. (h.each i i_low).1 (omega (arith, after)))
   ]
 
-  pub peeled : number_at left parent - 1 ≢ 0 → ArePeeled ps less_left order (turn + 1)
+  pub peeled : number_at left (number_at ps place) - 1 ≢ 0 → ArePeeled ps (slice_set left (number_at ps place) (number_at left (number_at ps place) - 1)) order (turn + 1)
   peeled more = record {
     kept = fewer;
     long = long;
@@ -116,12 +200,12 @@ module _ {ps left order : List ℕ} {turn place parent : ℕ} (h : ArePeeled ps 
     behind = h.behind;
   }
 
-  pub peeled_more : number_at left parent - 1 ≡ 0 → ArePeeled ps less_left (order ++ parent ∷ []) (turn + 1)
+  pub peeled_more : number_at left (number_at ps place) - 1 ≡ 0 → ArePeeled ps (slice_set left (number_at ps place) (number_at left (number_at ps place) - 1)) (order ++ number_at ps place ∷ []) (turn + 1)
   peeled_more none = record {
     kept = fewer;
     long = long;
     counted = counted;
-    listed = listed_more order parent less_left h.listed (omega arith) parent_low new (now ∙ none) listed;
+    listed = listed_more order parent less_left h.listed (omega arith) (within place place_low) new (now ∙ none) listed;
     each = λ i i_low. (
       λ before. (each i i_low).0 (grind (arith, before, low, turn_before order parent i, turn_past order parent i)),
       λ after. (each i i_low).1 (grind (arith, after, low, turn_before order parent i, turn_past order parent i)),
@@ -132,7 +216,7 @@ module _ {ps left order : List ℕ} {turn place parent : ℕ} (h : ArePeeled ps 
             | inl before ↦ before
             | inr after ↦
                 let one = get_or-le-sum_by (λ q. cond (eqb parent q) 1 0) fewer i 0 (omega (arith, i_low, long)) in
-                absurd (omega (arith, rw (eq-eqb parent _ (sym ((each i i_low).1 after ∙ is))) at one, counted.each parent parent_low, now, none))
+                absurd (omega (arith, rw (eq-eqb parent _ (sym ((each i i_low).1 after ∙ is))) at one, counted.each parent (within place place_low), now, none))
           ] in
           omega (arith, gone, low, turn_before order parent i, turn_new order parent new, ap (turn_of (order ++ parent ∷ [])) is)
       | inr other ↦ let before = turn_other order parent (parent_of ps i) other inside in omega (arith, h.behind i i_low before, before, turn_before order parent i, turn_before order parent (parent_of ps i))

@@ -1,16 +1,16 @@
 -- Places on ways that go round: those of which children are left where no more can be peeled off. Where there are none, the others are in order.
-use Rattle.std.proofs.Common.{◌≡◌, ◌≢◌, ◌↔◌, ℕ, zero, suc, ◌+◌, ◌-◌, ◌<◌, ◌≤◌, ◌==◌, not, cond, eqb, Bool, true≢false, List, [], ◌∷◌, length, slice_set, refl, sym, ap, ◌∙◌, arith, inl, inr}
+use Rattle.std.proofs.Common.{◌≡◌, ◌≢◌, ◌↔◌, ℕ, zero, suc, ◌+◌, ◌-◌, ◌<◌, ◌≤◌, cond, eqb, Bool, true, false, true≢false, List, [], ◌∷◌, length, slice_set, refl, sym, ap, subst, ◌∙◌, arith, inl, inr}
 use Rattle.std.proofs.lemmas.Bool.{cases_Bool, cases_eq, cases_lt, eq-eqb, eqb-true, ne_eqb}
 use Rattle.std.proofs.lemmas.List.Folds.{list_any_at, Any-from_list_any}
 use Rattle.std.proofs.lemmas.List.{get_or_default, get_or-set_same, get_or-set_other, length-set}
 use Rattle.std.proofs.lemmas.List.FromFn.{get_or-range_with_len, length-range_with_len}
 use Rattle.std.proofs.lemmas.List.Sums.{sum_by-cons}
-use Rattle.std.specs.Prelude.{IsTrue}
-use Rattle.std.specs.List.{count_by, list_any, range_with_len}
+use Rattle.std.specs.Prelude.{IsTrue, MatchBool}
+use Rattle.std.specs.List.{count_by, list_any, range_with_len, AllWithin, HoldsAt}
 use Rattle.pddl_forest.specs.Forests.{parent_of, up, number_at}
 use Rattle.pddl_forest.specs.Rounds.{GoesRound, IsOnRound, HasRound, AreRounds}
 use Rattle.pddl_forest.specs.Inner.{turn_of, ArePeeled, GoRound, IsOrder, AreUnder}
-use Rattle.pddl_forest.proofs.Turns.{turn_few, few_apart}
+use Rattle.pddl_forest.proofs.Peels.{turn_few, few_apart}
 
 -- so many steps, and so many more
 up_more : (ps : List ℕ) (m n i : ℕ) → up ps m (up ps n i) ≡ up ps (n + m) i
@@ -104,10 +104,7 @@ module _ {ps left order : List ℕ} (h : ArePeeled ps left order (length order))
     ]
 
     above : turn_of order 0 ≡ length order
-    above = elim (cases_lt (turn_of order 0) (length order)) as (λ _. turn_of order 0 ≡ length order) [
-      | inl before ↦ let e = ap (turn_of order) top in absurd (omega (arith, h.behind 0 some (omega (arith, e, before)), e))
-      | inr past ↦ omega (arith, turn_few order 0, past)
-    ]
+    above = grind (arith, h.behind 0 some, ap (turn_of order) top, turn_few order 0)
 
     not_top : (u : ℕ) → u < length order → number_at order u ≢ 0
     not_top u low is = omega (arith, h.listed.once u low, ap (turn_of order) is, above, low)
@@ -125,10 +122,7 @@ module _ {ps left order : List ℕ} (h : ArePeeled ps left order (length order))
       in_range = h.listed.in_range;
       once = h.listed.once;
       above = above;
-      ahead = λ i low other. elim (cases_lt (turn_of order (parent_of ps i)) (length order)) as (λ _. turn_of order i < turn_of order (parent_of ps i)) [
-        | inl before ↦ h.behind i low before
-        | inr past ↦ omega (arith, listed i low (λ is. absurd (other is)), past)
-      ];
+      ahead = λ i low other. grind (arith, h.behind i low, listed i low (λ is. absurd (other is)));
     }
 
 -- with the number 0 for place 0 where it is its own parent
@@ -153,12 +147,7 @@ none_under {ps} {numbers} order h no_round = record {
 }
 
 -- some number is other than 0 where some way goes round
-pub told_round : {ps numbers : List ℕ} {told : Bool} → AreRounds ps numbers → told ≡ list_any (λ n. not (n == 0)) numbers → IsTrue told ↔ HasRound ps
-told_round {ps} {numbers} {told} h is = (
-  λ some.
-      let (k, n, inside, at, on) = Any-from_list_any (λ n. not (n == 0)) numbers (sym is ∙ some) in
-      let low : k < length ps = omega (arith, inside, h.many) in
-      let other : number_at numbers k ≢ 0 = λ none. true≢false (sym on ∙ ap not (eq-eqb n 0 (sym at ∙ get_or_default numbers k n 0 inside ∙ none))) in
-      (k, low, (h.each k low).0 other),
-  λ (i, low, round). is ∙ list_any_at (λ n. not (n == 0)) numbers i 0 (omega (arith, low, h.many)) (ap not (ne_eqb (number_at numbers i) 0 ((h.each i low).1 round))),
-)
+pub told_round : {ps numbers : List ℕ} (told : Bool) → AreRounds ps numbers → MatchBool told ((k : ℕ) × (k < length numbers) × HoldsAt (λ n. n ≢ 0) numbers k) (AllWithin (λ n. n ≡ 0) numbers 0 (length numbers))
+    → IsTrue told ↔ HasRound ps
+told_round true h (k, inside, some) = let low = subst (λ n. k < n) h.many inside in (λ _. (k, low, (h.each k low).0 (some 0)), λ _. refl)
+told_round false h none = (λ e. absurd (true≢false (sym e)), λ (i, low, round). absurd ((h.each i low).1 round (none i 0 (omega arith) (omega (arith, low, h.many)))))

@@ -1,7 +1,6 @@
-use Rattle.std.proofs.Common.{◌==◌, not, sym, ◌∙◌, rules, tests}
+use Rattle.std.proofs.Common.{◌≡◌, ◌≢◌, sym, ◌∙◌, rules, tests}
 use Rattle.std.proofs.lemmas.List.{get_or_default}
-use Rattle.std.proofs.lemmas.Iterator.{YieldsList-from_slice}
-use Rattle.std.proofs.lemmas.Iterator.Search.{any_from_yields_List}
+use Rattle.std.proofs.lemmas.Iterator.{cases_from_any, YieldsList-from_slice}
 use Rattle.pddl_forest.specs.Rounds.{AreRounds}
 use Rattle.pddl_forest.proofs.RoundWays.{with_top, without_top, told_round}
 use Rattle.pddl_forest.proofs.peeling.has_round.Goals.{then-parents-eq0, else-parents-eq0}
@@ -18,5 +17,5 @@ rounds c =
 pub returns : goal.returns
 returns c = record {
   numbers = rounds c;
-  round = told_round (rounds c) (any_from_yields_List (λ n. not (n == 0)) _ _ _ c.any.ensures.ran (YieldsList-from_slice c.if-parents-eq0.numbers c.iter.ensures.rest) (λ x b q k. search (rules, tests)));
+  round = told_round _ (rounds c) (cases_from_any _ _ _ (λ n. n ≢ 0) (λ n. n ≡ 0) c.any.ensures.ran (YieldsList-from_slice c.if-parents-eq0.numbers c.iter.ensures.rest) (λ n q k. search (rules, tests)) (λ n q k. search (rules, tests)));
 }

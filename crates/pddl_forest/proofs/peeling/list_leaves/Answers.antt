@@ -2,7 +2,7 @@ use Rattle.std.proofs.Common.{◌≡◌, ◌↔◌, ◌<◌, length, arith}
 use borrow.Author.Count.{below_more}
 use Rattle.pddl_forest.specs.Forests.{number_at}
 use Rattle.pddl_forest.specs.Inner.{turn_of}
-use Rattle.pddl_forest.proofs.Turns.{listed_more, unlisted}
+use Rattle.pddl_forest.proofs.Peels.{listed_more, unlisted}
 use Rattle.pddl_forest.proofs.peeling.list_leaves.Goals.{then-left-place-eq0+in_ok-push, else-left-place-eq0}
 use Rattle.pddl_forest.proofs.peeling.list_leaves.Goals as goal
 
