@@ -18,12 +18,13 @@ pub record HasSpan (ps : List ℕ) (owner : ℕ → ℕ) (i many : ℕ) (s : Spa
   pub low : s.last < length ps
   pub held : (m : ℕ) → m < length ps → (holds s m ≡ true) ↔ IsUnder ps (owner m) i
 
--- From a turn on, places have spans. Each number is for now that of one of them.
+-- From a turn on, places have spans. Each number is for now that of one of them. The spans of the others are as they were counted.
 pub record AreNumbered (ps order : List ℕ) (spans : List Span) (turn : ℕ) : Type 0 where
   pub owner : ℕ → ℕ
   pub long : length spans ≡ length ps
   pub numbered : (m : ℕ) → (owner m < length ps) × (turn ≤ turn_of order (owner m))
   pub each : (i : ℕ) → i < length ps → turn ≤ turn_of order i → HasSpan ps owner i (under ps order turn i) (at spans i)
+  pub rest : (i : ℕ) → i < length ps → turn_of order i < turn → ((at spans i).first ≡ under ps order (turn_of order i) (number_at ps i) + 1) × ((at spans i).last ≡ under ps order (turn_of order i) i)
 
 -- all have one
 pub are_spans : {ps order : List ℕ} {spans : List Span} → AreNumbered ps order spans 0 → AreSpans ps spans
@@ -40,6 +41,14 @@ are_spans {ps} {order} {spans} h = record {
 
     has : (i : ℕ) → i < length ps → HasSpan ps h.owner i 0 (at spans i)
     has i low = h.each i low (omega arith)
+
+-- nothing is counted yet
+pub none_under : (ps order : List ℕ) → AreUnder ps order 0 (replicate (length ps) (record { first = 0; last = 0 }))
+none_under ps order = record {
+  long = length-replicate (length ps) _;
+  last = λ i low. ap (λ (s : Span). s.last) (get_or-replicate (length ps) i (record { first = 0; last = 0 }) (record { first = 0; last = 0 }) low);
+  first = λ i low before. absurd (omega (arith, before));
+}
 
 module _ {ps order : List ℕ} (o : IsOrder ps order) where
   -- the place that a turn is for, and its parent, which comes later
@@ -95,39 +104,68 @@ module _ {ps order : List ℕ} (o : IsOrder ps order) where
   under_few : (turn i : ℕ) → turn ≤ length order → i < length ps → turn ≤ turn_of order i → under ps order turn i ≤ turn
   under_few turn i few low after = let (ns, long, is, each) = has_sum turn few in omega (arith, get_or-le-sum_by (λ n. n) ns i 0 (omega (arith, low, long)), is, each i low after)
 
-  module _ {ns : List ℕ} {turn : ℕ} (low : turn < length order) where
-    changed : {now then v : ℕ} → AreUnder ps order now ns → v ≡ under ps order then (q low) → ((i : ℕ) → i ≢ q low → under ps order then i ≡ under ps order now i) → AreUnder ps order then (slice_set ns (q low) v)
-    changed {now} {then} {v} h is same = record {
-      long = length-set ns (q low) v ∙ h.long;
-      each = λ i i_low. elim (cases_eq i (q low)) as (λ _. number_at (slice_set ns (q low) v) i ≡ under ps order then i) [
-        | inl here ↦ rw here (get_or-set_same ns (q low) v 0 (omega (arith, q_low low, h.long)) ∙ is)
-        | inr other ↦ get_or-set_other ns (q low) i v 0 other ∙ h.each i i_low ∙ sym (same i other)
+  -- it is the same from the turn of the place on
+  under_stays : (turn i : ℕ) → turn ≤ length order → turn_of order i ≤ turn → under ps order turn i ≡ under ps order (turn_of order i) i
+  under_stays zero i few after = let e : 0 ≡ turn_of order i = omega (arith, after) in ap (λ t. under ps order t i) e
+  under_stays (suc t) i few after = elim (cases_eq (turn_of order i) (suc t)) as (λ _. under ps order (suc t) i ≡ under ps order (turn_of order i) i) [
+    | inl is ↦ ap (λ t. under ps order t i) (sym is)
+    | inr other ↦
+        let low : t < length order = omega (arith, few) in
+        rw (ne_eqb (q low) i (λ e. omega (arith, later low, ap (turn_of order) e, after, other))) (under_stays t i (omega (arith, few)) (omega (arith, after, other)))
+  ]
+
+  module _ {spans : List Span} {turn : ℕ} (low : turn < length order) (h : AreUnder ps order turn spans) where
+    abbrev put_over : Span
+    put_over = record { first = (at spans (q low)).first; last = (at spans (q low)).last + 1 + (at spans (p low)).last }
+
+    added_is : (at spans (q low)).last + 1 + (at spans (p low)).last ≡ under ps order (turn + 1) (q low)
+    added_is = omega (arith, h.last (q low) (q_low low), h.last (p low) (p_low low), under_parent low)
+
+    pub added_fits : (at spans (q low)).last + 1 + (at spans (p low)).last < length ps
+    added_fits = omega (arith, added_is, under_few (turn + 1) (q low) (omega (arith, low)) (q_low low) (omega (arith, later low)), low, o.few)
+
+    abbrev put_span : Span
+    put_span = record { first = (at spans (q low)).last + 1; last = (at spans (p low)).last }
+
+    abbrev put_next : List Span
+    put_next = slice_set (slice_set spans (q low) put_over) (p low) put_span
+
+    put_here : at put_next (p low) ≡ put_span
+    put_here = get_or-set_same (slice_set spans (q low) put_over) (p low) put_span (record { first = 0; last = 0 }) (omega (arith, p_low low, h.long, length-set spans (q low) put_over))
+
+    above : at (slice_set spans (q low) put_over) (q low) ≡ put_over
+    above = get_or-set_same spans (q low) put_over (record { first = 0; last = 0 }) (omega (arith, q_low low, h.long))
+
+    pub one_added : AreUnder ps order (turn + 1) put_next
+    one_added = record {
+      long = length-set (slice_set spans (q low) put_over) (p low) _ ∙ length-set spans (q low) put_over ∙ h.long;
+      last = λ i i_low. elim (cases_eq i (p low)) as (λ _. (at put_next i).last ≡ under ps order (turn + 1) i) [
+        | inl is ↦ rw (is, put_here, under_other low (p low) (apart low)) (h.last (p low) (p_low low))
+        | inr other ↦ rw (get_or-set_other (slice_set spans (q low) put_over) (p low) i put_span (record { first = 0; last = 0 }) other) (elim (cases_eq i (q low)) as (λ _. (at (slice_set spans (q low) put_over) i).last ≡ under ps order (turn + 1) i) [
+          | inl is ↦ rw (is, above) added_is
+          | inr other' ↦ rw (get_or-set_other spans (q low) i put_over (record { first = 0; last = 0 }) other', under_other low i other') (h.last i i_low)
+        ])
+      ];
+      first = λ i i_low before. elim (cases_eq i (p low)) as (λ _. (at put_next i).first ≡ under ps order (turn_of order i) (number_at ps i) + 1) [
+        | inl is ↦ rw (is, put_here, o.once turn low) (omega (arith, h.last (q low) (q_low low)))
+        | inr other ↦
+            let earlier : turn_of order i ≢ turn = λ e. other (sym (at_turn order i (omega (arith, e, low))) ∙ ap (number_at order) e) in
+            let other' : i ≢ q low = λ e. omega (arith, later low, ap (turn_of order) e, before) in
+            rw (get_or-set_other (slice_set spans (q low) put_over) (p low) i put_span (record { first = 0; last = 0 }) other, get_or-set_other spans (q low) i put_over (record { first = 0; last = 0 }) other')
+            (h.first i i_low (omega (arith, before, earlier)))
       ];
     }
-
-    added_is : AreUnder ps order turn ns → number_at ns (q low) + (number_at ns (p low) + 1) ≡ under ps order (turn + 1) (q low)
-    added_is h = omega (arith, h.each (q low) (q_low low), h.each (p low) (p_low low), under_parent low)
-
-    pub one_added : AreUnder ps order turn ns → AreUnder ps order (turn + 1) (slice_set ns (q low) (number_at ns (q low) + (number_at ns (p low) + 1)))
-    one_added h = changed h (added_is h) (under_other low)
-
-    pub added_fits : AreUnder ps order turn ns → number_at ns (q low) + (number_at ns (p low) + 1) < length ps
-    added_fits h = omega (arith, added_is h, under_few (turn + 1) (q low) (omega (arith, low)) (q_low low) (omega (arith, later low)), low, o.few)
-
-    -- what is under the place itself, and what is under its parent with it
-    under_both : AreUnder ps order (turn + 1) ns → (number_at ns (p low) ≡ under ps order turn (p low)) × (number_at ns (q low) ≡ under ps order turn (q low) + (number_at ns (p low) + 1))
-    under_both h = let same = h.each (p low) (p_low low) ∙ under_other low (p low) (apart low) in (same, omega (arith, same, h.each (q low) (q_low low), under_parent low))
 
   -- ---- numbers
 
   -- at first only place 0 has one
-  pub top_numbered : (spans : List Span) → length spans ≡ length ps → AreNumbered ps order (slice_set spans 0 (record { first = 0; last = length ps - 1 })) (length order)
-  top_numbered spans long = record {
+  pub top_numbered : {spans : List Span} → AreUnder ps order (length order) spans → AreNumbered ps order (slice_set spans 0 (record { first = 0; last = length ps - 1 })) (length order)
+  top_numbered {spans} h = record {
     owner = λ _. 0;
-    long = length-set spans 0 _ ∙ long;
+    long = length-set spans 0 _ ∙ h.long;
     numbered = λ _. (omega (arith, o.few), omega (arith, o.above));
     each = λ i low after. elim (cases_eq i 0) as (λ _. HasSpan ps (λ _. 0) i (under ps order (length order) i) (at (slice_set spans 0 (record { first = 0; last = length ps - 1 })) i)) [
-      | inl is ↦ rw (is, get_or-set_same spans 0 (record { first = 0; last = length ps - 1 }) (record { first = 0; last = 0 }) (omega (arith, o.few, long))) record {
+      | inl is ↦ rw (is, get_or-set_same spans 0 (record { first = 0; last = length ps - 1 }) (record { first = 0; last = 0 }) (omega (arith, o.few, h.long))) record {
         own = λ m _ _. refl;
         last = omega (arith, under_few (length order) 0 (omega arith) (omega (arith, o.few)) (omega (arith, o.above)), o.few);
         low = omega (arith, o.few);
@@ -135,6 +173,8 @@ module _ {ps order : List ℕ} (o : IsOrder ps order) where
       }
       | inr other ↦ absurd (omega (arith, o.ahead i low other, turn_few order (parent_of ps i), after))
     ];
+    rest = λ i low before. rw (get_or-set_other spans 0 i (record { first = 0; last = length ps - 1 }) (record { first = 0; last = 0 }) (λ e. omega (arith, before, ap (turn_of order) e, o.above)))
+        (h.first i low before, h.last i low ∙ under_stays (length order) i (omega arith) (omega (arith, before)));
   }
 
   -- what is over a place comes no earlier
@@ -225,33 +265,28 @@ module _ {ps order : List ℕ} (o : IsOrder ps order) where
             let differ : turn_of order i ≢ turn = λ e. other (sym (at_turn order i (omega (arith, e, low))) ∙ ap (number_at order) e) in
             rw (get_or-set_other spans (p low) i span (record { first = 0; last = 0 }) other) (other_span i other (h.each i i_low (omega (arith, after, differ))))
       ];
+      rest = λ i i_low earlier. rw (get_or-set_other spans (p low) i span (record { first = 0; last = 0 }) (λ e. omega (arith, earlier, ap (turn_of order) e, o.once turn low))) (h.rest i i_low (omega (arith, earlier)));
     }
 
   -- as it is written from the end of the order
-  module _ {ns : List ℕ} {spans : List Span} {turns : ℕ} (more : 0 < turns) (few : turns ≤ length order) (u : AreUnder ps order turns ns) (h : AreNumbered ps order spans turns) where
+  module _ {spans : List Span} {turns : ℕ} (more : 0 < turns) (few : turns ≤ length order) (h : AreNumbered ps order spans turns) where
     pub low : turns - 1 < length order
     low = omega (arith, more, few)
 
-    before : turns ≡ turns - 1 + 1
-    before = omega (arith, more)
+    before : AreNumbered ps order spans (turns - 1 + 1)
+    before = let e : turns ≡ turns - 1 + 1 = omega (arith, more) in subst (AreNumbered ps order spans) e h
 
-    both : (number_at ns (p low) ≡ under ps order (turns - 1) (p low)) × (number_at ns (q low) ≡ under ps order (turns - 1) (q low) + (number_at ns (p low) + 1))
-    both = under_both low (subst (λ t. AreUnder ps order t ns) before u)
+    written_is : ((at spans (p low)).first ≡ under ps order (turns - 1) (q low) + 1) × ((at spans (p low)).last ≡ under ps order (turns - 1) (p low))
+    written_is = rw (o.once (turns - 1) low) at (before.rest (p low) (p_low low) (omega (arith, o.once (turns - 1) low)))
 
-    numbered_before : AreNumbered ps order spans (turns - 1 + 1)
-    numbered_before = subst (AreNumbered ps order spans) before h
+    abbrev start : ℕ
+    start = (at spans (p low)).first + (at spans (q low)).first
 
-    pub written_fits : (number_at ns (p low) + 1 ≤ number_at ns (q low)) × ((at spans (q low)).first + number_at ns (q low) < length ps)
-    written_fits = (omega (arith, both.1), omega (arith, both.0, both.1, fits low numbered_before))
+    pub written_fits : (at spans (p low)).last + start < length ps
+    written_fits = omega (arith, written_is.0, written_is.1, fits low before)
 
-    pub written_under : AreUnder ps order (turns - 1) (slice_set ns (q low) (number_at ns (q low) - (number_at ns (p low) + 1)))
-    written_under = changed low (subst (λ t. AreUnder ps order t ns) before u) (omega (arith, both.1)) (λ i other. sym (under_other low i other))
-
-    abbrev end : ℕ
-    end = (at spans (q low)).first + number_at ns (q low)
-
-    pub written : AreNumbered ps order (slice_set spans (p low) (record { first = end - number_at ns (p low); last = end })) (turns - 1)
+    pub written : AreNumbered ps order (slice_set spans (p low) (record { first = start; last = (at spans (p low)).last + start })) (turns - 1)
     written =
-        let l : last low numbered_before ≡ end = omega (arith, both.0, both.1) in
-        let f : first low numbered_before ≡ end - number_at ns (p low) = omega (arith, both.0, both.1) in
-        rw (sym f, sym l) (one_numbered low numbered_before)
+        let f : first low before ≡ start = omega (arith, written_is.0) in
+        let l : last low before ≡ (at spans (p low)).last + start = omega (arith, written_is.0, written_is.1) in
+        rw (sym l, sym f) (one_numbered low before)

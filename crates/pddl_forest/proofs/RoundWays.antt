@@ -9,7 +9,7 @@ use Rattle.std.specs.Prelude.{IsTrue, MatchBool}
 use Rattle.std.specs.List.{count_by, list_any, range_with_len, AllWithin, HoldsAt}
 use Rattle.pddl_forest.specs.Forests.{parent_of, up, number_at}
 use Rattle.pddl_forest.specs.Rounds.{GoesRound, IsOnRound, HasRound, AreRounds}
-use Rattle.pddl_forest.specs.Inner.{turn_of, ArePeeled, GoRound, IsOrder, AreUnder}
+use Rattle.pddl_forest.specs.Inner.{turn_of, ArePeeled, GoRound, IsOrder}
 use Rattle.pddl_forest.proofs.Peels.{turn_few, few_apart}
 
 -- so many steps, and so many more
@@ -138,13 +138,6 @@ module _ {ps numbers : List ℕ} (h : GoRound ps numbers) where
       | inr other ↦ rw (get_or-set_other numbers 0 i 0 0 other) (λ some. ((h.each i low).0 some, λ is. absurd (other is)), λ round. (h.each i low).1 round.0)
     ];
   }
-
--- all are 0 where no way goes round
-pub none_under : {ps numbers : List ℕ} (order : List ℕ) → AreRounds ps numbers → (HasRound ps → ⊥) → AreUnder ps order 0 numbers
-none_under {ps} {numbers} order h no_round = record {
-  long = h.many;
-  each = λ i low. elim (cases_eq (number_at numbers i) 0) as (λ _. number_at numbers i ≡ 0) [ inl none ↦ none | inr some ↦ absurd (no_round (i, low, (h.each i low).0 some)) ];
-}
 
 -- some number is other than 0 where some way goes round
 pub told_round : {ps numbers : List ℕ} (told : Bool) → AreRounds ps numbers → MatchBool told ((k : ℕ) × (k < length numbers) × HoldsAt (λ n. n ≢ 0) numbers k) (AllWithin (λ n. n ≡ 0) numbers 0 (length numbers))

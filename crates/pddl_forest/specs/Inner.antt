@@ -50,11 +50,12 @@ abbrev pub under : List ℕ → List ℕ → ℕ → ℕ → ℕ
 under ps order zero i = 0
 under ps order (suc t) i = cond (eqb (number_at ps (number_at order t)) i) (under ps order t i + under ps order t (number_at order t) + 1) (under ps order t i)
 
--- they are for each place these
-pub record AreUnder (ps order : List ℕ) (turn : ℕ) (numbers : List ℕ) : Type 0 where
-  pub long : length numbers ≡ length ps
-  pub each : (i : ℕ) → i < length ps → number_at numbers i ≡ under ps order turn i
-
 -- the span at a place
 abbrev pub at : List Span → ℕ → Span
 at spans i = slice_index_or spans i (record { first = 0; last = 0 })
+
+-- Each span's last number is how many places are under its place by then. Those of the places before the turn begin behind the number of their parent and of what was under it.
+pub record AreUnder (ps order : List ℕ) (turn : ℕ) (spans : List Span) : Type 0 where
+  pub long : length spans ≡ length ps
+  pub last : (i : ℕ) → i < length ps → (at spans i).last ≡ under ps order turn i
+  pub first : (i : ℕ) → i < length ps → turn_of order i < turn → (at spans i).first ≡ under ps order (turn_of order i) (number_at ps i) + 1

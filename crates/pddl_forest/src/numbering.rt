@@ -10,58 +10,39 @@ use crate::peeling::{children_left, has_round};
 use crate::spans::Span;
 use std::alloc::{AllocError, Allocator};
 
-/// Counts how many places are under each, in an order in which each stands before its parent.
-fn count_under(parents: &[usize], order: &[usize], under: &mut [usize])
+/// Counts how many places are under each, and puts each behind what is under its parent so far, in an order in which each stands before its parent.
+fn count_under(parents: &[usize], order: &[usize], spans: &mut [Span])
     requires order { IsOrder parents.now order.now }
-    requires none { AreUnder parents.now order.now 0 under.old }
-    ensures { AreUnder parents.now order.now (length order.now) under.new }
+    requires none { AreUnder parents.now order.now 0 spans.old }
+    ensures { AreUnder parents.now order.now (length order.now) spans.new }
 {
     for place in order {
-        under[parents[*place]] += under[*place] + 1;
+        let last = spans[*place].last;
+        let parent = &mut spans[parents[*place]];
+        let first = parent.last + 1;
+        parent.last = first + last;
+        spans[*place] = Span { first, last };
     }
 }
 
-/// Numbers places from the end of such an order: each takes the last numbers of those that its parent has for what is under it and still has to be numbered.
-fn number_from_top(parents: &[usize], order: &[usize], under: &mut [usize], spans: &mut [Span])
+/// Numbers places from 0 on from the end of such an order: each behind its parent's number by what was put before it.
+fn number_from_top(parents: &[usize], order: &[usize], spans: &mut [Span])
     requires order { IsOrder parents.now order.now }
-    requires none { AreUnder parents.now order.now 0 under.old }
-    requires room { length spans.old ≡ length parents.now }
+    requires none { AreUnder parents.now order.now 0 spans.old }
     ensures { AreSpans parents.now spans.new }
 {
-    count_under(parents, order, under);
+    count_under(parents, order, spans);
     spans[0] = Span {
         first: 0,
         last: parents.len() - 1,
     };
     for turn in (0..order.len()).rev() {
         let place = order[turn];
-        let parent = parents[place];
-        let many = under[place];
-        let last = spans[parent].first + under[parent];
-        spans[place] = Span {
-            first: last - many,
-            last,
-        };
-        under[parent] -= many + 1;
+        let span = spans[place];
+        let first = span.first + spans[parents[place]].first;
+        let last = span.last + first;
+        spans[place] = Span { first, last };
     }
-}
-
-/// The spans of the places of such an order.
-///
-/// Fails where memory for them is refused.
-fn spans_in<'a, B: Allocator>(
-    alloc: &'a B,
-    parents: &[usize],
-    order: &[usize],
-    under: &mut [usize],
-) -> Result<Vec<Span, &'a B>, AllocError>
-    requires order { IsOrder parents.now order.now }
-    requires none { AreUnder parents.now order.now 0 under.old }
-    ensures { IfOk result (λ spans. AreSpans parents.now spans.items) }
-{
-    let mut spans = vec![in alloc; Span { first: 0, last: 0 }; parents.len()]?;
-    number_from_top(parents, order, under, &mut spans);
-    Ok(spans)
 }
 
 /// The spans of the places whose parents stand at these places. Where a way from parent to parent goes round, other than from place 0 to itself, numbers
@@ -83,6 +64,7 @@ pub fn forest_spans<'a, B: Allocator>(
     if has_round(parents, &mut left) {
         return Ok(Err(left));
     }
-    let spans = spans_in(alloc, parents, &order, &mut left)?;
+    let mut spans = vec![in alloc; Span { first: 0, last: 0 }; parents.len()]?;
+    number_from_top(parents, &order, &mut spans);
     Ok(Ok(spans))
 }

@@ -1,8 +1,10 @@
 use Rattle.std.proofs.Common.{◌≡◌, length, sym, subst, ◌∙◌, true≢false, arith}
 use Rattle.std.proofs.lemmas.List.{get_or_default}
-use Rattle.pddl_forest.specs.Rounds.{HasRound, AreRounds}
+use Rattle.pddl_forest.specs.Rounds.{AreRounds}
+use Rattle.pddl_forest.specs.Spans.{AreSpans}
 use Rattle.pddl_forest.proofs.Peels.{in_place}
-use Rattle.pddl_forest.proofs.RoundWays.{go_round, in_order, none_under}
+use Rattle.pddl_forest.proofs.Numbers.{none_under}
+use Rattle.pddl_forest.proofs.RoundWays.{go_round, in_order}
 use Rattle.pddl_forest.proofs.numbering.forest_spans.Goals as goal
 
 pub children_left-requires-clause-within : goal.children_left-requires-clause-within
@@ -11,15 +13,20 @@ children_left-requires-clause-within g c = λ i low. rw (get_or_default c.args.p
 pub has_round-requires-clause-round : goal.has_round-requires-clause-round
 has_round-requires-clause-round g c = rw c.deref_mut.ensures.value (go_round c.in_ok-left.ensures c.requires.within)
 
-pub spans_in-requires : goal.spans_in-requires
-spans_in-requires g c =
-    let h = c.has_round.ensures in
-    let no_round = λ (round : HasRound c.args.parents.now). true≢false (sym (h.round.1 round) ∙ c.if-has_round.false) in
-    let is : c.deref_mut-2.result.now ≡ c.has_round.new.numbers = c.deref_mut-2.ensures.value ∙ in_place c.has_round.new.numbers _ c.in_ok-left.left.len (omega (arith, c.in_ok-left.ensures.counted.long, h.numbers.many)) in
-    rw (c.deref.ensures.value, is) record { order = in_order c.in_ok-left.ensures c.requires.within c.requires.some no_round; none = none_under _ h.numbers no_round }
+pub number_from_top-requires : goal.number_from_top-requires
+number_from_top-requires g c = rw (c.deref.ensures.value, c.deref_mut-2.ensures.value, c.in_ok-spans.ensures.items_if_clones_equal (λ _ same. same)) record {
+  order = in_order c.in_ok-left.ensures c.requires.within c.requires.some (λ round. true≢false (sym (c.has_round.ensures.round.1 round) ∙ c.if-has_round.false));
+  none = none_under c.args.parents.now _;
+}
 
 pub returns : goal.returns
-returns g c = record { spans = c.in_ok-spans.ensures; none = λ round. true≢false (sym (c.has_round.ensures.round.1 round) ∙ c.if-has_round.false); round = tt }
+returns g c =
+    let spans = c.number_from_top.new.spans in
+    record {
+      spans = subst (AreSpans c.args.parents.now) (sym (in_place spans _ c.in_ok-spans.spans.len (omega (arith, c.in_ok-spans.ensures.len, c.number_from_top.ensures.many)))) c.number_from_top.ensures;
+      none = λ round. true≢false (sym (c.has_round.ensures.round.1 round) ∙ c.if-has_round.false);
+      round = tt;
+    }
 
 pub returns-then-has_round : goal.returns-then-has_round
 returns-then-has_round g c =
