@@ -9,7 +9,7 @@ use Rattle.std.proofs.lemmas.Map.Keys.{IsDistinct-from_apart}
 use Rattle.std.proofs.lemmas.Map.Steps.{length-le_from_distinct_below}
 use Rattle.std.specs.List.{range_with_len, count_by, slice_index_or}
 use Rattle.pddl_forest.specs.Forests.{number_at, parent_of}
-use Rattle.pddl_forest.specs.Inner.{turn_of, AreListed, AreCounted, ArePeeled}
+use Rattle.pddl_forest.specs.Inner.{turn_of, AreListed, AreCounted, ArePeeled, IsUpward}
 use borrow.Author.Count.{below_more}
 use Rattle.std.proofs.Math.Seq.{take-append_seam}
 
@@ -222,3 +222,17 @@ module _ {ps left order : List ℕ} {turn place : ℕ} (h : ArePeeled ps left or
       | inr other ↦ let before = turn_other order parent (parent_of ps i) other inside in omega (arith, h.behind i i_low before, before, turn_before order parent i, turn_before order parent (parent_of ps i))
     ];
   }
+
+-- the places that are listed stand before their parents
+pub upward : {ps left order : List ℕ} {turn : ℕ} → ArePeeled ps left order turn → ((i : ℕ) → i < length ps → number_at ps i < length ps) → IsUpward ps order
+upward {ps} {left} {order} h within = record {
+  within = within;
+  few = few_listed h.listed;
+  in_range = h.listed.in_range;
+  once = h.listed.once;
+  later = λ u low.
+      let i = number_at order u in
+      let i_low = h.listed.in_range u low in
+      let behind = rw (get_or_default ps i i 0 i_low) at (h.behind i i_low) in
+      grind (arith, behind, h.listed.once u low, low, turn_few order (number_at ps i));
+}

@@ -10,7 +10,7 @@ use Rattle.std.specs.List.{count_by, list_any, range_with_len, AllWithin, HoldsA
 use Rattle.pddl_forest.specs.Forests.{parent_of, up, number_at}
 use Rattle.pddl_forest.specs.Rounds.{GoesRound, IsOnRound, HasRound, AreRounds}
 use Rattle.pddl_forest.specs.Inner.{turn_of, ArePeeled, GoRound, IsOrder}
-use Rattle.pddl_forest.proofs.Peels.{turn_few, few_apart}
+use Rattle.pddl_forest.proofs.Peels.{turn_few, few_apart, upward}
 
 -- so many steps, and so many more
 up_more : (ps : List ℕ) (m n i : ℕ) → up ps m (up ps n i) ≡ up ps (n + m) i
@@ -111,16 +111,14 @@ module _ {ps left order : List ℕ} (h : ArePeeled ps left order (length order))
 
     pub in_order : IsOrder ps order
     in_order = record {
+      upward = upward h (λ i low. rw (get_or_default ps i 0 i low) (within i low));
       top = top;
-      within = λ i low. rw (get_or_default ps i 0 i low) (within i low);
       few =
           let few = few_apart (length ps - 1) (length order) (λ u. number_at order u - 1) (λ u low. omega (arith, h.listed.in_range u low, not_top u low)) (λ a b less low same.
           let a_low : a < length order = omega (arith, less, low) in
           let is : number_at order a ≡ number_at order b = omega (arith, same, not_top a a_low, not_top b low) in
           omega (arith, h.listed.once a a_low, ap (turn_of order) is, h.listed.once b low, less)) in
           omega (arith, few, some);
-      in_range = h.listed.in_range;
-      once = h.listed.once;
       above = above;
       ahead = λ i low other. grind (arith, h.behind i low, listed i low (λ is. absurd (other is)));
     }

@@ -1,6 +1,6 @@
 -- What the code and the proofs go by: the places of a forest in an order in which each comes before its parent, how they are found and what is numbered in it.
 -- No public contract names these.
-use Rattle.std.specs.Prelude.{◌≡◌, ◌≢◌, ◌+◌, ◌≤◌, ◌<◌, ◌↔◌, cond, eqb, ℕ, zero, suc, List, length}
+use Rattle.std.specs.Prelude.{◌≡◌, ◌≢◌, ◌+◌, ◌≤◌, ◌<◌, ◌↔◌, cond, eqb, ℕ, zero, suc, List, length, slice_set}
 use Rattle.std.specs.List.{count_by, position_or_len, slice_index_or}
 use Rattle.pddl_forest.specs.Forests.{parent_of, number_at}
 use Rattle.pddl_forest.specs.Rounds.{GoesRound}
@@ -35,13 +35,19 @@ pub record GoRound (ps numbers : List ℕ) : Type 0 where
   pub many : length numbers ≡ length ps
   pub each : (i : ℕ) → i < length ps → (number_at numbers i ≢ 0) ↔ GoesRound ps i
 
--- All places but 0, which is its own parent, each once and before its parent.
-pub record IsOrder (ps order : List ℕ) : Type 0 where
-  pub top : parent_of ps 0 ≡ 0
+-- Places, each once and before its parent.
+pub record IsUpward (ps order : List ℕ) : Type 0 where
   pub within : (i : ℕ) → i < length ps → number_at ps i < length ps
-  pub few : length order < length ps
+  pub few : length order ≤ length ps
   pub in_range : (u : ℕ) → u < length order → number_at order u < length ps
   pub once : (u : ℕ) → u < length order → turn_of order (number_at order u) ≡ u
+  pub later : (u : ℕ) → u < length order → u < turn_of order (number_at ps (number_at order u))
+
+-- All places but 0, which is its own parent, so.
+pub record IsOrder (ps order : List ℕ) : Type 0 where
+  pub upward : IsUpward ps order
+  pub top : parent_of ps 0 ≡ 0
+  pub few : length order < length ps
   pub above : turn_of order 0 ≡ length order
   pub ahead : (i : ℕ) → i < length ps → i ≢ 0 → turn_of order i < turn_of order (parent_of ps i)
 
@@ -53,6 +59,11 @@ under ps order (suc t) i = cond (eqb (number_at ps (number_at order t)) i) (unde
 -- the span at a place
 abbrev pub at : List Span → ℕ → Span
 at spans i = slice_index_or spans i (record { first = 0; last = 0 })
+
+-- what is under a place is put behind what is under another
+abbrev pub put_under : List Span → ℕ → ℕ → List Span
+put_under spans i over =
+    slice_set (slice_set spans over (record { first = (at spans over).first; last = (at spans over).last + 1 + (at spans i).last })) i (record { first = (at spans over).last + 1; last = (at spans i).last })
 
 -- Each span's last number is how many places are under its place by then. Those of the places before the turn begin behind the number of their parent and of what was under it.
 pub record AreUnder (ps order : List ℕ) (turn : ℕ) (spans : List Span) : Type 0 where

@@ -10,28 +10,12 @@ use crate::peeling::{children_left, has_round};
 use crate::spans::Span;
 use std::alloc::{AllocError, Allocator};
 
-/// Counts how many places are under each, and puts each behind what is under its parent so far, in an order in which each stands before its parent.
-fn count_under(parents: &[usize], order: &[usize], spans: &mut [Span])
-    requires order { IsOrder parents.now order.now }
-    requires none { AreUnder parents.now order.now 0 spans.old }
-    ensures { AreUnder parents.now order.now (length order.now) spans.new }
-{
-    for place in order {
-        let last = spans[*place].last;
-        let parent = &mut spans[parents[*place]];
-        let first = parent.last + 1;
-        parent.last = first + last;
-        spans[*place] = Span { first, last };
-    }
-}
-
 /// Numbers places from 0 on from the end of such an order: each behind its parent's number by what was put before it.
 fn number_from_top(parents: &[usize], order: &[usize], spans: &mut [Span])
     requires order { IsOrder parents.now order.now }
-    requires none { AreUnder parents.now order.now 0 spans.old }
+    requires under { AreUnder parents.now order.now (length order.now) spans.old }
     ensures { AreSpans parents.now spans.new }
 {
-    count_under(parents, order, spans);
     spans[0] = Span {
         first: 0,
         last: parents.len() - 1,
@@ -59,12 +43,12 @@ pub fn forest_spans<'a, B: Allocator>(
     ensures none { IfOk result (λ found. IfOk found (λ spans. HasRound parents.now → ⊥)) }
     ensures round { IfOk result (λ found. IfErr found (λ numbers. HasRound parents.now × AreRounds parents.now numbers.items)) }
 {
+    let mut spans = vec![in alloc; Span { first: 0, last: 0 }; parents.len()]?;
     let mut order = Vec::with_capacity(alloc, parents.len())?;
-    let mut left = children_left(alloc, parents, &mut order)?;
+    let mut left = children_left(alloc, parents, &mut order, &mut spans)?;
     if has_round(parents, &mut left) {
         return Ok(Err(left));
     }
-    let mut spans = vec![in alloc; Span { first: 0, last: 0 }; parents.len()]?;
     number_from_top(parents, &order, &mut spans);
     Ok(Ok(spans))
 }

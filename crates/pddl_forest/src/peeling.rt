@@ -1,10 +1,11 @@
 //! Places that are peeled off in turn, each once no child of it is left. What is left lies on ways from parent to parent that go round.
 
-ghost use Rattle.std.specs.Prelude.{◌≡◌, ◌<◌, ◌↔◌, ℕ, IsTrue, [], length, replicate, IfOk, OnOk};
+ghost use Rattle.std.specs.Prelude.{◌≡◌, ◌+◌, ◌<◌, ◌≤◌, ◌↔◌, ℕ, IsTrue, List, [], length, replicate, IfOk, OnOk};
 ghost use Rattle.pddl_forest.specs.Forests.{number_at};
 ghost use Rattle.pddl_forest.specs.Rounds.{HasRound, AreRounds};
-ghost use Rattle.pddl_forest.specs.Inner.{AreCounted, AreListed, ArePeeled, GoRound};
+ghost use Rattle.pddl_forest.specs.Inner.{AreCounted, AreListed, ArePeeled, GoRound, AreUnder, at, put_under};
 
+use crate::spans::Span;
 use std::alloc::{AllocError, Allocator};
 
 /// Counts the children of each place.
@@ -37,6 +38,19 @@ fn list_leaves<'a, B: Allocator>(
     Ok(())
 }
 
+/// Puts what is under a place behind what is under its parent so far: its first number is from the number of the parent on, and its last from its own.
+fn put_under(spans: &mut [Span], place: usize, parent: usize)
+    requires place { place < length spans.old }
+    requires parent { parent < length spans.old }
+    requires fits { (at spans.old parent).last + 1 + (at spans.old place).last ≤ length spans.old }
+    ensures { spans.new ≡ put_under spans.old place parent }
+{
+    let first = spans[parent].last + 1;
+    let last = spans[place].last;
+    spans[parent].last = first + last;
+    spans[place] = Span { first, last };
+}
+
 /// Peels off the places of a list in turn, and adds each parent of which no child is left by that.
 ///
 /// Fails where memory for them is refused.
@@ -44,16 +58,21 @@ fn peel<'a, B: Allocator>(
     parents: &[usize],
     left: &mut [usize],
     order: &mut Vec<usize, &'a B>,
+    spans: &mut [Span],
 ) -> Result<(), AllocError>
     requires within { (i : ℕ) → i < length parents.now → number_at parents.now i < length parents.now }
     requires leaves { ArePeeled parents.now left.old order.old.items 0 }
-    ensures { OnOk result (ArePeeled parents.now left.new order.new.items (length order.new.items)) }
+    requires none { AreUnder parents.now order.old.items 0 spans.old }
+    ensures peeled { OnOk result (ArePeeled parents.now left.new order.new.items (length order.new.items)) }
+    ensures under { OnOk result (AreUnder parents.now order.new.items (length order.new.items) spans.new) }
 {
     for turn in 0..parents.len() {
         if turn == order.len() {
             return Ok(());
         }
-        let parent = parents[order[turn]];
+        let place = order[turn];
+        let parent = parents[place];
+        put_under(spans, place, parent);
         let fewer = &mut left[parent];
         *fewer -= 1;
         if *fewer == 0 {
@@ -70,15 +89,18 @@ pub fn children_left<'a, B: Allocator>(
     alloc: &'a B,
     parents: &[usize],
     order: &mut Vec<usize, &'a B>,
+    spans: &mut [Span],
 ) -> Result<Vec<usize, &'a B>, AllocError>
     requires within { (i : ℕ) → i < length parents.now → number_at parents.now i < length parents.now }
     requires clear { order.old.items ≡ [] }
-    ensures { IfOk result (λ left. ArePeeled parents.now left.items order.new.items (length order.new.items)) }
+    requires none { (places : List ℕ) → AreUnder parents.now places 0 spans.old }
+    ensures left { IfOk result (λ left. ArePeeled parents.now left.items order.new.items (length order.new.items)) }
+    ensures under { OnOk result (AreUnder parents.now order.new.items (length order.new.items) spans.new) }
 {
     let mut left = vec![in alloc; 0; parents.len()]?;
     count_children(parents, &mut left);
     list_leaves(&left, order)?;
-    peel(parents, &mut left, order)?;
+    peel(parents, &mut left, order, spans)?;
     Ok(left)
 }
 

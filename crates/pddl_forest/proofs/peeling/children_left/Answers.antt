@@ -14,8 +14,15 @@ peel-requires-clause-leaves g c =
     let listed = subst (λ ns. AreListed ns c.list_leaves.new.order.items (length ns)) read c.in_ok-list_leaves.ensures in
     rw (c.deref_mut-2.ensures.value, in_place counted _ c.in_ok-left.left.len long) (first_peeled c.count_children.ensures (rw c.count_children.ensures.long at listed) c.requires.within)
 
+pub peel-requires-clause-none : goal.peel-requires-clause-none
+peel-requires-clause-none g c = c.requires.none _
+
 pub returns : goal.returns
 returns g c =
     let left = c.peel.new.left in
-    let long : c.in_ok-left.left.len ≡ length left = omega (arith, c.in_ok-left.ensures.len, c.in_ok-peel.ensures.counted.long) in
-    subst (λ ns. ArePeeled c.args.parents.now ns c.peel.new.order.items (length c.peel.new.order.items)) (sym (in_place left _ c.in_ok-left.left.len long)) c.in_ok-peel.ensures
+    let h = c.in_ok-peel.ensures in
+    let long : c.in_ok-left.left.len ≡ length left = omega (arith, c.in_ok-left.ensures.len, h.peeled.counted.long) in
+    record {
+      left = subst (λ ns. ArePeeled c.args.parents.now ns c.peel.new.order.items (length c.peel.new.order.items)) (sym (in_place left _ c.in_ok-left.left.len long)) h.peeled;
+      under = h.under;
+    }
