@@ -1,55 +1,96 @@
--- Spans that are apart, and tops of spans.
-use Rattle.std.proofs.Common.{◌≡◌, ◌≢◌, ℕ, zero, suc, ◌+◌, ◌-◌, ◌<◌, ◌≤◌, ◌==◌, ◌&&◌, leb, Bool, true, false, List, [], ◌∷◌, length, sym, ap, ◌∙◌, subst, arith, inl, inr, ◌⊎◌}
-use Rattle.std.proofs.lemmas.Bool.{leb-true, leb-false, le-leb, eq-eqb, and_parts, and_from, cases_lt, cond_both, true≢false, or_left, or_right}
+-- Spans that are apart, what they hold, and tops of spans.
+use Rattle.std.proofs.Common.{◌≡◌, ℕ, zero, suc, ◌+◌, ◌-◌, ◌<◌, ◌≤◌, ◌==◌, ◌&&◌, leb, Bool, true, false, List, [], ◌∷◌, length, sym, ap, ◌∙◌, subst, arith, inl, inr}
+use Rattle.std.proofs.lemmas.Bool.{leb-true, leb-false, le-leb, eq-eqb, and_parts, and_from, cases_eq, cases_lt, cond_both, or_left, or_right, and_left, and_right, lt-leb}
 use Rattle.std.proofs.lemmas.List.{get_or_default}
 use Rattle.std.proofs.lemmas.List.Elements.{Contains-get_or}
 use Rattle.std.proofs.lemmas.List.Filters.{All-dedup}
-use Rattle.std.proofs.lemmas.List.Folds.{list_any_at, Any-from_list_any}
+use Rattle.std.proofs.lemmas.List.Folds.{list_any_at, Any-from_list_any, list_any_none, list_all_at}
 use Rattle.std.proofs.lemmas.List.Kept.{AllPairs-cons, Contains-from_dedup}
 use Rattle.std.proofs.lemmas.List.Sorted.{Contains-permutation, IsPermutation-sym, IsNonDecreasingBy-drop, IsNonDecreasingBy-from_default, IsPartitionedBy-leb}
 use Rattle.std.specs.Prelude.{Contains}
-use Rattle.std.specs.List.{AllPairs, slice_index_or, dedup, dedup_from}
-use Rattle.std.specs.List.Sorted.{IsNonDecreasingBy, IsPartitionPoint, IsPartitionedBy, IsPermutation}
-use Rattle.pddl_forest.specs.Spans.{holds, some_holds, span_at, AreApart, AreTops}
+use Rattle.std.specs.List.{AllPairs, dedup, dedup_from}
+use Rattle.std.specs.List.Sorted.{IsNonDecreasingBy, IsPartitionedBy, IsPermutation}
+use Rattle.pddl_forest.specs.Spans.{holds, some_holds, span_at, AreApart, AreTops, hold_all}
 use Rattle.pddl_forest.specs.declared.spans.Span.{Span}
-use Rattle.pddl_forest.proofs.Lists.{nowhere, in_cases}
+use Rattle.pddl_forest.specs.Inner.{at}
+use Rattle.std.proofs.lemmas.List.Sums.{list_all-from_AllPass}
 
 pub held : (s : Span) (n : ℕ) → s.first ≤ n → n ≤ s.last → holds s n ≡ true
 held s n from to = and_from (leb s.first n) (leb n s.last) (le-leb s.first n from) (le-leb n s.last to)
 
 -- ---- spans that are apart
 
+module _ {spans : List Span} (h : AreApart spans) where
+  read : (i : ℕ) → i < length spans → span_at spans i ≡ at spans i
+  read i low = get_or_default spans i _ _ low
+
+  pub own : (i : ℕ) → i < length spans → (at spans i).first ≤ (at spans i).last
+  own i low = rw (read i low) at (h.own i low)
+
+  pub behind : (i j : ℕ) → i < j → j < length spans → (at spans i).last < (at spans j).first
+  behind i j less low = rw (read i (omega (arith, less, low)), read j low) at (h.behind i j less low)
+
+  pub rising : (i j : ℕ) → i ≤ j → j < length spans → (at spans i).first ≤ (at spans j).first
+  rising i j le low = elim (cases_eq i j) as (λ _. (at spans i).first ≤ (at spans j).first) [
+    | inl is ↦ rw is (omega arith)
+    | inr other ↦ omega (arith, own i (omega (arith, le, low)), behind i j (omega (arith, le, other)) low)
+  ]
+
 pub parted : (spans : List Span) (n : ℕ) → AreApart spans → IsPartitionedBy (λ s. leb s.first n) spans
-parted spans n h =
-    IsPartitionedBy-leb (λ s. s.first) spans n (IsNonDecreasingBy-from_default (λ s. s.first) spans (record { first = length spans; last = length spans })
-    (λ i j le low. elim (cases_lt i j) as (λ _. (span_at spans i).first ≤ (span_at spans j).first) [
-      | inl less ↦ let own = h.own i (omega (arith, le, low)) in let past = h.behind i j less low in omega (arith, own, past)
-      | inr not ↦ let is : i ≡ j = omega (arith, le, not) in let e = ap (λ k. (span_at spans k).first) is in omega (arith, e)
-    ]))
+parted spans n h = IsPartitionedBy-leb (λ s. s.first) spans n (IsNonDecreasingBy-from_default (λ s. s.first) spans (record { first = 0; last = 0 }) (rising h))
 
 -- a number that some span holds is held by the last that begins at or before it
-module _ (spans : List Span) (n behind : ℕ) (apart : AreApart spans) (bound : behind ≤ length spans)
-    (point : IsPartitionPoint (λ s. leb s.first n ≡ true) (λ s. leb s.first n ≡ false) spans behind) where
-  pub held_before : some_holds spans n ≡ true → (behind ≢ 0) × ((d : Span) → holds (slice_index_or spans (behind - 1) d) n ≡ true)
-  held_before some =
-      let (k, s, low, is, on) = Any-from_list_any (λ s. holds s n) spans some in
-      let (from, to) = and_parts (leb s.first n) (leb n s.last) on in
-      let to = leb-true n s.last to in
-      let begun : k < behind = elim (cases_lt k behind) as (λ _. k < behind) [
-        | inl less ↦ less
-        | inr past ↦ absurd (true≢false (sym from ∙ sym (ap (λ t. leb t.first n) is) ∙ point.1 k s past low))
-      ] in
-      let last : behind ≤ k + 1 = elim (cases_lt (k + 1) behind) as (λ _. behind ≤ k + 1) [
-        | inr not ↦ not
-        | inl less ↦
-            let next = leb-true (span_at spans (k + 1)).first n (point.0 (k + 1) _ (omega arith) less) in
-            let past = apart.behind k (k + 1) (omega arith) (omega (arith, less, bound)) in
-            let at : span_at spans k ≡ s = get_or_default spans k _ s low ∙ is in
-            let e = ap (λ t. t.last) at in
-            absurd (omega (arith, to, next, past, e))
-      ] in
-      let at : behind - 1 ≡ k = omega (arith, begun, last) in
-      (λ none. omega (arith, none, begun), λ d. ap (λ t. holds t n) (ap (λ i. slice_index_or spans i d) at ∙ get_or_default spans k d s low ∙ is) ∙ on)
+pub last_holds : {spans : List Span} (n point : ℕ) → AreApart spans → point ≤ length spans → ((i : ℕ) → i < point → (at spans i).first ≤ n)
+    → ((i : ℕ) → point ≤ i → i < length spans → n < (at spans i).first) → some_holds spans n ≡ true → (0 < point) × (holds (at spans (point - 1)) n ≡ true)
+last_holds {spans} n point apart within before past some =
+    let (k, s, low, is, on) = Any-from_list_any (λ s. holds s n) spans some in
+    let on : holds (at spans k) n ≡ true = rw (get_or_default spans k (record { first = 0; last = 0 }) s low ∙ is) on in
+    let (from, to) = and_parts (leb (at spans k).first n) (leb n (at spans k).last) on in
+    let begun : k < point = elim (cases_lt k point) as (λ _. k < point) [ inl less ↦ less | inr not ↦ absurd (omega (arith, past k not low, leb-true (at spans k).first n from)) ] in
+    let last : point - 1 ≡ k = elim (cases_lt (k + 1) point) as (λ _. point - 1 ≡ k) [
+      | inl less ↦ absurd (omega (arith, leb-true n (at spans k).last to, before (k + 1) less, behind apart k (k + 1) (omega arith) (omega (arith, less, within))))
+      | inr not ↦ omega (arith, begun, not)
+    ] in
+    (omega (arith, begun), rw last on)
+
+-- ---- the first numbers of others in runs: those that one span holds stand side by side
+
+-- In front of the k-th span, those of the others before a place are held, and the others begin behind the spans so far.
+pub record AreRuns (outer inner : List Span) (k next : ℕ) : Type 0 where
+  pub within : next ≤ length inner
+  pub past : (i : ℕ) → i < next → some_holds outer (at inner i).first ≡ true
+  pub left : (i j : ℕ) → next ≤ i → i < length inner → j < k → (at outer j).last < (at inner i).first
+
+module _ {outer inner : List Span} {k next : ℕ} (runs : AreRuns outer inner k next) where
+  -- the next one is held by none where the spans from the k-th on begin behind it
+  pub one_missed : next < length inner → ((j : ℕ) → k ≤ j → j < length outer → (at inner next).first < (at outer j).first) → hold_all outer inner ≡ false
+  one_missed low later =
+      let n = (at inner next).first in
+      list_all_at (λ s. some_holds outer s.first) inner next (record { first = 0; last = 0 }) low (list_any_none (λ s. holds s n) outer (λ j d inside. rw (get_or_default outer j d (record { first = 0; last = 0 }) inside)
+      (elim (cases_lt j k) as (λ _. holds (at outer j) n ≡ false) [
+        | inl before ↦ and_right (leb (at outer j).first n) (leb n (at outer j).last) (lt-leb n (at outer j).last (runs.left next j (omega arith) low before))
+        | inr from ↦ and_left (leb (at outer j).first n) (leb n (at outer j).last) (lt-leb (at outer j).first n (later j from inside))
+      ])))
+
+  -- all are held where none is left
+  pub all_past : next ≡ length inner → hold_all outer inner ≡ true
+  all_past none = list_all-from_AllPass (λ s. some_holds outer s.first) inner (λ i d low. rw (get_or_default inner i d (record { first = 0; last = 0 }) low) (runs.past i (omega (arith, none, low))))
+
+  -- those that the k-th span holds, where the next one begins in it or behind it
+  pub one_run : AreApart outer → AreApart inner → k < length outer → (next < length inner → (at outer k).first ≤ (at inner next).first) → (new : ℕ) → new ≤ length inner
+      → ((i : ℕ) → i < new → (at inner i).first ≤ (at outer k).last) → ((i : ℕ) → new ≤ i → i < length inner → (at outer k).last < (at inner i).first) → AreRuns outer inner (k + 1) new
+  one_run apart sorted here begins new within before past = record {
+    within = within;
+    past = λ i low. elim (cases_lt i next) as (λ _. some_holds outer (at inner i).first ≡ true) [
+      | inl held_before ↦ runs.past i held_before
+      | inr from ↦ list_any_at (λ s. holds s (at inner i).first) outer k (record { first = 0; last = 0 }) here
+          (held (at outer k) (at inner i).first (omega (arith, begins (omega (arith, from, low, within)), rising sorted next i from (omega (arith, low, within)))) (before i low))
+    ];
+    left = λ i j from low earlier. elim (cases_eq j k) as (λ _. (at outer j).last < (at inner i).first) [
+      | inl is ↦ rw is (past i from low)
+      | inr other ↦ omega (arith, behind apart j k (omega (arith, earlier, other)) here, own apart k here, past i from low)
+    ];
+  }
 
 -- ---- tops
 
@@ -66,31 +107,28 @@ kept_apart k (x ∷ xs) up =
     (All-dedup within (λ t. k.last < t.first) (x ∷ xs) (λ i d low. let past = leb-false x.first k.last other in let more = up 0 i d (omega arith) low in omega (arith, past, more)))
     (kept_apart x xs rest))
 
+-- what a span holds is held by what is kept from it on
+held_kept : (n : ℕ) (k : Span) (xs : List Span) → holds k n ≡ true → some_holds (dedup_from within k xs) n ≡ true
+held_kept n k [] on = or_left (holds k n) false on
+held_kept n k (x ∷ xs) on = cond_both (within x k) (dedup_from within k xs) (k ∷ dedup_from within x xs) (λ tops. some_holds tops n ≡ true) (λ _. held_kept n k xs on) (λ _. or_left (holds k n) _ on)
+
 module _ (s : Span) (own : s.first ≤ s.last) where
-  -- a span that begins no later holds the first number of another, or this still comes
-  abbrev Meets : Span → List Span → Type 0
-  Meets k xs = (k.first ≤ s.first) × ((s.first ≤ k.last) ⊎ Contains xs s)
-
-  meets : (k : Span) (xs : List Span) → IsNonDecreasingBy (λ t. t.first) (k ∷ xs) → Contains (k ∷ xs) s → Meets k xs
-  meets k xs up (zero, low, is) = let e = ap (λ t. t.first) is in let e' = ap (λ t. t.last) is in (omega (arith, e), inl (omega (arith, e', own)))
-  meets k xs up (suc i, low, is) = (subst (λ t. k.first ≤ t.first) is (up 0 (suc i) s (omega arith) low), inr (i, omega (arith, low), is))
-
-  held_kept : (k : Span) (xs : List Span) → IsNonDecreasingBy (λ t. t.first) xs → Meets k xs → some_holds (dedup_from within k xs) s.first ≡ true
-  held_kept k [] up (from, h) = elim h as (λ _. some_holds (k ∷ []) s.first ≡ true) [ inl to ↦ or_left (holds k s.first) false (held k s.first from to) | inr there ↦ absurd (nowhere s there) ]
-  held_kept k (x ∷ xs) up (from, h) =
-      let rest = IsNonDecreasingBy-drop (λ t. t.first) 1 (x ∷ xs) up in
+  later_held : (k : Span) (xs : List Span) → IsNonDecreasingBy (λ t. t.first) xs → k.first ≤ s.first → Contains xs s → some_holds (dedup_from within k xs) s.first ≡ true
+  later_held k [] up from (i, low, is) = absurd (omega (arith, low))
+  later_held k (x ∷ xs) up from (zero, low, is) =
       cond_both (within x k) (dedup_from within k xs) (k ∷ dedup_from within x xs) (λ tops. some_holds tops s.first ≡ true)
-      (λ same. held_kept k xs rest (
-        from,
-        elim h as (λ _. (s.first ≤ k.last) ⊎ Contains xs s) [
-          | inl to ↦ inl to
-          | inr there ↦ elim (in_cases x xs s there) as (λ _. (s.first ≤ k.last) ⊎ Contains xs s) [ inl here ↦ inl (subst (λ t. t.first ≤ k.last) here (leb-true x.first k.last same)) | inr more ↦ inr more ]
-        ],
-      ))
-      (λ _. elim h as (λ _. some_holds (k ∷ dedup_from within x xs) s.first ≡ true) [
-        | inl to ↦ or_left (holds k s.first) _ (held k s.first from to)
-        | inr there ↦ or_right (holds k s.first) _ (held_kept x xs rest (meets x xs up there))
-      ])
+      (λ same. held_kept s.first k xs (held k s.first from (omega (arith, leb-true x.first k.last same, ap (λ t. t.first) is))))
+      (λ _. or_right (holds k s.first) _ (held_kept s.first x xs (rw is (held s s.first (omega arith) own))))
+  later_held k (x ∷ xs) up from (suc i, low, is) =
+      let rest = IsNonDecreasingBy-drop (λ t. t.first) 1 (x ∷ xs) up in
+      cond_both (within x k) (dedup_from within k xs) (k ∷ dedup_from within x xs) (λ tops. some_holds tops s.first ≡ true) (λ _. later_held k xs rest from (i, omega (arith, low), is))
+      (λ _. or_right (holds k s.first) _ (later_held x xs rest (subst (λ t. x.first ≤ t.first) is (up 0 (suc i) s (omega arith) low)) (i, omega (arith, low), is)))
+
+  all_held : (xs : List Span) → IsNonDecreasingBy (λ t. t.first) xs → Contains xs s → some_holds (dedup within xs) s.first ≡ true
+  all_held [] up (i, low, is) = absurd (omega (arith, low))
+  all_held (k ∷ xs) up (zero, low, is) = held_kept s.first k xs (rw is (held s s.first (omega arith) own))
+  all_held (k ∷ xs) up (suc i, low, is) =
+      later_held k xs (IsNonDecreasingBy-drop (λ t. t.first) 1 (k ∷ xs) up) (subst (λ t. k.first ≤ t.first) is (up 0 (suc i) s (omega arith) low)) (i, omega (arith, low), is)
 
 -- what is left of spans in the order of their first numbers
 pub are_tops : (old spans : List Span) → IsPermutation old spans → IsNonDecreasingBy (λ s. s.first) spans → ((s : Span) → Contains old s → s.first ≤ s.last) → AreTops old (dedup within spans)
@@ -107,10 +145,6 @@ are_tops old spans same up own = record {
   where
     old_one : (s : Span) → Contains (dedup within spans) s → Contains old s
     old_one s there = Contains-permutation spans old s (IsPermutation-sym old spans same) (Contains-from_dedup within spans s there)
-
-    all_held : (s : Span) → s.first ≤ s.last → (xs : List Span) → IsNonDecreasingBy (λ t. t.first) xs → Contains xs s → some_holds (dedup within xs) s.first ≡ true
-    all_held s some [] rest there = absurd (nowhere s there)
-    all_held s some (k ∷ xs) rest there = held_kept s some k xs (IsNonDecreasingBy-drop (λ t. t.first) 1 (k ∷ xs) rest) (meets s some k xs rest there)
 
     all_apart : (xs : List Span) → IsNonDecreasingBy (λ t. t.first) xs → AllPairs (λ s t. s.last < t.first) (dedup within xs)
     all_apart [] rest = λ i j d less low. absurd (omega (arith, low))

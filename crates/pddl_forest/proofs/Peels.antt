@@ -1,221 +1,238 @@
--- Places that are peeled off in turn, each once no child of it is left.
-use Rattle.std.proofs.Common.{◌≡◌, ◌≢◌, ℕ, suc, ◌+◌, ◌-◌, ◌<◌, ◌≤◌, ◌==◌, ◌||◌, cond, eqb, true, false, true≢false, List, [], ◌∷◌, ◌++◌, take, length, slice_set, refl, sym, ap, ◌∙◌, subst, arith, inl, inr, ◌⊎◌}
-use Rattle.std.proofs.lemmas.Bool.{cond_both, false_from_ne_true, true_from_ne_false, cases_eq, eq-eqb, ne_eqb, or_right}
-use Rattle.std.proofs.lemmas.List.Elements.{All-from_get_or, All-push}
-use Rattle.std.proofs.lemmas.List.Folds.{list_any_at, list_any-append}
-use Rattle.std.proofs.lemmas.List.{get_or_append_left, get_or_default, get_or_push, get_or-set_same, get_or-set_other, get_or-take, length_push, length-set, length-take, length-take-le, take_more, take-append-le}
-use Rattle.pddl_forest.specs.Forests.{parent_of, number_at}
-use Rattle.pddl_forest.specs.Inner.Orders.{IsUpTo, is_in, total, child_left, AreCounted, AreWithoutChildren, ArePeeled}
+-- Places that are peeled off in turn, each once no child of it is left, and at which turn a place stands in their order.
+use Rattle.std.proofs.Common.{◌≡◌, ◌≢◌, ℕ, ◌<◌, ◌≤◌, eqb, not, List, [], ◌∷◌, ◌++◌, ◌↔◌, ◌∙◌, map, length, refl, sym, ap, subst, arith, inl, inr, ◌+◌, ◌-◌, cond, take, slice_set}
+use Rattle.std.proofs.lemmas.Bool.{cases_eq, cases_lt, eq-eqb, eqb-true, ne_eqb}
+use Rattle.std.proofs.lemmas.List.{get_or_append_left, get_or_push, length_push, get_or_default, get_or-set_same, get_or-set_other, length-set}
+use Rattle.std.proofs.lemmas.List.Folds.{position_or_len_push, Any-from_list_any}
+use Rattle.std.proofs.lemmas.List.FromFn.{get_or-map-range_with_len, length-map-range_with_len}
+use Rattle.std.proofs.lemmas.List.Sums.{passes_at_first, prefix_len-le-length, count_by_more_no, count_by_more_yes, get_or-le-sum_by, sum_by-set}
+use Rattle.std.proofs.lemmas.Map.Keys.{IsDistinct-from_apart}
+use Rattle.std.proofs.lemmas.Map.Steps.{length-le_from_distinct_below}
+use Rattle.std.specs.List.{range_with_len, count_by, slice_index_or}
+use Rattle.pddl_forest.specs.Forests.{number_at, parent_of}
+use Rattle.pddl_forest.specs.Inner.{turn_of, AreListed, AreCounted, ArePeeled, IsUpward}
 use borrow.Author.Count.{below_more}
-use Rattle.pddl_forest.proofs.Lists.{turn_of, not_in, turns_apart, places_more}
-use Rattle.pddl_forest.proofs.Totals.{total_low, total_changed, total_some, total_few}
+use Rattle.std.proofs.Math.Seq.{take-append_seam}
 
--- a place's parent as it is read
-pub parent_is : (ps : List ℕ) (i : ℕ) → i < length ps → number_at ps i ≡ parent_of ps i
-parent_is ps i low = get_or_default ps i 0 i low
+pub turn_few : (order : List ℕ) (i : ℕ) → turn_of order i ≤ length order
+turn_few order i = prefix_len-le-length (λ x. not (eqb i x)) order
 
--- ---- places that are done
+pub at_turn : (order : List ℕ) (i : ℕ) → turn_of order i < length order → number_at order (turn_of order i) ≡ i
+at_turn order i low = sym (eqb-true i _ (passes_at_first (eqb i) order 0 low))
 
-pub up_to : (order : List ℕ) (turn i : ℕ) → is_in (take turn order) i ≡ true → IsUpTo order turn i
-up_to order turn i there =
-    let (u, inside, is) = turn_of (take turn order) i there in
-    let low : u < turn = omega (arith, inside, length-take turn order) in
-    (u, low, sym (get_or-take turn order u 0 low) ∙ is)
+-- ---- with one more place at the end
 
-pub is_there : (order : List ℕ) (turn i : ℕ) → turn ≤ length order → IsUpTo order turn i → is_in (take turn order) i ≡ true
-is_there order turn i few (u, low, is) =
-    list_any_at (eqb i) (take turn order) u 0 (omega (arith, low, length-take-le turn order few)) (eq-eqb i _ (sym is ∙ sym (get_or-take turn order u 0 low)))
+module _ (order : List ℕ) (x : ℕ) where
+  abbrev next : List ℕ
+  next = order ++ x ∷ []
 
-pub among : (done : List ℕ) (u : ℕ) → u < length done → is_in done (number_at done u) ≡ true
-among done u low = list_any_at (eqb (number_at done u)) done u 0 low (eq-eqb (number_at done u) (number_at done u) refl)
+  pub turn_before : (i : ℕ) → turn_of order i < length order → turn_of next i ≡ turn_of order i
+  turn_before i low = rw (position_or_len_push (eqb i) order x, ne_eqb (turn_of order i) (length order) (λ e. omega (arith, e, low))) refl
 
--- one more is done
-module _ (done : List ℕ) (p : ℕ) where
-  pub in_here : is_in (done ++ p ∷ []) p ≡ true
-  in_here = list_any-append (eqb p) done (p ∷ []) ∙ or_right (is_in done p) (p == p || false) (rw (eq-eqb p p refl) refl)
+  pub turn_past : (i : ℕ) → length order ≤ turn_of order i → length order ≤ turn_of next i
+  turn_past i past = rw (position_or_len_push (eqb i) order x, eq-eqb (turn_of order i) (length order) (omega (arith, turn_few order i, past))) (omega arith)
 
-  pub in_other : (i : ℕ) → i ≢ p → is_in (done ++ p ∷ []) i ≡ is_in done i
-  in_other i other = list_any-append (eqb i) done (p ∷ []) ∙ rw (ne_eqb i p other) (elim (is_in done i) as (λ b. (b || (false || false)) ≡ b) [ true ↦ refl | false ↦ refl ])
+  pub turn_new : length order ≤ turn_of order x → turn_of next x ≡ length order
+  turn_new past = rw (position_or_len_push (eqb x) order x, eq-eqb (turn_of order x) (length order) (omega (arith, turn_few order x, past)), eq-eqb x x refl) (omega arith)
 
-  pub in_cases : (i : ℕ) → is_in (done ++ p ∷ []) i ≡ true → (i ≡ p) ⊎ (is_in done i ≡ true)
-  in_cases i there = elim (cases_eq i p) as (λ _. (i ≡ p) ⊎ (is_in done i ≡ true)) [ inl is ↦ inl is | inr other ↦ inr (sym (in_other i other) ∙ there) ]
+  pub turn_other : (i : ℕ) → i ≢ x → turn_of next i < length next → turn_of order i < length order
+  turn_other i other = elim (cases_lt (turn_of order i) (length order)) as (λ _. turn_of next i < length next → turn_of order i < length order) [
+    | inl before ↦ λ _. before
+    | inr past ↦ rw (position_or_len_push (eqb i) order x, eq-eqb (turn_of order i) (length order) (omega (arith, turn_few order i, past)), ne_eqb i x other) (λ inside. absurd (omega (arith, inside, length_push order x)))
+  ]
 
--- ---- children that are left
+  -- of which no child is left now, where there are no fewer places and the others are as they were
+  module _ {left : List ℕ} (now : List ℕ) {many more : ℕ} (h : AreListed left order many) (wider : many ≤ more) (low : x < more) (new : length order ≤ turn_of order x) (none : number_at now x ≡ 0)
+      (others : (i : ℕ) → i < more → i ≢ x → (number_at now i ≡ 0) ↔ (turn_of order i < length order)) where
+    each_turn : (u : ℕ) → u < length next → (number_at next u < more) × (turn_of next (number_at next u) ≡ u)
+    each_turn u inside = below_more (λ v. (number_at next v < more) × (turn_of next (number_at next v) ≡ v)) (length order)
+        (λ v before. let once = h.once v before in rw (get_or_append_left order (x ∷ []) 0 v before) (omega (arith, h.in_range v before, wider), turn_before _ (omega (arith, once, before)) ∙ once))
+        (rw (get_or_push order x 0 (length order) refl) (low, turn_new new)) u (omega (arith, inside, length_push order x))
 
-module _ (ps done : List ℕ) (i c : ℕ) where
-  no_child : parent_of ps c ≢ i → child_left ps done i c ≡ 0
-  no_child other = rw (ne_eqb (parent_of ps c) i other) refl
+    pub listed_more : AreListed now next more
+    listed_more = record {
+      in_range = λ u inside. (each_turn u inside).0;
+      once = λ u inside. (each_turn u inside).1;
+      each = λ i i_low. elim (cases_eq i x) as (λ _. (number_at now i ≡ 0) ↔ (turn_of next i < length next)) [
+        | inl is ↦ (λ _. omega (arith, length_push order x, turn_new new, ap (turn_of next) is), λ _. ap (number_at now) is ∙ none)
+        | inr other ↦ let was = others i i_low other in (λ zeroth. omega (arith, length_push order x, was.0 zeroth, turn_before i), λ inside. was.1 (turn_other i other inside))
+      ];
+    }
 
-  child_gone : is_in done c ≡ true → child_left ps done i c ≡ 0
-  child_gone gone = elim (cases_eq (parent_of ps c) i) as (λ _. child_left ps done i c ≡ 0) [ inl is ↦ rw (eq-eqb (parent_of ps c) i is, gone) refl | inr other ↦ no_child other ]
+-- numbers below a bound of which no two are equal are no more than there are below it
+pub few_apart : (n m : ℕ) (f : ℕ → ℕ) → ((k : ℕ) → k < m → f k < n) → ((a b : ℕ) → a < b → b < m → f a ≢ f b) → m ≤ n
+few_apart n m f below apart =
+    let xs = map f (range_with_len 0 m) in
+    let long = length-map-range_with_len f 0 m in
+    let at_low = λ (k d : ℕ) (low : k < m). get_or-map-range_with_len f 0 m k k d low (omega arith) in
+    omega (
+      arith,
+      long,
+      length-le_from_distinct_below xs n
+          (IsDistinct-from_apart eqb xs (λ a b d less low.
+          let b_low : b < m = omega (arith, low, long) in
+          rw (at_low a d (omega (arith, less, b_low)), at_low b d b_low) (ne_eqb (f a) (f b) (apart a b less b_low))))
+          (λ x there.
+          let (k, y, inside, is, on) = Any-from_list_any (eqb x) xs there in
+          let low : k < m = omega (arith, inside, long) in
+          subst (λ z. z < n) (sym (at_low k y low) ∙ is ∙ sym (eqb-true x y on)) (below k low)),
+    )
 
-  child_still : parent_of ps c ≡ i → is_in done c ≡ false → child_left ps done i c ≡ 1
-  child_still is out = rw (eq-eqb (parent_of ps c) i is, out) refl
+-- ---- places that are listed
 
-  one_at_most : child_left ps done i c ≤ 1
-  one_at_most = cond_both (parent_of ps c == i) (cond (is_in done c) 0 1) 0 (λ n. n ≤ 1) (λ _. cond_both (is_in done c) 0 1 (λ n. n ≤ 1) (λ _. omega arith) (λ _. omega arith)) (λ _. omega arith)
+module _ {left order : List ℕ} {many : ℕ} (h : AreListed left order many) where
+  pub few_listed : length order ≤ many
+  few_listed = few_apart many (length order) (number_at order) h.in_range (λ a b less low same. omega (arith, h.once a (omega (arith, less, low)), ap (turn_of order) same, h.once b low, less))
 
-module _ {ps done left : List ℕ} {many : ℕ} (h : AreCounted ps done many left) (i : ℕ) (low : i < length ps) where
-  pub few_children : number_at left i ≤ many
-  few_children = omega (arith, h.each i low, total_few (child_left ps done i) many (λ c _. one_at_most ps done i c))
+  -- those from there on are not listed
+  pub unlisted : (i : ℕ) → many ≤ i → length order ≤ turn_of order i
+  unlisted i past = grind (arith, h.in_range (turn_of order i), at_turn order i, past)
 
-  -- where none is left, all children are done
-  pub all_gone : number_at left i ≡ 0 → (c : ℕ) → c < many → parent_of ps c ≡ i → is_in done c ≡ true
-  all_gone none c inside is = true_from_ne_false (is_in done c) (λ out. omega (arith, child_still ps done i c is out, total_low (child_left ps done i) many c inside, h.each i low, none))
+-- a list of the same length in place of another's items
+pub in_place : {X : Type 0} (xs rest : List X) (n : ℕ) → n ≡ length xs → take n (xs ++ rest) ≡ xs
+in_place xs rest n is = ap (λ k. take k (xs ++ rest)) is ∙ take-append_seam xs rest
 
-  -- and where some are, one is not
-  pub some_left : number_at left i ≢ 0 → (c : ℕ) × (c < many) × (parent_of ps c ≡ i) × (is_in done c ≢ true)
-  some_left some =
-      let (c, inside, is) = total_some (child_left ps done i) many (λ none. some (h.each i low ∙ none)) in (
-        c,
-        inside,
-        elim (cases_eq (parent_of ps c) i) as (λ _. parent_of ps c ≡ i) [ inl child ↦ child | inr other ↦ absurd (is (no_child ps done i c other)) ],
-        λ there. is (child_gone ps done i c there),
-      )
+-- one number more is counted
+pub counted_more : {left : List ℕ} (numbers : List ℕ) {many : ℕ} (k q : ℕ) → AreCounted left (take k numbers) many → k < length numbers → number_at numbers k ≡ q → q < many → AreCounted (slice_set left q (number_at left q + 1)) (take (k + 1) numbers) many
+counted_more {left} numbers {many} k q h low is q_low = record {
+  long = length-set left q _ ∙ h.long;
+  each = λ i i_low. elim (cases_eq i q) as (λ _. number_at (slice_set left q (number_at left q + 1)) i ≡ count_by (eqb i) (take (k + 1) numbers)) [
+    | inl here ↦ rw (here, get_or-set_same left q (number_at left q + 1) 0 (omega (arith, q_low, h.long)), count_by_more_yes (eqb q) numbers k 0 low (eq-eqb q _ (sym is))) (omega (arith, h.each q q_low))
+    | inr other ↦ rw (get_or-set_other left q i (number_at left q + 1) 0 other, count_by_more_no (eqb i) numbers k 0 low (ne_eqb i _ (λ e. other (e ∙ is)))) (h.each i i_low)
+  ];
+}
 
--- one place more is counted with its parent
-module _ {ps left : List ℕ} {place : ℕ} (h : AreCounted ps [] place left) (here : place < length ps) (within : (i : ℕ) → i < length ps → parent_of ps i < length ps) where
-  abbrev over : ℕ
-  over = parent_of ps place
+-- ---- what is peeled off first
 
-  low : over < length ps
-  low = within place here
-
-  pub parent_inside : number_at ps place < length left
-  parent_inside = omega (arith, parent_is ps place here, low, h.long)
-
-  pub one_more_fits : number_at left (number_at ps place) ≤ place
-  one_more_fits = rw (parent_is ps place here) (few_children h over low)
-
-  abbrev raised : List ℕ
-  raised = slice_set left over (number_at left over + 1)
-
-  pub counted_more : AreCounted ps [] (place + 1) (slice_set left (number_at ps place) (number_at left (number_at ps place) + 1))
-  counted_more = rw (parent_is ps place here) record {
-    long = length-set left over (number_at left over + 1) ∙ h.long;
-    each = λ i i_low. let next : suc place ≡ place + 1 = omega arith in subst (λ m. number_at raised i ≡ total (child_left ps [] i) m) next (elim (cases_eq over i) as (λ _. number_at raised i ≡ total (child_left ps [] i) (suc place)) [
-      | inl is ↦ subst (λ k. number_at raised k ≡ total (child_left ps [] k) (suc place)) is
-          (omega (arith, get_or-set_same left over (number_at left over + 1) 0 (omega (arith, low, h.long)), h.each over low, child_still ps [] over place refl refl))
-      | inr other ↦ omega (arith, get_or-set_other left over i (number_at left over + 1) 0 (λ e. other (sym e)), h.each i i_low, no_child ps [] i place other)
-    ]);
-  }
-
--- ---- leaves
-
-pub first_peeled : {ps left order : List ℕ} → AreCounted ps [] (length ps) left → AreWithoutChildren left (length left) order → ArePeeled ps left order 0
-first_peeled {ps} {left} {order} counted leaves = record {
+pub first_peeled : {ps left order : List ℕ} → AreCounted left ps (length ps) → AreListed left order (length ps) → ((i : ℕ) → i < length ps → number_at ps i < length ps) → ArePeeled ps left order 0
+first_peeled {ps} {left} {order} counted listed within = record {
+  kept = ps;
+  long = refl;
   counted = counted;
-  without_children = subst (λ n. AreWithoutChildren left n order) counted.long leaves;
-  behind = λ u c less low is.
-      let inside = leaves.places.in_range u less in
-      absurd (true≢false (sym (all_gone counted (number_at order u) (omega (arith, inside, counted.long)) (leaves.none u less) c low is)));
+  listed = listed;
+  each = λ i low. (λ none. absurd (omega (arith, none)), λ _. get_or_default ps i 0 i low);
+  behind = λ i low inside.
+      let q = number_at ps i in
+      let one = rw (eq-eqb q q refl) at (get_or-le-sum_by (λ p. cond (eqb q p) 1 0) ps i 0 low) in
+      absurd (omega (arith, one, counted.each q (within i low), (listed.each q (within i low)).1 (rw (get_or_default ps i i 0 low) at inside)));
 }
 
 -- ---- one place is peeled off
 
-module _ {ps left order : List ℕ} {turn : ℕ} (h : ArePeeled ps left order turn) (low : turn < length order) (within : (i : ℕ) → i < length ps → parent_of ps i < length ps) where
-  abbrev place : ℕ
-  place = number_at order turn
+module _ {ps left order : List ℕ} {turn place : ℕ} (h : ArePeeled ps left order turn) (low : turn < length order) (read : place ≡ slice_index_or order turn place)
+    (within : (i : ℕ) → i < length ps → number_at ps i < length ps) where
+  at : number_at order turn ≡ place
+  at = sym (read ∙ get_or_default order turn place 0 low)
 
   abbrev parent : ℕ
-  parent = parent_of ps place
-
-  abbrev done : List ℕ
-  done = take turn order
-
-  -- with the place
-  more_done : take (turn + 1) order ≡ done ++ place ∷ []
-  more_done = take_more order turn 0 low
+  parent = number_at ps place
 
   pub place_low : place < length ps
-  place_low = h.without_children.places.in_range turn low
+  place_low = subst (λ i. i < length ps) at (h.listed.in_range turn low)
 
-  pub parent_low : parent < length ps
-  parent_low = within place place_low
+  pub parent_low : number_at ps place < length left
+  parent_low = omega (arith, within place place_low, h.counted.long)
 
-  pub new : is_in done place ≡ false
-  new = false_from_ne_true (is_in done place) (λ there. let (u, less, is) = up_to order turn place there in turns_apart h.without_children.places u turn less low is)
+  turn_is : turn_of order place ≡ turn
+  turn_is = ap (turn_of order) (sym at) ∙ h.listed.once turn low
 
-  still : (i c : ℕ) → c ≢ place → child_left ps done i c ≡ child_left ps (done ++ place ∷ []) i c
-  still i c other = rw (in_other done place c other) refl
+  abbrev fewer : List ℕ
+  fewer = slice_set h.kept place (length ps)
 
-  changed : (i : ℕ) → total (child_left ps done i) (length ps) + child_left ps (done ++ place ∷ []) i place ≡ total (child_left ps (done ++ place ∷ []) i) (length ps) + child_left ps done i place
-  changed i = total_changed (child_left ps done i) (child_left ps (done ++ place ∷ []) i) (length ps) place place_low (λ c _. still i c)
+  -- its parent has one child less, and no other has
+  counts : (i : ℕ) → i < length ps → count_by (eqb i) fewer + cond (eqb i parent) 1 0 ≡ number_at left i
+  counts i i_low =
+      let changed = sum_by-set (λ q. cond (eqb i q) 1 0) h.kept place (length ps) 0 (omega (arith, place_low, h.long)) in
+      let now = rw ((h.each place place_low).1 (omega (arith, turn_is)) ∙ get_or_default ps place place 0 place_low, ne_eqb i (length ps) (λ e. omega (arith, e, i_low))) at changed in
+      omega (arith, now, h.counted.each i i_low)
 
-  of_parent : total (child_left ps done parent) (length ps) ≡ total (child_left ps (done ++ place ∷ []) parent) (length ps) + 1
-  of_parent = omega (arith, changed parent, child_still ps done parent place refl new, child_gone ps (done ++ place ∷ []) parent place (in_here done place))
+  pub some : 1 ≤ number_at left (number_at ps place)
+  some = omega (arith, rw (eq-eqb parent parent refl) at (counts parent (within place place_low)))
 
-  of_others : (i : ℕ) → i ≢ parent → total (child_left ps done i) (length ps) ≡ total (child_left ps (done ++ place ∷ []) i) (length ps)
-  of_others i other = let none = λ (ns : List ℕ). no_child ps ns i place (λ e. other (sym e)) in omega (arith, changed i, none done, none (done ++ place ∷ []))
-
-  pub some_children : number_at left parent ≢ 0
-  some_children none = omega (arith, h.counted.each parent parent_low, of_parent, none)
-
-  pub unlisted : (u : ℕ) → u < length order → number_at order u ≢ parent
-  unlisted u less is = some_children (ap (number_at left) (sym is) ∙ h.without_children.none u less)
+  new : length order ≤ turn_of order parent
+  new = grind (arith, some, (h.listed.each parent (within place place_low)).1)
 
   abbrev less_left : List ℕ
   less_left = slice_set left parent (number_at left parent - 1)
 
   now : number_at less_left parent ≡ number_at left parent - 1
-  now = get_or-set_same left parent (number_at left parent - 1) 0 (omega (arith, parent_low, h.counted.long))
+  now = get_or-set_same left parent (number_at left parent - 1) 0 parent_low
 
-  kept : (i : ℕ) → i ≢ parent → number_at less_left i ≡ number_at left i
-  kept i other = get_or-set_other left parent i (number_at left parent - 1) 0 other
+  others : (i : ℕ) → i ≢ parent → number_at less_left i ≡ number_at left i
+  others i other = get_or-set_other left parent i (number_at left parent - 1) 0 other
 
-  counted : AreCounted ps (take (turn + 1) order) (length ps) less_left
-  counted = subst (λ ns. AreCounted ps ns (length ps) less_left) (sym more_done) record {
-    long = length-set left parent (number_at left parent - 1) ∙ h.counted.long;
-    each = λ i i_low. elim (cases_eq i parent) as (λ _. number_at less_left i ≡ total (child_left ps (done ++ place ∷ []) i) (length ps)) [
-      | inl is ↦ subst (λ k. number_at less_left k ≡ total (child_left ps (done ++ place ∷ []) k) (length ps)) (sym is) (omega (arith, now, h.counted.each parent parent_low, of_parent))
-      | inr other ↦ kept i other ∙ h.counted.each i i_low ∙ of_others i other
+  listed : (i : ℕ) → i < length ps → i ≢ parent → (number_at less_left i ≡ 0) ↔ (turn_of order i < length order)
+  listed i i_low other = rw (others i other) (h.listed.each i i_low)
+
+  counted : AreCounted less_left fewer (length ps)
+  counted = record {
+    long = length-set left parent _ ∙ h.counted.long;
+    each = λ i i_low. elim (cases_eq i parent) as (λ _. number_at less_left i ≡ count_by (eqb i) fewer) [
+      | inl is ↦ rw (is, now) (omega (arith, rw (eq-eqb parent parent refl) at (counts parent (within place place_low))))
+      | inr other ↦ omega (arith, others i other, rw (ne_eqb i parent other) at (counts i i_low))
     ];
   }
 
-  none_still : (u : ℕ) → u < length order → number_at less_left (number_at order u) ≡ 0
-  none_still u less = kept (number_at order u) (unlisted u less) ∙ h.without_children.none u less
+  long : length fewer ≡ length ps
+  long = length-set h.kept place _ ∙ h.long
 
-  pub peeled : number_at left parent - 1 ≢ 0 → ArePeeled ps less_left order (turn + 1)
-  peeled some = record {
+  each : (i : ℕ) → i < length ps → (turn_of order i < turn + 1 → number_at fewer i ≡ length ps) × (turn + 1 ≤ turn_of order i → number_at fewer i ≡ parent_of ps i)
+  each i i_low = elim (cases_eq i place) as (λ _. (turn_of order i < turn + 1 → number_at fewer i ≡ length ps) × (turn + 1 ≤ turn_of order i → number_at fewer i ≡ parent_of ps i)) [
+    | inl is ↦ (λ _. rw is (get_or-set_same h.kept place (length ps) 0 (omega (arith, place_low, h.long))), λ after. absurd (omega (arith, after, ap (turn_of order) is, turn_is)))
+    | inr other ↦
+        let earlier : turn_of order i ≢ turn = λ e. other (sym (at_turn order i (omega (arith, e, low))) ∙ ap (number_at order) e ∙ at) in
+        rw (get_or-set_other h.kept place i (length ps) 0 other) (λ before. (h.each i i_low).0 (omega (arith, before, earlier)), λ after. (h.each i i_low).1 (omega (arith, after)))
+  ]
+
+  pub peeled : number_at left (number_at ps place) - 1 ≢ 0 → ArePeeled ps (slice_set left (number_at ps place) (number_at left (number_at ps place) - 1)) order (turn + 1)
+  peeled more = record {
+    kept = fewer;
+    long = long;
     counted = counted;
-    without_children = record {
-      places = h.without_children.places;
-      none = none_still;
-      all = λ i i_low is. elim (cases_eq i parent) as (λ _. IsUpTo order (length order) i) [
-        | inl here ↦ absurd (some (sym now ∙ ap (number_at less_left) (sym here) ∙ is))
-        | inr other ↦ h.without_children.all i i_low (sym (kept i other) ∙ is)
+    listed = record {
+      in_range = h.listed.in_range;
+      once = h.listed.once;
+      each = λ i i_low. elim (cases_eq i parent) as (λ _. (number_at less_left i ≡ 0) ↔ (turn_of order i < length order)) [
+        | inl is ↦ rw is (λ none. absurd (more (sym now ∙ none)), λ before. absurd (omega (arith, before, new)))
+        | inr other ↦ listed i i_low other
       ];
     };
+    each = each;
     behind = h.behind;
   }
 
-  module _ (none : number_at left parent - 1 ≡ 0) where
-    abbrev next : List ℕ
-    next = order ++ parent ∷ []
+  pub peeled_more : number_at left (number_at ps place) - 1 ≡ 0 → ArePeeled ps (slice_set left (number_at ps place) (number_at left (number_at ps place) - 1)) (order ++ number_at ps place ∷ []) (turn + 1)
+  peeled_more none = record {
+    kept = fewer;
+    long = long;
+    counted = counted;
+    listed = listed_more order parent less_left h.listed (omega arith) (within place place_low) new (now ∙ none) listed;
+    each = λ i i_low. (
+      λ before. (each i i_low).0 (grind (arith, before, low, turn_before order parent i, turn_past order parent i)),
+      λ after. (each i i_low).1 (grind (arith, after, low, turn_before order parent i, turn_past order parent i)),
+    );
+    behind = λ i i_low inside. elim (cases_eq (parent_of ps i) parent) as (λ _. turn_of (order ++ parent ∷ []) i < turn_of (order ++ parent ∷ []) (parent_of ps i)) [
+      | inl is ↦
+          let gone : turn_of order i < turn + 1 = elim (cases_lt (turn_of order i) (turn + 1)) as (λ _. turn_of order i < turn + 1) [
+            | inl before ↦ before
+            | inr after ↦
+                let one = get_or-le-sum_by (λ q. cond (eqb parent q) 1 0) fewer i 0 (omega (arith, i_low, long)) in
+                absurd (omega (arith, rw (eq-eqb parent _ (sym ((each i i_low).1 after ∙ is))) at one, counted.each parent (within place place_low), now, none))
+          ] in
+          omega (arith, gone, low, turn_before order parent i, turn_new order parent new, ap (turn_of (order ++ parent ∷ [])) is)
+      | inr other ↦ let before = turn_other order parent (parent_of ps i) other inside in omega (arith, h.behind i i_low before, before, turn_before order parent i, turn_before order parent (parent_of ps i))
+    ];
+  }
 
-    long : length next ≡ length order + 1
-    long = length_push order parent
-
-    front : (u : ℕ) → u < length order → number_at next u ≡ number_at order u
-    front = get_or_append_left order (parent ∷ []) 0
-
-    in_next : (turns i : ℕ) → turns ≤ length order → IsUpTo order turns i → IsUpTo next turns i
-    in_next turns i few (u, less, at) = (u, less, front u (omega (arith, less, few)) ∙ at)
-
-    pub peeled_more : ArePeeled ps less_left next (turn + 1)
-    peeled_more = record {
-      counted = rw (take-append-le (turn + 1) order (parent ∷ []) (omega (arith, low))) counted;
-      without_children = record {
-        places = places_more h.without_children.places parent parent_low (not_in order parent unlisted);
-        none = λ u less. All-push (λ i. number_at less_left i ≡ 0) order parent (All-from_get_or (λ i. number_at less_left i ≡ 0) order 0 none_still) (now ∙ none) u 0 less;
-        all = λ i i_low is. elim (cases_eq i parent) as (λ _. IsUpTo next (length next) i) [
-          | inl here ↦ (length order, omega (arith, long), get_or_push order parent 0 (length order) refl ∙ sym here)
-          | inr other ↦ let (u, less, at) = h.without_children.all i i_low (sym (kept i other) ∙ is) in (u, omega (arith, long, less), front u less ∙ at)
-        ];
-      };
-      behind = λ u c less c_low is. below_more (λ v. parent_of ps c ≡ number_at next v → IsUpTo next v c) (length order)
-          (λ v before e. in_next v c (omega (arith, before)) (h.behind v c before c_low (e ∙ front v before)))
-          (λ e.
-          let (v, before, at) = up_to order (turn + 1) c (all_gone counted parent parent_low (now ∙ none) c c_low (e ∙ get_or_push order parent 0 (length order) refl)) in
-          in_next (length order) c (omega arith) (v, omega (arith, before, low), at)) u (omega (arith, less, long)) is;
-    }
+-- the places that are listed stand before their parents
+pub upward : {ps left order : List ℕ} {turn : ℕ} → ArePeeled ps left order turn → ((i : ℕ) → i < length ps → number_at ps i < length ps) → IsUpward ps order
+upward {ps} {left} {order} h within = record {
+  within = within;
+  few = few_listed h.listed;
+  in_range = h.listed.in_range;
+  once = h.listed.once;
+  later = λ u low.
+      let i = number_at order u in
+      let i_low = h.listed.in_range u low in
+      let behind = rw (get_or_default ps i i 0 i_low) at (h.behind i i_low) in
+      grind (arith, behind, h.listed.once u low, low, turn_few order (number_at ps i));
+}

@@ -1,15 +1,16 @@
--- Places on ways that go round: those of which children are left where no more can be peeled off.
-use Rattle.std.proofs.Common.{◌≡◌, ◌≢◌, ◌↔◌, ℕ, zero, suc, ◌+◌, ◌-◌, ◌<◌, ◌==◌, not, Bool, true≢false, List, length, slice_set, refl, sym, ap, ◌∙◌, subst, arith, inl, inr}
-use Rattle.std.proofs.lemmas.Bool.{cases_eq, eq-eqb, ne_eqb}
+-- Places on ways that go round: those of which children are left where no more can be peeled off. Where there are none, the others are in order.
+use Rattle.std.proofs.Common.{◌≡◌, ◌≢◌, ◌↔◌, ℕ, zero, suc, ◌+◌, ◌-◌, ◌<◌, ◌≤◌, cond, eqb, Bool, true, false, true≢false, List, [], ◌∷◌, length, slice_set, refl, sym, ap, subst, ◌∙◌, arith, inl, inr}
+use Rattle.std.proofs.lemmas.Bool.{cases_Bool, cases_eq, cases_lt, eq-eqb, eqb-true, ne_eqb}
 use Rattle.std.proofs.lemmas.List.Folds.{list_any_at, Any-from_list_any}
 use Rattle.std.proofs.lemmas.List.{get_or_default, get_or-set_same, get_or-set_other, length-set}
-use Rattle.std.specs.Prelude.{IsTrue}
-use Rattle.std.specs.List.{list_any}
+use Rattle.std.proofs.lemmas.List.FromFn.{get_or-range_with_len, length-range_with_len}
+use Rattle.std.proofs.lemmas.List.Sums.{sum_by-cons}
+use Rattle.std.specs.Prelude.{IsTrue, MatchBool}
+use Rattle.std.specs.List.{count_by, list_any, range_with_len, AllWithin, HoldsAt}
 use Rattle.pddl_forest.specs.Forests.{parent_of, up, number_at}
 use Rattle.pddl_forest.specs.Rounds.{GoesRound, IsOnRound, HasRound, AreRounds}
-use Rattle.pddl_forest.specs.Inner.Orders.{ArePeeled, GoRound}
-use Rattle.pddl_forest.proofs.Lists.{has_two}
-use Rattle.pddl_forest.proofs.Peels.{is_there, some_left}
+use Rattle.pddl_forest.specs.Inner.{turn_of, ArePeeled, GoRound, IsOrder}
+use Rattle.pddl_forest.proofs.Peels.{turn_few, few_apart, upward}
 
 -- so many steps, and so many more
 up_more : (ps : List ℕ) (m n i : ℕ) → up ps m (up ps n i) ≡ up ps (n + m) i
@@ -20,55 +21,106 @@ pub up_last : (ps : List ℕ) (n i : ℕ) → up ps (suc n) i ≡ parent_of ps (
 up_last ps zero i = refl
 up_last ps (suc n) i = up_last ps n (parent_of ps i)
 
--- a place that is come to by so many steps and by more is on a round
-comes_back : (ps : List ℕ) (a b y i : ℕ) → a < b → up ps a y ≡ i → up ps b y ≡ i → GoesRound ps i
-comes_back ps a b y i less first then =
-    let n : ℕ = b - (a + 1) in
-    let e : a + suc n ≡ b = omega (arith, less) in
-    (n, ap (up ps (suc n)) (sym first) ∙ up_more ps (suc n) a y ∙ ap (λ k. up ps k y) e ∙ then)
+-- a number that is counted stands somewhere
+counted_some : (numbers : List ℕ) (i : ℕ) → count_by (eqb i) numbers ≢ 0 → (k : ℕ) × (k < length numbers) × (number_at numbers k ≡ i)
+counted_some [] i some = absurd (some refl)
+counted_some (x ∷ xs) i some =
+    elim (cases_eq i x) as (λ _. (k : ℕ) × (k < length (x ∷ xs)) × (number_at (x ∷ xs) k ≡ i)) [
+      | inl is ↦ (0, omega arith, sym is)
+      | inr other ↦
+          let (k, low, is) = counted_some xs i (λ none. some (sum_by-cons (λ y. cond (eqb i y) 1 0) x xs ∙ rw (ne_eqb i x other, none) refl)) in
+          (suc k, omega (arith, low), is)
+    ]
 
-module _ (ps : List ℕ) (within : (i : ℕ) → i < length ps → parent_of ps i < length ps) where
-  up_low : (n i : ℕ) → i < length ps → up ps n i < length ps
-  up_low zero i low = low
-  up_low (suc n) i low = up_low n (parent_of ps i) (within i low)
+-- ---- what is left where all that was listed is peeled off
 
-  -- from each place a round is come to
-  pub some_round : (i : ℕ) → i < length ps → (k : ℕ) × (k < length ps) × GoesRound ps k
-  some_round i low =
-      let (a, b, less, _, same) = has_two (length ps) (λ n. up ps n i) (λ n _. up_low n i low) in
-      (up ps a i, up_low a i low, comes_back ps a b i (up ps a i) less refl (sym same))
+module _ {ps left order : List ℕ} (h : ArePeeled ps left order (length order)) (within : (i : ℕ) → i < length ps → parent_of ps i < length ps) where
+  -- a place that is not listed has a child that is not
+  child : (i : ℕ) → i < length ps → number_at left i ≢ 0 → (k : ℕ) × (k < length ps) × (number_at left k ≢ 0) × (parent_of ps k ≡ i)
+  child i low some =
+      let (k, inside, is) = counted_some h.kept i (λ none. some (h.counted.each i low ∙ none)) in
+      let k_low : k < length ps = omega (arith, inside, h.long) in
+      let out : length order ≤ turn_of order k = elim (cases_lt (turn_of order k) (length order)) as (λ _. length order ≤ turn_of order k) [ inl before ↦ absurd (omega (arith, (h.each k k_low).0 before, is, low)) | inr past ↦ past ] in
+      (k, k_low, λ none. omega (arith, (h.listed.each k k_low).0 none, out), sym ((h.each k k_low).1 out) ∙ is)
 
-  -- ---- what is left where all that was listed is peeled off
+  down : (i : ℕ) → i < length ps → number_at left i ≢ 0 → (n : ℕ) → (k : ℕ) × (k < length ps) × (number_at left k ≢ 0) × (up ps n k ≡ i)
+  down i low some zero = (i, low, some, refl)
+  down i low some (suc n) =
+      let (k, k_low, k_some, is) = down i low some n in
+      let (c, c_low, c_some, over) = child k k_low k_some in
+      (c, c_low, c_some, ap (up ps n) over ∙ is)
 
-  module _ {left order : List ℕ} (h : ArePeeled ps left order (length order)) where
-    -- of a place's children that are left one goes on, and so on
-    down : (i : ℕ) → i < length ps → number_at left i ≢ 0 → (n : ℕ) → (k : ℕ) × (k < length ps) × (number_at left k ≢ 0) × (up ps n k ≡ i)
-    down i low some zero = (i, low, some, refl)
-    down i low some (suc n) =
-        let (k, k_low, k_some, is) = down i low some n in
-        let (c, c_low, child, out) = some_left h.counted k k_low k_some in
-        (c, c_low, λ none. out (is_there order (length order) c (omega arith) (h.without_children.all c c_low none)), ap (up ps n) child ∙ is)
+  -- no other places than there are can be on the way
+  on_round : (i : ℕ) → i < length ps → number_at left i ≢ 0 → GoesRound ps i
+  on_round i low some =
+      let way = down i low some in
+      let comes = λ (n : ℕ). eqb (up ps (suc n) i) i in
+      let steps = range_with_len 0 (length ps) in
+      elim (cases_Bool (list_any comes steps)) as (λ _. GoesRound ps i) [
+        | inl there ↦ let (_, n, _, _, on) = Any-from_list_any comes steps there in (n, eqb-true (up ps (suc n) i) i on)
+        | inr none ↦
+            let few = few_apart (length ps) (suc (length ps)) (λ n. (way n).0) (λ n _. (way n).1) (λ a b less inside same.
+            let n : ℕ = b - (a + 1) in
+            let e : a + suc n ≡ b = omega (arith, less) in
+            let round = ap (up ps (suc n)) (sym (way a).3) ∙ up_more ps (suc n) a (way a).0 ∙ ap (λ k. up ps k (way a).0) e ∙ ap (up ps b) same ∙ (way b).3 in
+            let at_n = get_or-range_with_len 0 (length ps) n 0 (omega (arith, e, inside)) in
+            let at_n : number_at steps n ≡ n = omega (arith, at_n) in
+            true≢false (sym (list_any_at comes steps n 0 (omega (arith, e, inside, length-range_with_len 0 (length ps))) (ap comes at_n ∙ eq-eqb _ i round)) ∙ none)) in
+            absurd (omega (arith, few))
+      ]
 
-    on_round : (i : ℕ) → i < length ps → number_at left i ≢ 0 → GoesRound ps i
-    on_round i low some =
-        let way = down i low some in
-        let (a, b, less, _, same) = has_two (length ps) (λ n. (way n).0) (λ n _. (way n).1) in
-        comes_back ps a b (way a).0 i less (way a).3 (ap (up ps b) same ∙ (way b).3)
+  -- a place above which one is listed comes before it
+  climbs : (n i : ℕ) → i < length ps → turn_of order (up ps n i) < length order → turn_of order i + n ≤ turn_of order (up ps n i)
+  climbs zero i low inside = omega arith
+  climbs (suc n) i low inside = let more = climbs n (parent_of ps i) (within i low) inside in omega (arith, more, h.behind i low (omega (arith, more, inside)))
 
-    -- a place that is peeled off comes behind its children, so it is none of those below it
-    off_round : (b u i : ℕ) → u < b → u < length order → number_at order u ≡ i → GoesRound ps i → ⊥
-    off_round zero u i less low at round = omega (arith, less)
-    off_round (suc b) u i less low at (n, round) =
-        let c_low : up ps n i < length ps = up_low n i (subst (λ k. k < length ps) at (h.without_children.places.in_range u low)) in
-        let (v, before, is) = h.behind u (up ps n i) low c_low (sym (up_last ps n i) ∙ round ∙ sym at) in
-        let e : n + suc n ≡ suc n + n = omega arith in
-        off_round b v (up ps n i) (omega (arith, before, less)) (omega (arith, before, low)) is
-        (n, up_more ps (suc n) n i ∙ ap (λ k. up ps k i) e ∙ sym (up_more ps n (suc n) i) ∙ ap (up ps n) round)
+  pub go_round : GoRound ps left
+  go_round = record {
+    many = h.counted.long;
+    each = λ i low. (
+      on_round i low,
+      λ (n, round) none.
+          let inside = (h.listed.each i low).0 none in
+          let e = ap (turn_of order) round in
+          omega (arith, climbs (suc n) i low (omega (arith, e, inside)), e),
+    );
+  }
 
-    pub go_round : GoRound ps left
-    go_round = record {
-      many = h.counted.long;
-      each = λ i low. (on_round i low, λ round none. let (u, inside, at) = h.without_children.all i low none in off_round (u + 1) u i (omega arith) inside at round);
+  module _ (some : 0 < length ps) (no_round : HasRound ps → ⊥) where
+    listed : (i : ℕ) → i < length ps → (i ≡ 0 → parent_of ps 0 ≢ 0) → turn_of order i < length order
+    listed i low other = elim (cases_eq (number_at left i) 0) as (λ _. turn_of order i < length order) [ inl none ↦ (h.listed.each i low).0 none | inr more ↦ absurd (no_round (i, low, (on_round i low more, other))) ]
+
+    -- otherwise all places are listed, and the last of them has no parent behind it
+    top : parent_of ps 0 ≡ 0
+    top = elim (cases_eq (parent_of ps 0) 0) as (λ _. parent_of ps 0 ≡ 0) [
+      | inl is ↦ is
+      | inr other ↦
+          let all : (i : ℕ) → i < length ps → turn_of order i < length order = λ i low. listed i low (λ _. other) in
+          let u : ℕ = length order - 1 in
+          let u_low : u < length order = omega (arith, all 0 some) in
+          let low = h.listed.in_range u u_low in
+          let over_low = all (parent_of ps (number_at order u)) (within (number_at order u) low) in
+          absurd (omega (arith, h.behind (number_at order u) low over_low, h.listed.once u u_low, over_low))
+    ]
+
+    above : turn_of order 0 ≡ length order
+    above = grind (arith, h.behind 0 some, ap (turn_of order) top, turn_few order 0)
+
+    not_top : (u : ℕ) → u < length order → number_at order u ≢ 0
+    not_top u low is = omega (arith, h.listed.once u low, ap (turn_of order) is, above, low)
+
+    pub in_order : IsOrder ps order
+    in_order = record {
+      upward = upward h (λ i low. rw (get_or_default ps i 0 i low) (within i low));
+      top = top;
+      few =
+          let few = few_apart (length ps - 1) (length order) (λ u. number_at order u - 1) (λ u low. omega (arith, h.listed.in_range u low, not_top u low)) (λ a b less low same.
+          let a_low : a < length order = omega (arith, less, low) in
+          let is : number_at order a ≡ number_at order b = omega (arith, same, not_top a a_low, not_top b low) in
+          omega (arith, h.listed.once a a_low, ap (turn_of order) is, h.listed.once b low, less)) in
+          omega (arith, few, some);
+      above = above;
+      ahead = λ i low other. grind (arith, h.behind i low, listed i low (λ is. absurd (other is)));
     }
 
 -- with the number 0 for place 0 where it is its own parent
@@ -81,19 +133,12 @@ module _ {ps numbers : List ℕ} (h : GoRound ps numbers) where
     many = length-set numbers 0 0 ∙ h.many;
     each = λ i low. elim (cases_eq i 0) as (λ _. (number_at (slice_set numbers 0 0) i ≢ 0) ↔ IsOnRound ps i) [
       | inl is ↦ (λ some. absurd (some (ap (number_at (slice_set numbers 0 0)) is ∙ get_or-set_same numbers 0 0 0 (omega (arith, first, h.many)))), λ round. absurd (round.1 is own))
-      | inr other ↦
-          let same = get_or-set_other numbers 0 i 0 0 other in
-          (λ some. ((h.each i low).0 (λ none. some (same ∙ none)), λ is. absurd (other is)), λ round none. (h.each i low).1 round.0 (sym same ∙ none))
+      | inr other ↦ rw (get_or-set_other numbers 0 i 0 0 other) (λ some. ((h.each i low).0 some, λ is. absurd (other is)), λ round. (h.each i low).1 round.0)
     ];
   }
 
 -- some number is other than 0 where some way goes round
-pub told_round : {ps numbers : List ℕ} {told : Bool} → AreRounds ps numbers → told ≡ list_any (λ n. not (n == 0)) numbers → IsTrue told ↔ HasRound ps
-told_round {ps} {numbers} {told} h is = (
-  λ some.
-      let (k, n, inside, at, on) = Any-from_list_any (λ n. not (n == 0)) numbers (sym is ∙ some) in
-      let low : k < length ps = omega (arith, inside, h.many) in
-      let other : number_at numbers k ≢ 0 = λ none. true≢false (sym on ∙ ap not (eq-eqb n 0 (sym at ∙ get_or_default numbers k n 0 inside ∙ none))) in
-      (k, low, (h.each k low).0 other),
-  λ (i, low, round). is ∙ list_any_at (λ n. not (n == 0)) numbers i 0 (omega (arith, low, h.many)) (ap not (ne_eqb (number_at numbers i) 0 ((h.each i low).1 round))),
-)
+pub told_round : {ps numbers : List ℕ} (told : Bool) → AreRounds ps numbers → MatchBool told ((k : ℕ) × (k < length numbers) × HoldsAt (λ n. n ≢ 0) numbers k) (AllWithin (λ n. n ≡ 0) numbers 0 (length numbers))
+    → IsTrue told ↔ HasRound ps
+told_round true h (k, inside, some) = let low = subst (λ n. k < n) h.many inside in (λ _. (k, low, (h.each k low).0 (some 0)), λ _. refl)
+told_round false h none = (λ e. absurd (true≢false (sym e)), λ (i, low, round). absurd ((h.each i low).1 round (none i 0 (omega arith) (omega (arith, low, h.many)))))

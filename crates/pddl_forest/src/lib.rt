@@ -3,7 +3,6 @@
 
 mod numbering;
 mod peeling;
-mod rounds;
 mod spans;
 mod tops;
 

@@ -1,24 +1,25 @@
 //! Numbers for the places of a forest: each place behind its parent, and what is below a place directly behind it. So each place has a span.
 
-ghost use Rattle.std.specs.Prelude.{◌<◌, ℕ, length, IfOk, IfErr};
+ghost use Rattle.std.specs.Prelude.{◌≡◌, ◌<◌, ℕ, length, IfOk, IfErr};
 ghost use Rattle.pddl_forest.specs.Forests.{parent_of};
 ghost use Rattle.pddl_forest.specs.Spans.{AreSpans};
 ghost use Rattle.pddl_forest.specs.Rounds.{HasRound, AreRounds};
-ghost use Rattle.pddl_forest.specs.Inner.Orders.{IsOrder};
-ghost use Rattle.pddl_forest.specs.Inner.Relative.{AreRelative};
+ghost use Rattle.pddl_forest.specs.Inner.{IsOrder, AreUnder};
 
-use crate::peeling::children_left;
-use crate::rounds::has_round;
+use crate::peeling::{children_left, has_round};
 use crate::spans::Span;
 use std::alloc::{AllocError, Allocator};
 
-/// Counts from 0 on in spans whose first numbers are from the numbers of the parents on, and the last from their own: in an order in which each place stands
-/// before its parent, from its end.
+/// Numbers places from 0 on from the end of such an order: each behind its parent's number by what was put before it.
 fn number_from_top(parents: &[usize], order: &[usize], spans: &mut [Span])
     requires order { IsOrder parents.now order.now }
-    requires spans { AreRelative parents.now order.now spans.old }
+    requires under { AreUnder parents.now order.now (length order.now) spans.old }
     ensures { AreSpans parents.now spans.new }
 {
+    spans[0] = Span {
+        first: 0,
+        last: parents.len() - 1,
+    };
     for turn in (0..order.len()).rev() {
         let place = order[turn];
         let span = spans[place];

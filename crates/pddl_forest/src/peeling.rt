@@ -1,21 +1,22 @@
 //! Places that are peeled off in turn, each once no child of it is left. What is left lies on ways from parent to parent that go round.
 
-ghost use Rattle.std.specs.Prelude.{◌≡◌, ◌+◌, ◌<◌, ◌≤◌, ℕ, [], length, replicate, IfOk, OnOk};
-ghost use Rattle.pddl_forest.specs.Forests.{parent_of};
-ghost use Rattle.pddl_forest.specs.Inner.Orders.{AreCounted, AreWithoutChildren, ArePeeled};
-ghost use Rattle.pddl_forest.specs.Inner.Relative.{last_of, put_under, AreRelative};
+ghost use Rattle.std.specs.Prelude.{◌≡◌, ◌+◌, ◌<◌, ◌≤◌, ◌↔◌, ℕ, IsTrue, List, [], length, replicate, IfOk, OnOk};
+ghost use Rattle.pddl_forest.specs.Forests.{number_at};
+ghost use Rattle.pddl_forest.specs.Rounds.{HasRound, AreRounds};
+ghost use Rattle.pddl_forest.specs.Inner.{AreCounted, AreListed, ArePeeled, GoRound, AreUnder, at, put_under};
 
 use crate::spans::Span;
 use std::alloc::{AllocError, Allocator};
 
 /// Counts the children of each place.
 fn count_children(parents: &[usize], left: &mut [usize])
-    requires within { (i : ℕ) → i < length parents.now → parent_of parents.now i < length parents.now }
+    requires within { (i : ℕ) → i < length parents.now → number_at parents.now i < length parents.now }
     requires none { left.old ≡ replicate (length parents.now) 0 }
-    ensures { AreCounted parents.now [] (length parents.now) left.new }
+    ensures { AreCounted left.new parents.now (length parents.now) }
 {
-    for place in 0..parents.len() {
-        left[parents[place]] += 1;
+    for parent in parents {
+        let more = &mut left[*parent];
+        *more += 1;
     }
 }
 
@@ -27,7 +28,7 @@ fn list_leaves<'a, B: Allocator>(
     order: &mut Vec<usize, &'a B>,
 ) -> Result<(), AllocError>
     requires { order.old.items ≡ [] }
-    ensures { OnOk result (AreWithoutChildren left.now (length left.now) order.new.items) }
+    ensures { OnOk result (AreListed left.now order.new.items (length left.now)) }
 {
     for place in 0..left.len() {
         if left[place] == 0 {
@@ -37,11 +38,11 @@ fn list_leaves<'a, B: Allocator>(
     Ok(())
 }
 
-/// Puts what is under a place behind what is under its parent so far. Each span's first number is from the number of the parent on, and its last from its own.
+/// Puts what is under a place behind what is under its parent so far: its first number is from the number of the parent on, and its last from its own.
 fn put_under(spans: &mut [Span], place: usize, parent: usize)
     requires place { place < length spans.old }
     requires parent { parent < length spans.old }
-    requires fits { last_of spans.old parent + 1 + last_of spans.old place ≤ length spans.old }
+    requires fits { (at spans.old parent).last + 1 + (at spans.old place).last ≤ length spans.old }
     ensures { spans.new ≡ put_under spans.old place parent }
 {
     let first = spans[parent].last + 1;
@@ -59,11 +60,11 @@ fn peel<'a, B: Allocator>(
     order: &mut Vec<usize, &'a B>,
     spans: &mut [Span],
 ) -> Result<(), AllocError>
-    requires within { (i : ℕ) → i < length parents.now → parent_of parents.now i < length parents.now }
+    requires within { (i : ℕ) → i < length parents.now → number_at parents.now i < length parents.now }
     requires leaves { ArePeeled parents.now left.old order.old.items 0 }
-    requires spans { AreRelative parents.now [] spans.old }
+    requires none { AreUnder parents.now order.old.items 0 spans.old }
     ensures peeled { OnOk result (ArePeeled parents.now left.new order.new.items (length order.new.items)) }
-    ensures spans { OnOk result (AreRelative parents.now order.new.items spans.new) }
+    ensures under { OnOk result (AreUnder parents.now order.new.items (length order.new.items) spans.new) }
 {
     for turn in 0..parents.len() {
         if turn == order.len() {
@@ -90,15 +91,28 @@ pub fn children_left<'a, B: Allocator>(
     order: &mut Vec<usize, &'a B>,
     spans: &mut [Span],
 ) -> Result<Vec<usize, &'a B>, AllocError>
-    requires within { (i : ℕ) → i < length parents.now → parent_of parents.now i < length parents.now }
+    requires within { (i : ℕ) → i < length parents.now → number_at parents.now i < length parents.now }
     requires clear { order.old.items ≡ [] }
-    requires spans { AreRelative parents.now [] spans.old }
+    requires none { (places : List ℕ) → AreUnder parents.now places 0 spans.old }
     ensures left { IfOk result (λ left. ArePeeled parents.now left.items order.new.items (length order.new.items)) }
-    ensures spans { OnOk result (AreRelative parents.now order.new.items spans.new) }
+    ensures under { OnOk result (AreUnder parents.now order.new.items (length order.new.items) spans.new) }
 {
     let mut left = vec![in alloc; 0; parents.len()]?;
     count_children(parents, &mut left);
     list_leaves(&left, order)?;
     peel(parents, &mut left, order, spans)?;
     Ok(left)
+}
+
+/// Whether some way goes round, other than that of place 0 to itself, for which the number of place 0 is set to 0.
+pub fn has_round(parents: &[usize], numbers: &mut [usize]) -> bool
+    requires some { 0 < length parents.now }
+    requires round { GoRound parents.now numbers.old }
+    ensures numbers { AreRounds parents.now numbers.new }
+    ensures round { IsTrue result ↔ HasRound parents.now }
+{
+    if parents[0] == 0 {
+        numbers[0] = 0;
+    }
+    numbers.iter().any(|number| *number != 0)
 }

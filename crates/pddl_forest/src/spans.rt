@@ -1,7 +1,8 @@
 //! Spans of numbers, and what they hold.
 
 ghost use Rattle.std.specs.Prelude.{◌≡◌, ◌==◌, ◌<◌, ◌≤◌, ℕ, length, not};
-ghost use Rattle.pddl_forest.specs.Spans.{holds, some_holds, hold_all, span_at, AreApart};
+ghost use Rattle.pddl_forest.specs.Spans.{holds, some_holds, hold_all, AreApart};
+ghost use Rattle.pddl_forest.specs.Inner.{at};
 
 /// The numbers from a first to a last.
 #[derive(Clone, Copy)]
@@ -19,27 +20,27 @@ impl Span {
     }
 }
 
+/// How many of some spans, each behind the one before, begin at or before a number.
+fn begun_by(spans: &[Span], number: usize) -> usize
+    requires { AreApart spans.now }
+    ensures within { result ≤ length spans.now }
+    ensures before { (i : ℕ) → i < result → (at spans.now i).first ≤ number }
+    ensures behind { (i : ℕ) → result ≤ i → i < length spans.now → number < (at spans.now i).first }
+{
+    spans.partition_point(|span| span.first <= number)
+}
+
 /// The place behind that of the one which holds a number, of some spans, each behind the one before; 0 where none does.
 fn behind_holder(spans: &[Span], number: usize) -> usize
     requires { AreApart spans.now }
     ensures { some_holds spans.now number ≡ not (result == 0) }
 {
-    let behind = spans.partition_point(|span| span.first <= number);
+    let behind = begun_by(spans, number);
     if behind > 0 && spans[behind - 1].holds(number) {
         behind
     } else {
         0
     }
-}
-
-/// How many of some spans, each behind the one before, begin at or before a number.
-fn begun_by(spans: &[Span], number: usize) -> usize
-    requires { AreApart spans.now }
-    ensures within { result ≤ length spans.now }
-    ensures before { (i : ℕ) → i < result → (span_at spans.now i).first ≤ number }
-    ensures behind { (i : ℕ) → result ≤ i → i < length spans.now → number < (span_at spans.now i).first }
-{
-    spans.partition_point(|span| span.first <= number)
 }
 
 /// Whether spans, each behind the one before, hold the first number of each of others. What holds one is looked for first behind what held the one before.

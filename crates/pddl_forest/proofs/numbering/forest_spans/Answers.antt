@@ -1,27 +1,29 @@
 use Rattle.std.proofs.Common.{◌≡◌, length, sym, subst, ◌∙◌, true≢false, arith}
+use Rattle.std.proofs.lemmas.List.{get_or_default}
 use Rattle.pddl_forest.specs.Rounds.{AreRounds}
 use Rattle.pddl_forest.specs.Spans.{AreSpans}
-use Rattle.pddl_forest.proofs.Lists.{in_place}
-use Rattle.pddl_forest.proofs.Orders.{in_order}
-use Rattle.pddl_forest.proofs.Relative.{none_done}
-use Rattle.pddl_forest.proofs.RoundWays.{go_round}
+use Rattle.pddl_forest.proofs.Peels.{in_place}
+use Rattle.pddl_forest.proofs.Numbers.{none_under}
+use Rattle.pddl_forest.proofs.RoundWays.{go_round, in_order}
 use Rattle.pddl_forest.proofs.numbering.forest_spans.Goals as goal
 
-pub children_left-requires-clause-spans : goal.children_left-requires-clause-spans
-children_left-requires-clause-spans g c = rw (c.deref_mut.ensures.value, c.in_ok-spans.ensures.items_if_clones_equal (λ _ same. same)) (none_done c.args.parents.now)
+pub children_left-requires-clause-within : goal.children_left-requires-clause-within
+children_left-requires-clause-within g c = λ i low. rw (get_or_default c.args.parents.now i 0 i low) (c.requires.within i low)
+
+pub children_left-requires-clause-none : goal.children_left-requires-clause-none
+children_left-requires-clause-none g c = λ places. rw (c.deref_mut.ensures.value, c.in_ok-spans.ensures.items_if_clones_equal (λ _ same. same)) (none_under c.args.parents.now places)
 
 pub has_round-requires-clause-round : goal.has_round-requires-clause-round
-has_round-requires-clause-round g c = rw c.deref_mut-2.ensures.value (go_round c.args.parents.now c.requires.within c.in_ok-left.ensures.left)
+has_round-requires-clause-round g c = rw c.deref_mut-2.ensures.value (go_round c.in_ok-left.ensures.left c.requires.within)
 
-pub number_from_top-requires-clause-order : goal.number_from_top-requires-clause-order
-number_from_top-requires-clause-order g c =
-    rw c.deref.ensures.value (in_order c.in_ok-left.ensures.left c.requires.within c.requires.some (λ round. true≢false (sym (c.has_round.ensures.round.1 round) ∙ c.if-has_round.false)))
-
-pub number_from_top-requires-clause-spans : goal.number_from_top-requires-clause-spans
-number_from_top-requires-clause-spans g c =
+pub number_from_top-requires : goal.number_from_top-requires
+number_from_top-requires g c =
     let spans = c.children_left.new.spans in
-    let is : c.deref_mut-3.result.now ≡ spans = c.deref_mut-3.ensures.value ∙ in_place spans _ c.in_ok-spans.spans.len (omega (arith, c.in_ok-spans.ensures.len, c.in_ok-left.ensures.spans.long)) in
-    rw (c.deref.ensures.value, is) c.in_ok-left.ensures.spans
+    let long : c.in_ok-spans.spans.len ≡ length spans = omega (arith, c.in_ok-spans.ensures.len, c.in_ok-left.ensures.under.long) in
+    rw (c.deref.ensures.value, c.deref_mut-3.ensures.value, in_place spans _ c.in_ok-spans.spans.len long) record {
+      order = in_order c.in_ok-left.ensures.left c.requires.within c.requires.some (λ round. true≢false (sym (c.has_round.ensures.round.1 round) ∙ c.if-has_round.false));
+      under = c.in_ok-left.ensures.under;
+    }
 
 pub returns : goal.returns
 returns g c =

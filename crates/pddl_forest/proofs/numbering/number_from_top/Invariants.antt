@@ -1,5 +1,5 @@
-use Rattle.pddl_forest.specs.Inner.Relative.{AreMoved}
+use Rattle.pddl_forest.proofs.Numbers.{AreNumbered}
 use Rattle.pddl_forest.proofs.numbering.number_from_top.Given as goal
 
 abbrev pub invariant-loop-turn : goal.invariant-loop-turn
-invariant-loop-turn l = AreMoved l.parents l.order l.initial.spans l.spans l.turn
+invariant-loop-turn l = AreNumbered l.parents l.order l.spans l.turn

@@ -1,4 +1,4 @@
-use Rattle.pddl_forest.proofs.HeldRuns.{AreRuns}
+use Rattle.pddl_forest.proofs.ApartSpans.{AreRuns}
 use Rattle.pddl_forest.proofs.spans.hold_runs.Given as goal
 
 abbrev pub invariant-loop-span : goal.invariant-loop-span
