@@ -19,9 +19,6 @@ use Rattle.pddl_types.proofs.TypeForests.{place_in, under_numbered}
 
 -- ---- spans
 
-is_held : (s : Span) (i : ℕ) → holds s i ≡ true → (s.first ≤ i) × (i ≤ s.last)
-is_held s i h = (leb-true s.first i (and_left (leb s.first i) (leb i s.last) h), leb-true i s.last (and_right (leb s.first i) (leb i s.last) h))
-
 abbrev is_same : Span → Span → Bool
 is_same s u = eqb s.first u.first && eqb s.last u.last
 
@@ -99,7 +96,9 @@ module _ (t : TypesValue) (h : AreInTable t) where
   is_test n m type =
       both_ways (test n m) (under n m)
       (λ yes.
-      let (from, to) = is_held (span_of t m) (span_of t n).first yes in
+      let u = span_of t m in
+      let i = (span_of t n).first in
+      let from = leb-true u.first i (and_left (leb u.first i) (leb i u.last) yes) in
       let w = within n type in
       (both_test n m type (type_if m (omega (arith, from, w)))).0 yes)
       (λ yes. (both_test n m type (over_type n m yes type)).1 yes)

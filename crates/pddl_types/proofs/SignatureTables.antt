@@ -32,13 +32,11 @@ pub none_found : {X : Type 0} (o : Option X) → is_some o ≡ false → o ≡ N
 none_found None h = refl
 none_found (Some x) h = cc
 
-or_none : {X : Type 0} (o : Option X) → option_or o None ≡ o
-or_none None = refl
-or_none (Some x) = refl
-
-or_some : {X : Type 0} (o p : Option X) → is_some o ≡ true → option_or o p ≡ o
-or_some None p h = cc
-or_some (Some x) p h = refl
+-- one that is found stays so with one more
+found_still : {X : Type 0} (o : Option X) (b : Bool) (x : X) → (b ≡ true → is_some o ≡ true) → option_or o (cond b (Some x) None) ≡ o
+found_still (Some y) b x h = refl
+found_still None true x h = let some = h refl in cc
+found_still None false x h = refl
 
 -- names, each that stands before it too, with one name more
 pub repeated_more : (before names : List Name) (n : Name) → repeated before (names ++ n ∷ []) ≡ repeated before names ++ word_if (is_in (before ++ names) n) n
@@ -73,13 +71,11 @@ module _ {held seen : List Signature} (are : AreFirst held seen) (g : Signature)
   -- of a name that was seen the first is there
   first_still : is_in (map symbol_of seen) g.name ≡ true → AreFirst held (seen ++ g ∷ [])
   first_still old = record {
-    first = λ n. are.first n ∙ sym (find-append (λ s. bytes_eq n s.name) seen (g ∷ []) ∙ no_more n (bytes_eq n g.name) refl);
+    first = λ n.
+        let there = λ (is : bytes_eq n g.name ≡ true). is_among seen n ∙ ap (is_in (map symbol_of seen)) (bytes_same n g.name is) ∙ old in
+        are.first n ∙ sym (find-append (λ s. bytes_eq n s.name) seen (g ∷ []) ∙ found_still (signature_among seen n) (bytes_eq n g.name) g there);
     all = λ once. let here = (once_before true old once).1 in cc;
   }
-    where
-      no_more : (n : Name) (b : Bool) → bytes_eq n g.name ≡ b → option_or (signature_among seen n) (cond b (Some g) None) ≡ signature_among seen n
-      no_more n false is = or_none (signature_among seen n)
-      no_more n true is = or_some (signature_among seen n) (Some g) (is_among seen n ∙ ap (is_in (map symbol_of seen)) (bytes_same n g.name is) ∙ old)
 
 -- of names that stand twice, that of the next one, and those that are left behind it
 pub repeated_left : (seen next left rest : List Signature) (g : Signature) → next ≡ seen ++ g ∷ [] → left ≡ g ∷ rest → numbered 24 (repeated (map symbol_of seen) (map symbol_of left))

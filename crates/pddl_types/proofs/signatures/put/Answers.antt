@@ -18,6 +18,9 @@ returns-in_err-is_new-clause-passes g c =
     let p = err_from_is_err_and c.from_residual.result c.from_residual.ensures.1 in
     rw (p.1, p.2) (pass_front 23 _ _ _ c.in_err-is_new.field-0.0 (sym c.loop-each.invariant.left ∙ left) c.in_err-is_new.ensures.passes)
 
+pub returns-in_err-is_new-clause-kept : goal.returns-in_err-is_new-clause-kept
+returns-in_err-is_new-clause-kept g c = kept_then c.args.told.now c.loop-each.told c.put_one.new.told c.loop-each.invariant.kept c.put_one.ensures.kept
+
 pub loop-each-preserved : goal.loop-each-preserved
 loop-each-preserved g c =
     let signature = g.D.Declares.signature in
