@@ -1,5 +1,5 @@
 -- Objects by name, and the numbers of their types.
-use Rattle.std.proofs.Common.{◌≡◌, ℕ, suc, ◌+◌, ◌≤◌, ◌==◌, ◌&&◌, true, false, not, cond, eqb-true, bytes_eq, List, [], ◌∷◌, map, length, refl, sym, ap, ◌∙◌, arith, inl, inr}
+use Rattle.std.proofs.Common.{◌≡◌, ℕ, ◌≤◌, ◌==◌, ◌&&◌, eqb-true, bytes_eq, List, [], ◌∷◌, map, length, refl, sym, ap, ◌∙◌, arith, inl, inr}
 use Rattle.std.specs.Prelude.{Some, None, Contains, option_map, slice_get, find}
 use Rattle.std.specs.Borrow.{Bor}
 use Rattle.std.specs.List.{position, position_or_len}
@@ -8,6 +8,7 @@ use Rattle.std.specs.Option.{option_map_or}
 use Rattle.std.proofs.Math.Bool.{or-false}
 use Rattle.std.proofs.lemmas.Bool.{cases_lt}
 use Rattle.std.proofs.lemmas.List.{length-map}
+use Rattle.std.proofs.lemmas.List.Folds.{find_at}
 use Rattle.std.proofs.lemmas.Option.{same_Some, slice_get_within, slice_get_past, slice_get-map}
 use Rattle.indexmap.proofs.MapLemmas.{Found-position, Missing-position}
 use Rattle.pddl_forest.specs.declared.spans.Span.{Span}
@@ -19,19 +20,15 @@ use Rattle.pddl_types.specs.Told.{ToldValue, tops_at, first_at, AreAt, AreTold}
 use Rattle.pddl_types.specs.Objects.{IsAtOf}
 use Rattle.pddl_types.specs.TypeSpans.{TypesValue, span_of, IsTold, AreNumbered}
 use Rattle.pddl_task.proofs.Lists.{and_left, at_place, some_at}
+use Rattle.pddl_types.proofs.Lookups.{number_seen}
 use Rattle.pddl_types.proofs.ToldTypes.{tops_there}
 
 -- ---- an object that is found by its name
 
 found_named : {A : Type 0} (es : List (Bor Name × Bor (Typed A))) (n : Name) → find (is_named n) (map object_in es) ≡ slice_get (map object_in es) (position_or_len (λ k. bytes_eq n k.now) (keys_of es))
-found_named [] n = refl
-found_named (e ∷ es) n =
-    let later = position_or_len (λ k. bytes_eq n k.now) (keys_of es) in
-    let objects = map object_in es in
-    elim (bytes_eq n e.0.now) as (λ b. cond b (Some (object_in e)) (find (is_named n) objects) ≡ slice_get (object_in e ∷ objects) (cond (not b) (1 + later) 0)) [
-      | true ↦ refl
-      | false ↦ let next : suc later ≡ 1 + later = omega arith in found_named es n ∙ ap (slice_get (object_in e ∷ objects)) next
-    ]
+found_named {A} es n =
+    let number = number_seen object_in (is_named n) es ∙ sym (number_seen (λ (e : Bor Name × Bor (Typed A)). e.0) (λ k. bytes_eq n k.now) es) in
+    find_at (is_named n) (map object_in es) ∙ ap (slice_get (map object_in es)) number
 
 module _ {A : Type 0} (es : List (Bor Name × Bor (Typed A))) (n : Name) where
   -- the one of its number

@@ -1,9 +1,13 @@
--- Names that are looked up.
-use Rattle.std.proofs.Common.{◌≡◌, ℕ, suc, ◌+◌, true, false, ◌||◌, not, cond, List, [], ◌∷◌, map, Some, refl, sym, ap, ◌∙◌, arith, bytes_eq}
+-- What is read of lists and tables, by place and by name.
+use Rattle.std.proofs.Common.{◌≡◌, ℕ, zero, suc, ◌+◌, ◌<◌, Bool, true, false, ◌||◌, not, cond, List, [], ◌∷◌, ◌++◌, map, length, Some, refl, sym, ap, ◌∙◌, arith, bytes_eq}
 use Rattle.std.specs.Prelude.{is_some, find, option_map, slice_get}
 use Rattle.std.specs.Borrow.{Bor}
-use Rattle.std.specs.List.{position_or_len}
+use Rattle.std.specs.List.{position, position_or_len}
 use Rattle.std.specs.Map.{keys_of, lookup}
+use Rattle.std.proofs.lemmas.Map.Made.{lookup_key_passes}
+use Rattle.std.proofs.lemmas.Option.{slice_get-map}
+use Rattle.std.proofs.lemmas.Simd.{map-map}
+use Rattle.indexmap.proofs.MapLemmas.{Found-position}
 use Rattle.pddl_formula.specs.TypedLists.{typed_view}
 use Rattle.pddl_domain.specs.Declarations.{Signature}
 use Rattle.pddl_task.specs.Names.{Name, is_in}
@@ -11,7 +15,43 @@ use Rattle.pddl_task.specs.Settings.{symbol_of}
 use Rattle.pddl_types.specs.KnownNames.{signature_in}
 use Rattle.pddl_types.specs.declared.signatures.Slots.{Slots}
 use Rattle.pddl_faults.proofs.PutValues.{found_or}
-use Rattle.pddl_task.proofs.Lists.{bytes_same}
+use Rattle.pddl_task.proofs.Lists.{bytes_same, some_at}
+
+-- ---- by place
+
+-- what is seen in each is seen in the views of the same list
+pub seen_of : {X Y Z : Type 0} (see : Y → Z) (view : X → Y) {xs ys : List X} → xs ≡ ys → map (λ x. see (view x)) xs ≡ map see (map view ys)
+seen_of see view {xs} same = sym (map-map see view xs) ∙ ap (λ zs. map see (map view zs)) same
+
+-- what is seen of an entry
+pub seen_entry : {E Y : Type 0} (view : E → Y) (es : List E) (k : ℕ) (e : E) → slice_get es k ≡ Some e → slice_get (map view es) k ≡ Some (view e)
+seen_entry view es k e at = slice_get-map view es k ∙ ap (option_map view) at
+
+-- and the entry of what is seen
+pub entry_seen : {E Y : Type 0} (view : E → Y) (es : List E) (k : ℕ) (y : Y) → slice_get (map view es) k ≡ Some y → (e : E) × (slice_get es k ≡ Some e) × (view e ≡ y)
+entry_seen view [] k y at = cc
+entry_seen view (e ∷ es) zero y at = (e, refl, cc)
+entry_seen view (e ∷ es) (suc k) y at = entry_seen view es k y at
+
+-- what stands in front
+pub in_front : {X : Type 0} (xs more : List X) (i : ℕ) → i < length xs → slice_get (xs ++ more) i ≡ slice_get xs i
+in_front [] more i low = absurd (omega (arith, low))
+in_front (x ∷ xs) more zero low = refl
+in_front (x ∷ xs) more (suc i) low = in_front xs more i (omega (arith, low))
+
+-- what stands at the end
+pub at_end : {X : Type 0} (xs : List X) (x : X) → slice_get (xs ++ x ∷ []) (length xs) ≡ Some x
+at_end [] x = refl
+at_end (y ∷ xs) x = at_end xs x
+
+-- the entry of a key that is found
+pub entry_found : {K X : Type 0} (test : K → Bool) (es : List (K × X)) (i : ℕ) → position test (keys_of es) ≡ Some i → (e : K × X) × (slice_get es i ≡ Some e) × (test e.0 ≡ true)
+entry_found {K} {X} test es i is =
+    let found = Found-position test es i is in
+    let (e, at) = some_at es i found.within in
+    (e, at, lookup_key_passes test es e.0 (found.key ∙ seen_entry (λ (d : K × X). d.0) es i e at))
+
+-- ---- by name
 
 pub is_symbol : {A B : Type 0} (es : List (Bor (List ℕ) × Slots A B)) (n : Name) → is_some (lookup (λ k. bytes_eq n k.now) es) ≡ is_in (map symbol_of (map signature_in es)) n
 is_symbol [] n = refl
@@ -31,10 +71,14 @@ signature_found {A} {B} (e ∷ es) n =
 
 -- ---- numbers of names
 
+-- the number of what is seen
+pub number_seen : {X Y : Type 0} (view : X → Y) (test : Y → Bool) (xs : List X) → position_or_len test (map view xs) ≡ position_or_len (λ x. test (view x)) xs
+number_seen view test [] = refl
+number_seen view test (x ∷ xs) = ap (λ i. cond (not (test (view x))) (1 + i) 0) (number_seen view test xs)
+
 -- a name that is lent has its number among the names
 pub number_lent : {V : Type 0} (es : List (Bor (List ℕ) × V)) (n : Name) → position_or_len (λ k. bytes_eq n k.now) (keys_of es) ≡ position_or_len (bytes_eq n) (map (λ e. e.0.now) es)
-number_lent [] n = refl
-number_lent (e ∷ es) n = ap (λ i. cond (not (bytes_eq n e.0.now)) (1 + i) 0) (number_lent es n)
+number_lent {V} es n = number_seen (λ (e : Bor (List ℕ) × V). e.0) (λ k. bytes_eq n k.now) es ∙ sym (number_seen (λ (e : Bor (List ℕ) × V). e.0.now) (bytes_eq n) es)
 
 -- and what is found for it stands there
 pub entry_at : {V : Type 0} (es : List (Bor (List ℕ) × V)) (n : Name) (v : V) → lookup (λ k. bytes_eq n k.now) es ≡ Some v

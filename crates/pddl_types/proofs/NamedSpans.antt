@@ -14,13 +14,10 @@ use Rattle.pddl_types.specs.TypeSpans.{TypesValue, span_of, IsTold, DoTell, are_
 use Rattle.pddl_task.proofs.Lists.{and_left, and_right, any_found, found_any, all_found, found_all, mapped_is, is_mapped}
 use Rattle.pddl_task.proofs.Subtypes.{is_under_decides, under_found, under_through}
 use Rattle.pddl_types.proofs.TypeParents.{same_types}
-use Rattle.pddl_types.proofs.TypePlaces.{below, number_past}
+use Rattle.pddl_types.proofs.TypeTables.{below, number_past}
 use Rattle.pddl_types.proofs.TypeForests.{place_in, under_numbered}
 
 -- ---- spans
-
-is_held : (s : Span) (i : ℕ) → holds s i ≡ true → (s.first ≤ i) × (i ≤ s.last)
-is_held s i h = (leb-true s.first i (and_left (leb s.first i) (leb i s.last) h), leb-true i s.last (and_right (leb s.first i) (leb i s.last) h))
 
 abbrev is_same : Span → Span → Bool
 is_same s u = eqb s.first u.first && eqb s.last u.last
@@ -92,14 +89,19 @@ module _ (t : TypesValue) (h : AreInTable t) where
       let places = under_numbered t.declared h.0 h.2 (number n) (number m) n m at there in
       (λ yes. places.1 (spans.0 yes), λ yes. spans.1 (places.0 yes))
 
+  over_type : (n m : Name) → under n m ≡ true → is_type n ≡ true → is_type m ≡ true
+  over_type n m up type = sym (same_types t.declared h.2.0 n m ((is_under_decides (pairs t.declared) n m).0 up)) ∙ type
+
   is_test : (n m : Name) → is_type n ≡ true → test n m ≡ under n m
   is_test n m type =
       both_ways (test n m) (under n m)
       (λ yes.
-      let (from, to) = is_held (span_of t m) (span_of t n).first yes in
+      let u = span_of t m in
+      let i = (span_of t n).first in
+      let from = leb-true u.first i (and_left (leb u.first i) (leb i u.last) yes) in
       let w = within n type in
       (both_test n m type (type_if m (omega (arith, from, w)))).0 yes)
-      (λ yes. (both_test n m type (sym (same_types t.declared n m h.2.0 yes) ∙ type)).1 yes)
+      (λ yes. (both_test n m type (over_type n m yes type)).1 yes)
 
   pub test_told : (n m : Name) (number : ℕ) (over : Span) → is_type n ≡ true → number ≡ (span_of t n).first → over ≡ span_of t m → holds over number ≡ under n m
   test_told n m number over known is also = ap (λ s. holds s number) also ∙ ap (holds (span_of t m)) is ∙ is_test n m known
@@ -132,7 +134,7 @@ module _ (t : TypesValue) (h : AreInTable t) where
       (λ yes.
       let m = any_found (under n) slot yes in
       let u = in_top slot tops m.0 told (told.tops_are.all (span_of t m.0) (is_mapped (span_of t) slot m.0 m.1)) in
-      let up = through n m.0 u.0 m.2 (sym (is_test m.0 u.0 (sym (same_types t.declared n m.0 h.2.0 m.2) ∙ type)) ∙ u.3) in
+      let up = through n m.0 u.0 m.2 (sym (is_test m.0 u.0 (over_type n m.0 m.2 type)) ∙ u.3) in
       found_any (λ s. holds s (span_of t n).first) tops (span_of t u.0) u.2 (is_test n u.0 type ∙ up))
 
   -- what is told of two types tells whether one fits the other

@@ -5,7 +5,7 @@ use Rattle.std.specs.Borrow.{Bor}
 use Rattle.std.specs.Cmp.Lexicographic.{nat_list_eq_equiv}
 use Rattle.std.specs.Map.{keys_of}
 use Rattle.std.specs.Option.{option_map_or}
-use Rattle.std.proofs.lemmas.List.{drop_all, take_all, length-map, map-append}
+use Rattle.std.proofs.lemmas.List.{drop_all, take_all, length-map, map-append, map_push}
 use Rattle.std.proofs.lemmas.List.Elements.{filter-append}
 use Rattle.std.proofs.lemmas.Option.{slice_get_within, slice_get-get_or}
 use Rattle.indexmap.specs.IndexMap.{insert_entry}
@@ -103,10 +103,8 @@ pub put_last : {A : Type 0} (es next : List (Bor (List ℕ) × Bor (Typed A))) (
 put_last {A} es next k v own put none =
     let last : next ≡ es ++ (k, v) ∷ [] = put ∙ insert_entry-absent (λ j l. bytes_eq j.now l.now) k v es (Missing-position (λ j. bytes_eq k.now j.now) es none).absent in
     let names = λ (e : Bor (List ℕ) × Bor (Typed A)). e.0.now in
-    let own_names = λ (e : Bor (List ℕ) × Bor (Typed A)). e.1.now.name in (
-      ap (map object_in) last ∙ map-append object_in es ((k, v) ∷ []) ∙ ap (λ m. map object_in es ++ record { item = m; of = v.now.types } ∷ []) own,
-      λ are. subst AreNamed (sym last) (map-append own_names es ((k, v) ∷ []) ∙ ap (λ ns. ns ++ v.now.name ∷ []) are ∙ ap (λ m. map names es ++ m ∷ []) (sym own) ∙ sym (map-append names es ((k, v) ∷ []))),
-    )
+    let own_names = λ (e : Bor (List ℕ) × Bor (Typed A)). e.1.now.name in
+    (rw (last, map_push object_in es (k, v), own) refl, λ are. rw (last, map_push own_names es (k, v), map_push names es (k, v), own) (ap (λ ns. ns ++ v.now.name ∷ []) are))
 
 -- ---- a walk over what is listed
 

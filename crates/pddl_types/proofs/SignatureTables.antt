@@ -1,40 +1,42 @@
--- Tables of what is declared, as it is put into them one after another.
-use Rattle.std.proofs.Common.{◌≡◌, ℕ, Bool, true, false, ◌||◌, cond, List, [], ◌∷◌, ◌++◌, map, Option, Some, None, refl, ap, sym, ◌∙◌, subst, bytes_eq, append_assoc}
-use Rattle.std.specs.Prelude.{is_some, find}
+-- Tables of what is declared, as it is put into them one after another, and the types of parameters.
+use Rattle.std.proofs.Common.{◌≡◌, ◌≤◌, ℕ, Bool, true, false, ◌||◌, cond, List, [], ◌∷◌, ◌++◌, map, length, Option, Some, None, refl, ap, sym, ◌∙◌, subst, bytes_eq, append_assoc, arith}
+use Rattle.std.specs.Prelude.{is_some, find, slice_get}
 use Rattle.std.specs.Borrow.{Bor}
 use Rattle.std.specs.Map.{lookup}
 use Rattle.std.specs.Option.{option_or}
 use Rattle.std.proofs.lemmas.List.{map-append}
+use Rattle.std.proofs.lemmas.List.Elements.{All-contains}
 use Rattle.std.proofs.lemmas.List.Folds.{find-append}
+use Rattle.std.proofs.lemmas.Option.{same_Some, slice_get_within}
 use Rattle.indexmap.specs.IndexMap.{IndexMap, insert_entry}
 use Rattle.indexmap.proofs.CallerLemmas.{insert_entry-new}
-use Rattle.pddl_formula.specs.TypedLists.{typed_view}
-use Rattle.pddl_formula.specs.declared.type_names.Typed.{Typed}
+use Rattle.pddl_formula.specs.TypedLists.{TypedValue, typed_view}
+use Rattle.pddl_domain.specs.Actions.{ActionValue}
 use Rattle.pddl_domain.specs.Declarations.{Signature}
+use Rattle.pddl_domain.specs.Domains.{DomainValue}
 use Rattle.pddl_task.specs.Names.{Name, is_in, word_if, repeated}
 use Rattle.pddl_task.specs.Settings.{symbol_of}
-use Rattle.pddl_task.proofs.Lists.{append-none, append-one, bytes_same, nil_parts}
+use Rattle.pddl_task.proofs.Lists.{append-none, append-one, at_place, bytes_same, nil_parts}
 use Rattle.pddl_task.proofs.DistinctNames.{word_none}
 use Rattle.pddl_faults.specs.Found.{numbered}
 use Rattle.pddl_faults.proofs.PutValues.{found_or}
-use Rattle.pddl_types.specs.KnownNames.{signature_in}
-use Rattle.pddl_types.specs.Told.{ToldValue, AreKept}
-use Rattle.pddl_types.specs.Signatures.{Rows, signature_among, AreFirst, HaveFirst, HaveSignatures}
+use Rattle.pddl_types.specs.KnownNames.{signature_in, action_signature}
+use Rattle.pddl_types.specs.Told.{ToldValue, IsAt, AreAt, AreKept}
+use Rattle.pddl_types.specs.Signatures.{Rows, IsSlotsAt, signature_among, AreFirst, HaveFirst, HaveSignatures}
+use Rattle.pddl_types.specs.declared.declared.Declared.{Declared}
 use Rattle.pddl_types.specs.declared.signatures.Slots.{Slots}
-use Rattle.pddl_types.proofs.Lookups.{is_symbol}
-use Rattle.pddl_types.proofs.ToldTypes.{slots_still}
+use Rattle.pddl_types.proofs.Lookups.{seen_entry, entry_seen, is_symbol}
+use Rattle.pddl_types.proofs.ToldTypes.{slots_still, slots_more}
 
 pub none_found : {X : Type 0} (o : Option X) → is_some o ≡ false → o ≡ None
 none_found None h = refl
 none_found (Some x) h = cc
 
-or_none : {X : Type 0} (o : Option X) → option_or o None ≡ o
-or_none None = refl
-or_none (Some x) = refl
-
-or_some : {X : Type 0} (o p : Option X) → is_some o ≡ true → option_or o p ≡ o
-or_some None p h = cc
-or_some (Some x) p h = refl
+-- one that is found stays so with one more
+found_still : {X : Type 0} (o : Option X) (b : Bool) (x : X) → (b ≡ true → is_some o ≡ true) → option_or o (cond b (Some x) None) ≡ o
+found_still (Some y) b x h = refl
+found_still None true x h = let some = h refl in cc
+found_still None false x h = refl
 
 -- names, each that stands before it too, with one name more
 pub repeated_more : (before names : List Name) (n : Name) → repeated before (names ++ n ∷ []) ≡ repeated before names ++ word_if (is_in (before ++ names) n) n
@@ -58,7 +60,7 @@ module _ {held seen : List Signature} (are : AreFirst held seen) (g : Signature)
       (parts.0, sym is ∙ word_none (is_in (map symbol_of seen) g.name) g.name parts.1)
 
   -- of a new name it is put there
-  pub first_more : is_in (map symbol_of seen) g.name ≡ false → AreFirst (held ++ g ∷ []) (seen ++ g ∷ [])
+  first_more : is_in (map symbol_of seen) g.name ≡ false → AreFirst (held ++ g ∷ []) (seen ++ g ∷ [])
   first_more new = record {
     first = λ n.
         let test : Signature → Bool = λ s. bytes_eq n s.name in
@@ -67,15 +69,13 @@ module _ {held seen : List Signature} (are : AreFirst held seen) (g : Signature)
   }
 
   -- of a name that was seen the first is there
-  pub first_still : is_in (map symbol_of seen) g.name ≡ true → AreFirst held (seen ++ g ∷ [])
+  first_still : is_in (map symbol_of seen) g.name ≡ true → AreFirst held (seen ++ g ∷ [])
   first_still old = record {
-    first = λ n. are.first n ∙ sym (find-append (λ s. bytes_eq n s.name) seen (g ∷ []) ∙ no_more n (bytes_eq n g.name) refl);
+    first = λ n.
+        let there = λ (is : bytes_eq n g.name ≡ true). is_among seen n ∙ ap (is_in (map symbol_of seen)) (bytes_same n g.name is) ∙ old in
+        are.first n ∙ sym (find-append (λ s. bytes_eq n s.name) seen (g ∷ []) ∙ found_still (signature_among seen n) (bytes_eq n g.name) g there);
     all = λ once. let here = (once_before true old once).1 in cc;
   }
-    where
-      no_more : (n : Name) (b : Bool) → bytes_eq n g.name ≡ b → option_or (signature_among seen n) (cond b (Some g) None) ≡ signature_among seen n
-      no_more n false is = or_none (signature_among seen n)
-      no_more n true is = or_some (signature_among seen n) (Some g) (is_among seen n ∙ ap (is_in (map symbol_of seen)) (bytes_same n g.name is) ∙ old)
 
 -- of names that stand twice, that of the next one, and those that are left behind it
 pub repeated_left : (seen next left rest : List Signature) (g : Signature) → next ≡ seen ++ g ∷ [] → left ≡ g ∷ rest → numbered 24 (repeated (map symbol_of seen) (map symbol_of left))
@@ -84,27 +84,6 @@ repeated_left seen next left rest g next_is left_is =
     let own = word_if (is_in (map symbol_of seen) g.name) g.name in
     ap (λ gs. numbered 24 (repeated (map symbol_of seen) (map symbol_of gs))) left_is ∙ map-append (λ (w : Name). (24, w)) own (repeated (map symbol_of seen ++ g.name ∷ []) (map symbol_of rest))
     ∙ ap (λ ns. numbered 24 own ++ numbered 24 (repeated ns (map symbol_of rest))) (sym (ap (map symbol_of) next_is ∙ map-append symbol_of seen (g ∷ [])))
-
--- ---- a table
-
-module _ {A B S : Type 0} (m : IndexMap (Bor (List ℕ)) (Slots A B) S) (seen : List Signature) (are : AreFirst (map signature_in m.entries) seen) (g : Signature) (k : Bor (List ℕ))
-    (name : k.now ≡ g.name) (there : Bool) (is : there ≡ is_some (lookup (λ j. bytes_eq k.now j.now) m.entries)) where
-  -- a name is in it where it was seen
-  pub seen_there : is_in (map symbol_of seen) g.name ≡ there
-  seen_there =
-      sym (is_among seen g.name) ∙ sym (ap is_some (are.first g.name)) ∙ is_among (map signature_in m.entries) g.name ∙ sym (is_symbol m.entries g.name)
-      ∙ ap (λ n. is_some (lookup (λ j. bytes_eq n j.now) m.entries)) (sym name) ∙ sym is
-
--- a new name comes last
-pub last_put : {A B S : Type 0} (m : IndexMap (Bor (List ℕ)) (Slots A B) S) (k : Bor (List ℕ)) (v : Slots A B) (next : Rows A B) → false ≡ is_some (lookup (λ j. bytes_eq k.now j.now) m.entries)
-    → next ≡ insert_entry (λ a b. bytes_eq a.now b.now) m.entries k v → next ≡ m.entries ++ (k, v) ∷ []
-last_put m k v next none put = put ∙ insert_entry-new (λ a b. bytes_eq a.now b.now) m k v (none_found (lookup (λ j. bytes_eq k.now j.now) m.entries) (sym none))
-
-pub last_seen : {A B : Type 0} (rows next : Rows A B) (k : Bor (List ℕ)) (v : Slots A B) (g : Signature) (xs : List (Typed A)) → next ≡ rows ++ (k, v) ∷ []
-    → k.now ≡ g.name → v.parameters.now ≡ xs → map typed_view xs ≡ g.parameters → map signature_in next ≡ map signature_in rows ++ g ∷ []
-last_seen rows next k v g xs last name parameters views =
-    let same : signature_in (k, v) ≡ g = rw (name, parameters, views) refl in
-    ap (map signature_in) last ∙ map-append signature_in rows ((k, v) ∷ []) ∙ ap (λ s. map signature_in rows ++ s ∷ []) same
 
 -- ---- what is declared
 
@@ -115,3 +94,56 @@ have_still {before = before} {after} {rows} kept same have = record { first = su
 -- all are held where no name stands twice
 pub have_all : {A B : Type 0} {told : ToldValue} {rows : Rows A B} {gs : List Signature} → repeated [] (map symbol_of gs) ≡ [] → HaveFirst told rows gs → HaveSignatures told rows gs
 have_all once have = record { signatures_are = have.first.all once; slots = have.slots }
+
+-- one more is put into a table
+module _ {A B S : Type 0} (m : IndexMap (Bor (List ℕ)) (Slots A B) S) {before after : ToldValue} (kept : AreKept before after) (seen : List Signature) (have : HaveFirst before m.entries seen)
+    (g : Signature) (k : Bor (List ℕ)) (name : k.now ≡ g.name) where
+  -- a name is in it where it was seen
+  seen_there : (there : Bool) → there ≡ is_some (lookup (λ j. bytes_eq k.now j.now) m.entries) → is_in (map symbol_of seen) g.name ≡ there
+  seen_there there is =
+      sym (is_among seen g.name) ∙ sym (ap is_some (have.first.first g.name)) ∙ is_among (map signature_in m.entries) g.name ∙ sym (is_symbol m.entries g.name)
+      ∙ ap (λ n. is_some (lookup (λ j. bytes_eq n j.now) m.entries)) (sym name) ∙ sym is
+
+  pub put_old : true ≡ is_some (lookup (λ j. bytes_eq k.now j.now) m.entries) → (is_in (map symbol_of seen) g.name ≡ true) × HaveFirst after m.entries (seen ++ g ∷ [])
+  put_old is =
+      let there = seen_there true is in (there, record { first = first_still have.first g there; slots = slots_still before after m.entries kept have.slots })
+
+  -- a new name comes last
+  pub put_new : (v : Slots A B) (next : Rows A B) → false ≡ is_some (lookup (λ j. bytes_eq k.now j.now) m.entries) → next ≡ insert_entry (λ a b. bytes_eq a.now b.now) m.entries k v
+      → map typed_view v.parameters.now ≡ g.parameters → IsSlotsAt after v → (is_in (map symbol_of seen) g.name ≡ false) × HaveFirst after next (seen ++ g ∷ [])
+  put_new v next none put parameters at =
+      let new = seen_there false none in
+      let last = put ∙ insert_entry-new (λ a b. bytes_eq a.now b.now) m k v (none_found (lookup (λ j. bytes_eq k.now j.now) m.entries) (sym none)) in
+      let own : signature_in (k, v) ≡ g = rw (name, parameters) refl in
+      let views = map-append signature_in m.entries ((k, v) ∷ []) ∙ ap (λ s. map signature_in m.entries ++ s ∷ []) own in (
+        new,
+        subst (λ (rows : Rows A B). HaveFirst after rows (seen ++ g ∷ [])) (sym last) (record {
+          first = subst (λ gs. AreFirst gs (seen ++ g ∷ [])) (sym views) (first_more have.first g new);
+          slots = slots_more before after m.entries (k, v) kept have.slots at;
+        }),
+      )
+
+-- ---- the types of the parameters of actions
+
+module _ {A B : Type 0} (d : DomainValue) (declared : Declared A B) (are : HaveSignatures declared.told declared.actions.entries (map action_signature d.actions)) (i j : ℕ) (a : ActionValue) (x : TypedValue)
+    (here : slice_get d.actions i ≡ Some a) (there : slice_get a.parameters j ≡ Some x) where
+  listed : slice_get (map signature_in declared.actions.entries) i ≡ Some (action_signature a)
+  listed = ap (λ gs. slice_get gs i) are.signatures_are ∙ seen_entry action_signature d.actions i a here
+
+  pub some_entry : slice_get declared.actions.entries i ≡ None → ⊥
+  some_entry none = let (e, at, _) = entry_seen signature_in declared.actions.entries i (action_signature a) listed in cc (none, at)
+
+  -- the entry of the action has its parameters
+  module _ (e : Bor (List ℕ) × Slots A B) (at : slice_get declared.actions.entries i ≡ Some e) where
+    parameters_told : AreAt declared.told a.parameters e.1.numbers.items
+    parameters_told =
+        let same = same_Some (signature_in e) (action_signature a) (sym (seen_entry signature_in declared.actions.entries i e at) ∙ listed) in
+        subst (λ xs. AreAt declared.told xs e.1.numbers.items) (ap (λ s. s.parameters) same)
+        (All-contains (λ (f : Bor (List ℕ) × Slots A B). IsSlotsAt declared.told f.1) declared.actions.entries e are.slots (at_place declared.actions.entries i e at))
+
+    -- the type of each of them has a number
+    pub some_number : length e.1.numbers.items ≤ j → ⊥
+    some_number past = absurd (omega (arith, past, slice_get_within a.parameters j x there, parameters_told.many))
+
+    pub number_there : (n : ℕ) → slice_get e.1.numbers.items j ≡ Some n → IsAt declared.told x.of n
+    number_there n is = parameters_told.each j n x there is

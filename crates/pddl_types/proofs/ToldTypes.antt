@@ -1,34 +1,58 @@
--- Types that are told by number, with their tops.
-use Rattle.std.proofs.Common.{◌≡◌, ℕ, zero, suc, ◌+◌, ◌-◌, ◌<◌, ◌==◌, ◌&&◌, cond, get_or, Bool, true, false, not, true≢false, List, [], ◌∷◌, ◌++◌, map, filter, length, take, Option, Some, None, position, refl, sym, ap, ◌∙◌, subst, arith, inl, inr, append-nil, append_assoc}
+-- Types that are told by number, with their tops, the numbers of items' types, and what is found of pairs of them.
+use Rattle.std.proofs.Common.{◌≡◌, ℕ, zero, suc, ◌+◌, ◌-◌, ◌<◌, ◌==◌, ◌&&◌, cond, Bool, true, false, not, List, [], ◌∷◌, ◌++◌, map, filter, length, take, Option, Some, None, position, refl, sym, ap, ◌∙◌, subst, arith, append-nil, append_assoc}
 use Rattle.std.specs.Prelude.{IsTrue, option_map, slice_get}
 use Rattle.std.specs.Borrow.{Bor}
 use Rattle.std.specs.Cmp.Lexicographic.{bytes_decides, pointwise_decides}
 use Rattle.std.specs.List.{IsDistinct, AllByRecursion, list_all, position_or_len}
-use Rattle.std.specs.Map.{keys_of}
+use Rattle.std.specs.Map.{keys_of, lookup}
 use Rattle.std.specs.declared.vec.Vec.{Vec}
-use Rattle.std.proofs.lemmas.Bool.{cases_lt, eqb-true, eq-eqb}
-use Rattle.std.proofs.lemmas.List.{length-map, map_push}
+use Rattle.std.proofs.lemmas.Bool.{eqb-true, eq-eqb}
+use Rattle.std.proofs.lemmas.Cmp.{nat_list_eq_equiv, lists_equiv}
+use Rattle.std.proofs.lemmas.List.{length-append, length-map, map_push, take_more}
 use Rattle.std.proofs.lemmas.List.Elements.{All-weaker, All-push, All-contains}
-use Rattle.std.proofs.lemmas.List.Quantifiers.{position-Some}
-use Rattle.std.proofs.lemmas.Map.Keys.{apart_from_distinct}
-use Rattle.std.proofs.lemmas.Option.{same_Some, get_or_from_slice_get, slice_get_within}
-use Rattle.indexmap.specs.IndexMap.{IndexMap, insert_entry}
-use Rattle.indexmap.proofs.CallerLemmas.{insert_entry-new}
-use Rattle.indexmap.proofs.MapLemmas.{Missing-position}
+use Rattle.std.proofs.lemmas.Option.{same_Some, get_or_from_slice_get, slice_get_within, slice_get-map}
+use Rattle.std.specs.Option.{option_map_or}
+use Rattle.indexmap.specs.IndexMap.{insert_entry}
+use Rattle.indexmap.proofs.MapLemmas.{Missing-position, insert_entry-absent, or_len-first}
+use Rattle.indexmap.proofs.RemoveLemmas.{own_first}
 use Rattle.pddl_forest.specs.Spans.{AreApart, hold_all}
 use Rattle.pddl_forest.specs.declared.spans.Span.{Span}
 use Rattle.pddl_formula.specs.TypedLists.{TypedValue, typed_view}
 use Rattle.pddl_formula.specs.Groups.{HaveOneType}
 use Rattle.pddl_task.specs.Names.{Name, is_in, same_names}
 use Rattle.pddl_task.specs.Types.{types_of, pairs, fits}
-use Rattle.pddl_task.proofs.Lists.{at_place, and_left, and_right}
+use Rattle.pddl_task.proofs.Lists.{at_place, and_left, and_right, some_at}
 use Rattle.pddl_task.proofs.Numbers.{both_ways}
-use Rattle.pddl_types.specs.TypeSpans.{TypesValue, IsTold, are_types}
-use Rattle.pddl_types.specs.Told.{ToldValue, told_in, tops_at, IsAt, AreAt, AreDistinct, AreTold, AreKept}
+use Rattle.pddl_types.specs.TypeSpans.{TypesValue, IsTold, HaveEach, are_types}
+use Rattle.pddl_types.specs.Told.{ToldValue, told_in, tops_at, IsAt, AreAt, AreDistinct, AreTold, AreKept, AreFitting}
 use Rattle.pddl_types.specs.Signatures.{Rows, IsSlotsAt, AreSlotsAt}
 use Rattle.pddl_types.specs.declared.signatures.Slots.{Slots}
-use Rattle.pddl_types.proofs.HeldEach.{each_next, each_still}
-use Rattle.pddl_types.proofs.SharedTypes.{of_next}
+use Rattle.pddl_types.proofs.Lookups.{entry_seen, in_front, at_end, entry_found}
+use Rattle.pddl_sizes.proofs.SharedTypes.{of_next}
+
+-- ---- values of items, one for each
+
+-- what holds of what stands at one place of two lists, and of what comes last in both
+both_more : {X Y : Type 0} (Holds : X → Y → Type 0) (xs : List X) (ys : List Y) (x : X) (y : Y) → length ys ≡ length xs → Holds x y
+    → ((k : ℕ) (z : X) (w : Y) → slice_get xs k ≡ Some z → slice_get ys k ≡ Some w → Holds z w)
+    → (k : ℕ) (z : X) (w : Y) → slice_get (xs ++ x ∷ []) k ≡ Some z → slice_get (ys ++ y ∷ []) k ≡ Some w → Holds z w
+both_more Holds [] [] x y many last each zero z w at is = subst (Holds z) (same_Some y w is) (subst (λ v. Holds v y) (same_Some x z at) last)
+both_more Holds [] [] x y many last each (suc k) z w at is = cc
+both_more Holds [] (b ∷ ys) x y many last each k z w at is = absurd (omega (arith, many))
+both_more Holds (a ∷ xs) [] x y many last each k z w at is = absurd (omega (arith, many))
+both_more Holds (a ∷ xs) (b ∷ ys) x y many last each zero z w at is = each 0 z w at is
+both_more Holds (a ∷ xs) (b ∷ ys) x y many last each (suc k) z w at is = both_more Holds xs ys x y (omega (arith, many)) last (λ j. each (suc j)) k z w at is
+
+module _ {T : Type 0} (Holds : List Name → T → Type 0) where
+  pub each_none : HaveEach Holds [] []
+  each_none = record { many = refl; each = λ k v x at is. absurd (omega (arith, slice_get_within [] k x at)) }
+
+  -- one that is listed last
+  pub each_more : (objects : List TypedValue) (values : List T) (x : TypedValue) (v : T) → Holds x.of v → HaveEach Holds objects values → HaveEach Holds (objects ++ x ∷ []) (values ++ v ∷ [])
+  each_more objects values x v last are = record {
+    many = omega (arith, length-append values (v ∷ []), length-append objects (x ∷ []), are.many);
+    each = λ k w y at is. both_more (λ (z : TypedValue) u. Holds z.of u) objects values x v are.many last (λ i z u. are.each i u z) k y w at is;
+  }
 
 -- ---- what stays told
 
@@ -38,16 +62,29 @@ kept_self told = ([], sym (append-nil told))
 pub kept_then : (before between after : ToldValue) → AreKept before between → AreKept between after → AreKept before after
 kept_then before between after first second = (first.0 ++ second.0, second.1 ∙ ap (λ (ts : ToldValue). ts ++ second.0) first.1 ∙ append_assoc before first.0 second.0)
 
-at_front : (told more : ToldValue) (names : List Name) (n : ℕ) → IsAt told names n → IsAt (told ++ more) names n
-at_front [] more names n at = cc
-at_front (e ∷ told) more names zero at = at
-at_front (e ∷ told) more names (suc n) at = at_front told more names n at
+abbrev Entry : Type 0
+Entry = List Name × List Span
+
+-- a type that is lent, as a key
+abbrev Key : Type 0
+Key = Bor (List Name)
+
+abbrev same_keys : Key → Key → Bool
+same_keys t u = same_names t.now u.now
+
+abbrev entry_in : {B : Type 0} → Key × Vec Span B → Entry
+entry_in e = (e.0.now, e.1.items)
+
+entry_of : (told : ToldValue) (names : List Name) (n : ℕ) → IsAt told names n → (e : Entry) × (slice_get told n ≡ Some e) × (e.0 ≡ names)
+entry_of told names n at = entry_seen (λ (e : Entry). e.0) told n names (slice_get-map (λ (e : Entry). e.0) told n ∙ at)
 
 pub still_at : (before after : ToldValue) (names : List Name) (n : ℕ) → AreKept before after → IsAt before names n → IsAt after names n
-still_at before after names n kept at = subst (λ ts. IsAt ts names n) (sym kept.1) (at_front before kept.0 names n at)
+still_at before after names n kept at =
+    let low = slice_get_within before n (entry_of before names n at).0 (entry_of before names n at).1 in
+    ap (λ (ts : ToldValue). option_map (λ (e : Entry). e.0) (slice_get ts n)) kept.1 ∙ ap (option_map (λ (e : Entry). e.0)) (in_front before kept.0 n low) ∙ at
 
 pub still_all : (before after : ToldValue) (items : List TypedValue) (numbers : List ℕ) → AreKept before after → AreAt before items numbers → AreAt after items numbers
-still_all before after items numbers kept are = each_still (IsAt before) (IsAt after) items numbers (λ names n. still_at before after names n kept) are
+still_all before after items numbers kept are = record { many = are.many; each = λ k v x at is. still_at before after x.of v kept (are.each k v x at is) }
 
 -- so it is with the slots of a table
 pub slots_still : {A B : Type 0} (before after : ToldValue) (rows : Rows A B) → AreKept before after → AreSlotsAt before rows → AreSlotsAt after rows
@@ -64,9 +101,7 @@ slots_more before after rows e kept are = All-push (λ d. IsSlotsAt after d.1) r
 -- where all pass, none is left that fails
 all_pass : (q : Name → Bool) (names : List Name) → list_all q names ≡ true → filter (λ n. not (q n)) names ≡ []
 all_pass q [] h = refl
-all_pass q (n ∷ names) h =
-    let rest = filter (λ m. not (q m)) names in
-    ap (λ b. cond (not b) (n ∷ rest) rest) (and_left (q n) (list_all q names) h) ∙ all_pass q names (and_right (q n) (list_all q names) h)
+all_pass q (n ∷ names) h = rw (and_left (q n) (list_all q names) h) (all_pass q names (and_right (q n) (list_all q names) h))
 
 pass_all : (q : Name → Bool) (names : List Name) → filter (λ n. not (q n)) names ≡ [] → list_all q names ≡ true
 pass_all q [] h = refl
@@ -75,12 +110,12 @@ pass_all q (n ∷ names) h =
     elim (q n) as (λ b. cond (not b) (n ∷ rest) rest ≡ [] → (b && list_all q names) ≡ true) [ true ↦ λ none. pass_all q names none | false ↦ λ none. cc ] h
 
 -- keys that differ are types that do
-distinct_told : {B : Type 0} (es : List (Bor (List Name) × Vec Span B)) → IsDistinct (λ t u. same_names t.now u.now) (keys_of es) → AreDistinct (told_in es)
+distinct_told : {B : Type 0} (es : List (Key × Vec Span B)) → IsDistinct same_keys (keys_of es) → AreDistinct (told_in es)
 unfolding IsDistinct
 distinct_told [] once = tt
 distinct_told {B} (e ∷ es) once = (apart es once.0, distinct_told es once.1)
   where
-    apart : (ds : List (Bor (List Name) × Vec Span B)) → AllByRecursion (λ u. same_names e.0.now u.now ≡ false) (keys_of ds) → AllByRecursion (λ f. same_names e.0.now f.0 ≡ false) (told_in ds)
+    apart : (ds : List (Key × Vec Span B)) → AllByRecursion (λ u. same_keys e.0 u ≡ false) (keys_of ds) → AllByRecursion (λ f. same_names e.0.now f ≡ false) (keys_of (told_in ds))
     apart [] h = tt
     apart (d ∷ ds) h = (h.0, apart ds h.1)
 
@@ -88,16 +123,6 @@ apart_none : AreApart []
 apart_none = record { own = λ i low. absurd (omega (arith, low)); behind = λ i j less low. absurd (omega (arith, low)) }
 
 -- ---- a type of a number
-
-abbrev Entry : Type 0
-Entry = List Name × List Span
-
-entry_of : (told : ToldValue) (names : List Name) (n : ℕ) → IsAt told names n → (e : Entry) × (slice_get told n ≡ Some e) × (e.0 ≡ names)
-entry_of told names n at = one (slice_get told n) refl at
-  where
-    one : (o : Option Entry) → slice_get told n ≡ o → option_map (λ (e : Entry). e.0) o ≡ Some names → (e : Entry) × (slice_get told n ≡ Some e) × (e.0 ≡ names)
-    one None is h = cc
-    one (Some e) is h = (e, is, same_Some e.0 names h)
 
 module _ {t : TypesValue} {told : ToldValue} (are : AreTold t told) where
   each_of : (n : ℕ) (e : Entry) → slice_get told n ≡ Some e → IsTold t e.0 e.1 × IsTrue (are_types t.declared e.0)
@@ -129,6 +154,11 @@ module _ {t : TypesValue} {told : ToldValue} (are : AreTold t told) where
       let first = tops_there of number at in
       decide of to (tops_at told number) (tops_at told slot) first.0 (tops_there to slot there).0 first.1
 
+-- the tops that are read of an entry
+pub tops_read : {B : Type 0} (entries : List (Key × Vec Span B)) (n : ℕ) (read : Option (Key × Vec Span B)) → read ≡ slice_get entries n → option_map_or (λ e. e.1.items) read [] ≡ tops_at (told_in entries) n
+tops_read {B} entries n None is = ap (λ (o : Option Entry). option_map_or (λ e. e.1) o []) (ap (option_map entry_in) is ∙ sym (slice_get-map entry_in entries n))
+tops_read {B} entries n (Some e) is = ap (λ (o : Option Entry). option_map_or (λ e. e.1) o []) (ap (option_map entry_in) is ∙ sym (slice_get-map entry_in entries n))
+
 -- a number that has tops is one of a type
 pub some_tops : (told : ToldValue) (n : ℕ) (tops : List Span) → tops ≡ tops_at told n → 0 < length tops → n < length told
 some_tops [] n tops is some = absurd (omega (arith, some, ap length is))
@@ -138,71 +168,47 @@ some_tops (e ∷ told) (suc n) tops is some = let low = some_tops told n tops is
 -- ---- types are the same where their numbers are
 
 module _ (told : ToldValue) (once : AreDistinct told) where
-  no_twice : (names : List Name) (i j : ℕ) → IsAt told names i → IsAt told names j → i < j → ⊥
-  no_twice names i j at also less =
-      let (e, here, one) = entry_of told names i at in
-      let (f, there, other) = entry_of told names j also in
-      let same : same_names e.0 f.0 ≡ true = (pointwise_decides bytes_decides e.0 f.0).1 (one ∙ sym other) in
-      let apart = apart_from_distinct (λ (d g : Entry). same_names d.0 g.0) told i j e once less (slice_get_within told j f there) in
-      true≢false
-      (sym same ∙ ap (λ d. same_names d.0 f.0) (sym (get_or_from_slice_get told i e e here)) ∙ ap (λ d. same_names (get_or told i e).0 d.0) (sym (get_or_from_slice_get told j f e there)) ∙ apart)
-
-  one_place : (names : List Name) (i j : ℕ) → IsAt told names i → IsAt told names j → i ≡ j
-  one_place names i j at also =
-      elim (cases_lt i j) as (λ _. i ≡ j) [
-        | inl less ↦ absurd (no_twice names i j at also less)
-        | inr past ↦ elim (cases_lt j i) as (λ _. i ≡ j) [ inl more ↦ absurd (no_twice names j i also at more) | inr no_more ↦ omega (arith, past, no_more) ]
-      ]
+  number_is : (names : List Name) (i : ℕ) → IsAt told names i → position_or_len (same_names names) (keys_of told) ≡ i
+  number_is names i at =
+      let (e, here, is) = entry_of told names i at in
+      subst (λ ns. position_or_len (same_names ns) (keys_of told) ≡ i) is (or_len-first (same_names e.0) told i (own_first same_names (lists_equiv nat_list_eq_equiv) told i e.0 e.1 once here))
 
   pub one_number : (names others : List Name) (i j : ℕ) → IsAt told names i → IsAt told others j → (i == j) ≡ same_names names others
   one_number names others i j at also =
       let decided = pointwise_decides bytes_decides names others in
       both_ways (i == j) (same_names names others)
       (λ is. decided.1 (same_Some names others (sym at ∙ ap (λ n. option_map (λ (e : Entry). e.0) (slice_get told n)) (eqb-true i j is) ∙ also)))
-      (λ is. eq-eqb i j (one_place names i j at (also ∙ ap Some (sym (decided.0 is)))))
+      (λ is. eq-eqb i j (sym (number_is names i at) ∙ ap (λ ns. position_or_len (same_names ns) (keys_of told)) (decided.0 is) ∙ number_is others j also))
 
 -- ---- a type is told
 
-abbrev Key : Type 0
-Key = Bor (List Name)
-
-abbrev same_keys : Key → Key → Bool
-same_keys t u = same_names t.now u.now
-
 -- the type that was looked for is that of the number which it was found at
 pub found_there : {B : Type 0} (entries : List (Key × Vec Span B)) (k : Key) (n : ℕ) → Some n ≡ position (same_keys k) (keys_of entries) → IsAt (told_in entries) k.now n
-found_there entries k n found = one entries n (position-Some (same_keys k) (keys_of entries) n k (sym found)).0 (position-Some (same_keys k) (keys_of entries) n k (sym found)).1
-  where
-    one : {B : Type 0} (es : List (Key × Vec Span B)) (i : ℕ) → i < length (keys_of es) → same_keys k (get_or (keys_of es) i k) ≡ true → IsAt (told_in es) k.now i
-    one [] i low same = absurd (omega (arith, low))
-    one (e ∷ es) zero low same = ap Some (sym ((pointwise_decides bytes_decides k.now e.0.now).0 same))
-    one (e ∷ es) (suc i) low same = one es i (omega (arith, low)) same
+found_there {B} entries k n found =
+    let (e, at, same) = entry_found (same_keys k) entries n (sym found) in
+    ap (option_map (λ (d : Entry). d.0)) (slice_get-map entry_in entries n ∙ ap (option_map entry_in) at)
+    ∙ ap Some (sym ((pointwise_decides bytes_decides k.now e.0.now).0 same))
 
 -- one that is not there comes last
-module _ {B S : Type 0} (m next : IndexMap Key (Vec Span B) S) (k : Key) (tops : Vec Span B) (told : ToldValue) (told_are : told_in m.entries ≡ told)
-    (none : None ≡ position (same_keys k) (keys_of m.entries)) (put : next.entries ≡ insert_entry same_keys m.entries k tops) where
-  told_last : told_in next.entries ≡ told ++ (k.now, tops.items) ∷ []
+module _ {B : Type 0} (entries next : List (Key × Vec Span B)) (k : Key) (tops : Vec Span B) (told : ToldValue) (told_are : told_in entries ≡ told) (none : None ≡ position (same_keys k) (keys_of entries))
+    (put : next ≡ insert_entry same_keys entries k tops) where
+  told_last : told_in next ≡ told ++ (k.now, tops.items) ∷ []
   told_last =
-      ap told_in (put ∙ insert_entry-new same_keys m k tops (Missing-position (same_keys k) m.entries (sym none)).value)
-      ∙ map_push (λ (e : Key × Vec Span B). (e.0.now, e.1.items)) m.entries (k, tops) ∙ ap (λ ts. ts ++ (k.now, tops.items) ∷ []) told_are
+      ap told_in (put ∙ insert_entry-absent same_keys k tops entries (Missing-position (same_keys k) entries (sym none)).absent) ∙ map_push entry_in entries (k, tops)
+      ∙ ap (λ ts. ts ++ (k.now, tops.items) ∷ []) told_are
 
-  pub last_kept : AreKept told (told_in next.entries)
+  pub last_kept : AreKept told (told_in next)
   last_kept = ((k.now, tops.items) ∷ [], told_last)
 
-  pub last_there : (n : ℕ) → n ≡ position_or_len (same_keys k) (keys_of m.entries) → IsAt (told_in next.entries) k.now n
+  pub last_there : (n : ℕ) → n ≡ length entries → IsAt (told_in next) k.now n
   last_there n is =
-      let many : n ≡ length told =
-      is ∙ (Missing-position (same_keys k) m.entries (sym none)).or_len ∙ sym (length-map m.entries (λ (e : Key × Vec Span B). (e.0.now, e.1.items))) ∙ ap length told_are in
-      rw (told_last, many) (end told (k.now, tops.items))
-    where
-      end : (ts : ToldValue) (e : Entry) → IsAt (ts ++ e ∷ []) e.0 (length ts)
-      end [] e = refl
-      end (d ∷ ts) e = end ts e
+      let many = is ∙ sym (length-map entries entry_in) ∙ ap length told_are in
+      rw (told_last, many) (ap (option_map (λ (e : Entry). e.0)) (at_end told (k.now, tops.items)))
 
-  pub are_more : {t : TypesValue} → AreTold t told → IsDistinct same_keys (keys_of next.entries) → IsTold t k.now tops.items → filter (λ n. not (is_in (types_of t.declared) n)) k.now ≡ []
-      → AreTold t (told_in next.entries)
+  pub are_more : {t : TypesValue} → AreTold t told → IsDistinct same_keys (keys_of next) → IsTold t k.now tops.items → filter (λ n. not (is_in (types_of t.declared) n)) k.now ≡ []
+      → AreTold t (told_in next)
   are_more {t} are once tell known = record {
-    once = distinct_told next.entries once;
+    once = distinct_told next once;
     each =
         rw told_last (All-push (λ (e : Entry). IsTold t e.0 e.1 × IsTrue (are_types t.declared e.0)) told (k.now, tops.items) are.each (tell, pass_all (is_in (types_of t.declared)) k.now known));
   }
@@ -224,6 +230,48 @@ module _ {told : ToldValue} {list : List TypedValue} where
   pub told_next : {new : ToldValue} {count : ℕ} {numbers pushed : List ℕ} {number next : ℕ} → AreToldUpTo told list count numbers number → AreKept told new → count < length list
       → ((x : TypedValue) → slice_get list count ≡ Some x → IsAt new x.of next) → pushed ≡ numbers ++ next ∷ [] → AreToldUpTo new list (count + 1) pushed next
   told_next {new} {count} {numbers} {pushed} {number} {next} so_far kept low is pushed_is = record {
-    each = subst (AreAt new (take (count + 1) list)) (sym pushed_is) (each_next (IsAt new) list numbers count next low is (still_all told new (take count list) numbers kept so_far.each));
+    each =
+        let (x, at) = some_at list count low in
+        rw (pushed_is, take_more list count x low, get_or_from_slice_get list count x x at) (each_more (IsAt new) (take count list) numbers x next (is x at) (still_all told new (take count list) numbers kept so_far.each));
     last = λ x some at. is x (ap (slice_get list) (omega arith) ∙ at);
   }
+
+-- ---- tables of what fits
+
+-- the same two numbers
+abbrev same_pair : ℕ × ℕ → ℕ × ℕ → Bool
+same_pair p q = (p.0 == q.0) && (p.1 == q.1)
+
+-- what a table tells of a pair
+abbrev Tells : ToldValue → ℕ × ℕ → Bool → Type 0
+Tells told p fit = (p.0 < length told) × (p.1 < length told) × (fit ≡ hold_all (tops_at told p.1) (tops_at told p.0))
+
+-- with what is found of one pair more
+pub fitting_more : (told : ToldValue) (table new : List ((ℕ × ℕ) × Bool)) (k : ℕ × ℕ) (found : Bool) → AreFitting told table
+    → ((p : ℕ × ℕ) → lookup (same_pair p) new ≡ cond (same_pair k p) (Some found) (lookup (same_pair p) table)) → Tells told k found → AreFitting told new
+fitting_more told table new k found are put tells p fit at = one (same_pair k p) refl
+  where
+    one : (b : Bool) → same_pair k p ≡ b → Tells told p fit
+    one false other = are p fit (sym (ap (λ b. cond b (Some found) (lookup (same_pair p) table)) other) ∙ sym (put p) ∙ at)
+    one true same =
+        let first : k.0 ≡ p.0 = eqb-true k.0 p.0 (and_left (k.0 == p.0) (k.1 == p.1) same) in
+        let second : k.1 ≡ p.1 = eqb-true k.1 p.1 (and_right (k.0 == p.0) (k.1 == p.1) same) in
+        let is : found ≡ fit = same_Some found fit (sym (ap (λ b. cond b (Some found) (lookup (same_pair p) table)) same) ∙ sym (put p) ∙ at) in (
+          omega (arith, first, tells.0),
+          omega (arith, second, tells.1),
+          sym is ∙ tells.2 ∙ ap (λ n. hold_all (tops_at told k.1) (tops_at told n)) first ∙ ap (λ n. hold_all (tops_at told n) (tops_at told p.0)) second,
+        )
+
+tops_front : (told more : ToldValue) (n : ℕ) → n < length told → tops_at (told ++ more) n ≡ tops_at told n
+tops_front told more n low = rw (in_front told more n low) refl
+
+-- while more types are told
+pub fitting_kept : (before after : ToldValue) (table : List ((ℕ × ℕ) × Bool)) → AreKept before after → AreFitting before table → AreFitting after table
+fitting_kept before after table kept are p fit at =
+    let (first, second, is) = are p fit at in
+    let more = length-append before kept.0 in
+    rw kept.1 (
+      omega (arith, first, more),
+      omega (arith, second, more),
+      is ∙ ap (hold_all (tops_at before p.1)) (sym (tops_front before kept.0 p.0 first)) ∙ ap (λ tops. hold_all tops (tops_at (before ++ kept.0) p.0)) (sym (tops_front before kept.0 p.1 second)),
+    )

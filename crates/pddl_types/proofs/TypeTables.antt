@@ -1,20 +1,93 @@
--- How a table of types grows.
-use Rattle.std.proofs.Common.{◌≡◌, ℕ, ◌||◌, Bool, true, false, cond, List, [], ◌∷◌, ◌++◌, map, refl, sym, ap, ◌∙◌, subst, arith, bytes_eq}
-use Rattle.std.specs.Prelude.{Some, is_some}
+-- The rows of a table of types, by place and by name, and how the table grows.
+use Rattle.std.proofs.Common.{◌≡◌, ℕ, zero, suc, ◌<◌, ◌||◌, Bool, true, false, cond, List, [], ◌∷◌, ◌++◌, length, map, refl, sym, ap, ◌∙◌, subst, arith, bytes_eq, true≢false}
+use Rattle.std.specs.Prelude.{Some, None, is_some, slice_get}
 use Rattle.std.specs.Borrow.{Bor}
-use Rattle.std.specs.List.{IsDistinct}
+use Rattle.std.specs.Cmp.{IsEquivalence, on_equiv}
+use Rattle.std.specs.List.{position, IsDistinct}
 use Rattle.std.specs.Map.{keys_of}
-use Rattle.std.proofs.lemmas.List.{map-append}
+use Rattle.std.proofs.lemmas.Cmp.{nat_list_eq_equiv}
+use Rattle.std.proofs.lemmas.List.{length-map, map-append}
 use Rattle.std.proofs.lemmas.List.Folds.{list_any-append}
 use Rattle.std.proofs.lemmas.List.Sums.{fold_push}
+use Rattle.std.proofs.lemmas.Map.Entries.{lookup_from_place}
+use Rattle.std.proofs.lemmas.Option.{same_Some, slice_get_within, get_or_from_slice_get}
+use Rattle.indexmap.specs.IndexMap.{insert_entry}
+use Rattle.indexmap.proofs.MapLemmas.{or_len-first, or_len-absent, absent_from_lookup, Found-position, Missing-position, insert_entry-absent, some_index}
+use Rattle.indexmap.proofs.RemoveLemmas.{own_first}
+use Rattle.pddl_forest.specs.Forests.{parent_of}
 use Rattle.pddl_domain.specs.Declarations.{TypeValue}
-use Rattle.pddl_task.specs.Names.{Name, is_in, item_of}
-use Rattle.pddl_task.specs.Types.{root, parent_of, types_of}
+use Rattle.pddl_task.specs.Names.{Name, is_in, number_in, item_of}
+use Rattle.pddl_task.specs.Types.{root, parent_of as declared_parent, types_of}
 use Rattle.pddl_faults.proofs.PutValues.{found_or, lookup_put}
 use Rattle.pddl_task.proofs.Lists.{none_left, none_right, bytes_same, same_bytes}
-use Rattle.pddl_types.specs.TypeTables.{Row, StandsAt, parent_place, parent_in, IsTableOf}
+use Rattle.pddl_types.specs.TypeTables.{Row, names_in, parents_in, StandsAt, parent_place, parent_in, IsTableOf}
 use Rattle.pddl_types.proofs.TypeParents.{told_over, parent_undeclared}
-use Rattle.pddl_types.proofs.TypePlaces.{beside, put, stands_on}
+use Rattle.pddl_types.proofs.Lookups.{seen_entry, entry_seen, at_end, entry_found, number_lent}
+use Rattle.pddl_types.proofs.SignatureTables.{none_found}
+
+-- ---- by place
+
+pub below : (rows : List Row) (i : ℕ) (n : Name) → StandsAt rows i n → i < length (parents_in rows)
+below rows i n at = omega (arith, slice_get_within (names_in rows) i n at, length-map rows (λ (r : Row). r.0.now), length-map rows (λ (r : Row). r.1))
+
+pub one_name : (rows : List Row) (i j : ℕ) (t u : Name) → i ≡ j → StandsAt rows i t → StandsAt rows j u → t ≡ u
+one_name rows i j t u same at there = same_Some t u (sym at ∙ ap (slice_get (names_in rows)) same ∙ there)
+
+-- ---- by name
+
+module _ (rows : List Row) (t : Name) where
+  pub found_number : (i : ℕ) → position (λ k. bytes_eq t k.now) (keys_of rows) ≡ Some i → number_in (names_in rows) t ≡ i
+  found_number i at = sym (number_lent rows t) ∙ (Found-position (λ k. bytes_eq t k.now) rows i at).or_len
+
+  pub found_place : (i : ℕ) → position (λ k. bytes_eq t k.now) (keys_of rows) ≡ Some i → StandsAt rows i t
+  found_place i at =
+      let (r, there, same) = entry_found (λ (k : Bor (List ℕ)). bytes_eq t k.now) rows i at in
+      seen_entry (λ (s : Row). s.0.now) rows i r there ∙ ap Some (sym (bytes_same t r.0.now same))
+
+  pub no_place : position (λ k. bytes_eq t k.now) (keys_of rows) ≡ None → is_some (parent_place rows t) ≡ false
+  no_place at = sym (some_index (λ k. bytes_eq t k.now) rows) ∙ ap is_some at
+
+  pub number_at : is_some (parent_place rows t) ≡ true → StandsAt rows (number_in (names_in rows) t) t
+  number_at h =
+      elim (position (λ k. bytes_eq t k.now) (keys_of rows)) as (λ o. position (λ k. bytes_eq t k.now) (keys_of rows) ≡ o → StandsAt rows (number_in (names_in rows) t) t) [
+        | None ↦ λ none. absurd (true≢false (sym h ∙ no_place none))
+        | Some i ↦ λ is. subst (λ j. StandsAt rows j t) (sym (found_number i is)) (found_place i is)
+      ] refl
+
+  pub number_past : is_some (parent_place rows t) ≡ false → number_in (names_in rows) t ≡ length rows
+  number_past h = sym (number_lent rows t) ∙ or_len-absent (λ k. bytes_eq t k.now) rows (absent_from_lookup (λ k. bytes_eq t k.now) rows (none_found (parent_place rows t) h))
+
+  -- a name that stands at a place has that number, and beside it the place of its parent
+  pub beside : (i : ℕ) → IsDistinct (λ x y. bytes_eq x.now y.now) (keys_of rows) → StandsAt rows i t
+      → (number_in (names_in rows) t ≡ i) × (parent_place rows t ≡ Some (parent_of (parents_in rows) i))
+  beside i once at =
+      let (r, here, named) = entry_seen (λ (s : Row). s.0.now) rows i t at in
+      subst (λ n. (number_in (names_in rows) n ≡ i) × (parent_place rows n ≡ Some (parent_of (parents_in rows) i))) named (
+        sym (number_lent rows r.0.now) ∙ or_len-first (λ k. bytes_eq r.0.now k.now) rows i (own_first (λ x y. bytes_eq x.now y.now) equiv rows i r.0 r.1 once here),
+        lookup_from_place equiv rows i r.0 r.1 once here ∙ ap Some (sym (get_or_from_slice_get (parents_in rows) i r.1 i (seen_entry (λ (s : Row). s.1) rows i r here))),
+      )
+    where
+      equiv : IsEquivalence (λ (x y : Bor (List ℕ)). bytes_eq x.now y.now)
+      equiv = on_equiv (λ (k : Bor (List ℕ)). k.now) nat_list_eq_equiv
+
+-- ---- a row that is put into a table: where the name stands already, it takes the place of the parent
+
+abbrev pub put : List Row → Bor (List ℕ) → ℕ → List Row
+put rows k p = insert_entry (λ x y. bytes_eq x.now y.now) rows k p
+
+-- what stands keeps its place
+pub stands_on : (rows : List Row) (k : Bor (List ℕ)) (p i : ℕ) (n : Name) → StandsAt rows i n → StandsAt (put rows k p) i n
+stands_on [] k p i n at = cc
+stands_on (r ∷ rows) k p zero n at = elim (bytes_eq k.now r.0.now) as (λ b. StandsAt (cond b ((r.0, p) ∷ rows) (r ∷ put rows k p)) zero n) [ true ↦ at | false ↦ at ]
+stands_on (r ∷ rows) k p (suc i) n at = elim (bytes_eq k.now r.0.now) as (λ b. StandsAt (cond b ((r.0, p) ∷ rows) (r ∷ put rows k p)) (suc i) n) [ true ↦ at | false ↦ stands_on rows k p i n at ]
+
+-- and a new name stands behind all others
+pub put_at : (rows : List Row) (k : Bor (List ℕ)) (p n : ℕ) → position (λ x. bytes_eq k.now x.now) (keys_of rows) ≡ None → n ≡ length rows → StandsAt (put rows k p) n k.now
+put_at rows k p n none is =
+    let last = insert_entry-absent (λ x y. bytes_eq x.now y.now) k p rows (Missing-position (λ x. bytes_eq k.now x.now) rows none).absent in
+    rw (last, is) (seen_entry (λ (r : Row). r.0.now) (rows ++ (k, p) ∷ []) (length rows) (k, p) (at_end rows (k, p)))
+
+-- ---- tables
 
 -- the same types
 of_types : {types others : List Name} {told : List TypeValue} {rows : List Row} → ((t : Name) → is_in types t ≡ is_in others t) → IsTableOf types told rows → IsTableOf others told rows
@@ -27,7 +100,7 @@ again types told rows i n at h = of_types known h
     known : (t : Name) → is_in types t ≡ bytes_eq t n || is_in types t
     known t =
         elim (bytes_eq t n) as (λ b. bytes_eq t n ≡ b → is_in types t ≡ b || is_in types t) [
-          | true ↦ λ is. ap (is_in types) (bytes_same t n is) ∙ sym (h.has n) ∙ ap is_some (beside rows i n h.once at).1
+          | true ↦ λ is. ap (is_in types) (bytes_same t n is) ∙ sym (h.has n) ∙ ap is_some (beside rows n i h.once at).1
           | false ↦ λ _. refl
         ] refl
 
@@ -82,16 +155,16 @@ module _ (rows after : List Row) (k : Bor (List ℕ)) (p : ℕ) (put_there : aft
       types_more : (t : Name) → is_in (k.now ∷ d.of ∷ types_of told) t ≡ is_in (types_of (told ++ d ∷ [])) t
       types_more t =
           let is = bytes_eq t in
-          rw (← item, map-append item_of told (d ∷ []), map-append parent_of told (d ∷ []), list_any-append is (map item_of told ++ d.item ∷ []) (map parent_of told ++ d.of ∷ []), list_any-append is (map item_of told) (map parent_of told), list_any-append is (map item_of told) (d.item ∷ []), list_any-append is (map parent_of told) (d.of ∷ []))
-          (either (is d.item) (is d.of) (is root) (is_in (map item_of told) t) (is_in (map parent_of told) t))
+          rw (← item, map-append item_of told (d ∷ []), map-append declared_parent told (d ∷ []), list_any-append is (map item_of told ++ d.item ∷ []) (map declared_parent told ++ d.of ∷ []), list_any-append is (map item_of told) (map declared_parent told), list_any-append is (map item_of told) (d.item ∷ []), list_any-append is (map declared_parent told) (d.of ∷ []))
+          (either (is d.item) (is d.of) (is root) (is_in (map item_of told) t) (is_in (map declared_parent told) t))
 
 -- a type that does not stand there goes under `object`
 pub put_under_root : (told : List TypeValue) (rows after : List Row) (k : Bor (List ℕ)) → IsTableOf (types_of told) told rows → is_some (parent_place rows k.now) ≡ false → after ≡ put rows k 0
     → IsDistinct (λ x y. bytes_eq x.now y.now) (keys_of after) → IsTableOf (k.now ∷ types_of told) told after
 put_under_root told rows after k h new put_there once = put_in rows after k 0 put_there once (types_of told) told told h (subst (StandsAt rows 0) (sym untold) h.first) (λ t _. refl)
   where
-    off : is_in (map item_of told ++ map parent_of told) k.now ≡ false
-    off = none_right (bytes_eq k.now root) (is_in (map item_of told ++ map parent_of told) k.now) (sym (h.has k.now) ∙ new)
+    off : is_in (map item_of told ++ map declared_parent told) k.now ≡ false
+    off = none_right (bytes_eq k.now root) (is_in (map item_of told ++ map declared_parent told) k.now) (sym (h.has k.now) ∙ new)
 
     untold : parent_in told k.now ≡ root
-    untold = parent_undeclared told k.now root (none_left (is_in (map item_of told) k.now) (is_in (map parent_of told) k.now) (sym (list_any-append (bytes_eq k.now) (map item_of told) (map parent_of told)) ∙ off))
+    untold = parent_undeclared told k.now root (none_left (is_in (map item_of told) k.now) (is_in (map declared_parent told) k.now) (sym (list_any-append (bytes_eq k.now) (map item_of told) (map declared_parent told)) ∙ off))

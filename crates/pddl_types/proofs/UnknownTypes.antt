@@ -1,13 +1,16 @@
 -- Types that are used and not known, part by part.
-use Rattle.std.proofs.Common.{◌≡◌, ℕ, ◌+◌, ◌<◌, List, ◌++◌, map, length, get_or, drop, sym, ap, ◌∙◌}
+use Rattle.std.proofs.Common.{◌≡◌, ℕ, ◌+◌, ◌<◌, not, List, ◌++◌, map, filter, length, get_or, drop, slice_get, Some, sym, ap, ◌∙◌}
 use Rattle.std.specs.List.{flat_map}
 use Rattle.std.proofs.lemmas.List.Concat.{flat_map-append}
 use Rattle.std.proofs.lemmas.List.Elements.{filter-append}
+use Rattle.std.proofs.lemmas.Option.{slice_get_within, get_or_from_slice_get}
 use Rattle.pddl_formula.specs.TypedLists.{TypedValue}
 use Rattle.pddl_domain.specs.Declarations.{TypeValue, Signature}
+use Rattle.pddl_task.specs.Names.{is_in}
 use Rattle.pddl_task.specs.Settings.{parameters_of}
+use Rattle.pddl_task.specs.Types.{types_of}
+use Rattle.pddl_faults.proofs.ListTurns.{rest_is, views_drop}
 use Rattle.pddl_types.specs.Told.{unknown_among}
-use Rattle.pddl_faults.proofs.ListTurns.{views_drop}
 
 pub unknown-append : (ts : List TypeValue) (xs ys : List TypedValue) → unknown_among ts (xs ++ ys) ≡ unknown_among ts xs ++ unknown_among ts ys
 unknown-append ts xs ys = simp (flat_map-append, filter-append)
@@ -26,3 +29,9 @@ pub declared_parts : (ts : List TypeValue) {gs hs ps fs : List Signature} → ps
 declared_parts ts {gs} {hs} {ps} {fs} first second =
     unknown-append ts (flat_map parameters_of gs) (flat_map parameters_of hs) ∙ ap (λ xs. unknown_among ts (flat_map parameters_of xs) ++ unknown_among ts (flat_map parameters_of hs)) (sym first)
     ∙ ap (λ xs. unknown_among ts (flat_map parameters_of ps) ++ unknown_among ts (flat_map parameters_of xs)) (sym second)
+
+-- what is left of what is typed: the first, and the rest
+pub typed_left : (ts : List TypeValue) (xs : List TypedValue) (i : ℕ) (x : TypedValue) → slice_get xs i ≡ Some x
+    → unknown_among ts (drop i xs) ≡ filter (λ n. not (is_in (types_of ts) n)) x.of ++ unknown_among ts (drop (i + 1) xs)
+typed_left ts xs i x at =
+    ap (unknown_among ts) (rest_is xs i x (slice_get_within xs i x at) (sym (get_or_from_slice_get xs i x x at))) ∙ filter-append (λ n. not (is_in (types_of ts) n)) x.of _

@@ -2,7 +2,7 @@
 use Rattle.std.specs.Prelude.{◌≡◌, ◌<◌, ◌==◌, ◌&&◌, ℕ, Bool, IsTrue, List, [], ◌++◌, Some, map, filter, length, not, option_map, slice_get}
 use Rattle.std.specs.Borrow.{Bor}
 use Rattle.std.specs.List.{All, IsDistinct, flat_map}
-use Rattle.std.specs.Map.{lookup}
+use Rattle.std.specs.Map.{keys_of, lookup}
 use Rattle.std.specs.Option.{option_map_or}
 use Rattle.std.specs.declared.vec.Vec.{Vec}
 use Rattle.pddl_forest.specs.Spans.{hold_all}
@@ -44,7 +44,7 @@ AreAt told items numbers = HaveEach (IsAt told) items numbers
 
 -- no type is told twice
 abbrev pub AreDistinct : ToldValue → Type 0
-AreDistinct told = IsDistinct (λ e f. same_names e.0 f.0) told
+AreDistinct told = IsDistinct same_names (keys_of told)
 
 -- no type is told twice, the primitives of each are types, and these are their tops
 pub record AreTold (t : TypesValue) (told : ToldValue) : Type 0 where

@@ -66,18 +66,9 @@ impl<'m, 'a, A: Allocator, B: Allocator> Declared<'m, 'a, A, B> {
         ensures found { IfOk result (IsFound (numbered 24 (repeated [] (map symbol_of (domain_view domain.now).predicates)) ++ numbered 24 (repeated [] (map symbol_of (function_signatures (domain_view domain.now)))))) }
         ensures held { IfOk result (λ _. HaveSymbols types.now (domain_view domain.now) self.new) }
     {
-        let predicates = put(
-            types,
-            &mut self.told,
-            &mut self.predicates,
-            &domain.predicates,
-        )?;
-        let functions = put(
-            types,
-            &mut self.told,
-            &mut self.functions,
-            &domain.functions,
-        )?;
+        let told = &mut self.told;
+        let predicates = put(types, told, &mut self.predicates, &domain.predicates)?;
+        let functions = put(types, told, &mut self.functions, &domain.functions)?;
         Ok(lower(predicates, functions))
     }
 

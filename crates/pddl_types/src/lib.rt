@@ -3,9 +3,7 @@
 //! Types are numbered in pre-order, and each has the span of the numbers of what is under it, so that a test for a subtype is two comparisons.
 #![tactic(auto)]
 
-mod cycles;
 mod declared;
-mod declares;
 mod fitting;
 mod listed;
 mod signatures;
@@ -14,9 +12,8 @@ mod type_table;
 mod types;
 
 pub use declared::Declared;
-pub use declares::Declares;
 pub use fitting::Fitting;
 pub use listed::{Listed, Objects};
-pub use signatures::{Signatures, Slots};
+pub use signatures::{Declares, Signatures, Slots};
 pub use told::Told;
 pub use types::Types;

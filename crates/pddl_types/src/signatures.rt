@@ -1,24 +1,80 @@
-//! Predicates, functions and actions by name, with the types of their parameters.
+//! Predicates, functions and actions, what declares them, and tables of them by name, with the types of their parameters.
 
 ghost use Rattle.std.specs.Prelude.{◌≡◌, [], ◌∷◌, ◌++◌, List, map, not, IfOk};
 ghost use Rattle.std.specs.List.{flat_map};
-ghost use Rattle.pddl_domain.specs.Declarations.{Signature};
-ghost use Rattle.pddl_task.specs.Names.{repeated, is_in};
+ghost use Rattle.pddl_formula.specs.TypedLists.{typed_view};
+ghost use Rattle.pddl_domain.specs.Declarations.{Signature, predicate_view, function_view};
+ghost use Rattle.pddl_domain.specs.Actions.{action_view};
+ghost use Rattle.pddl_task.specs.Names.{repeated, is_in, item_of};
 ghost use Rattle.pddl_task.specs.Settings.{symbol_of, parameters_of};
 ghost use Rattle.pddl_faults.specs.Passes.{Passes};
 ghost use Rattle.pddl_faults.specs.Found.{IsFound, numbered};
 ghost use Rattle.pddl_types.specs.Told.{AreTold, AreKept, unknown_among};
-ghost use Rattle.pddl_types.specs.KnownNames.{signature_in};
-ghost use Rattle.pddl_types.specs.Signatures.{AreSlotsAt, AreFirst, HaveFirst};
+ghost use Rattle.pddl_types.specs.KnownNames.{action_signature};
+ghost use Rattle.pddl_types.specs.Signatures.{HaveFirst};
 
-use crate::declares::Declares;
 use crate::told::Told;
 use crate::types::Types;
 use indexmap::IndexMap;
+use pddl_domain::{Action, DeclaredFunction, DeclaredPredicate};
 use pddl_faults::{LinkFault, lower, once};
-use pddl_formula::Typed;
+use pddl_formula::{Typed, TypedList};
 use pddl_hash::Hashed;
 use std::alloc::Allocator;
+
+/// What declares a name with parameters: a predicate, a function or an action.
+pub trait Declares<A: Allocator> {
+    ghost use Rattle.std.specs.Prelude.{◌≡◌};
+    ghost use Rattle.pddl_formula.specs.TypedLists.{typed_view};
+    ghost use Rattle.pddl_domain.specs.Declarations.{Signature, predicate_view, function_view};
+    ghost use Rattle.pddl_domain.specs.Actions.{action_view};
+
+    ghost signature: { Self → Signature };
+
+    /// The name's bytes, in lower case.
+    fn name(&self) -> &[u8]
+        ensures { result.now ≡ (signature self.now).name };
+
+    /// Its parameters, in the order in which they are declared.
+    fn parameters(&self) -> &TypedList<A>
+        ensures { map typed_view result.now.items ≡ (signature self.now).parameters };
+}
+
+impl<A: Allocator> Declares<A> for DeclaredPredicate<A> {
+    ghost signature = { predicate_view };
+
+    fn name(&self) -> &[u8] {
+        self.predicate.as_bytes()
+    }
+
+    fn parameters(&self) -> &TypedList<A> {
+        &self.parameters
+    }
+}
+
+impl<A: Allocator> Declares<A> for DeclaredFunction<A> {
+    ghost signature = { λ f. item_of (function_view f) };
+
+    fn name(&self) -> &[u8] {
+        self.name.as_bytes()
+    }
+
+    fn parameters(&self) -> &TypedList<A> {
+        &self.parameters
+    }
+}
+
+impl<A: Allocator> Declares<A> for Action<A> {
+    ghost signature = { λ a. action_signature (action_view a) };
+
+    fn name(&self) -> &[u8] {
+        self.name.as_bytes()
+    }
+
+    fn parameters(&self) -> &TypedList<A> {
+        &self.parameters
+    }
+}
 
 /// The parameters of what is declared, and the numbers at which their types are told.
 #[derive(Drop)]
@@ -37,14 +93,12 @@ fn put_one<'m, 'a, A: Allocator, B: Allocator, D: Declares<A>>(
     table: &mut Signatures<'m, 'a, A, B>,
     declared: &'m D,
 ) -> Result<bool, LinkFault<'m>>
-    requires told { AreTold types.now told.old }
-    requires slots { AreSlotsAt told.old table.old.entries }
+    requires { AreTold types.now told.old }
     ensures told { AreTold types.now told.new }
     ensures kept { AreKept told.old told.new }
     ensures passes { Passes 23 (unknown_among types.now.declared (D.signature declared.now).parameters) result }
-    ensures slots { AreSlotsAt told.new table.new.entries }
-    ensures first { (seen : List Signature) → AreFirst (map signature_in table.old.entries) seen
-        → IfOk result (λ is_new. (is_in (map symbol_of seen) (D.signature declared.now).name ≡ not is_new) × AreFirst (map signature_in table.new.entries) (seen ++ D.signature declared.now ∷ [])) }
+    ensures held { (seen : List Signature) → HaveFirst told.old table.old.entries seen
+        → IfOk result (λ is_new. (is_in (map symbol_of seen) (D.signature declared.now).name ≡ not is_new) × HaveFirst told.new table.new.entries (seen ++ D.signature declared.now ∷ [])) }
 {
     let parameters = declared.parameters();
     let numbers = told.tell_all(*table.allocator(), types, parameters)?;

@@ -1,12 +1,10 @@
 //! The types that are written in files, by number, with the tops of their primitives.
 
-ghost use Rattle.std.specs.Prelude.{◌≡◌, [], ℕ, List, IsTrue, map, filter, not, IfOk, OnOk};
+ghost use Rattle.std.specs.Prelude.{◌≡◌, [], ℕ, List, map, filter, not, IfOk, OnOk};
 ghost use Rattle.pddl_formula.specs.TypedLists.{typed_view};
-ghost use Rattle.pddl_forest.specs.Spans.{AreApart};
 ghost use Rattle.pddl_task.specs.Names.{is_in};
 ghost use Rattle.pddl_task.specs.Types.{types_of, pairs, fits};
 ghost use Rattle.pddl_faults.specs.Passes.{Passes};
-ghost use Rattle.pddl_types.specs.TypeSpans.{TypesValue, IsTold, are_types};
 ghost use Rattle.pddl_types.specs.Told.{told_in, tops_at, first_at, IsAt, AreAt, AreTold, AreKept, unknown_among};
 
 use crate::types::Types;
@@ -84,7 +82,8 @@ impl<'m, 'a, A: Allocator, B: Allocator> Told<'m, 'a, A, B> {
         }
         types.known(names)?;
         let tops = types.tops(*self.types.allocator(), names)?;
-        let (number, _) = self.types.insert_full(names, tops)?;
+        let number = self.types.len();
+        self.types.insert(names, tops)?;
         Ok(number)
     }
 
@@ -135,8 +134,7 @@ impl<'m, 'a, A: Allocator, B: Allocator> Told<'m, 'a, A, B> {
 
     /// The tops of the type of a number, or none where no type has it.
     pub fn at(&self, number: usize) -> &[Span]
-        ensures apart { (t : TypesValue) → AreTold t self.now → AreApart result.now }
-        ensures told { (t : TypesValue) (names : List (List ℕ)) → AreTold t self.now → IsAt self.now names number → IsTold t names result.now × IsTrue (are_types t.declared names) }
+        ensures { result.now ≡ tops_at self.now number }
     {
         tops_at(&self.types, number)
     }
@@ -145,9 +143,7 @@ impl<'m, 'a, A: Allocator, B: Allocator> Told<'m, 'a, A, B> {
     pub fn first_at(&self, number: usize) -> usize
         ensures { result ≡ first_at self.now number }
     {
-        tops_at(&self.types, number)
-            .first()
-            .map_or(0, |top| top.first)
+        self.at(number).first().map_or(0, |top| top.first)
     }
 
     /// Whether a term of a type fits a slot of another, both by their numbers. Where both have many tops, what is found is kept.

@@ -1,14 +1,14 @@
-//! The table of the types of a domain, each with the place of its parent, and the spans of its places.
+//! The table of the types of a domain, each with the place of its parent, and the spans of its places, or the first type that is above itself.
 
-ghost use Rattle.std.specs.Prelude.{◌≡◌, List, [], ◌∷◌, map, IfOk, OnOk};
+ghost use Rattle.std.specs.Prelude.{◌≡◌, List, [], ◌∷◌, map, Contains, IfOk, OnOk};
 ghost use Rattle.pddl_domain.specs.Declarations.{TypeValue, type_view};
 ghost use Rattle.pddl_task.specs.Names.{repeated, item_of};
 ghost use Rattle.pddl_task.specs.Types.{types_of};
+ghost use Rattle.pddl_forest.specs.Rounds.{HasRound, AreRounds};
 ghost use Rattle.pddl_forest.specs.Spans.{AreSpans};
 ghost use Rattle.pddl_faults.specs.Passes.{Passes};
 ghost use Rattle.pddl_types.specs.TypeTables.{parents_in, StandsAt, IsTableOf, IsTypeTable, cycle_in};
 
-use crate::cycles::first_cycle;
 use indexmap::IndexMap;
 use pddl_domain::{DeclaredType, DeclaredTypes};
 use pddl_faults::LinkFault;
@@ -27,7 +27,8 @@ fn place_of<'m, 'a, B: Allocator>(
     match parents.get_index_of(name) {
         Some(place) => Ok(place),
         None => {
-            let (place, _) = parents.insert_full(name, 0)?;
+            let place = parents.len();
+            parents.insert(name, 0)?;
             Ok(place)
         }
     }
@@ -80,6 +81,29 @@ fn parent_places<'m, 'a, B: Allocator>(
     ensures { IfOk result (λ places. places.items ≡ parents_in table.now.entries) }
 {
     table.values().copied().collect(alloc)
+}
+
+/// The first declared type that is above itself: through whose place a way goes round from parent to parent, where one goes round.
+fn first_cycle<'m, 'a, A: Allocator, B: Allocator>(
+    table: &IndexMap<&'m [u8], usize, Hashed, &'a B>,
+    numbers: &[usize],
+    declared: &'m [DeclaredType<A>],
+) -> &'m [u8]
+    requires table { IsTypeTable (map type_view declared.now) table.now.entries }
+    requires numbers { AreRounds (parents_in table.now.entries) numbers.now }
+    requires round { HasRound (parents_in table.now.entries) }
+    ensures { Contains (cycle_in (map type_view declared.now)) result.now }
+{
+    for declared_type in declared {
+        let name = declared_type.name.as_bytes();
+        let Some(place) = table.get_index_of(name) else {
+            unreachable!()
+        };
+        if numbers[place] != 0 {
+            return name;
+        }
+    }
+    unreachable!()
 }
 
 /// The spans of the types of a table, or the first type that is above itself.

@@ -4,9 +4,8 @@ use Rattle.pddl_task.specs.Names.{repeated}
 use Rattle.pddl_task.specs.Settings.{symbol_of, parameters_of}
 use Rattle.pddl_faults.specs.Found.{numbered}
 use Rattle.pddl_faults.proofs.FoundFaults.{IsFoundUpTo}
-use Rattle.pddl_types.specs.KnownNames.{signature_in}
 use Rattle.pddl_types.specs.Told.{AreTold, AreKept, unknown_among}
-use Rattle.pddl_types.specs.Signatures.{AreSlotsAt, AreFirst}
+use Rattle.pddl_types.specs.Signatures.{HaveFirst}
 use Rattle.pddl_types.proofs.signatures.put.Given as goal
 
 -- what was declared so far is held, each name that stands twice is found, and what is unknown is unknown in the rest
@@ -18,8 +17,7 @@ invariant-loop-each g l =
     record {
       types : AreTold l.types l.told;
       kept : AreKept l.fn.told l.told;
-      slots : AreSlotsAt l.told l.table.entries;
-      first : AreFirst (map signature_in l.table.entries) seen;
+      held : HaveFirst l.told l.table.entries seen;
       found : IsFoundUpTo (numbered 24 (repeated (map symbol_of seen) (map symbol_of left))) (numbered 24 (repeated [] (map symbol_of all))) l.found;
       left : unknown_among l.types.declared (flat_map parameters_of left) ≡ unknown_among l.types.declared (flat_map parameters_of all);
     }

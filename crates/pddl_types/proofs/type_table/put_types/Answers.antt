@@ -1,14 +1,11 @@
-use Rattle.std.proofs.Common.{◌<◌, ◌≡◌, ◌-◌, length, get_or, slice_get, map, take, Some, [], ◌∷◌, List, refl, sym, ap, ◌∙◌, subst, arith}
+use Rattle.std.proofs.Common.{◌<◌, ◌≡◌, ◌-◌, length, get_or, slice_get, map, take, Some, [], ◌∷◌, List, sym, ap, ◌∙◌, subst, arith}
 use Rattle.std.proofs.lemmas.List.{take_all}
-use Rattle.std.proofs.lemmas.Option.{slice_get_read}
 use Rattle.pddl_domain.specs.Declarations.{TypeValue, type_view}
 use Rattle.pddl_task.specs.Types.{types_of}
 use Rattle.pddl_types.specs.TypeTables.{Row, StandsAt, IsTableOf}
-use Rattle.pddl_types.proofs.SharedTypes.{of_next}
-use Rattle.pddl_types.proofs.TypePlaces.{put, stands_on}
-use Rattle.pddl_types.proofs.TypeTables.{again, root_alone, put_under}
-use Rattle.pddl_faults.proofs.ListTurns.{seen_more}
-use Rattle.pddl_types.proofs.Views.{seen_entry}
+use Rattle.pddl_sizes.proofs.SharedTypes.{of_next}
+use Rattle.pddl_types.proofs.TypeTables.{put, stands_on, again, root_alone, put_under}
+use Rattle.pddl_faults.proofs.ListTurns.{seen_more, viewed_at}
 use Rattle.pddl_types.proofs.type_table.put_types.Goals.{then-not-shares+in_ok-over, else-not-shares}
 use Rattle.pddl_types.proofs.type_table.put_types.Goals as goal
 
@@ -26,7 +23,7 @@ loop-number-preserved g c =
     let x = c.index-deref-number.result in
     let low : l.number < length xs = omega (arith, c.loop-number-test.true, c.len-number-end.ensures) in
     let at : x ≡ get_or xs l.number x = c.index-deref-number.is ∙ ap (λ ys. get_or ys l.number x) c.deref.ensures.value in
-    let here : slice_get (map type_view xs) l.number ≡ Some (type_view x) = seen_entry type_view xs l.number x (slice_get_read xs (length xs) l.number x refl low at) in
+    let here : slice_get (map type_view xs) l.number ≡ Some (type_view x) = viewed_at type_view xs l.number x low at in
     let ready : IsTableOf ((type_view x).of ∷ types_of told) told c.if-not-shares.parents.entries × StandsAt c.if-not-shares.parents.entries c.if-not-shares.over (type_view x).of =
     elim c.if-not-shares.branch [
       | then-not-shares+in_ok-over w ↦

@@ -3,9 +3,8 @@ use Rattle.pddl_forest.specs.Rounds.{HasRound, AreRounds}
 use Rattle.pddl_forest.specs.Spans.{AreSpans}
 use Rattle.pddl_domain.specs.Declarations.{type_view}
 use Rattle.pddl_task.specs.Types.{root}
-use Rattle.pddl_types.proofs.CyclicTypes.{no_cycle}
-use Rattle.pddl_types.proofs.TypePlaces.{below}
-use Rattle.pddl_types.proofs.TypeForests.{WithinParents, parents_within}
+use Rattle.pddl_types.proofs.TypeTables.{below}
+use Rattle.pddl_types.proofs.TypeForests.{WithinParents, parents_within, no_cycle}
 use Rattle.pddl_types.proofs.type_table.spans_of.Goals as goal
 
 pub forest_spans-requires : goal.forest_spans-requires

@@ -12,7 +12,7 @@ use Rattle.pddl_types.specs.Told.{unknown_among}
 use Rattle.pddl_faults.proofs.FoundFaults.{passed_as, stands_front, stands_back}
 use Rattle.pddl_types.proofs.ToldTypes.{kept_self}
 use Rattle.pddl_types.proofs.SignatureTables.{have_still, have_all}
-use Rattle.pddl_types.proofs.Views.{seen_of}
+use Rattle.pddl_types.proofs.Lookups.{seen_of}
 use Rattle.pddl_types.proofs.declared.Declared.add_actions.Goals as goal
 
 on_ok : {U E : Type 0} (r : Result U E) (P : Type 0) → P → OnOk r P

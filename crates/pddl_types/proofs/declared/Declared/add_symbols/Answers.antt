@@ -9,7 +9,7 @@ use Rattle.pddl_faults.proofs.PassedParts.{pass_front, pass_back}
 use Rattle.pddl_types.proofs.ToldTypes.{kept_self, kept_then}
 use Rattle.pddl_types.proofs.SignatureTables.{have_still}
 use Rattle.pddl_types.proofs.UnknownTypes.{declared_parts}
-use Rattle.pddl_types.proofs.Views.{seen_of}
+use Rattle.pddl_types.proofs.Lookups.{seen_of}
 use Rattle.pddl_types.proofs.declared.Declared.add_symbols.Goals as goal
 
 pub returns-in_err-predicates-clause-passes : goal.returns-in_err-predicates-clause-passes

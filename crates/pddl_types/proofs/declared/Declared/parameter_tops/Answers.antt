@@ -1,8 +1,12 @@
 use Rattle.std.proofs.Common.{◌≤◌, length, refl, sym, ap, subst, ◌∙◌, ltb-true, ltb-false}
 use Rattle.std.specs.Prelude.{slice_get}
 use Rattle.std.proofs.lemmas.Option.{slice_get_read}
-use Rattle.pddl_types.proofs.ParameterTops.{some_entry, some_number, number_there}
+use Rattle.pddl_types.proofs.ToldTypes.{apart_there, tops_there}
+use Rattle.pddl_types.proofs.SignatureTables.{some_entry, some_number, number_there}
 use Rattle.pddl_types.proofs.declared.Declared.parameter_tops.Goals as goal
+
+pub returns-in-Some-get-clause-apart : goal.returns-in-Some-get-clause-apart
+returns-in-Some-get-clause-apart g c = λ t are. rw c.at.ensures (apart_there are c.in-Some-get.number.now)
 
 pub returns-in-Some-get-clause-told : goal.returns-in-Some-get-clause-told
 returns-in-Some-get-clause-told g c = λ t d a x are here there.
@@ -11,7 +15,7 @@ returns-in-Some-get-clause-told g c = λ t d a x are here there.
     let n = c.in-Some-get.number.now in
     let low = ltb-true j (length numbers) (sym c.in-Some-get.ensures.lookup.0) in
     let is = ap (λ ns. slice_get ns j) (sym c.deref.ensures.value) ∙ slice_get_read numbers (length numbers) j n refl low c.in-Some-get.ensures.lookup.1 in
-    (c.at.ensures.told t x.of are.told (number_there d c.args.self.now are.actions c.args.action j a x here there _ (sym c.in-Some.ensures.entry) n is)).0
+    rw c.at.ensures (tops_there are.told x.of n (number_there d c.args.self.now are.actions c.args.action j a x here there _ (sym c.in-Some.ensures.entry) n is)).0
 
 pub returns-in-None-get-clause-told : goal.returns-in-None-get-clause-told
 returns-in-None-get-clause-told g c = λ t d a x are here there.

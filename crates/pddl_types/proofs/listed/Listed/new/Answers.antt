@@ -1,7 +1,7 @@
 use Rattle.std.proofs.Common.{◌≡◌, [], map, refl, ap}
 use Rattle.pddl_types.specs.KnownNames.{object_in}
 use Rattle.pddl_types.specs.Told.{IsAt}
-use Rattle.pddl_types.proofs.HeldEach.{each_none}
+use Rattle.pddl_types.proofs.ToldTypes.{each_none}
 use Rattle.pddl_types.proofs.listed.Listed.new.Goals as goal
 
 pub returns : goal.returns

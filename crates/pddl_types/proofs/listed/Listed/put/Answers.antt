@@ -2,7 +2,7 @@ use Rattle.std.proofs.Common.{map, not, sym, ap, ◌∙◌}
 use Rattle.pddl_formula.specs.TypedLists.{typed_view}
 use Rattle.pddl_types.specs.KnownNames.{object_in}
 use Rattle.pddl_types.specs.Told.{IsAt}
-use Rattle.pddl_types.proofs.HeldEach.{each_more}
+use Rattle.pddl_types.proofs.ToldTypes.{each_more}
 use Rattle.pddl_types.proofs.ObjectTables.{seen_there, seen_new, put_last}
 use Rattle.pddl_types.proofs.listed.Listed.put.Goals as goal
 

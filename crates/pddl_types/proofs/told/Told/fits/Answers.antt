@@ -1,8 +1,13 @@
 use Rattle.std.proofs.Common.{sym, ◌∙◌, arith}
 use Rattle.pddl_types.specs.Told.{told_in}
-use Rattle.pddl_types.proofs.ToldTypes.{apart_there, decided_there, some_tops}
-use Rattle.pddl_types.proofs.FittingTables.{fitting_more}
+use Rattle.pddl_types.proofs.ToldTypes.{apart_there, decided_there, some_tops, fitting_more}
 use Rattle.pddl_types.proofs.told.Told.fits.Goals as goal
+
+pub returns-in_err-insert-clause-kept : goal.returns-in_err-insert-clause-kept
+returns-in_err-insert-clause-kept g c = c.self.view_is
+
+pub returns-clause-kept : goal.returns-clause-kept
+returns-clause-kept g c = c.self.view_is
 
 pub returns-then-told-lt8-clause-fits : goal.returns-then-told-lt8-clause-fits
 returns-then-told-lt8-clause-fits g c = λ of to at there.

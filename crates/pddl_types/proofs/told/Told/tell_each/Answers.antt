@@ -1,37 +1,53 @@
-use Rattle.std.proofs.Common.{◌≡◌, ◌<◌, map, not, length, slice_get, Some, sym, ◌∙◌, subst, arith}
-use Rattle.std.proofs.lemmas.List.{length-map}
+use Rattle.std.proofs.Common.{◌≡◌, ◌<◌, ◌≤◌, map, length, slice_get, Some, refl, sym, ◌∙◌, subst, arith}
+use Rattle.std.proofs.lemmas.List.{length-map, drop_all, take_all}
 use Rattle.std.proofs.lemmas.Result.{err_from_is_err_and}
 use Rattle.pddl_formula.specs.TypedLists.{TypedValue, typed_view}
-use Rattle.pddl_task.specs.Names.{is_in}
-use Rattle.pddl_task.specs.Types.{types_of}
 use Rattle.pddl_task.proofs.Lists.{some_at}
 use Rattle.pddl_faults.proofs.PassedParts.{pass_front}
+use Rattle.pddl_sizes.proofs.SharedTypes.{type_at}
 use Rattle.pddl_types.specs.Told.{AreTold, AreKept, IsAt}
-use Rattle.pddl_types.proofs.ToldTypes.{kept_self, kept_then, none_unknown, told_shared, told_next}
-use Rattle.pddl_types.proofs.SharedTypes.{type_at, left_behind, left_more}
+use Rattle.pddl_types.proofs.ToldTypes.{each_none, kept_self, kept_then, none_unknown, told_shared, told_next}
+use Rattle.pddl_types.proofs.UnknownTypes.{typed_left}
 use Rattle.pddl_types.proofs.told.Told.tell_each.Goals as goal
 use Rattle.pddl_types.proofs.told.Told.tell_each.Goals.{then-not-shares+in_ok-number, else-not-shares}
 
-pub returns-in_err-number-clause-passes : goal.returns-in_err-number-clause-passes
-returns-in_err-number-clause-passes g c =
+pub loop-place-init : goal.loop-place-init
+loop-place-init g c = record {
+  types = c.requires.told;
+  kept = kept_self c.args.self.now;
+  told = record { each = rw c.requires.empty (each_none (IsAt c.args.self.now)); last = λ x some. absurd (omega (arith, some)) };
+  left = refl;
+}
+
+pub returns-in_err-number : goal.returns-in_err-number
+returns-in_err-number g c =
     let items = c.args.list.now.items in
     let place = c.loop-place.place in
     let low : place < length items = omega (arith, c.loop-place-test.true, c.len-place-end.ensures) in
     let (x, at) = some_at (map typed_view items) place (omega (arith, low, length-map items typed_view)) in
     let own = type_at items c.deref.result.now place c.index-deref-place.result x c.deref.ensures.value low c.index-deref-place.is at in
-    let left = left_behind (λ n. not (is_in (types_of c.args.types.now.declared) n)) (map typed_view items) place x at in
+    let left = typed_left c.args.types.now.declared (map typed_view items) place x at in
     let p = err_from_is_err_and c.from_residual.result c.from_residual.ensures.1 in
-    rw (p.1, p.2) (pass_front 23 _ _ _ c.in_err-number.field-0.0 (sym c.loop-place.invariant.left ∙ left) (rw own at c.in_err-number.ensures.passes))
+    rw p.1 (record {
+      told = c.tell.ensures.told;
+      kept = kept_then c.args.self.now c.loop-place.self c.tell.new.self c.loop-place.invariant.kept c.tell.ensures.kept;
+      passes = rw p.2 (pass_front 23 _ _ _ c.in_err-number.field-0.0 (sym c.loop-place.invariant.left ∙ left) (rw own at c.in_err-number.ensures.passes));
+      numbers = tt;
+    })
+
+pub returns-in_err-push-clause-told : goal.returns-in_err-push-clause-told
+returns-in_err-push-clause-told g c =
+    elim c.if-not-shares.branch [
+      | then-not-shares+in_ok-number w ↦ subst (AreTold c.args.types.now) (sym w.self-is) w.tell.ensures.told
+      | else-not-shares w ↦ subst (AreTold c.args.types.now) (sym w.self-is) c.loop-place.invariant.types
+    ]
 
 pub returns-in_err-push-clause-kept : goal.returns-in_err-push-clause-kept
 returns-in_err-push-clause-kept g c =
-    let held = c.loop-place.self in
-    kept_then c.args.self.now held c.if-not-shares.self c.loop-place.invariant.kept (
     elim c.if-not-shares.branch [
-      | then-not-shares+in_ok-number w ↦ subst (AreKept held) (sym w.self-is) w.tell.ensures.kept
-      | else-not-shares w ↦ subst (AreKept held) (sym w.self-is) (kept_self held)
+      | then-not-shares+in_ok-number w ↦ subst (AreKept c.args.self.now) (sym w.self-is) (kept_then c.args.self.now c.loop-place.self w.tell.new.self c.loop-place.invariant.kept w.tell.ensures.kept)
+      | else-not-shares w ↦ subst (AreKept c.args.self.now) (sym w.self-is) c.loop-place.invariant.kept
     ]
-    )
 
 pub loop-place-preserved : goal.loop-place-preserved
 loop-place-preserved g c =
@@ -61,5 +77,17 @@ loop-place-preserved g c =
       types = types;
       kept = kept_then c.args.self.now held new before.kept kept;
       told = told_next before.told kept (omega (arith, low, length-map items typed_view)) told c.in_ok-push.ensures.items;
-      left = left_more (λ n. not (is_in (types_of t.declared) n)) list place x _ at (none_unknown types x.of c.if-not-shares.number (told x at)) before.left;
+      left = rw (typed_left t.declared list place x at, none_unknown types x.of c.if-not-shares.number (told x at)) at before.left;
+    }
+
+pub returns : goal.returns
+returns g c =
+    let list = map typed_view c.args.list.now.items in
+    let past : length list ≤ c.loop-place.place = omega (arith, c.loop-place-test.false, c.len-place-end.ensures, length-map c.args.list.now.items typed_view) in
+    let all = c.loop-place.invariant in
+    record {
+      told = all.types;
+      kept = all.kept;
+      passes = sym (rw (drop_all c.loop-place.place list past) at all.left);
+      numbers = rw (take_all c.loop-place.place list past) at all.told.each;
     }

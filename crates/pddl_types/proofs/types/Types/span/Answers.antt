@@ -4,7 +4,7 @@ use Rattle.pddl_forest.specs.Spans.{span_at}
 use Rattle.pddl_task.specs.Names.{number_in}
 use Rattle.pddl_types.specs.TypeTables.{Row, names_in}
 use Rattle.pddl_types.specs.TypeSpans.{span_of}
-use Rattle.pddl_types.proofs.TypePlaces.{found_number, number_past, no_place}
+use Rattle.pddl_types.proofs.TypeTables.{found_number, number_past, no_place}
 use Rattle.pddl_types.proofs.types.Types.span.Goals as goal
 
 pub returns-in-Some : goal.returns-in-Some

@@ -2,7 +2,7 @@ use Rattle.std.proofs.Common.{◌≡◌, drop, map, filter}
 use Rattle.pddl_domain.specs.Declarations.{type_view}
 use Rattle.pddl_task.specs.Names.{item_of}
 use Rattle.pddl_task.specs.Types.{pairs, is_cyclic}
-use Rattle.pddl_types.proofs.cycles.first_cycle.Given as goal
+use Rattle.pddl_types.proofs.type_table.first_cycle.Given as goal
 
 -- the types that are above themselves are among those that are left
 abbrev pub invariant-loop-declared_type : goal.invariant-loop-declared_type
