@@ -177,6 +177,9 @@ actions_ruled ts s seen (a ∷ rest) =
     list_all-append is_ruled (named ++ found) (action_faults (place_faults ts s) (seen ++ a.name ∷ []) rest)
     ∙ ap₂ ◌&&◌ (list_all-append is_ruled named found ∙ ap₂ ◌&&◌ (named_ruled (word_if (is_in seen a.name) a.name)) (places_ruled ts s (action_places a))) (actions_ruled ts s (seen ++ a.name ∷ []) rest)
 
+both : {P Q : Type 0} → P → Q → P × Q
+both p q = (p, q)
+
 -- words of two lists, each list in front of the same
 within_both : (xs ys vs zs : List Name) (w : Name) → (Contains xs w → Contains vs w) → (Contains ys w → Contains zs w) → Contains (xs ++ ys) w → Contains (vs ++ zs) w
 within_both xs ys vs zs w h k c =
@@ -212,34 +215,8 @@ module _ (d : DomainValue) (p : ProblemValue) where
 
   pub parts_verdict : (r : Result (Unit {0}) LinkFault) → IsFound all_parts r → Verdict (map (fault_in d p) part_rules) r
   parts_verdict r h =
-      verdict all_parts (map (fault_in d p) part_rules) (
-        told all_parts 23 _ (rw (unknown-declared d.types d, unknown-problem d.types p) (simp by_number)),
-        (
-          repeats_tell (simp by_number),
-          (
-            told all_parts 25 _ (simp by_number),
-            (
-              told all_parts 26 _ (simp by_number),
-              (
-                told all_parts 27 _ (simp by_number),
-                (
-                  told all_parts 28 _ (simp by_number),
-                  (
-                    told all_parts 29 _ (simp by_number),
-                    (
-                      told all_parts 30 _ (simp by_number),
-                      (
-                        told all_parts 31 _ (simp by_number),
-                        (
-                          told all_parts 32 _ (simp by_number),
-                          (told all_parts 33 _ (simp by_number), tt),
-                        ),
-                      ),
-                    ),
-                  ),
-                ),
-              ),
-            ),
-          ),
-        ),
-      ) (simp (from_parts, actions_ruled)) r h
+      verdict all_parts (map (fault_in d p) part_rules)
+      (both (told all_parts 23 _ (rw (unknown-declared d.types d, unknown-problem d.types p) (simp by_number))) (both (repeats_tell (simp by_number)) (both (told all_parts 25 _ (simp by_number))
+      (both (told all_parts 26 _ (simp by_number)) (both (told all_parts 27 _ (simp by_number)) (both (told all_parts 28 _ (simp by_number)) (both (told all_parts 29 _ (simp by_number))
+      (both (told all_parts 30 _ (simp by_number)) (both (told all_parts 31 _ (simp by_number)) (both (told all_parts 32 _ (simp by_number)) (both (told all_parts 33 _ (simp by_number)) tt)))))))))))
+      (simp (from_parts, actions_ruled)) r h

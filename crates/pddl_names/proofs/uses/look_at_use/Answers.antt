@@ -1,5 +1,4 @@
-use Rattle.std.proofs.Common.{◌≡◌, false, true, not, ◌==◌, length, map, Ok, Err, refl, ap, ◌∙◌, arith}
-use Rattle.std.proofs.lemmas.Grind.{common_steps}
+use Rattle.std.proofs.Common.{not, Ok, Err, refl, ap, ◌∙◌, arith}
 use Rattle.std.proofs.lemmas.List.{length-map}
 use Rattle.std.proofs.lemmas.Result.{err_from_is_err_and}
 use Rattle.pddl_formula.specs.TypedLists.{typed_view}
@@ -30,21 +29,18 @@ returns-in_err-all_fit-clause-found g c =
 
 pub returns-then-len-slots-clause-found : goal.returns-then-len-slots-clause-found
 returns-then-len-slots-clause-found g c =
-    let other : (length (terms_in c.args.terms.now) == length (map typed_view c.in-Some.slots.now.parameters.now)) ≡ false =
-    grind (arith, common_steps, c.len.ensures, length-map c.in-Some.slots.now.parameters.now typed_view, c.if-len-slots.true) in
     others_found (setting_of c.args.known.now) (bound_in c.args.scope.now) (terms_in c.args.terms.now) c.args.declared.now.entries c.args.symbol.now c.in-Some.slots.now c.in-Some.ensures.value
-    (link.Arity c.args.symbol) c.in_ok-all_fit.ensures.passes (ap not other) (λ words k. (refl, k))
+    (link.Arity c.args.symbol) c.in_ok-all_fit.ensures.passes (λ is. omega (arith, is, c.len.ensures, length-map c.in-Some.slots.now.parameters.now typed_view, c.if-len-slots.true))
+    (λ words k. (refl, k))
 
 pub returns-else-all_fit-clause-found : goal.returns-else-all_fit-clause-found
 returns-else-all_fit-clause-found g c =
-    let same : (length (terms_in c.args.terms.now) == length (map typed_view c.in-Some.slots.now.parameters.now)) ≡ true =
-    grind (arith, common_steps, c.len.ensures, length-map c.in-Some.slots.now.parameters.now typed_view, c.if-len-slots.false) in
     misfit_found (setting_of c.args.known.now) (bound_in c.args.scope.now) (terms_in c.args.terms.now) c.args.declared.now.entries c.args.symbol.now c.in-Some.slots.now c.in-Some.ensures.value
-    (Err (link.ArgumentType c.args.symbol)) c.in_ok-all_fit.ensures.passes (ap (λ b. not (not b)) same) (refl, has_word _ c.args.symbol.now (c.in_ok-all_fit.ensures.fits ∙ ap not c.if-all_fit.false))
+    (Err (link.ArgumentType c.args.symbol)) c.in_ok-all_fit.ensures.passes (omega (arith, c.len.ensures, length-map c.in-Some.slots.now.parameters.now typed_view, c.if-len-slots.false))
+    (refl, has_word _ c.args.symbol.now (c.in_ok-all_fit.ensures.fits ∙ ap not c.if-all_fit.false))
 
 pub returns-then-all_fit-clause-found : goal.returns-then-all_fit-clause-found
 returns-then-all_fit-clause-found g c =
-    let same : (length (terms_in c.args.terms.now) == length (map typed_view c.in-Some.slots.now.parameters.now)) ≡ true =
-    grind (arith, common_steps, c.len.ensures, length-map c.in-Some.slots.now.parameters.now typed_view, c.if-len-slots.false) in
     misfit_found (setting_of c.args.known.now) (bound_in c.args.scope.now) (terms_in c.args.terms.now) c.args.declared.now.entries c.args.symbol.now c.in-Some.slots.now c.in-Some.ensures.value
-    (Ok tt) c.in_ok-all_fit.ensures.passes (ap (λ b. not (not b)) same) (ap (λ misfit. word_if misfit c.args.symbol.now) (c.in_ok-all_fit.ensures.fits ∙ ap not c.if-all_fit.true))
+    (Ok tt) c.in_ok-all_fit.ensures.passes (omega (arith, c.len.ensures, length-map c.in-Some.slots.now.parameters.now typed_view, c.if-len-slots.false))
+    (ap (λ misfit. word_if misfit c.args.symbol.now) (c.in_ok-all_fit.ensures.fits ∙ ap not c.if-all_fit.true))
