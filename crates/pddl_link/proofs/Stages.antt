@@ -15,21 +15,20 @@ use Rattle.pddl_task.proofs.Lists.{all_found, has_none}
 use Rattle.pddl_faults.specs.declared.fault.LinkFault.{LinkFault}
 use Rattle.pddl_faults.specs.Passes.{fault_of, Passes, Verdict}
 use Rattle.pddl_faults.specs.Found.{IsFound, numbered}
-use Rattle.pddl_faults.proofs.FoundFaults.{found_rest, standing, found_verdict}
+use Rattle.pddl_faults.proofs.FoundFaults.{found_rest}
 use Rattle.pddl_faults.proofs.PassedParts.{pass_front}
 use Rattle.pddl_faults.proofs.Verdicts.{found_at}
 use Rattle.pddl_types.specs.Told.{unknown_among}
 use Rattle.pddl_names.specs.FaultParts.{joined, declared_typed, domain_parts, problem_parts, part_rules}
-use Rattle.pddl_names.proofs.RuleParts.{all_parts, parts_stand, found_as, unknown-declared}
+use Rattle.pddl_names.proofs.RuleParts.{unknown-declared, parts_verdict as rules_verdict}
 
 -- what is found in the parts of a domain and a problem
 pub parts_verdict : (d : DomainValue) (p : ProblemValue) (ts : List TypeValue) (r : Result (Unit {0}) LinkFault) → ts ≡ d.types → unknown_among ts (declared_typed d) ≡ []
     → IsFound (joined (domain_parts ts d) ++ joined (problem_parts ts d p)) r → Verdict (map (fault_in d p) part_rules) r
 parts_verdict d p ts r same none h =
-    let fs = map (fault_in d p) part_rules in
-    found_verdict fs r
-    (found_as (all_parts d.types d p) (standing fs) r (parts_stand d p)
-    (subst (λ us. IsFound (all_parts us d p) r) same (found_rest (numbered 23 (unknown_among ts (declared_typed d))) (joined (domain_parts ts d) ++ joined (problem_parts ts d p)) r (ap (numbered 23) none) h)))
+    let all = λ (us : List TypeValue). numbered 23 (unknown_among us (declared_typed d)) ++ (joined (domain_parts us d) ++ joined (problem_parts us d p)) in
+    rules_verdict d p r
+    (subst (λ us. IsFound (all us) r) same (found_rest (numbered 23 (unknown_among ts (declared_typed d))) (joined (domain_parts ts d) ++ joined (problem_parts ts d p)) r (ap (numbered 23) none) h))
 
 -- a type of what a domain declares that is not known
 pub stopped_verdict : (d : DomainValue) (p : ProblemValue) (ts : List TypeValue) (e : LinkFault) → ts ≡ d.types → Passes {T = Unit {0}} 23 (unknown_among ts (declared_typed d)) (Err e)

@@ -1,5 +1,4 @@
 pub mod FoundParts
-pub mod GoalSizes
 pub mod HeldFiles
 pub mod OffTypes
 pub mod RuleParts

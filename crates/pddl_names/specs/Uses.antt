@@ -1,19 +1,16 @@
 -- The faults that are looked for at each place, each told by its number and its word, and what is known where they are.
-use Rattle.std.specs.Prelude.{◌≡◌, Bool, true, not, ◌==◌, ℕ, List, ◌++◌, length, map, Option, Some, None, Result}
+use Rattle.std.specs.Prelude.{not, ℕ, List, ◌++◌, map}
 use Rattle.std.specs.List.{All, flat_map}
-use Rattle.pddl_formula.specs.Terms.{TermValue}
 use Rattle.pddl_formula.specs.TypedLists.{TypedValue}
 use Rattle.pddl_domain.specs.Declarations.{TypeValue}
 use Rattle.pddl_task.specs.Names.{Name, word_if}
-use Rattle.pddl_task.specs.Types.{pairs, fits}
+use Rattle.pddl_task.specs.Types.{pairs}
 use Rattle.pddl_task.specs.Places.{Place}
 use Rattle.pddl_task.specs.Settings.{Setting}
-use Rattle.pddl_task.specs.Faults.{Use, variables_at, repeated_at, is_declared, signature_of, unknown_term, takes_others, some_misfit, has_misfit, unknown_at, arity_at, misfit_at, fraction_at}
-use Rattle.pddl_faults.specs.declared.fault.LinkFault.{LinkFault}
-use Rattle.pddl_faults.specs.Found.{IsFound, numbered}
-use Rattle.pddl_search.specs.Scopes.{bound_in}
+use Rattle.pddl_task.specs.Faults.{Use, variables_at, repeated_at, is_declared, signature_of, unknown_term, takes_others, has_misfit, unknown_at, arity_at, misfit_at, fraction_at}
+use Rattle.pddl_faults.specs.Found.{numbered}
 use Rattle.pddl_types.specs.KnownNames.{signature_in, object_in}
-use Rattle.pddl_types.specs.Told.{ToldValue, IsAt, AreAt, unknown_among}
+use Rattle.pddl_types.specs.Told.{ToldValue, IsAt, AreAt, AreTold, unknown_among}
 use Rattle.pddl_types.specs.Signatures.{AreSlotsAt}
 use Rattle.pddl_names.specs.declared.known.Known.{Known}
 
@@ -33,18 +30,6 @@ faults_of_use s bound u =
     numbered 26 (word_if (not (is_declared u)) u.name ++ flat_map (unknown_term s bound) u.terms)
     ++ (numbered 27 (word_if (takes_others (signature_of u) u.terms) u.name) ++ numbered 28 (word_if (has_misfit s bound u.terms (signature_of u)) u.name))
 
--- and those of its terms, where it is declared with these slots
-abbrev pub faults_of_terms : Setting → List TypedValue → Name → List TermValue → List TypedValue → List (ℕ × Name)
-faults_of_terms s bound symbol terms slots =
-    numbered 26 (flat_map (unknown_term s bound) terms)
-    ++ (numbered 27 (word_if (not (length terms == length slots)) symbol) ++ numbered 28 (word_if (some_misfit s bound terms slots) symbol))
-
--- whether what is typed fits a slot, where there is one; `None` where nothing is typed
-abbrev pub fit_of : List TypeValue → Option TypedValue → Option TypedValue → Option Bool
-fit_of ps None slot = None
-fit_of ps (Some x) None = Some true
-fit_of ps (Some x) (Some slot) = Some (fits ps x.of slot.of)
-
 -- ---- what is known
 
 -- without where it is held
@@ -60,15 +45,10 @@ setting_of k = record {
 abbrev pub faults_by : {A B : _} → Known A B → Place → List (ℕ × Name)
 faults_by k = place_faults k.types.now.declared (setting_of k)
 
--- these variables are bound, the innermost first, where these are in scope, and the types of all that may be named are told
-pub record IsBound {A B : Type 0} (k : Known A B) (told : ToldValue) (scope : List (TypedValue × ℕ)) (bound : List TypedValue) : Type 0 where
+-- the types of all that may be named are told, and those of the variables in scope
+pub record AreAllTold {A B : Type 0} (k : Known A B) (told : ToldValue) (scope : List (TypedValue × ℕ)) : Type 0 where
+  pub types : AreTold k.types.now told
   pub predicates : AreSlotsAt told k.predicates.now.entries
   pub functions : AreSlotsAt told k.functions.now.entries
   pub objects : AreAt told (map object_in k.listed.now.objects.entries) k.listed.now.types.items
   pub variables : All (λ e. IsAt told e.0.of e.1) scope
-  pub bound_is : bound_in scope ≡ bound
-
--- what is bound stays, and the lowest of the faults that are looked for at some places is found
-pub record IsSearched (before after : List TypedValue → Type 0) (sought : Place → List (ℕ × Name)) (places : List TypedValue → List Place) (r : Result (Unit {0}) LinkFault) : Type 0 where
-  pub kept : (b : List TypedValue) → before b → after b
-  pub found : (b : List TypedValue) → before b → IsFound (flat_map sought (places b)) r

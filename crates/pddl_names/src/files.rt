@@ -39,23 +39,6 @@ pub struct Files<'t, 'm, 'a, A: Allocator, B: Allocator> {
     pub ghost typed: { types.now.declared ≡ (domain_view domain.now).types },
 }
 
-/// The goal is not too large.
-fn goal_size<'k, 'm, 'a, 'd, A: Allocator, B: Allocator>(
-    fitting: &Fitting<'k, 'm, 'a, A, B>,
-    domain: &Domain<A>,
-    problem: &'d Problem<A>,
-) -> Result<(), LinkFault<'d>>
-    requires types { fitting.now.types.now.declared ≡ (domain_view domain.now).types }
-    requires objects { map object_in fitting.now.listed.now.objects.entries ≡ objects_of (domain_view domain.now) (problem_view problem.now) }
-    ensures { Passes 35 (large_goals (domain_view domain.now) (problem_view problem.now)) result }
-{
-    if ground_size(fitting, &problem.goal) > 1_000_000 {
-        Err(LinkFault::GoalTooLarge)
-    } else {
-        Ok(())
-    }
-}
-
 impl<'t, 'm, 'a, A: Allocator, B: Allocator> Files<'t, 'm, 'a, A, B> {
     /// The lowest fault of actions.
     fn look_at_actions(
@@ -176,7 +159,11 @@ impl<'t, 'm, 'a, A: Allocator, B: Allocator> Files<'t, 'm, 'a, A, B> {
                     listed,
                     order,
                 };
-                goal_size(&fitting, self.domain, problem)
+                if ground_size(&fitting, &problem.goal) > 1_000_000 {
+                    Err(LinkFault::GoalTooLarge)
+                } else {
+                    Ok(())
+                }
             }
             None => Ok(()),
         }

@@ -1,29 +1,29 @@
 //! What is looked for at one place: names that are not known, other numbers of terms than declared, terms that do not fit their slots, and numbers that are
 //! not whole, with one look-up of each name; and variables that are bound.
 
-ghost use Rattle.std.specs.Prelude.{◌≡◌, [], ◌∷◌, List, not, map, Option, IfOk, MatchResult};
+ghost use Rattle.std.specs.Prelude.{◌≡◌, [], ◌∷◌, not, map, drop, length, IfOk, MatchResult};
 ghost use Rattle.std.specs.List.{flat_map};
 ghost use Rattle.pddl_formula.specs.Terms.{term_view};
-ghost use Rattle.pddl_formula.specs.TypedLists.{TypedValue, typed_view};
+ghost use Rattle.pddl_formula.specs.TypedLists.{typed_view};
 ghost use Rattle.pddl_task.specs.Names.{item_of, repeated};
-ghost use Rattle.pddl_task.specs.Places.{at, counts, binding};
-ghost use Rattle.pddl_task.specs.Faults.{typed_term, unknown_term, some_misfit, fraction_of};
+ghost use Rattle.pddl_task.specs.Places.{at, binding};
+ghost use Rattle.pddl_task.specs.Faults.{typed_term, unknown_term, some_misfit};
 ghost use Rattle.pddl_faults.specs.Passes.{Passes};
 ghost use Rattle.pddl_faults.specs.Found.{IsFound, numbered};
 ghost use Rattle.pddl_search.specs.Parts.{term_in, terms_in, part_in};
+ghost use Rattle.pddl_search.specs.Scopes.{bound_in};
 ghost use Rattle.pddl_types.specs.KnownNames.{signature_in};
-ghost use Rattle.pddl_types.specs.Told.{ToldValue, AreTold, unknown_among};
+ghost use Rattle.pddl_types.specs.Told.{ToldValue, unknown_among};
 ghost use Rattle.pddl_types.specs.Objects.{IsAtOf};
 ghost use Rattle.pddl_types.specs.Signatures.{IsSlotsAt, AreSlotsAt};
-ghost use Rattle.pddl_names.specs.Uses.{setting_of, faults_by, fit_of, faults_of_use, faults_of_terms, IsBound, IsSearched};
+ghost use Rattle.pddl_names.specs.Uses.{setting_of, faults_by, faults_of_use, AreAllTold};
 
 use crate::known::Known;
 use pddl_faults::{LinkFault, lower};
 use pddl_formula::{Term, TypedList};
 use pddl_search::{LentTerm, Part, Scope, Terms};
-use pddl_token::Fixed;
 use pddl_types::{Signatures, Slots, Told};
-use std::alloc::{AllocError, Allocator};
+use std::alloc::Allocator;
 
 /// The number at which the type of a term is told; `None` where the term is not known.
 fn type_of<'k, 'm, 'a, A: Allocator, B: Allocator>(
@@ -31,38 +31,11 @@ fn type_of<'k, 'm, 'a, A: Allocator, B: Allocator>(
     scope: &Scope<'m, 'a, A, B>,
     term: &LentTerm,
 ) -> Option<usize>
-    ensures { (told : ToldValue) (b : List TypedValue) → IsBound known.now told scope.now b → IsAtOf told (typed_term (setting_of known.now) b (term_in term.now)) result }
+    ensures { (told : ToldValue) → AreAllTold known.now told scope.now → IsAtOf told (typed_term (setting_of known.now) (bound_in scope.now) (term_in term.now)) result }
 {
     match term {
         LentTerm::Object(object) => known.listed.type_of(*object),
         LentTerm::Variable(variable) => scope.number_of(*variable),
-    }
-}
-
-/// Whether a term fits a slot, where there is one, by the number at which the slot's type is told; `None` where the term is not known.
-///
-/// Fails where memory is refused.
-fn term_fits<'k, 'm, 'a, A: Allocator, B: Allocator>(
-    known: &Known<'k, 'm, 'a, A, B>,
-    told: &mut Told<'m, 'a, A, B>,
-    scope: &Scope<'m, 'a, A, B>,
-    term: &LentTerm,
-    slot: Option<usize>,
-) -> Result<Option<bool>, AllocError>
-    requires { AreTold known.now.types.now told.old }
-    ensures kept { told.new ≡ told.old }
-    ensures fits { (b : List TypedValue) (x : Option TypedValue) → IsBound known.now told.old scope.now b → IsAtOf told.old x slot
-        → IfOk result (λ fit. fit ≡ fit_of (setting_of known.now).pairs (typed_term (setting_of known.now) b (term_in term.now)) x) }
-{
-    match type_of(known, scope, term) {
-        None => Ok(None),
-        Some(number) => match slot {
-            None => Ok(Some(true)),
-            Some(slot) => {
-                let fits = told.fits(known.types, number, slot)?;
-                Ok(Some(fits))
-            }
-        },
     }
 }
 
@@ -76,45 +49,24 @@ fn terms_fit<'k, 'm, 'a, 'd, A: Allocator, B: Allocator>(
     terms: &Terms<'d, A>,
     slots: &Slots<'m, 'a, A, B>,
 ) -> Result<bool, LinkFault<'d>>
-    requires { AreTold known.now.types.now told.old }
+    requires told { AreAllTold known.now told.old scope.now }
+    requires slots { IsSlotsAt told.old slots.now }
     ensures kept { told.new ≡ told.old }
-    ensures passes { (b : List TypedValue) → IsBound known.now told.old scope.now b → IsSlotsAt told.old slots.now → Passes 26 (flat_map (unknown_term (setting_of known.now) b) (terms_in terms.now)) result }
-    ensures fits { (b : List TypedValue) → IsBound known.now told.old scope.now b → IsSlotsAt told.old slots.now
-        → IfOk result (λ fits. some_misfit (setting_of known.now) b (terms_in terms.now) (map typed_view slots.now.parameters.now) ≡ not fits) }
+    ensures passes { Passes 26 (flat_map (unknown_term (setting_of known.now) (bound_in scope.now)) (terms_in terms.now)) result }
+    ensures fits { IfOk result (λ fits. some_misfit (setting_of known.now) (bound_in scope.now) (terms_in terms.now) (map typed_view slots.now.parameters.now) ≡ not fits) }
 {
     let mut all_fit = true;
     for i in 0..terms.len() {
         let term = terms.at(i);
-        match term_fits(known, told, scope, &term, slots.numbers.get(i).copied())? {
-            None => return Err(LinkFault::UnknownName(term.name())),
-            Some(fits) => all_fit = all_fit && fits,
+        let Some(number) = type_of(known, scope, &term) else {
+            return Err(LinkFault::UnknownName(term.name()));
+        };
+        if let Some(slot) = slots.numbers.get(i) {
+            let fits = told.fits(known.types, number, *slot)?;
+            all_fit = all_fit && fits;
         }
     }
     Ok(all_fit)
-}
-
-/// The lowest fault of the terms of a predicate or a function that is declared with these slots.
-fn look_at_terms<'k, 'm, 'a, 'd, A: Allocator, B: Allocator>(
-    known: &Known<'k, 'm, 'a, A, B>,
-    told: &mut Told<'m, 'a, A, B>,
-    scope: &Scope<'m, 'a, A, B>,
-    symbol: &'d [u8],
-    terms: &Terms<'d, A>,
-    slots: &Slots<'m, 'a, A, B>,
-) -> Result<(), LinkFault<'d>>
-    requires { AreTold known.now.types.now told.old }
-    ensures kept { told.new ≡ told.old }
-    ensures found { (b : List TypedValue) → IsBound known.now told.old scope.now b → IsSlotsAt told.old slots.now
-        → IsFound (faults_of_terms (setting_of known.now) b symbol.now (terms_in terms.now) (map typed_view slots.now.parameters.now)) result }
-{
-    let all_fit = terms_fit(known, told, scope, terms, slots)?;
-    if terms.len() != slots.parameters.len() {
-        Err(LinkFault::Arity(symbol))
-    } else if all_fit {
-        Ok(())
-    } else {
-        Err(LinkFault::ArgumentType(symbol))
-    }
 }
 
 /// The lowest of the faults of a predicate or a function with its terms.
@@ -126,14 +78,21 @@ fn look_at_use<'k, 'm, 'a, 'd, A: Allocator, B: Allocator>(
     symbol: &'d [u8],
     terms: &Terms<'d, A>,
 ) -> Result<(), LinkFault<'d>>
-    requires { AreTold known.now.types.now told.old }
+    requires told { AreAllTold known.now told.old scope.now }
+    requires slots { AreSlotsAt told.old declared.now.entries }
     ensures kept { told.new ≡ told.old }
-    ensures found { (b : List TypedValue) → IsBound known.now told.old scope.now b → AreSlotsAt told.old declared.now.entries
-        → IsFound (faults_of_use (setting_of known.now) b (record { name = symbol.now; terms = terms_in terms.now; declared = map signature_in declared.now.entries })) result }
+    ensures found { IsFound (faults_of_use (setting_of known.now) (bound_in scope.now) (record { name = symbol.now; terms = terms_in terms.now; declared = map signature_in declared.now.entries })) result }
 {
-    match declared.get(symbol) {
-        None => Err(LinkFault::UnknownName(symbol)),
-        Some(slots) => look_at_terms(known, told, scope, symbol, terms, slots),
+    let Some(slots) = declared.get(symbol) else {
+        return Err(LinkFault::UnknownName(symbol));
+    };
+    let all_fit = terms_fit(known, told, scope, terms, slots)?;
+    if terms.len() != slots.parameters.len() {
+        Err(LinkFault::Arity(symbol))
+    } else if all_fit {
+        Ok(())
+    } else {
+        Err(LinkFault::ArgumentType(symbol))
     }
 }
 
@@ -143,23 +102,12 @@ fn look_at_term<'k, 'm, 'a, 'd, A: Allocator, B: Allocator>(
     scope: &Scope<'m, 'a, A, B>,
     term: &'d Term<A>,
 ) -> Result<(), LinkFault<'d>>
-    ensures { (told : ToldValue) (b : List TypedValue) → IsBound known.now told scope.now b → Passes 26 (unknown_term (setting_of known.now) b (term_view term.now)) result }
+    ensures { (told : ToldValue) → AreAllTold known.now told scope.now → Passes 26 (unknown_term (setting_of known.now) (bound_in scope.now) (term_view term.now)) result }
 {
     let term = LentTerm::of(term);
     match type_of(known, scope, &term) {
         Some(_) => Ok(()),
         None => Err(LinkFault::UnknownName(term.name())),
-    }
-}
-
-/// An amount is whole.
-fn look_at_amount<'d>(function: &'d [u8], amount: Fixed) -> Result<(), LinkFault<'d>>
-    ensures { Passes 30 (fraction_of (counts function.now amount)) result }
-{
-    if amount.billionths() % 1_000_000_000 == 0 {
-        Ok(())
-    } else {
-        Err(LinkFault::FractionalCost(function))
     }
 }
 
@@ -170,9 +118,9 @@ pub(crate) fn look<'k, 'm, 'a, 'd, A: Allocator, B: Allocator>(
     scope: &Scope<'m, 'a, A, B>,
     part: &Part<'d, A>,
 ) -> Result<(), LinkFault<'d>>
-    requires { AreTold known.now.types.now told.old }
+    requires { AreAllTold known.now told.old scope.now }
     ensures kept { told.new ≡ told.old }
-    ensures searched { IsSearched (IsBound known.now told.old scope.now) (IsBound known.now told.new scope.now) (faults_by known.now) (λ b. at b (part_in part.now) ∷ []) result }
+    ensures found { IsFound (flat_map (faults_by known.now) (at (bound_in scope.now) (part_in part.now) ∷ [])) result }
 {
     match part {
         Part::Says(predicate, terms) => {
@@ -185,7 +133,11 @@ pub(crate) fn look<'k, 'm, 'a, 'd, A: Allocator, B: Allocator>(
             let first = look_at_term(known, scope, *first);
             lower(first, look_at_term(known, scope, *second))
         }
-        Part::Counts(function, amount) => look_at_amount(*function, *amount),
+        Part::Counts(function, amount) => if amount.billionths() % 1_000_000_000 == 0 {
+            Ok(())
+        } else {
+            Err(LinkFault::FractionalCost(*function))
+        },
     }
 }
 
@@ -200,12 +152,12 @@ pub(crate) fn enter<'k, 'm, 'a, A: Allocator, B: Allocator>(
     scope: &mut Scope<'m, 'a, A, B>,
     variables: &'m TypedList<A>,
 ) -> Result<Result<(), LinkFault<'m>>, LinkFault<'m>>
-    requires { AreTold known.now.types.now told.old }
-    ensures told { AreTold known.now.types.now told.new }
+    requires { AreAllTold known.now told.old scope.old }
+    ensures told { AreAllTold known.now told.new scope.new }
     ensures passes { Passes 23 (unknown_among known.now.types.now.declared (map typed_view variables.now.items)) result }
     ensures found { IfOk result (IsFound (numbered 24 (repeated [] (map item_of (map typed_view variables.now.items))))) }
-    ensures bound { (b : List TypedValue) → IsBound known.now told.old scope.old b
-        → MatchResult result (λ _. IsBound known.now told.new scope.new (binding (map typed_view variables.now.items) b)) (λ _. IsBound known.now told.new scope.new b) }
+    ensures bound { MatchResult result (λ _. bound_in scope.new ≡ binding (map typed_view variables.now.items) (bound_in scope.old)) (λ _. scope.new ≡ scope.old) }
+    ensures left { IfOk result (λ _. drop (length variables.now.items) scope.new ≡ scope.old) }
 {
     let numbers = told.tell_all(known.alloc, known.types, variables)?;
     let repeated = scope.enter(variables, &numbers)?;

@@ -1,19 +1,18 @@
 //! One walk over formulas, effects, actions, initial states, goals and metrics, for the faults that are looked for at places.
 //!
-//! Each function answers the lowest of the faults that stand in its part.
+//! Each function answers the lowest of the faults that stand in its part, and leaves what is in scope as it was.
 
-ghost use Rattle.std.specs.Prelude.{◌≡◌, [], ◌∷◌, map, option_map};
+ghost use Rattle.std.specs.Prelude.{◌≡◌, [], map, option_map};
 ghost use Rattle.std.specs.List.{flat_map};
 ghost use Rattle.pddl_formula.specs.Formulas.{formula_view, formulas_of};
 ghost use Rattle.pddl_effect.specs.Effects.{effect_view, effects_of};
 ghost use Rattle.pddl_domain.specs.Actions.{action_view};
 ghost use Rattle.pddl_problem.specs.Inits.{init_view, metric_view};
 ghost use Rattle.pddl_problem.specs.Problems.{problem_view};
-ghost use Rattle.pddl_task.specs.Places.{at, places_in, places_in_all, effect_places, effects_places, action_places, init_places, metric_places, problem_places};
+ghost use Rattle.pddl_task.specs.Places.{places_in, places_in_all, effect_places, effects_places, action_places, init_places, metric_places, problem_places};
 ghost use Rattle.pddl_faults.specs.Found.{IsFound};
-ghost use Rattle.pddl_search.specs.Parts.{part_in};
-ghost use Rattle.pddl_types.specs.Told.{AreTold};
-ghost use Rattle.pddl_names.specs.Uses.{faults_by, IsBound, IsSearched};
+ghost use Rattle.pddl_search.specs.Scopes.{bound_in};
+ghost use Rattle.pddl_names.specs.Uses.{faults_by, AreAllTold};
 ghost use Rattle.pddl_names.specs.FaultParts.{action_faults};
 
 use crate::known::Known;
@@ -29,22 +28,6 @@ use pddl_search::{Part, Scope, Terms, is_taken};
 use pddl_types::Told;
 use std::alloc::Allocator;
 
-/// Looks at two places, one after the other.
-fn look_at_both<'k, 'm, 'a, 'd, A: Allocator, B: Allocator>(
-    known: &Known<'k, 'm, 'a, A, B>,
-    told: &mut Told<'m, 'a, A, B>,
-    scope: &Scope<'m, 'a, A, B>,
-    first: &Part<'d, A>,
-    second: &Part<'d, A>,
-) -> Result<(), LinkFault<'d>>
-    requires { AreTold known.now.types.now told.old }
-    ensures kept { told.new ≡ told.old }
-    ensures searched { IsSearched (IsBound known.now told.old scope.now) (IsBound known.now told.new scope.now) (faults_by known.now) (λ b. at b (part_in first.now) ∷ at b (part_in second.now) ∷ []) result }
-{
-    let found = look(known, told, scope, first);
-    lower(found, look(known, told, scope, second))
-}
-
 /// Searches a formula.
 #[cycle(formulas)]
 fn search_formula<'k, 'm, 'a, A: Allocator, B: Allocator>(
@@ -53,9 +36,10 @@ fn search_formula<'k, 'm, 'a, A: Allocator, B: Allocator>(
     scope: &mut Scope<'m, 'a, A, B>,
     formula: &'m Formula<A>,
 ) -> Result<(), LinkFault<'m>>
-    requires { AreTold known.now.types.now told.old }
-    ensures told { AreTold known.now.types.now told.new }
-    ensures searched { IsSearched (IsBound known.now told.old scope.old) (IsBound known.now told.new scope.new) (faults_by known.now) (places_in (formula_view formula.now)) result }
+    requires { AreAllTold known.now told.old scope.old }
+    ensures told { AreAllTold known.now told.new scope.new }
+    ensures kept { scope.new ≡ scope.old }
+    ensures found { IsFound (flat_map (faults_by known.now) (places_in (formula_view formula.now) (bound_in scope.old))) result }
 {
     match formula {
         Formula::Atom(atom) => look(known, told, &*scope, &Part::of_atom(atom)),
@@ -83,9 +67,10 @@ fn search_formulas<'k, 'm, 'a, A: Allocator, B: Allocator>(
     scope: &mut Scope<'m, 'a, A, B>,
     formulas: &'m Vec<Formula<A>, A>,
 ) -> Result<(), LinkFault<'m>>
-    requires { AreTold known.now.types.now told.old }
-    ensures told { AreTold known.now.types.now told.new }
-    ensures searched { IsSearched (IsBound known.now told.old scope.old) (IsBound known.now told.new scope.new) (faults_by known.now) (places_in_all (formulas_of (map formula_view formulas.now.items))) result }
+    requires { AreAllTold known.now told.old scope.old }
+    ensures told { AreAllTold known.now told.new scope.new }
+    ensures kept { scope.new ≡ scope.old }
+    ensures found { IsFound (flat_map (faults_by known.now) (places_in_all (formulas_of (map formula_view formulas.now.items)) (bound_in scope.old))) result }
 {
     let mut found = Ok(());
     for formula in formulas {
@@ -102,9 +87,10 @@ fn search_effect<'k, 'm, 'a, A: Allocator, B: Allocator>(
     scope: &mut Scope<'m, 'a, A, B>,
     effect: &'m Effect<A>,
 ) -> Result<(), LinkFault<'m>>
-    requires { AreTold known.now.types.now told.old }
-    ensures told { AreTold known.now.types.now told.new }
-    ensures searched { IsSearched (IsBound known.now told.old scope.old) (IsBound known.now told.new scope.new) (faults_by known.now) (effect_places (effect_view effect.now)) result }
+    requires { AreAllTold known.now told.old scope.old }
+    ensures told { AreAllTold known.now told.new scope.new }
+    ensures kept { scope.new ≡ scope.old }
+    ensures found { IsFound (flat_map (faults_by known.now) (effect_places (effect_view effect.now) (bound_in scope.old))) result }
 {
     match effect {
         Effect::And(parts) => search_effects(known, told, scope, parts),
@@ -120,13 +106,8 @@ fn search_effect<'k, 'm, 'a, A: Allocator, B: Allocator>(
         }
         Effect::Add(atom) | Effect::Del(atom) => look(known, told, &*scope, &Part::of_atom(atom)),
         Effect::Increase(amount) => {
-            look_at_both(
-                known,
-                told,
-                &*scope,
-                &Part::total_cost(),
-                &Part::of_amount(amount),
-            )
+            let cost = look(known, told, &*scope, &Part::total_cost());
+            lower(cost, look(known, told, &*scope, &Part::of_amount(amount)))
         }
     }
 }
@@ -139,9 +120,10 @@ fn search_effects<'k, 'm, 'a, A: Allocator, B: Allocator>(
     scope: &mut Scope<'m, 'a, A, B>,
     effects: &'m Vec<Effect<A>, A>,
 ) -> Result<(), LinkFault<'m>>
-    requires { AreTold known.now.types.now told.old }
-    ensures told { AreTold known.now.types.now told.new }
-    ensures searched { IsSearched (IsBound known.now told.old scope.old) (IsBound known.now told.new scope.new) (faults_by known.now) (effects_places (effects_of (map effect_view effects.now.items))) result }
+    requires { AreAllTold known.now told.old scope.old }
+    ensures told { AreAllTold known.now told.new scope.new }
+    ensures kept { scope.new ≡ scope.old }
+    ensures found { IsFound (flat_map (faults_by known.now) (effects_places (effects_of (map effect_view effects.now.items)) (bound_in scope.old))) result }
 {
     let mut found = Ok(());
     for effect in effects {
@@ -157,10 +139,11 @@ fn search_action<'k, 'm, 'a, A: Allocator, B: Allocator>(
     scope: &mut Scope<'m, 'a, A, B>,
     action: &'m Action<A>,
 ) -> Result<(), LinkFault<'m>>
-    requires { AreTold known.now.types.now told.old }
-    ensures told { AreTold known.now.types.now told.new }
-    ensures kept { IsBound known.now told.old scope.old [] → IsBound known.now told.new scope.new [] }
-    ensures found { IsBound known.now told.old scope.old [] → IsFound (flat_map (faults_by known.now) (action_places (action_view action.now))) result }
+    requires told { AreAllTold known.now told.old scope.old }
+    requires empty { scope.old ≡ [] }
+    ensures told { AreAllTold known.now told.new scope.new }
+    ensures kept { scope.new ≡ scope.old }
+    ensures found { IsFound (flat_map (faults_by known.now) (action_places (action_view action.now))) result }
 {
     let repeated = enter(known, told, scope, &action.parameters)?;
     let precondition = search_formula(known, told, scope, &action.precondition);
@@ -177,11 +160,11 @@ pub(crate) fn search_actions<'k, 'm, 'a, A: Allocator, B: Allocator>(
     seen: &mut IndexSet<&'m [u8], Hashed, &'a B>,
     actions: &'m [Action<A>],
 ) -> Result<(), LinkFault<'m>>
-    requires told { AreTold known.now.types.now told.old }
+    requires told { AreAllTold known.now told.old scope.old }
+    requires empty { scope.old ≡ [] }
     requires seen { seen.old.keys ≡ [] }
-    ensures told { AreTold known.now.types.now told.new }
-    ensures kept { IsBound known.now told.old scope.old [] → IsBound known.now told.new scope.new [] }
-    ensures found { IsBound known.now told.old scope.old [] → IsFound (action_faults (faults_by known.now) [] (map action_view actions.now)) result }
+    ensures told { AreAllTold known.now told.new scope.new }
+    ensures found { IsFound (action_faults (faults_by known.now) [] (map action_view actions.now)) result }
 {
     let mut found = Ok(());
     for action in actions {
@@ -200,9 +183,10 @@ fn search_item<'k, 'm, 'a, 'd, A: Allocator, B: Allocator>(
     scope: &Scope<'m, 'a, A, B>,
     item: &'d InitItem<A>,
 ) -> Result<(), LinkFault<'d>>
-    requires { AreTold known.now.types.now told.old }
+    requires told { AreAllTold known.now told.old scope.now }
+    requires empty { scope.now ≡ [] }
     ensures kept { told.new ≡ told.old }
-    ensures found { IsBound known.now told.old scope.now [] → IsFound (flat_map (faults_by known.now) (init_places (init_view item.now))) result }
+    ensures found { IsFound (flat_map (faults_by known.now) (init_places (init_view item.now))) result }
 {
     match item {
         InitItem::Holds(fact) | InitItem::Fails(fact) => {
@@ -212,27 +196,13 @@ fn search_item<'k, 'm, 'a, 'd, A: Allocator, B: Allocator>(
         InitItem::Value(call, amount) => {
             let function = call.function.as_bytes();
             let calls = Part::Calls(function, Terms::Objects(&call.objects));
-            look_at_both(known, told, scope, &calls, &Part::Counts(function, *amount))
+            let value = look(known, told, scope, &calls);
+            lower(
+                value,
+                look(known, told, scope, &Part::Counts(function, *amount)),
+            )
         }
     }
-}
-
-/// Searches items of `:init` in turn.
-fn search_items<'k, 'm, 'a, 'd, A: Allocator, B: Allocator>(
-    known: &Known<'k, 'm, 'a, A, B>,
-    told: &mut Told<'m, 'a, A, B>,
-    scope: &Scope<'m, 'a, A, B>,
-    init: &'d [InitItem<A>],
-) -> Result<(), LinkFault<'d>>
-    requires { AreTold known.now.types.now told.old }
-    ensures kept { told.new ≡ told.old }
-    ensures found { IsBound known.now told.old scope.now [] → IsFound (flat_map (faults_by known.now) (flat_map init_places (map init_view init.now))) result }
-{
-    let mut found = Ok(());
-    for item in init {
-        found = lower(found, search_item(known, told, scope, item));
-    }
-    found
 }
 
 /// Searches a metric; nothing is looked for in one that is not taken.
@@ -242,9 +212,10 @@ fn search_metric<'k, 'm, 'a, 'd, A: Allocator, B: Allocator>(
     scope: &Scope<'m, 'a, A, B>,
     metric: &'d Option<Metric<A>>,
 ) -> Result<(), LinkFault<'d>>
-    requires { AreTold known.now.types.now told.old }
+    requires told { AreAllTold known.now told.old scope.now }
+    requires empty { scope.now ≡ [] }
     ensures kept { told.new ≡ told.old }
-    ensures found { IsBound known.now told.old scope.now [] → IsFound (flat_map (faults_by known.now) (metric_places (option_map metric_view metric.now))) result }
+    ensures found { IsFound (flat_map (faults_by known.now) (metric_places (option_map metric_view metric.now))) result }
 {
     match metric {
         Some(metric) if is_taken(metric) => look(known, told, scope, &Part::total_cost()),
@@ -259,12 +230,15 @@ pub(crate) fn search_problem<'k, 'm, 'a, A: Allocator, B: Allocator>(
     scope: &mut Scope<'m, 'a, A, B>,
     problem: &'m Problem<A>,
 ) -> Result<(), LinkFault<'m>>
-    requires { AreTold known.now.types.now told.old }
-    ensures told { AreTold known.now.types.now told.new }
-    ensures kept { IsBound known.now told.old scope.old [] → IsBound known.now told.new scope.new [] }
-    ensures found { IsBound known.now told.old scope.old [] → IsFound (flat_map (faults_by known.now) (problem_places (problem_view problem.now))) result }
+    requires told { AreAllTold known.now told.old scope.old }
+    requires empty { scope.old ≡ [] }
+    ensures told { AreAllTold known.now told.new scope.new }
+    ensures found { IsFound (flat_map (faults_by known.now) (problem_places (problem_view problem.now))) result }
 {
-    let init = search_items(known, told, &*scope, &problem.init);
+    let mut init = Ok(());
+    for item in &problem.init {
+        init = lower(init, search_item(known, told, &*scope, item));
+    }
     let goal = search_formula(known, told, scope, &problem.goal);
     let metric = search_metric(known, told, &*scope, &problem.metric);
     lower(init, lower(goal, metric))

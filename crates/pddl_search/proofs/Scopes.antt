@@ -109,11 +109,6 @@ one_less zero xs = refl
 one_less (suc k) [] = refl
 one_less (suc k) (x ∷ xs) = one_less k xs
 
--- and no more where as many are gone
-pub left_bound : (xs b : List TypedValue) → drop (length xs) (binding xs b) ≡ b
-left_bound [] b = refl
-left_bound (x ∷ xs) b = one_less (length xs) (binding xs (x ∷ b)) ∙ ap (drop 1) (left_bound xs (x ∷ b))
-
 -- ---- the variables of a list one after another
 
 above_all : (depth all : ℕ) (b : Bool) → all ≤ depth → b || true ≡ not (nat_le (suc depth) all)

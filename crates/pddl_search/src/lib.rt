@@ -1,7 +1,6 @@
 //! What a search is shown of a place, the variables in scope where it stands, and the passes for faults that need no tables of types.
 #![tactic(auto)]
 
-mod ground;
 mod init;
 mod part;
 mod passes;

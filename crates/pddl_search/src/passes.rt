@@ -83,13 +83,7 @@ pub fn metric<'d, A: Allocator>(metric: &Option<Metric<A>>) -> Result<(), LinkFa
     ensures { Passes 33 (other_metrics (option_map metric_view metric.now)) result }
 {
     match metric {
-        None => Ok(()),
-        Some(metric) => {
-            if is_taken(metric) {
-                Ok(())
-            } else {
-                Err(LinkFault::Metric)
-            }
-        }
+        Some(metric) if !is_taken(metric) => Err(LinkFault::Metric),
+        _ => Ok(()),
     }
 }

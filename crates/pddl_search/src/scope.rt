@@ -124,6 +124,7 @@ impl<'d, 'a, A: Allocator, B: Allocator> Scope<'d, 'a, A, B> {
     ) -> Result<Result<(), LinkFault<'d>>, AllocError>
         requires { length numbers.now ≡ length list.now.items }
         ensures bound { MatchResult result (λ _. self.new ≡ entered (map typed_view list.now.items) numbers.now self.old) (λ _. self.new ≡ self.old) }
+        ensures left { IfOk result (λ _. drop (length list.now.items) self.new ≡ self.old) }
         ensures found { IfOk result (IsFound (numbered 24 (repeated [] (map item_of (map typed_view list.now.items))))) }
     {
         let began = self.bound.len();

@@ -1,45 +1,58 @@
-use Rattle.std.proofs.Common.{◌≡◌, ◌<◌, ◌&&◌, List, length, map, refl, ap, sym, ◌∙◌, arith}
-use Rattle.std.specs.Prelude.{slice_get}
-use Rattle.pddl_formula.specs.TypedLists.{TypedValue, typed_view}
-use Rattle.pddl_task.specs.Faults.{typed_term}
-use Rattle.pddl_search.specs.Parts.{term_in, terms_in}
-use Rattle.pddl_types.specs.Signatures.{IsSlotsAt}
-use Rattle.pddl_names.specs.Uses.{setting_of, fit_of, IsBound}
-use Rattle.pddl_names.proofs.TermSlots.{unknown_here, known_here, fits_here}
-use Rattle.pddl_names.proofs.ToldUses.{slot_read}
-use Rattle.pddl_names.proofs.uses.terms_fit.Goals.{then-all_fit, else-all_fit}
+use Rattle.std.proofs.Common.{◌<◌, ◌&&◌, length, map, refl, ap, sym, ◌∙◌, arith}
+use Rattle.pddl_formula.specs.TypedLists.{typed_view}
+use Rattle.pddl_search.specs.Parts.{terms_in}
+use Rattle.pddl_search.specs.Scopes.{bound_in}
+use Rattle.pddl_names.specs.Uses.{setting_of}
+use Rattle.pddl_names.proofs.TermSlots.{known_term, unknown_here, known_here, fits_slot, fits_here, past_here}
+use Rattle.pddl_names.proofs.ToldUses.{slot_there, no_slot}
 use Rattle.pddl_names.proofs.uses.terms_fit.Goals as goal
+use Rattle.pddl_names.proofs.uses.terms_fit.Goals.{in-Some-get+in_ok-fits+then-all_fit, in-Some-get+in_ok-fits+else-all_fit, in_default-get}
 
-pub returns-in-None-clause-passes : goal.returns-in-None-clause-passes
-returns-in-None-clause-passes g c = λ b is slots.
+pub returns-in_default-clause-passes : goal.returns-in_default-clause-passes
+returns-in_default-clause-passes g c =
     let s = setting_of c.args.known.now in
-    let xs = map typed_view c.args.slots.now.parameters.now in
-    let at = slot_read c.args.told.now c.args.slots.now slots c.loop-i.i c.deref.result.now c.get.result c.copied.result c.deref.ensures.value c.get.ensures.lookup c.copied.ensures in
-    let fit : c.in_ok-term_fits.field-0 ≡ fit_of s.pairs (typed_term s b (term_in c.at-term.result)) (slice_get xs c.loop-i.i) =
-    c.in_ok-term_fits.ensures.fits b (slice_get xs c.loop-i.i) (rw c.loop-i.invariant.kept is) (rw c.loop-i.invariant.kept at) in (
+    let b = bound_in c.args.scope.now in
+    let typed = rw c.in_default.is at c.type_of.ensures c.args.told.now c.requires.told in
+    rw c.name.ensures (
       refl,
-      unknown_here s b (terms_in c.args.terms.now) xs c.loop-i.i _ (omega (arith, c.len-i-end.ensures)) c.at-term.ensures _ fit _ _ (c.loop-i.invariant.unknown b is slots) c.in-None.is
-          c.name.ensures,
+      unknown_here s b (terms_in c.args.terms.now) (map typed_view c.args.slots.now.parameters.now) c.loop-i.i _ (omega (arith, c.len-i-end.ensures)) c.at-term.ensures _ _ c.loop-i.invariant.unknown
+          (known_term s b _ c.args.told.now _ typed),
     )
 
 pub loop-i-preserved : goal.loop-i-preserved
 loop-i-preserved g c =
     let s = setting_of c.args.known.now in
+    let b = bound_in c.args.scope.now in
+    let told = c.args.told.now in
     let all = terms_in c.args.terms.now in
-    let xs = map typed_view c.args.slots.now.parameters.now in
-    let at = λ (slots : IsSlotsAt c.args.told.now c.args.slots.now).
-    slot_read c.args.told.now c.args.slots.now slots c.loop-i.i c.deref.result.now c.get.result c.copied.result c.deref.ensures.value c.get.ensures.lookup c.copied.ensures in
-    let fit : (b : List TypedValue) → IsBound c.args.known.now c.args.told.now c.args.scope.now b → IsSlotsAt c.args.told.now c.args.slots.now
-    → c.in_ok-term_fits.field-0 ≡ fit_of s.pairs (typed_term s b (term_in c.at-term.result)) (slice_get xs c.loop-i.i) =
-    λ b is slots. c.in_ok-term_fits.ensures.fits b (slice_get xs c.loop-i.i) (rw c.loop-i.invariant.kept is) (rw c.loop-i.invariant.kept (at slots)) in
-    let low : c.loop-i.i < length all = omega (arith, c.len-i-end.ensures) in
-    let next : c.if-all_fit.all_fit ≡ (c.loop-i.all_fit && c.in-Some.fits) = elim c.if-all_fit.branch as (λ _. c.if-all_fit.all_fit ≡ (c.loop-i.all_fit && c.in-Some.fits)) [
-      | then-all_fit w ↦ w.all_fit-is ∙ ap (λ a. a && c.in-Some.fits) (sym w.if-all_fit.true)
-      | else-all_fit w ↦ w.all_fit-is ∙ w.if-all_fit.false ∙ ap (λ a. a && c.in-Some.fits) (sym w.if-all_fit.false)
-    ] in
-    record {
-      kept = c.in_ok-term_fits.ensures.kept ∙ c.loop-i.invariant.kept;
-      unknown = λ b is slots. known_here s b all xs c.loop-i.i _ low c.at-term.ensures _ (fit b is slots) _ c.in-Some.fits (c.loop-i.invariant.unknown b is slots) c.in-Some.is;
-      misfit = λ b is slots. fits_here s b all xs c.loop-i.i _ low c.at-term.ensures _ (fit b is slots) c.in-Some.fits c.loop-i.all_fit c.if-all_fit.all_fit _ (c.loop-i.invariant.misfit b is slots)
-          c.in-Some.is next;
-    }
+    let slots = c.args.slots.now in
+    let xs = map typed_view slots.parameters.now in
+    let i = c.loop-i.i in
+    let before = c.loop-i.invariant in
+    let low : i < length all = omega (arith, c.len-i-end.ensures) in
+    let typed = c.in-Some.ensures told c.requires.told in
+    let known = known_here s b all xs i _ low c.at-term.ensures _ before.unknown (known_term s b _ told _ typed) in
+    let item = rw c.deref.ensures.value at c.get.ensures.lookup in
+    elim c.match-get.branch [
+      | in-Some-get+in_ok-fits+then-all_fit w ↦
+          let slot = slot_there told slots c.requires.slots i w.in-Some-get.slot (rw w.in-Some-get.is at item) in
+          let fit = fits_slot told s.pairs _ slot.0 c.in-Some.number _ w.in_ok-fits.fits (rw before.kept at w.in_ok-fits.ensures.fits) typed slot.2 in
+          record {
+            kept = w.told-is ∙ w.in_ok-fits.ensures.kept ∙ before.kept;
+            unknown = known;
+            misfit = fits_here s b all xs i _ low c.at-term.ensures slot.0 w.in_ok-fits.fits c.loop-i.all_fit _ _ slot.1 fit (w.all_fit-is ∙ ap (λ a. a && w.in_ok-fits.fits) (sym w.if-all_fit.true)) before.misfit;
+          }
+      | in-Some-get+in_ok-fits+else-all_fit w ↦
+          let slot = slot_there told slots c.requires.slots i w.in-Some-get.slot (rw w.in-Some-get.is at item) in
+          let fit = fits_slot told s.pairs _ slot.0 c.in-Some.number _ w.in_ok-fits.fits (rw before.kept at w.in_ok-fits.ensures.fits) typed slot.2 in
+          record {
+            kept = w.told-is ∙ w.in_ok-fits.ensures.kept ∙ before.kept;
+            unknown = known;
+            misfit = fits_here s b all xs i _ low c.at-term.ensures slot.0 w.in_ok-fits.fits c.loop-i.all_fit _ _ slot.1 fit (w.all_fit-is ∙ w.if-all_fit.false ∙ ap (λ a. a && w.in_ok-fits.fits) (sym w.if-all_fit.false)) before.misfit;
+          }
+      | in_default-get w ↦ record {
+        kept = w.told-is ∙ before.kept;
+        unknown = known;
+        misfit = rw w.all_fit-is (past_here s b all xs i _ low c.at-term.ensures c.loop-i.all_fit _ (no_slot told slots c.requires.slots i (rw w.in_default-get.is at item)) before.misfit);
+      }
+    ]

@@ -1,68 +1,84 @@
-use Rattle.std.proofs.Common.{map, refl, ap, inl, inr, arith}
+use Rattle.std.proofs.Common.{[], ◌∷◌, ◌∙◌, map, refl, ap, inl, inr, arith}
 use denote.Param.Weighed.{most}
 use Rattle.std.proofs.lemmas.Result.{err_from_is_err_and}
 use Rattle.pddl_formula.specs.TypedLists.{typed_view}
-use Rattle.pddl_effect.specs.Effects.{effect_view}
+use Rattle.pddl_effect.specs.Effects.{amount_view, effect_view, effects_of}
+use Rattle.pddl_formula.specs.Formulas.{formula_view}
 use Rattle.pddl_effect.proofs.effect.Effect.TheLaws.{the_size}
 use Rattle.pddl_formula.proofs.Depths.{among}
 use Rattle.pddl_effect.proofs.Depths.{under_all, under_each, under_when}
 use Rattle.pddl_effect.proofs.Views.{view_add, view_del, view_when, view_forall, view_increase}
-use Rattle.pddl_task.specs.Places.{effect_places}
-use Rattle.pddl_names.proofs.ToldUses.{bound_left}
-use Rattle.pddl_names.proofs.Walks.{stopped, in_turn, within, at_start, one_more, at_end}
+use Rattle.pddl_task.specs.Places.{places_in, effect_places, effects_places, binding, at, calls, bare, total_cost, amount_part}
+use Rattle.pddl_faults.proofs.FoundFaults.{up_to_none}
+use Rattle.pddl_search.specs.Scopes.{bound_in}
+use Rattle.pddl_names.specs.Uses.{faults_by}
+use Rattle.pddl_names.proofs.ToldUses.{told_outside}
+use Rattle.pddl_names.proofs.Walks.{stopped, in_turn, within, one_more, at_end}
 use Rattle.pddl_names.proofs.walk.+effects.Goals as goal
 
-pub search_effect-returns-in-When-clause-searched : goal.search_effect-returns-in-When-clause-searched
-search_effect-returns-in-When-clause-searched g t c =
+pub search_effect-returns-in-When-clause-found : goal.search_effect-returns-in-When-clause-found
+search_effect-returns-in-When-clause-found g t c =
     rw (c.in-When.is, view_when c.in-When.condition c.in-When.inner)
-    (in_turn c.search_formula-condition.ensures.searched (rw c.deref-in-When.ensures at c.search_effect.ensures.searched) c.lower-in-When.ensures.found)
+    (in_turn (faults_by c.args.known.now) (places_in (formula_view c.in-When.condition) (bound_in c.args.scope.now)) (effect_places (effect_view c.in-When.inner.value) (bound_in c.args.scope.now))
+    c.search_formula-condition.result c.search_effect.result c.lower-in-When.result c.lower-in-When.ensures.found c.search_formula-condition.ensures.found
+    (rw (c.deref-in-When.ensures, c.search_formula-condition.ensures.kept) at c.search_effect.ensures.found))
 
-pub search_effect-returns-in-Add-clause-searched : goal.search_effect-returns-in-Add-clause-searched
-search_effect-returns-in-Add-clause-searched g t c =
-    let found = rw c.of_atom.ensures at c.look.ensures.searched in
+pub search_effect-returns-in-Add-clause-found : goal.search_effect-returns-in-Add-clause-found
+search_effect-returns-in-Add-clause-found g t c =
+    let found = rw c.of_atom.ensures at c.look-in-Add.ensures.found in
     elim c.in-Add.is [
       | inl here ↦ rw (here, view_add c.in-Add.atom) found
       | inr here ↦ rw (here, view_del c.in-Add.atom) found
     ]
 
-pub search_effect-returns-in_err-repeated-in-Forall-clause-searched : goal.search_effect-returns-in_err-repeated-in-Forall-clause-searched
-search_effect-returns-in_err-repeated-in-Forall-clause-searched g t c =
+pub search_effect-returns-in-Increase-clause-found : goal.search_effect-returns-in-Increase-clause-found
+search_effect-returns-in-Increase-clause-found g t c =
+    let b = bound_in c.args.scope.now in
+    rw (c.in-Increase.is, view_increase c.in-Increase.amount)
+    (in_turn (faults_by c.args.known.now) (at b (calls (bare total_cost)) ∷ []) (at b (amount_part (amount_view c.in-Increase.amount)) ∷ []) c.look-cost.result c.look.result c.lower-in-Increase.result
+    c.lower-in-Increase.ensures.found (rw c.total_cost.ensures at c.look-cost.ensures.found) (rw c.of_amount.ensures at c.look.ensures.found))
+
+pub search_effect-returns-in_err-repeated-in-Forall-clause-found : goal.search_effect-returns-in_err-repeated-in-Forall-clause-found
+search_effect-returns-in_err-repeated-in-Forall-clause-found g t c =
     let p = err_from_is_err_and c.from_residual.result c.from_residual.ensures.1 in
     let stop = c.in_err-repeated-in-Forall in
+    let b = bound_in c.args.scope.now in
+    let xs = map typed_view c.in-Forall.variables.items in
     rw (p.1, p.2, c.in-Forall.is, view_forall c.in-Forall.variables c.in-Forall.inner)
-    (stopped c.args.known.now (map typed_view c.in-Forall.variables.items) (effect_places (effect_view c.in-Forall.inner.value)) stop.field-0.0 stop.ensures.passes stop.ensures.bound)
+    (stopped c.args.known.now xs b (effect_places (effect_view c.in-Forall.inner.value) (binding xs b)) stop.field-0.0 stop.ensures.passes)
 
-pub search_effect-returns-in_ok-repeated-in-Forall-clause-searched : goal.search_effect-returns-in_ok-repeated-in-Forall-clause-searched
-search_effect-returns-in_ok-repeated-in-Forall-clause-searched g t c =
+pub search_effect-returns-in_ok-repeated-in-Forall-clause-told : goal.search_effect-returns-in_ok-repeated-in-Forall-clause-told
+search_effect-returns-in_ok-repeated-in-Forall-clause-told g t c = rw c.leave.ensures (told_outside c.len.result c.search_effect-found.ensures.told)
+
+pub search_effect-returns-in_ok-repeated-in-Forall-clause-found : goal.search_effect-returns-in_ok-repeated-in-Forall-clause-found
+search_effect-returns-in_ok-repeated-in-Forall-clause-found g t c =
     let entered = c.in_ok-repeated-in-Forall.ensures in
+    let b = bound_in c.args.scope.now in
+    let xs = map typed_view c.in-Forall.variables.items in
     rw (c.in-Forall.is, view_forall c.in-Forall.variables c.in-Forall.inner)
-    (within c.args.known.now (map typed_view c.in-Forall.variables.items) c.in_ok-repeated-in-Forall.repeated entered.passes entered.found entered.bound
-    (rw c.deref.ensures at c.search_effect-found.ensures.searched)
-    (λ b is. bound_left c.in-Forall.variables.items c.len.result c.len.ensures c.leave.ensures is) c.lower.ensures.found)
-
-pub search_effect-returns-in-Increase-clause-searched : goal.search_effect-returns-in-Increase-clause-searched
-search_effect-returns-in-Increase-clause-searched g t c =
-    rw (c.in-Increase.is, view_increase c.in-Increase.amount) (rw (c.total_cost.ensures, c.of_amount.ensures) at c.look_at_both.ensures.searched)
+    (within c.args.known.now xs b (effect_places (effect_view c.in-Forall.inner.value) (binding xs b)) c.in_ok-repeated-in-Forall.repeated c.search_effect-found.result c.lower.result entered.passes
+    entered.found c.lower.ensures.found (rw (c.deref.ensures, entered.bound) at c.search_effect-found.ensures.found))
 
 pub search_effects-loop-effect-init : goal.search_effects-loop-effect-init
-search_effects-loop-effect-init g t c = record { told = c.requires; come = at_start }
+search_effects-loop-effect-init g t c = record { told = c.requires; kept = refl; so_far = up_to_none }
 
 pub search_effects-loop-effect-preserved : goal.search_effects-loop-effect-preserved
 search_effects-loop-effect-preserved g t c =
-    let come = c.loop-effect.invariant.come in
-    let next = c.search_effect.ensures.searched in
+    let before = c.loop-effect.invariant in
+    let next = c.search_effect.ensures in
+    let b = bound_in c.args.scope.now in
     record {
-      told = c.search_effect.ensures.told;
-      come = one_more (effect_places (effect_view c.effect-item.result)) c.deref-effect-items.result.now c.effect-item.result c.search_effect.result c.deref-effect-items.ensures.value
-          c.loop-effect-test.true c.effect-item.is
-          (λ b rest. refl) come next.kept (λ b is. next.found b (come.kept b is)) c.lower-found.ensures.found;
+      told = next.told;
+      kept = next.kept ∙ before.kept;
+      so_far = one_more (faults_by c.args.known.now) (λ es. effects_places (effects_of (map effect_view es)) b) c.deref-effect-items.result.now c.deref-effect-items.ensures.value c.search_effect.result
+          (effect_places (effect_view c.effect-item.result) b)
+          c.effect-item.result c.loop-effect-test.true c.effect-item.is (λ rest. refl) c.lower-found.ensures.found (rw before.kept at next.found) before.so_far;
     }
 
-pub search_effects-returns-clause-searched : goal.search_effects-returns-clause-searched
-search_effects-returns-clause-searched g t c = record {
-  kept = c.loop-effect.invariant.come.kept;
-  found = at_end c.deref-effect-items.result.now c.deref-effect-items.ensures.value c.loop-effect-test.false (λ b. refl) c.loop-effect.invariant.come;
-}
+pub search_effects-returns-clause-found : goal.search_effects-returns-clause-found
+search_effects-returns-clause-found g t c =
+    at_end (faults_by c.args.known.now) (λ es. effects_places (effects_of (map effect_view es)) (bound_in c.args.scope.now)) c.deref-effect-items.result.now c.deref-effect-items.ensures.value c.loop-effect-test.false refl
+    c.loop-effect.invariant.so_far
 
 pub search_effect-search_effects-requires : goal.search_effect-search_effects-requires
 search_effect-search_effects-requires g t c κs lives = (

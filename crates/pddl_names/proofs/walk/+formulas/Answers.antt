@@ -1,74 +1,87 @@
-use Rattle.std.proofs.Common.{◌<◌, map, refl, ap, inl, inr, arith}
+use Rattle.std.proofs.Common.{◌<◌, ◌∙◌, map, refl, ap, inl, inr, arith}
 use denote.Param.Weighed.{most}
 use Rattle.std.proofs.lemmas.Result.{err_from_is_err_and}
 use Rattle.pddl_formula.specs.TypedLists.{typed_view}
-use Rattle.pddl_formula.specs.Formulas.{formula_view}
+use Rattle.pddl_formula.specs.Formulas.{formula_view, formulas_of}
 use Rattle.pddl_formula.proofs.formula.Formula.TheLaws.{the_size}
 use Rattle.pddl_formula.proofs.Depths.{among, under_not, under_imply, under_and, under_or, under_exists, under_forall}
 use Rattle.pddl_formula.proofs.Views.{view_atom, view_equal, view_imply, view_and, view_or, view_exists, view_forall}
-use Rattle.pddl_task.specs.Places.{places_in}
-use Rattle.pddl_names.proofs.ToldUses.{bound_left}
-use Rattle.pddl_names.proofs.Walks.{stopped, in_turn, within, at_start, one_more, at_end}
+use Rattle.pddl_task.specs.Places.{places_in, places_in_all, binding}
+use Rattle.pddl_faults.proofs.FoundFaults.{up_to_none}
+use Rattle.pddl_search.specs.Scopes.{bound_in}
+use Rattle.pddl_names.specs.Uses.{faults_by}
+use Rattle.pddl_names.proofs.ToldUses.{told_outside}
+use Rattle.pddl_names.proofs.Walks.{stopped, in_turn, within, one_more, at_end}
 use Rattle.pddl_names.proofs.walk.+formulas.Goals as goal
 
-pub search_formula-returns-in-Imply-clause-searched : goal.search_formula-returns-in-Imply-clause-searched
-search_formula-returns-in-Imply-clause-searched g t c =
+pub search_formula-returns-in-Imply-clause-found : goal.search_formula-returns-in-Imply-clause-found
+search_formula-returns-in-Imply-clause-found g t c =
+    let b = bound_in c.args.scope.now in
     rw (c.in-Imply.is, view_imply c.in-Imply.first c.in-Imply.second)
-    (in_turn (rw c.deref-in-Imply.ensures at c.search_formula-first.ensures.searched) (rw c.deref-in-Imply-2.ensures at c.search_formula-in-Imply.ensures.searched) c.lower.ensures.found)
+    (in_turn (faults_by c.args.known.now) (places_in (formula_view c.in-Imply.first.value) b) (places_in (formula_view c.in-Imply.second.value) b) c.search_formula-first.result
+    c.search_formula-in-Imply.result c.lower.result c.lower.ensures.found (rw c.deref-in-Imply.ensures at c.search_formula-first.ensures.found)
+    (rw (c.deref-in-Imply-2.ensures, c.search_formula-first.ensures.kept) at c.search_formula-in-Imply.ensures.found))
 
-pub search_formula-returns-in-Atom-clause-searched : goal.search_formula-returns-in-Atom-clause-searched
-search_formula-returns-in-Atom-clause-searched g t c = rw (c.in-Atom.is, view_atom c.in-Atom.atom) (rw c.of_atom.ensures at c.look.ensures.searched)
+pub search_formula-returns-in-Atom-clause-found : goal.search_formula-returns-in-Atom-clause-found
+search_formula-returns-in-Atom-clause-found g t c = rw (c.in-Atom.is, view_atom c.in-Atom.atom) (rw c.of_atom.ensures at c.look.ensures.found)
 
-pub search_formula-returns-in-Equal-clause-searched : goal.search_formula-returns-in-Equal-clause-searched
-search_formula-returns-in-Equal-clause-searched g t c = rw (c.in-Equal.is, view_equal c.in-Equal.first c.in-Equal.second) c.look-in-Equal.ensures.searched
+pub search_formula-returns-in-Equal-clause-found : goal.search_formula-returns-in-Equal-clause-found
+search_formula-returns-in-Equal-clause-found g t c = rw (c.in-Equal.is, view_equal c.in-Equal.first c.in-Equal.second) c.look-in-Equal.ensures.found
 
-pub search_formula-returns-in-And-clause-searched : goal.search_formula-returns-in-And-clause-searched
-search_formula-returns-in-And-clause-searched g t c =
+pub search_formula-returns-in-And-clause-found : goal.search_formula-returns-in-And-clause-found
+search_formula-returns-in-And-clause-found g t c =
     elim c.in-And.is [
-      | inl here ↦ rw (here, view_and c.in-And.parts) c.search_formulas.ensures.searched
-      | inr here ↦ rw (here, view_or c.in-And.parts) c.search_formulas.ensures.searched
+      | inl here ↦ rw (here, view_and c.in-And.parts) c.search_formulas.ensures.found
+      | inr here ↦ rw (here, view_or c.in-And.parts) c.search_formulas.ensures.found
     ]
 
-pub search_formula-returns-in_err-repeated-in-Exists-clause-searched : goal.search_formula-returns-in_err-repeated-in-Exists-clause-searched
-search_formula-returns-in_err-repeated-in-Exists-clause-searched g t c =
+pub search_formula-returns-in_err-repeated-in-Exists-clause-found : goal.search_formula-returns-in_err-repeated-in-Exists-clause-found
+search_formula-returns-in_err-repeated-in-Exists-clause-found g t c =
     let p = err_from_is_err_and c.from_residual.result c.from_residual.ensures.1 in
     let stop = c.in_err-repeated-in-Exists in
-    let whole = stopped c.args.known.now (map typed_view c.in-Exists.variables.items) (places_in (formula_view c.in-Exists.inner.value)) stop.field-0.0 stop.ensures.passes stop.ensures.bound in
+    let b = bound_in c.args.scope.now in
+    let xs = map typed_view c.in-Exists.variables.items in
+    let whole = stopped c.args.known.now xs b (places_in (formula_view c.in-Exists.inner.value) (binding xs b)) stop.field-0.0 stop.ensures.passes in
     elim c.in-Exists.is [
       | inl here ↦ rw (p.1, p.2, here, view_exists c.in-Exists.variables c.in-Exists.inner) whole
       | inr here ↦ rw (p.1, p.2, here, view_forall c.in-Exists.variables c.in-Exists.inner) whole
     ]
 
-pub search_formula-returns-in_ok-repeated-in-Exists-clause-searched : goal.search_formula-returns-in_ok-repeated-in-Exists-clause-searched
-search_formula-returns-in_ok-repeated-in-Exists-clause-searched g t c =
+pub search_formula-returns-in_ok-repeated-in-Exists-clause-told : goal.search_formula-returns-in_ok-repeated-in-Exists-clause-told
+search_formula-returns-in_ok-repeated-in-Exists-clause-told g t c = rw c.leave.ensures (told_outside c.len.result c.search_formula-found.ensures.told)
+
+pub search_formula-returns-in_ok-repeated-in-Exists-clause-found : goal.search_formula-returns-in_ok-repeated-in-Exists-clause-found
+search_formula-returns-in_ok-repeated-in-Exists-clause-found g t c =
     let entered = c.in_ok-repeated-in-Exists.ensures in
-    let whole = within c.args.known.now (map typed_view c.in-Exists.variables.items) c.in_ok-repeated-in-Exists.repeated entered.passes entered.found entered.bound
-    (rw c.deref-in-Exists.ensures at c.search_formula-found.ensures.searched) (λ b is. bound_left c.in-Exists.variables.items c.len.result c.len.ensures c.leave.ensures is)
-    c.lower-in-Exists.ensures.found in
+    let b = bound_in c.args.scope.now in
+    let xs = map typed_view c.in-Exists.variables.items in
+    let whole = within c.args.known.now xs b (places_in (formula_view c.in-Exists.inner.value) (binding xs b)) c.in_ok-repeated-in-Exists.repeated c.search_formula-found.result c.lower-in-Exists.result
+    entered.passes entered.found c.lower-in-Exists.ensures.found (rw (c.deref-in-Exists.ensures, entered.bound) at c.search_formula-found.ensures.found) in
     elim c.in-Exists.is [
       | inl here ↦ rw (here, view_exists c.in-Exists.variables c.in-Exists.inner) whole
       | inr here ↦ rw (here, view_forall c.in-Exists.variables c.in-Exists.inner) whole
     ]
 
 pub search_formulas-loop-formula-init : goal.search_formulas-loop-formula-init
-search_formulas-loop-formula-init g t c = record { told = c.requires; come = at_start }
+search_formulas-loop-formula-init g t c = record { told = c.requires; kept = refl; so_far = up_to_none }
 
 pub search_formulas-loop-formula-preserved : goal.search_formulas-loop-formula-preserved
 search_formulas-loop-formula-preserved g t c =
-    let come = c.loop-formula.invariant.come in
-    let next = c.search_formula.ensures.searched in
+    let before = c.loop-formula.invariant in
+    let next = c.search_formula.ensures in
+    let b = bound_in c.args.scope.now in
     record {
-      told = c.search_formula.ensures.told;
-      come = one_more (places_in (formula_view c.formula-item.result)) c.deref-formula-items.result.now c.formula-item.result c.search_formula.result c.deref-formula-items.ensures.value
-          c.loop-formula-test.true c.formula-item.is
-          (λ b rest. refl) come next.kept (λ b is. next.found b (come.kept b is)) c.lower-found.ensures.found;
+      told = next.told;
+      kept = next.kept ∙ before.kept;
+      so_far = one_more (faults_by c.args.known.now) (λ fs. places_in_all (formulas_of (map formula_view fs)) b) c.deref-formula-items.result.now c.deref-formula-items.ensures.value c.search_formula.result
+          (places_in (formula_view c.formula-item.result) b)
+          c.formula-item.result c.loop-formula-test.true c.formula-item.is (λ rest. refl) c.lower-found.ensures.found (rw before.kept at next.found) before.so_far;
     }
 
-pub search_formulas-returns-clause-searched : goal.search_formulas-returns-clause-searched
-search_formulas-returns-clause-searched g t c = record {
-  kept = c.loop-formula.invariant.come.kept;
-  found = at_end c.deref-formula-items.result.now c.deref-formula-items.ensures.value c.loop-formula-test.false (λ b. refl) c.loop-formula.invariant.come;
-}
+pub search_formulas-returns-clause-found : goal.search_formulas-returns-clause-found
+search_formulas-returns-clause-found g t c =
+    at_end (faults_by c.args.known.now) (λ fs. places_in_all (formulas_of (map formula_view fs)) (bound_in c.args.scope.now)) c.deref-formula-items.result.now c.deref-formula-items.ensures.value c.loop-formula-test.false refl
+    c.loop-formula.invariant.so_far
 
 pub search_formula-search_formula-requires : goal.search_formula-search_formula-requires
 search_formula-search_formula-requires g t c κs lives =

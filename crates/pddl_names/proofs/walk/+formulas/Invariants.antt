@@ -1,15 +1,14 @@
-use Rattle.std.proofs.Common.{map}
+use Rattle.std.proofs.Common.{◌≡◌, map}
 use Rattle.pddl_formula.specs.Formulas.{formula_view, formulas_of}
 use Rattle.pddl_task.specs.Places.{places_in_all}
-use Rattle.pddl_types.specs.Told.{AreTold}
-use Rattle.pddl_names.specs.Uses.{faults_by, IsBound}
-use Rattle.pddl_names.proofs.Walks.{HasComeTo}
+use Rattle.pddl_search.specs.Scopes.{bound_in}
+use Rattle.pddl_names.specs.Uses.{faults_by, AreAllTold}
+use Rattle.pddl_names.proofs.Walks.{FoundBefore}
 use Rattle.pddl_names.proofs.walk.+formulas.Given as goal
 
 abbrev pub invariant-search_formulas-loop-formula : goal.invariant-search_formulas-loop-formula
-invariant-search_formulas-loop-formula g l =
-    let began = IsBound l.known l.fn.told l.fn.scope in
-    record {
-      told : AreTold l.known.types.now l.told;
-      come : HasComeTo began (IsBound l.known l.told l.scope) (faults_by l.known) began (λ b fs. places_in_all (formulas_of (map formula_view fs)) b) l.formulas.items l.formula-index l.found;
-    }
+invariant-search_formulas-loop-formula g l = record {
+  told : AreAllTold l.known l.told l.scope;
+  kept : l.scope ≡ l.fn.scope;
+  so_far : FoundBefore (faults_by l.known) (λ fs. places_in_all (formulas_of (map formula_view fs)) (bound_in l.fn.scope)) l.formulas.items l.formula-index l.found;
+}

@@ -3,30 +3,30 @@ use Rattle.std.proofs.lemmas.Result.{err_from_is_err_and}
 use Rattle.pddl_formula.specs.Formulas.{formula_view}
 use Rattle.pddl_formula.specs.TypedLists.{typed_view}
 use Rattle.pddl_effect.specs.Effects.{effect_view}
-use Rattle.pddl_task.specs.Places.{places_in, effect_places}
-use Rattle.pddl_names.proofs.ToldUses.{bound_left}
+use Rattle.pddl_task.specs.Places.{places_in, effect_places, binding}
+use Rattle.pddl_names.specs.Uses.{faults_by}
+use Rattle.pddl_names.proofs.ToldUses.{told_outside}
 use Rattle.pddl_names.proofs.Walks.{stopped, in_turn, within}
 use Rattle.pddl_names.proofs.walk.search_action.Goals as goal
-
-pub returns-in_err-repeated-clause-kept : goal.returns-in_err-repeated-clause-kept
-returns-in_err-repeated-clause-kept g c = c.in_err-repeated.ensures.bound []
 
 pub returns-in_err-repeated-clause-found : goal.returns-in_err-repeated-clause-found
 returns-in_err-repeated-clause-found g c =
     let p = err_from_is_err_and c.from_residual.result c.from_residual.ensures.1 in
     let a = c.args.action.now in
-    let stop = c.in_err-repeated in
-    rw (p.1, p.2) ((stopped c.args.known.now (map typed_view a.parameters.items) (λ b. places_in (formula_view a.precondition) b ++ effect_places (effect_view a.effect) b)
-    stop.field-0.0 stop.ensures.passes stop.ensures.bound).found [])
+    let xs = map typed_view a.parameters.items in
+    rw (p.1, p.2)
+    (stopped c.args.known.now xs [] (places_in (formula_view a.precondition) (binding xs []) ++ effect_places (effect_view a.effect) (binding xs [])) c.in_err-repeated.field-0.0 c.in_err-repeated.ensures.passes)
 
-pub returns-clause-kept : goal.returns-clause-kept
-returns-clause-kept g c = λ is.
-    let inner = c.search_formula-precondition.ensures.searched in
-    bound_left c.args.action.now.parameters.items c.len.result c.len.ensures c.leave.ensures (c.search_effect-effect.ensures.searched.kept _ (inner.kept _ (c.in_ok-repeated.ensures.bound [] is)))
+pub returns-clause-told : goal.returns-clause-told
+returns-clause-told g c = rw c.leave.ensures (told_outside c.len.result c.search_effect-effect.ensures.told)
 
 pub returns-clause-found : goal.returns-clause-found
 returns-clause-found g c =
     let entered = c.in_ok-repeated.ensures in
-    let inside = in_turn c.search_formula-precondition.ensures.searched c.search_effect-effect.ensures.searched c.lower.ensures.found in
-    (within c.args.known.now (map typed_view c.args.action.now.parameters.items) c.in_ok-repeated.repeated entered.passes entered.found entered.bound inside
-    (λ b is. bound_left c.args.action.now.parameters.items c.len.result c.len.ensures c.leave.ensures is) c.lower-2.ensures.found).found []
+    let a = c.args.action.now in
+    let xs = map typed_view a.parameters.items in
+    let first = places_in (formula_view a.precondition) (binding xs []) in
+    let second = effect_places (effect_view a.effect) (binding xs []) in
+    within c.args.known.now xs [] (first ++ second) c.in_ok-repeated.repeated c.lower.result c.lower-2.result entered.passes entered.found c.lower-2.ensures.found
+    (in_turn (faults_by c.args.known.now) first second c.search_formula-precondition.result c.search_effect-effect.result c.lower.result c.lower.ensures.found (rw (entered.bound, c.requires.empty) at c.search_formula-precondition.ensures.found)
+    (rw (c.search_formula-precondition.ensures.kept, entered.bound, c.requires.empty) at c.search_effect-effect.ensures.found))

@@ -8,18 +8,23 @@ use Rattle.pddl_names.specs.FaultParts.{action_faults}
 use Rattle.pddl_names.proofs.HeldFiles.{nothing_bound, known_faults}
 use Rattle.pddl_names.proofs.files.Files.look_at_actions.Goals as goal
 
+pub search_actions-requires-clause-told : goal.search_actions-requires-clause-told
+search_actions-requires-clause-told g c =
+    let h = c.requires in
+    nothing_bound _ _ c.new-scope.result c.new-scope.ensures h.symbols.told h.symbols.predicates.slots h.symbols.functions.slots h.constants_are.types
+
 pub returns-clause-held : goal.returns-clause-held
 returns-clause-held g c =
     let h = c.requires in
-    let b = c.search_actions.ensures.kept (nothing_bound _ _ c.new-scope.result c.new-scope.ensures h.symbols.predicates.slots h.symbols.functions.slots h.constants_are.types) in
+    let still = c.search_actions.ensures.told in
     record {
       symbols = record {
-        told = c.search_actions.ensures.told;
-        predicates = record { first = h.symbols.predicates.first; slots = b.predicates };
-        functions = record { first = h.symbols.functions.first; slots = b.functions };
+        told = still.types;
+        predicates = record { first = h.symbols.predicates.first; slots = still.predicates };
+        functions = record { first = h.symbols.functions.first; slots = still.functions };
         actions = h.symbols.actions;
       };
-      constants_are = record { named = h.constants_are.named; objects = h.constants_are.objects; types = b.objects };
+      constants_are = record { named = h.constants_are.named; objects = h.constants_are.objects; types = still.objects };
     }
 
 pub returns-clause-found : goal.returns-clause-found
@@ -27,8 +32,6 @@ returns-clause-found g c =
     let f = c.args.self.now in
     let d = domain_view f.domain.now in
     let h = c.requires in
-    let r = c.search_actions.result in
-    let found = c.search_actions.ensures.found (nothing_bound _ _ c.new-scope.result c.new-scope.ensures h.symbols.predicates.slots h.symbols.functions.slots h.constants_are.types) in
-    subst (λ xs. IsFound (action_faults (place_faults f.types.now.declared (in_domain d)) [] (map action_view xs)) r) c.deref.ensures.value
-    (subst (λ sought. IsFound (action_faults sought [] (map action_view c.deref.result.now)) r)
-    (known_faults f.types.now d f.typed h.symbols.predicates.first h.symbols.functions.first h.constants_are.objects) found)
+    subst (λ xs. IsFound (action_faults (place_faults f.types.now.declared (in_domain d)) [] (map action_view xs)) c.search_actions.result) c.deref.ensures.value
+    (subst (λ sought. IsFound (action_faults sought [] (map action_view c.deref.result.now)) c.search_actions.result)
+    (known_faults f.types.now d f.typed h.symbols.predicates.first h.symbols.functions.first h.constants_are.objects) c.search_actions.ensures.found)
