@@ -62,8 +62,7 @@ impl<'d, A: Allocator> PartialEq for Ground<'d, A> {
     ghost laws = { partial_equiv_from_equiv ground_equiv };
 
     fn eq(&self, other: &Ground<'d, A>) -> bool {
-        name_of(self.item) == name_of(other.item)
-            && objects_of(self.item) == objects_of(other.item)
+        name_of(self.item) == name_of(other.item) && objects_of(self.item) == objects_of(other.item)
     }
 }
 
