@@ -42,8 +42,8 @@ pub plan_printed : (p : PlanValue) (text printed : List ℕ) (outcome : Outcome)
 plan_printed p text printed outcome is spells line = subst (λ o. IsFormatted Plan text printed o) (sym is) (record { value = p; spells = spells; printed_is = line })
 
 -- the line of a file that is refused, whose text is told as another that it is
-pub printed_refused : (kind : Kind) {text given printed : List ℕ} {outcome : Outcome} → given ≡ text → outcome ≡ Refused → IsRefused kind given printed → IsFormatted kind text printed outcome
-printed_refused kind {text} {given} {printed} {outcome} same is refused = subst (λ o. IsFormatted kind text printed o) (sym is) (subst (λ t. IsRefused kind t printed) same refused)
+pub printed_refused : (kind : Kind) {text given : List ℕ} (printed : List ℕ) {outcome : Outcome} → given ≡ text → outcome ≡ Refused → IsRefused kind given printed → IsFormatted kind text printed outcome
+printed_refused kind {text} {given} printed {outcome} same is refused = subst (λ o. IsFormatted kind text printed o) (sym is) (subst (λ t. IsRefused kind t printed) same refused)
 
 -- an outcome that refuses is not that of a good file, and what is answered is no error
 pub refused_is_bad : Refused ≡ Good → ⊥

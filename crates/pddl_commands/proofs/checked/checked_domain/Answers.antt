@@ -14,6 +14,6 @@ returns-in-Ok g c =
     let spells = subst (λ text. SpellsDomain (domain_view c.in-Ok.domain) text) c.deref.ensures.value c.in-Ok.ensures.domain in
     IfOk-weaker c.judged_domain-answer.result _ _ (λ answer judged. inr (domain_view c.in-Ok.domain, spells, judged)) c.judged_domain-answer.ensures
 
-pub returns-in-Err : goal.returns-in-Err
-returns-in-Err g c =
+pub returns : goal.returns
+returns g c =
     IfOk-weaker c.refused_domain.result _ _ (λ answer is. inl (is.0, subst (λ text. IsRefused Domain text answer.0.items) c.deref-in-Err.ensures.value is.1)) c.refused_domain.ensures

@@ -14,6 +14,6 @@ returns-in-Ok g c =
     let spells = subst (λ text. SpellsProblem (problem_view c.in-Ok.problem) text) c.deref.ensures.value c.in-Ok.ensures.problem in
     IfOk-weaker c.judged_problem-answer.result _ _ (λ answer judged. inr (problem_view c.in-Ok.problem, spells, judged)) c.judged_problem-answer.ensures
 
-pub returns-in-Err : goal.returns-in-Err
-returns-in-Err g c =
+pub returns : goal.returns
+returns g c =
     IfOk-weaker c.refused_problem.result _ _ (λ answer is. inl (is.0, subst (λ text. IsRefused Problem text answer.0.items) c.deref-in-Err.ensures.value is.1)) c.refused_problem.ensures

@@ -16,5 +16,5 @@ returns-in-Ok g c =
     let spells = subst (SpellsDomain d) c.deref.ensures.value c.in-Ok.ensures.domain in
     IfOk-weaker c.good.result _ _ (λ answer is. printed_good d c.args.text.items answer.0.items answer.1 is.0 spells (IfOk-at_ok (λ text. text.items ≡ domain_text d) is.1 c.domain_text-printed.ensures.text)) c.good.ensures
 
-pub returns-in-Err : goal.returns-in-Err
-returns-in-Err g c = IfOk-weaker c.refused_domain.result _ _ (λ answer is. printed_refused Domain c.deref-in-Err.ensures.value is.0 is.1) c.refused_domain.ensures
+pub returns : goal.returns
+returns g c = IfOk-weaker c.refused_domain.result _ _ (λ answer is. printed_refused Domain answer.0.items c.deref-in-Err.ensures.value is.0 is.1) c.refused_domain.ensures

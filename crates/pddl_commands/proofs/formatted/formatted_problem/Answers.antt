@@ -16,5 +16,5 @@ returns-in-Ok g c =
     let spells = subst (SpellsProblem p) c.deref.ensures.value c.in-Ok.ensures.problem in
     IfOk-weaker c.good.result _ _ (λ answer is. problem_printed p c.args.text.items answer.0.items answer.1 is.0 spells (IfOk-at_ok (λ text. text.items ≡ problem_text p) is.1 c.problem_text-printed.ensures.text)) c.good.ensures
 
-pub returns-in-Err : goal.returns-in-Err
-returns-in-Err g c = IfOk-weaker c.refused_problem.result _ _ (λ answer is. printed_refused Problem c.deref-in-Err.ensures.value is.0 is.1) c.refused_problem.ensures
+pub returns : goal.returns
+returns g c = IfOk-weaker c.refused_problem.result _ _ (λ answer is. printed_refused Problem answer.0.items c.deref-in-Err.ensures.value is.0 is.1) c.refused_problem.ensures
