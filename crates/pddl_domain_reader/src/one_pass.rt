@@ -16,10 +16,10 @@ ghost use Rattle.pddl_domain_reader.specs.Inner.Sections.{AddsPart, AddsTurn, Ad
 
 use crate::section_reader::add_section;
 use pddl_domain::Domain;
-use pddl_file::{Seen, Stop, end_behind};
+use pddl_file::{Seen, Stop, end_behind, next_section};
 use pddl_items::Item;
 use pddl_scan::LONGEST;
-use pddl_text::{DEEPEST, NextItem, next_item};
+use pddl_text::NextItem;
 use std::alloc::Allocator;
 
 /// Adds what a section says that was read behind those seen, and answers which are seen then.
@@ -48,8 +48,7 @@ fn read_turn<'a, B: Allocator>(
         → IfOk result (AddsTurn text.now words at.new seen (domain_view domain.old) (domain_view domain.new)) }
     ensures further { IfOk result (λ next. IfSome next (λ _. (at.old < at.new) × (at.new ≤ length text.now))) }
 {
-    let mut lists = Vec::new(alloc);
-    match next_item(alloc, text, at, DEEPEST - 1, &mut lists)? {
+    match next_section(alloc, text, at)? {
         NextItem::Item(section) => keep_section(alloc, domain, seen, section),
         NextItem::End(Some(_)) => Ok(None),
         NextItem::End(None) => Err(Stop::Wrong),

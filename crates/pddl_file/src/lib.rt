@@ -15,5 +15,5 @@ pub use flag::{flag_of, flags_of};
 pub use keyword::{SectionKeyword, Seen, head_keyword_of, keyword_of};
 pub use laws::{flags_as_spelled, keywords_as_spelled, marks_as_spelled};
 pub use mark::{Mark, first_marked};
-pub use one_pass::{Stop, begin_file, end_behind, word_behind};
+pub use one_pass::{Stop, begin_file, end_behind, next_section, word_behind};
 pub use unfit::refusal;

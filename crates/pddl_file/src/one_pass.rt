@@ -1,15 +1,17 @@
 //! Files that are read in one pass, section by section, so that no more of them is held as items than one section.
 
-ghost use Rattle.std.specs.Prelude.{◌≡◌, ◌<◌, ◌≤◌, ℕ, [], List, length, IfOk, OnOk};
+ghost use Rattle.std.specs.Prelude.{◌≡◌, ◌<◌, ◌≤◌, ◌-◌, ℕ, [], List, length, IfOk, OnOk};
 ghost use Rattle.pddl_token.specs.Names.{folded};
 ghost use Rattle.pddl_token.specs.Spelling.{PlacedWord, Spells};
 ghost use Rattle.pddl_scan.specs.Scanning.{LexedTo};
+ghost use Rattle.pddl_text.specs.Inner.NextItems.{ReadsOn, IfRead};
+ghost use Rattle.pddl_text.specs.Lists.{deepest};
 ghost use Rattle.pddl_file.specs.Inner.Begun.{IsWordBehind, HasBegun};
 
 use crate::fault::FileFault;
 use pddl_items::is_word;
 use pddl_scan::{LONGEST, TextFault};
-use pddl_text::next_token;
+use pddl_text::{DEEPEST, NextItem, next_item, next_token};
 use pddl_token::{Name, TokenKind};
 use std::alloc::{AllocError, Allocator};
 
@@ -95,6 +97,25 @@ pub fn begin_file<'a, B: Allocator>(
     let name = word_behind(text, at, TokenKind::Name)?;
     word_behind(text, at, TokenKind::Close)?;
     Name::new(alloc, name)?.ok_or(Stop::Wrong)
+}
+
+/// The section that stands next in a text behind a place, or an end. The place moves behind it. Of a long section the buffer of its lists is as long, and ends
+/// here, before the section's value is made.
+///
+/// # Errors
+///
+/// Those of [`next_item`].
+pub fn next_section<'t, 'a, B: Allocator>(
+    alloc: &'a B,
+    text: &'t [u8],
+    at: &mut usize,
+) -> Result<NextItem<'t, &'a B>, TextFault>
+    requires { length text.now ≤ LONGEST }
+    ensures next { (words : List PlacedWord) → LexedTo text.now words at.old → IfOk result (ReadsOn text.now words (deepest - 1) at.new) }
+    ensures further { IfOk result (IfRead ((at.old < at.new) × (at.new ≤ length text.now))) }
+{
+    let mut lists = Vec::new(alloc);
+    next_item(alloc, text, at, DEEPEST - 1, &mut lists)
 }
 
 /// A text ends behind a place.

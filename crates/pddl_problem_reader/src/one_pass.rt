@@ -22,7 +22,7 @@ ghost use Rattle.pddl_problem_reader.specs.Inner.OnePass.{IsInitBehind, ReadsIni
 use crate::section::Slots;
 use crate::section_reader::read_section;
 use pddl_build::{push_found, set_list};
-use pddl_file::{SectionKeyword, Seen, Stop, begin_file, end_behind, word_behind};
+use pddl_file::{SectionKeyword, Seen, Stop, begin_file, end_behind, next_section, word_behind};
 use pddl_init_reader::init_of;
 use pddl_items::{Item, is_word};
 use pddl_problem::InitItem;
@@ -141,8 +141,7 @@ fn read_turn<'a, B: Allocator>(
         → IfOk result (FillsTurn text.now words at.new seen (slots_view slots.old) (slots_view slots.new)) }
     ensures further { IfOk result (λ next. IfSome next (λ _. (at.old < at.new) × (at.new ≤ length text.now))) }
 {
-    let mut lists = Vec::new(alloc);
-    match next_item(alloc, text, at, DEEPEST - 1, &mut lists)? {
+    match next_section(alloc, text, at)? {
         NextItem::Item(section) => keep_section(alloc, slots, seen, section),
         NextItem::End(Some(_)) => Ok(None),
         NextItem::End(None) => Err(Stop::Wrong),

@@ -10,7 +10,7 @@ use Rattle.pddl_domain_reader.proofs.one_pass.read_turn.Goals as goal
 pub returns-in-Item-clause-turn : goal.returns-in-Item-clause-turn
 returns-in-Item-clause-turn g c = λ words lexed.
     let (more, behind, form) = rw c.in-Item.is at (c.in_ok-section.ensures.next words lexed) in
-    section_read (λ p. AddsPart (turn domain_readers c.args.seen p) (domain_view c.args.domain.now) (domain_view c.keep_section.new.domain)) _ c.args.text.now words more c.next_item.new.at c.args.seen
+    section_read (λ p. AddsPart (turn domain_readers c.args.seen p) (domain_view c.args.domain.now) (domain_view c.keep_section.new.domain)) _ c.args.text.now words more c.next_section.new.at c.args.seen
     (item_view c.in-Item.section) c.keep_section.result behind form c.keep_section.ensures
 
 pub returns-in-End-Some-clause-turn : goal.returns-in-End-Some-clause-turn
