@@ -3,4 +3,5 @@ pub mod Tests
 pub mod Values
 pub mod NumberTexts
 pub mod FoldedNames
+pub mod NameBytes
 pub mod Options

@@ -15,6 +15,10 @@ is_first_byte b = is_ascii_lowercase b
 abbrev pub is_later_byte : ℕ → Bool
 is_later_byte b = is_first_byte b || is_ascii_digit b || b == 45 || b == 95
 
+-- the byte of a name in lower case that a byte stands for, or 0
+abbrev pub name_byte : ℕ → ℕ
+name_byte b = if is_later_byte (to_ascii_lowercase b) then to_ascii_lowercase b else 0
+
 -- a name in lower case: a letter, then letters, digits, `-` and `_` (Kovacs, `<name>`)
 abbrev pub is_name : List ℕ → Bool
 is_name [] = false

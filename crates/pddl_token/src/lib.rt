@@ -11,6 +11,6 @@ mod number;
 mod token;
 
 pub use fixed::{Fixed, LARGEST, number_reads_back};
-pub use name::{Name, is_name};
+pub use name::{Name, is_name, name_byte};
 pub use number::{digits_len, value_of};
 pub use token::{Span, Token, TokenKind, Word};

@@ -1,12 +1,12 @@
 //! Names, folded to lower case.
 
 ghost use Rattle.std.proofs.Common.{ap};
-ghost use Rattle.std.specs.Prelude.{◌≡◌, ◌≤◌, List, ℕ, length, take, bytes_eq, IfOk, IsTrue};
+ghost use Rattle.std.specs.Prelude.{◌≡◌, ◌≤◌, List, ℕ, length, take, bytes_eq, is_some, IfOk, IfSome, IsTrue};
 ghost use Rattle.std.specs.Cmp.{partial_equiv_from_equiv};
 ghost use Rattle.std.specs.Cmp.Lexicographic.{bytes_decides, nat_list_eq_equiv};
 ghost use Rattle.std.specs.Hash as fed;
 ghost use Rattle.std.specs.List.{list_all};
-ghost use Rattle.pddl_token.specs.Names.{folded, name_of, is_name, is_first_byte, is_later_byte};
+ghost use Rattle.pddl_token.specs.Names.{folded, name_of, name_byte, is_name, is_first_byte, is_later_byte};
 
 use std::alloc::{AllocError, Allocator};
 use std::hash::{Hash, Hasher};
@@ -44,17 +44,56 @@ impl<A: Allocator> Model for Name<A> {
     ghost invariant = { λ n. HasRoom n.text × IsTrue (is_name (letters_of n.text)) };
 }
 
-/// A short text folded to lower case, with zeros behind it.
-fn folded(text: &[u8]) -> [u8; FEW]
+/// Of each byte that may stand in a name, the one that stands for it in lower case; of any other, 0.
+const NAME_BYTES: [u8; 256] = [
+    0, 0, 0, 0, 0, 0, 0, 0, 0, 0, 0, 0, 0, 0, 0, 0, 0, 0, 0, 0, 0, 0, 0, 0, 0, 0, 0, 0, 0, 0, 0, 0,
+    0, 0, 0, 0, 0, 0, 0, 0, 0, 0, 0, 0, 0, 45, 0, 0, 48, 49, 50, 51, 52, 53, 54, 55, 56, 57, 0, 0,
+    0, 0, 0, 0, 0, 97, 98, 99, 100, 101, 102, 103, 104, 105, 106, 107, 108, 109, 110, 111, 112,
+    113, 114, 115, 116, 117, 118, 119, 120, 121, 122, 0, 0, 0, 0, 95, 0, 97, 98, 99, 100, 101, 102,
+    103, 104, 105, 106, 107, 108, 109, 110, 111, 112, 113, 114, 115, 116, 117, 118, 119, 120, 121,
+    122, 0, 0, 0, 0, 0, 0, 0, 0, 0, 0, 0, 0, 0, 0, 0, 0, 0, 0, 0, 0, 0, 0, 0, 0, 0, 0, 0, 0, 0, 0,
+    0, 0, 0, 0, 0, 0, 0, 0, 0, 0, 0, 0, 0, 0, 0, 0, 0, 0, 0, 0, 0, 0, 0, 0, 0, 0, 0, 0, 0, 0, 0, 0,
+    0, 0, 0, 0, 0, 0, 0, 0, 0, 0, 0, 0, 0, 0, 0, 0, 0, 0, 0, 0, 0, 0, 0, 0, 0, 0, 0, 0, 0, 0, 0, 0,
+    0, 0, 0, 0, 0, 0, 0, 0, 0, 0, 0, 0, 0, 0, 0, 0, 0, 0, 0, 0, 0, 0, 0, 0, 0, 0, 0, 0, 0, 0, 0, 0,
+    0, 0, 0, 0, 0, 0, 0,
+];
+
+/// A byte of a name in lower case, or 0 of one that stands in no name.
+pub fn name_byte(byte: u8) -> u8
+    ensures { result ≡ name_byte byte }
+{
+    NAME_BYTES[byte as usize]
+}
+
+/// A short text folded to lower case, with zeros behind it, or `None` where a byte of it stands in no name.
+fn folded(text: &[u8]) -> Option<[u8; FEW]>
     requires { length text.now ≤ FEW }
-    ensures letters { take (length text.now) result ≡ folded text.now }
-    ensures room { length result ≡ FEW }
+    ensures letters { IfSome result (λ bytes. take (length text.now) bytes ≡ folded text.now) }
+    ensures room { IfSome result (λ bytes. length bytes ≡ FEW) }
+    ensures later { list_all is_later_byte (folded text.now) ≡ is_some result }
 {
     let mut bytes = [0; FEW];
-    let few = &mut bytes[..text.len()];
-    few.copy_from_slice(text);
-    few.make_ascii_lowercase();
-    bytes
+    for i in 0..text.len() {
+        let byte = name_byte(text[i]);
+        if byte == 0 {
+            return None;
+        }
+        bytes[i] = byte;
+    }
+    Some(bytes)
+}
+
+/// The name that a short text spells, with zeros behind it, or `None` where it spells none.
+fn short_name(text: &[u8]) -> Option<[u8; FEW]>
+    requires { length text.now ≤ FEW }
+    ensures letters { IfSome result (λ bytes. take (length text.now) bytes ≡ folded text.now) }
+    ensures room { IfSome result (λ bytes. length bytes ≡ FEW) }
+    ensures name { is_name (folded text.now) ≡ is_some result }
+{
+    match text {
+        [first, ..] if first.is_ascii_alphabetic() => folded(text),
+        _ => None,
+    }
 }
 
 impl<'a, B: Allocator> Name<&'a B> {
@@ -66,13 +105,11 @@ impl<'a, B: Allocator> Name<&'a B> {
     {
         let len = text.len();
         if len <= FEW {
-            let bytes = folded(text);
-            if is_name(&bytes[..len]) {
-                Ok(Some(Name {
+            match short_name(text) {
+                Some(bytes) => Ok(Some(Name {
                     text: NameText::Few(len as u8, bytes),
-                }))
-            } else {
-                Ok(None)
+                })),
+                None => Ok(None),
             }
         } else {
             let folded = text.to_ascii_lowercase(alloc)?;
