@@ -1,5 +1,5 @@
 -- The value of a number, digit by digit.
-use Rattle.std.proofs.Common.{◌≡◌, ℕ, ◌+◌, ◌-◌, ◌≤◌, ◌<◌, true, false, List, [], ◌∷◌, ◌++◌, length, take, drop, get_or, replicate, Some, None, refl, sym, ap, ◌∙◌, arith, subst}
+use Rattle.std.proofs.Common.{◌≡◌, ℕ, ◌+◌, ◌*◌, ◌-◌, ◌≤◌, ◌<◌, true, false, List, [], ◌∷◌, ◌++◌, length, take, drop, get_or, replicate, Some, None, refl, sym, ap, ◌∙◌, arith, subst}
 use Rattle.std.specs.Prelude.{◌==◌, nat_le, ◌&&◌}
 use Rattle.std.specs.List.{fold, list_all, prefix_len}
 use Rattle.std.specs.Char.{is_ascii_digit}
@@ -36,6 +36,11 @@ nine_outside decimals place lt outside =
     get_or-take 9 (decimals ++ replicate 9 48) place 0 lt
     ∙ get_or-append_right decimals (replicate 9 48) (length decimals) place 0 refl outside
     ∙ get_or-replicate 9 (place - length decimals) 48 0 (omega arith)
+
+-- no decimal is filled up with nine zeros
+pub nine_zeros : (n : ℕ) (decimals : List ℕ) → length decimals ≡ 0 → fold add_digit n (nine_of decimals) ≡ n * 1000000000
+nine_zeros n [] none = omega arith
+nine_zeros n (decimal ∷ decimals) none = absurd (omega (arith, none))
 
 -- a tenth decimal leaves no value
 pub more_decimals : (text : List ℕ) → list_all (λ b. b == 48) (drop 9 (decimals_of text)) ≡ false → value_of text ≡ None

@@ -42,11 +42,20 @@ fn decimal_at(decimals: &[u8], place: usize) -> u8
     }
 }
 
+#[tactic(auto, using(crate::proofs::Values::nine_zeros))]
 fn add_nine_decimals(value: u64, decimals: &[u8]) -> Option<u64>
     requires { value ≤ LARGEST }
     ensures { MatchOption result (LARGEST < fold add_digit value (nine_of decimals.now))
         (λ n. (n ≡ fold add_digit value (nine_of decimals.now)) × (n ≤ LARGEST)) }
 {
+    if decimals.is_empty() {
+        // nine zeros
+        return if value > LARGEST / 1_000_000_000 {
+            None
+        } else {
+            Some(value * 1_000_000_000)
+        };
+    }
     let mut longer = value;
     for place in 0..9 {
         longer = push_digit(longer, decimal_at(decimals, place))?;
