@@ -4,7 +4,7 @@ ghost use Rattle.std.specs.Prelude.{◌≡◌};
 ghost use Rattle.pddl_token.specs.Bytes.{is_line_byte, is_word_byte, is_inner_byte};
 ghost use Rattle.pddl_scan.specs.Inner.ByteClass.{class_of, class_of_mark};
 
-use pddl_token::TokenKind;
+use pddl_token::{TokenKind, name_byte};
 
 #[derive(Clone, Copy)]
 pub enum ByteClass {
@@ -55,7 +55,7 @@ fn class_of_mark(byte: u8) -> ByteClass
 pub fn is_word_byte(byte: u8) -> bool
     ensures { result ≡ is_word_byte byte }
 {
-    byte.is_ascii_alphanumeric() || byte == b'-' || byte == b'_'
+    name_byte(byte) != 0
 }
 
 /// A byte that does not end a line.
