@@ -12,7 +12,7 @@ mod piecewise;
 mod word_list;
 
 pub use fault::{LONGEST, TextFault};
-pub use next::{Next, next_part};
+pub use next::{Next, begins_with_blank, next_part};
 pub use parts::Progress;
 pub use piecewise::{answer, read_last, read_piece};
 pub use word_list::WordList;

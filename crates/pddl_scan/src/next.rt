@@ -1,11 +1,11 @@
 //! What stands at the front of a text.
 
-ghost use Rattle.std.specs.Prelude.{◌≡◌, ◌<◌, ◌≤◌, ℕ, List, length, ◌==◌};
+ghost use Rattle.std.specs.Prelude.{◌≡◌, ◌<◌, ◌≤◌, ℕ, List, length, true, ◌==◌};
 ghost use Rattle.std.specs.List.{prefix_len};
 ghost use Rattle.std.specs.Char.{is_ascii_digit, is_ascii_alphabetic};
 ghost use Rattle.pddl_token.specs.Bytes.{begins, is_line_byte, is_word_byte};
 ghost use Rattle.pddl_token.specs.Number.{value_of};
-ghost use Rattle.pddl_scan.specs.Inner.Reading.{number_len, next_comment, next_number, next_by, next_of, Reads};
+ghost use Rattle.pddl_scan.specs.Inner.Reading.{number_len, next_comment, next_number, next_by, next_of, IsGapAt, Reads};
 ghost use Rattle.pddl_scan.specs.Inner.Parts.{Settles, ReadsOn};
 
 use crate::bytes::{ByteClass, class_of, is_line_byte, is_word_byte};
@@ -146,6 +146,16 @@ fn scan(text: &[u8]) -> Next
         ByteClass::Angle => word(TokenKind::Compare, 1),
         ByteClass::Lone(kind) => word(kind, 1),
         ByteClass::Question | ByteClass::Other => Next::Stray,
+    }
+}
+
+/// Whether a blank stands at the front, which is a gap by itself.
+pub fn begins_with_blank(text: &[u8]) -> bool
+    ensures { result ≡ true → IsGapAt 1 text.now }
+{
+    match text {
+        [] => false,
+        [first, ..] => first.is_ascii_whitespace(),
     }
 }
 

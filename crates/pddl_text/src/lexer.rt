@@ -7,7 +7,7 @@ ghost use Rattle.pddl_text.specs.Spans.{IsSlice, EndsBefore};
 ghost use Rattle.pddl_scan.specs.Faults.{AreValued, Stands};
 ghost use Rattle.pddl_scan.specs.Scanning.{LexedTo};
 
-use pddl_scan::{LONGEST, Next, TextFault, next_part};
+use pddl_scan::{LONGEST, Next, TextFault, begins_with_blank, next_part};
 use pddl_token::{Span, Token};
 use std::alloc::Allocator;
 
@@ -26,6 +26,10 @@ pub fn next_token<'a>(text: &'a [u8], from: usize) -> Result<Option<Token<'a>>, 
     let mut at = from;
     while at < text.len() {
         let rest = text.split_at(at).1;
+        if begins_with_blank(rest) {
+            at += 1;
+            continue;
+        }
         match next_part(rest) {
             Next::Gap { len } => at += len,
             Next::Word { kind, len } => {
