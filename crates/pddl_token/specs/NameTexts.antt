@@ -3,13 +3,13 @@ use Rattle.std.specs.Prelude.{◌≡◌, ◌≤◌, ℕ, List, length, take}
 use Rattle.pddl_token.specs.declared.name.NameText.{NameText}
 use Rattle.pddl_token.specs.declared.name.NameText.TheVariants.{Few, Many}
 
-module _ {A : Type 0} where
-  -- the bytes
-  abbrev pub letters_of : NameText A → List ℕ
-  letters_of (Few len bytes) = take len bytes
-  letters_of (Many text) = text.value.items
+module _ {T : Type 0} where
+  -- the bytes, of which many are those of a value of another type
+  abbrev pub letters_of : (T → List ℕ) → NameText T → List ℕ
+  letters_of bytes_of (Few len bytes) = take len bytes
+  letters_of bytes_of (Many text) = bytes_of text
 
   -- those in the value itself are as many as there is room for
-  abbrev pub HasRoom : NameText A → Type 0
+  abbrev pub HasRoom : NameText T → Type 0
   HasRoom (Few len bytes) = (len ≤ 22) × (length bytes ≡ 22)
   HasRoom (Many text) = Unit {0}

@@ -6,11 +6,13 @@
 #![tactic(auto)]
 
 mod fixed;
+mod lent_name;
 mod name;
 mod number;
 mod token;
 
 pub use fixed::{Fixed, LARGEST, number_reads_back};
+pub use lent_name::LentName;
 pub use name::{Name, is_name, name_byte};
 pub use number::{digits_len, value_of};
 pub use token::{Span, Token, TokenKind, Word};

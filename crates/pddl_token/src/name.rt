@@ -8,19 +8,20 @@ ghost use Rattle.std.specs.Hash as fed;
 ghost use Rattle.std.specs.List.{list_all};
 ghost use Rattle.pddl_token.specs.Names.{folded, name_of, name_byte, is_name, is_first_byte, is_later_byte};
 
+use crate::lent_name::LentName;
 use std::alloc::{AllocError, Allocator};
 use std::hash::{Hash, Hasher};
 use std::marker::Model;
 
 /// The most bytes of a name that lie in the value itself.
-const FEW: usize = 22;
+pub(crate) const FEW: usize = 22;
 
-/// The bytes of a name: in the value itself where they are few, as those of most names are, and else in an allocation.
+/// The bytes of a name: in the value itself where they are few, as those of most names are, and else where it points to.
 #[derive(Drop)]
-enum NameText<A: Allocator> {
+pub(crate) enum NameText<T> {
     /// So many of the bytes; zeros are behind them.
     Few(u8, [u8; FEW]),
-    Many(Box<Vec<u8, A>, A>),
+    Many(T),
 }
 
 /// A name: an ASCII letter, then letters, digits, `-` and `_`, its letters in lower case
@@ -29,7 +30,7 @@ enum NameText<A: Allocator> {
 /// Contracts see it as its bytes.
 #[derive(Drop)]
 pub struct Name<A: Allocator> {
-    text: NameText<A>,
+    text: NameText<Box<Vec<u8, A>, A>>,
 }
 
 impl<A: Allocator> Model for Name<A> {
@@ -39,9 +40,9 @@ impl<A: Allocator> Model for Name<A> {
 
     ghost Value = { List ℕ };
 
-    ghost view = { λ n. letters_of n.text };
+    ghost view = { λ n. letters_of (λ t. t.value.items) n.text };
 
-    ghost invariant = { λ n. HasRoom n.text × IsTrue (is_name (letters_of n.text)) };
+    ghost invariant = { λ n. HasRoom n.text × IsTrue (is_name (letters_of (λ t. t.value.items) n.text)) };
 }
 
 /// Of each byte that may stand in a name, the one that stands for it in lower case; of any other, 0.
@@ -133,6 +134,16 @@ impl<A: Allocator> Name<A> {
         match &self.text {
             NameText::Few(len, bytes) => &bytes[..*len as usize],
             NameText::Many(bytes) => bytes.as_slice(),
+        }
+    }
+
+    /// The name, lent: the bytes of a short one are copied.
+    pub fn lent(&self) -> LentName<'_>
+        ensures { result ≡ self.now }
+    {
+        match &self.text {
+            NameText::Few(len, bytes) => LentName::few(*len, *bytes),
+            NameText::Many(bytes) => LentName::of(bytes.as_slice()),
         }
     }
 }
