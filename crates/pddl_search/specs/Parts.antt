@@ -11,7 +11,7 @@ use Rattle.pddl_search.specs.declared.part.Part.{Part}
 use Rattle.pddl_search.specs.declared.part.Part.TheVariants.{Says, Calls, Equates, Counts}
 
 -- a term
-abbrev pub term_in : LentTerm → TermValue
+abbrev pub term_in : {A : _} → LentTerm A → TermValue
 term_in (Object n) = name n.now
 term_in (Variable n) = variable n.now
 

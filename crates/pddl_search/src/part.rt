@@ -13,9 +13,9 @@ use std::alloc::Allocator;
 
 /// A term, lent by its name.
 #[derive(Drop)]
-pub enum LentTerm<'d> {
-    Object(&'d [u8]),
-    Variable(&'d [u8]),
+pub enum LentTerm<'d, A: Allocator> {
+    Object(&'d Name<A>),
+    Variable(&'d Name<A>),
 }
 
 /// The terms of a predicate or a function, lent: any, or the objects that `:init` has.
@@ -65,14 +65,14 @@ impl<'d, A: Allocator> Part<'d, A> {
     }
 }
 
-impl<'d> LentTerm<'d> {
+impl<'d, A: Allocator> LentTerm<'d, A> {
     /// The term by its name.
-    pub fn of<A: Allocator>(term: &'d Term<A>) -> LentTerm<'d>
+    pub fn of(term: &'d Term<A>) -> LentTerm<'d, A>
         ensures { term_in result ≡ term_view term.now }
     {
         match term {
-            Term::Name(name) => LentTerm::Object(name.as_bytes()),
-            Term::Variable(name) => LentTerm::Variable(name.as_bytes()),
+            Term::Name(name) => LentTerm::Object(name),
+            Term::Variable(name) => LentTerm::Variable(name),
         }
     }
 
@@ -81,8 +81,8 @@ impl<'d> LentTerm<'d> {
         ensures { result.now ≡ term_name (term_in self.now) }
     {
         match self {
-            LentTerm::Object(name) => *name,
-            LentTerm::Variable(name) => *name,
+            LentTerm::Object(name) => name.as_bytes(),
+            LentTerm::Variable(name) => name.as_bytes(),
         }
     }
 }
@@ -99,7 +99,7 @@ impl<'d, A: Allocator> Terms<'d, A> {
     }
 
     /// The term of a number from 0.
-    pub fn at(&self, number: usize) -> LentTerm<'d>
+    pub fn at(&self, number: usize) -> LentTerm<'d, A>
         requires { number < length (terms_in self.now) }
         ensures { term_in result ≡ get_or (terms_in self.now) number (term_in result) }
     {
@@ -110,7 +110,7 @@ impl<'d, A: Allocator> Terms<'d, A> {
             }
             Terms::Objects(objects) => {
                 let objects = *objects;
-                LentTerm::Object(objects[number].as_bytes())
+                LentTerm::Object(&objects[number])
             }
         }
     }

@@ -25,20 +25,20 @@ use Rattle.pddl_types.proofs.ToldTypes.{tops_there}
 
 -- ---- an object that is found by its name
 
-found_named : {A : Type 0} (es : List (Bor Name × Bor (Typed A))) (n : Name) → find (is_named n) (map object_in es) ≡ slice_get (map object_in es) (position_or_len (λ k. bytes_eq n k.now) (keys_of es))
+found_named : {A : Type 0} (es : List (Name × Bor (Typed A))) (n : Name) → find (is_named n) (map object_in es) ≡ slice_get (map object_in es) (position_or_len (bytes_eq n) (keys_of es))
 found_named {A} es n =
-    let number = number_seen object_in (is_named n) es ∙ sym (number_seen (λ (e : Bor Name × Bor (Typed A)). e.0) (λ k. bytes_eq n k.now) es) in
+    let number = number_seen object_in (is_named n) es ∙ sym (number_seen (λ (e : Name × Bor (Typed A)). e.0) (bytes_eq n) es) in
     find_at (is_named n) (map object_in es) ∙ ap (slice_get (map object_in es)) number
 
-module _ {A : Type 0} (es : List (Bor Name × Bor (Typed A))) (n : Name) where
+module _ {A : Type 0} (es : List (Name × Bor (Typed A))) (n : Name) where
   -- the one of its number
-  pub object_found : (i : ℕ) → position (λ k. bytes_eq n k.now) (keys_of es) ≡ Some i → find (is_named n) (map object_in es) ≡ slice_get (map object_in es) i
-  object_found i is = found_named es n ∙ ap (slice_get (map object_in es)) (Found-position (λ k. bytes_eq n k.now) es i is).or_len
+  pub object_found : (i : ℕ) → position (bytes_eq n) (keys_of es) ≡ Some i → find (is_named n) (map object_in es) ≡ slice_get (map object_in es) i
+  object_found i is = found_named es n ∙ ap (slice_get (map object_in es)) (Found-position (bytes_eq n) es i is).or_len
 
-  pub none_found : position (λ k. bytes_eq n k.now) (keys_of es) ≡ None → find (is_named n) (map object_in es) ≡ None
+  pub none_found : position (bytes_eq n) (keys_of es) ≡ None → find (is_named n) (map object_in es) ≡ None
   none_found h =
-      let past = (Missing-position (λ k. bytes_eq n k.now) es h).or_len in
-      found_named es n ∙ slice_get_past (map object_in es) (position_or_len (λ k. bytes_eq n k.now) (keys_of es)) (omega (arith, past, length-map es object_in))
+      let past = (Missing-position (bytes_eq n) es h).or_len in
+      found_named es n ∙ slice_get_past (map object_in es) (position_or_len (bytes_eq n) (keys_of es)) (omega (arith, past, length-map es object_in))
 
 -- the type of what is listed at a number is told at the number that is held there
 pub at_of : (told : ToldValue) (objects : List TypedValue) (numbers : List ℕ) (place : ℕ) → AreAt told objects numbers → IsAtOf told (slice_get objects place) (slice_get numbers place)

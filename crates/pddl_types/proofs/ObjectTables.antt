@@ -65,7 +65,7 @@ find-firsts (x ∷ xs) n =
 
 -- ---- one that is put into a table
 
-module _ {A : Type 0} (es : List (Bor (List ℕ) × Bor (Typed A))) (seen : List TypedValue) (x : TypedValue) (n : Name) (named : n ≡ x.item)
+module _ {A : Type 0} (es : List (Name × Bor (Typed A))) (seen : List TypedValue) (x : TypedValue) (n : Name) (named : n ≡ x.item)
     (same : map object_in es ≡ firsts seen) where
   found_seen : find (is_named n) (map object_in es) ≡ find (is_named x.item) seen
   found_seen = ap (find (is_named n)) same ∙ find-firsts seen n ∙ ap (λ m. find (is_named m) seen) named
@@ -75,7 +75,7 @@ module _ {A : Type 0} (es : List (Bor (List ℕ) × Bor (Typed A))) (seen : List
 
   -- a name that is there is at odds where its number is another, and nothing is put
   pub seen_there : (told : ToldValue) (numbers : List ℕ) (number place : ℕ) → AreDistinct told → IsAt told x.of number → AreAt told (map object_in es) numbers
-      → position (λ k. bytes_eq n k.now) (keys_of es) ≡ Some place → place < length es
+      → position (bytes_eq n) (keys_of es) ≡ Some place → place < length es
       → (known : ℕ) × (slice_get numbers place ≡ Some known) × (is_off seen x ≡ not (known == number)) × (map object_in es ≡ firsts (seen ++ x ∷ []))
   seen_there told numbers number place once at are is low =
       let (y, there) = some_at (map object_in es) place (omega (arith, low, length-map es object_in)) in
@@ -88,7 +88,7 @@ module _ {A : Type 0} (es : List (Bor (List ℕ) × Bor (Typed A))) (seen : List
       )
 
   -- a new one is put last
-  pub seen_new : position (λ k. bytes_eq n k.now) (keys_of es) ≡ None → (is_off seen x ≡ false) × (map object_in es ++ x ∷ [] ≡ firsts (seen ++ x ∷ []))
+  pub seen_new : position (bytes_eq n) (keys_of es) ≡ None → (is_off seen x ≡ false) × (map object_in es ++ x ∷ [] ≡ firsts (seen ++ x ∷ []))
   seen_new none =
       let found : find (is_named x.item) seen ≡ None = sym found_seen ∙ none_found es n none in (
         ap (λ o. option_map_or (λ (z : TypedValue). not (same_names z.of x.of)) o false) found,
@@ -98,12 +98,12 @@ module _ {A : Type 0} (es : List (Bor (List ℕ) × Bor (Typed A))) (seen : List
 -- ---- the entries of a map
 
 -- a new key goes last, with its object
-pub put_last : {A : Type 0} (es next : List (Bor (List ℕ) × Bor (Typed A))) (k : Bor (List ℕ)) (v : Bor (Typed A)) → k.now ≡ v.now.name → next ≡ insert_entry (λ j l. bytes_eq j.now l.now) es k v
-    → position (λ j. bytes_eq k.now j.now) (keys_of es) ≡ None → (map object_in next ≡ map object_in es ++ typed_view v.now ∷ []) × (AreNamed es → AreNamed next)
+pub put_last : {A : Type 0} (es next : List (Name × Bor (Typed A))) (k : Name) (v : Bor (Typed A)) → k ≡ v.now.name → next ≡ insert_entry bytes_eq es k v
+    → position (bytes_eq k) (keys_of es) ≡ None → (map object_in next ≡ map object_in es ++ typed_view v.now ∷ []) × (AreNamed es → AreNamed next)
 put_last {A} es next k v own put none =
-    let last : next ≡ es ++ (k, v) ∷ [] = put ∙ insert_entry-absent (λ j l. bytes_eq j.now l.now) k v es (Missing-position (λ j. bytes_eq k.now j.now) es none).absent in
-    let names = λ (e : Bor (List ℕ) × Bor (Typed A)). e.0.now in
-    let own_names = λ (e : Bor (List ℕ) × Bor (Typed A)). e.1.now.name in
+    let last : next ≡ es ++ (k, v) ∷ [] = put ∙ insert_entry-absent bytes_eq k v es (Missing-position (bytes_eq k) es none).absent in
+    let names = λ (e : Name × Bor (Typed A)). e.0 in
+    let own_names = λ (e : Name × Bor (Typed A)). e.1.now.name in
     (rw (last, map_push object_in es (k, v), own) refl, λ are. rw (last, map_push own_names es (k, v), map_push names es (k, v), own) (ap (λ ns. ns ++ v.now.name ∷ []) are))
 
 -- ---- a walk over what is listed

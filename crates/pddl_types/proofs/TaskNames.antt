@@ -24,7 +24,7 @@ symbol_at xs signatures i same =
     sym (slice_get-map (λ x. x.predicate) xs i) ∙ ap (λ ns. slice_get ns i) (sym (map-map symbol_of predicate_view xs) ∙ ap (map symbol_of) same)
 
 -- the name of an object, as it is listed
-pub item_at : {A : Type 0} (es : List (Bor (List ℕ) × Bor (Typed A))) (objects : List TypedValue) (i : ℕ) (found : Option (Bor (List ℕ) × Bor (Typed A)))
+pub item_at : {A : Type 0} (es : List (Name × Bor (Typed A))) (objects : List TypedValue) (i : ℕ) (found : Option (Name × Bor (Typed A)))
     → map object_in es ≡ objects → AreNamed es → found ≡ slice_get es i → option_map (λ e. e.1.now.name) found ≡ slice_get (map item_of objects) i
 item_at es objects i found same named at =
     ap (option_map (λ e. e.1.now.name)) at ∙ sym (slice_get-map (λ e. e.1.now.name) es i)
@@ -41,9 +41,9 @@ place_at es names n found same at =
     as_many : length (keys_of es) ≡ length (map (λ e. e.0.now) es)
     as_many = length-map es (λ e. e.0) ∙ sym (length-map es (λ e. e.0.now))
 
-pub object_number : {A : Type 0} (es : List (Bor (List ℕ) × Bor (Typed A))) (objects : List TypedValue) (n : Name) (found : Option ℕ)
-    → map object_in es ≡ objects → found ≡ position (λ k. bytes_eq n k.now) (keys_of es) → found ≡ position (bytes_eq n) (map item_of objects)
-object_number es objects n found same = place_at es (map item_of objects) n found (sym (map-map item_of object_in es) ∙ ap (map item_of) same)
+pub object_number : {A : Type 0} (es : List (Name × Bor (Typed A))) (objects : List TypedValue) (n : Name) (found : Option ℕ)
+    → map object_in es ≡ objects → found ≡ position (bytes_eq n) (keys_of es) → found ≡ position (bytes_eq n) (map item_of objects)
+object_number es objects n found same at = at ∙ ap (position (bytes_eq n)) (sym (map-map item_of object_in es) ∙ ap (map item_of) same)
 
 pub signature_number : {A B : Type 0} (es : List (Bor (List ℕ) × Slots A B)) (signatures : List Signature) (n : Name) (found : Option ℕ)
     → map signature_in es ≡ signatures → found ≡ position (λ k. bytes_eq n k.now) (keys_of es) → found ≡ position (bytes_eq n) (map symbol_of signatures)

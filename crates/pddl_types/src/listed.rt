@@ -16,10 +16,11 @@ use pddl_faults::{LinkFault, lower, once};
 use pddl_formula::{Typed, TypedList};
 use pddl_hash::Hashed;
 use pddl_sizes::ObjectOrder;
+use pddl_token::{LentName, Name};
 use std::alloc::{AllocError, Allocator};
 
 /// Objects by name, each as it is listed with its type.
-pub type Objects<'m, 'a, A, B> = IndexMap<&'m [u8], &'m Typed<A>, Hashed, &'a B>;
+pub type Objects<'m, 'a, A, B> = IndexMap<LentName<'m>, &'m Typed<A>, Hashed, &'a B>;
 
 /// Constants and then objects by name, in the order in which they are listed, each at its first place, and for each the number at which its type is told.
 #[derive(Drop)]
@@ -53,8 +54,8 @@ impl<'m, 'a, A: Allocator, B: Allocator> Listed<'m, 'a, A, B> {
         ensures { (told : ToldValue) (seen : List TypedValue) → AreDistinct told → IsAt told object.now.types number → AreSeen told seen self.old
             → IfOk result (λ right. (is_off seen (typed_view object.now) ≡ not right) × AreSeen told (seen ++ typed_view object.now ∷ []) self.new) }
     {
-        let name = object.name.as_bytes();
-        if let Some(place) = self.objects.get_index_of(name) {
+        let name = object.name.lent();
+        if let Some(place) = self.objects.get_index_of(&name) {
             return Ok(self.type_at(place) == Some(number));
         }
         self.objects.insert(name, object)?;
@@ -107,11 +108,11 @@ impl<'m, 'a, A: Allocator, B: Allocator> Listed<'m, 'a, A, B> {
     }
 
     /// The number at which the type of the object of this name is told.
-    pub fn type_of(&self, name: &[u8]) -> Option<usize>
+    pub fn type_of<C: Allocator>(&self, name: &Name<C>) -> Option<usize>
         ensures { (told : ToldValue) → AreAt told (map object_in self.now.objects.entries) self.now.types.items
             → IsAtOf told (find (is_named name.now) (map object_in self.now.objects.entries)) result }
     {
-        let place = self.objects.get_index_of(name)?;
+        let place = self.objects.get_index_of(&name.lent())?;
         self.type_at(place)
     }
 

@@ -9,7 +9,7 @@ use Rattle.pddl_types.proofs.listed.Listed.put.Goals as goal
 pub returns-in-Some : goal.returns-in-Some
 returns-in-Some g c = λ told seen once at are.
     let l = c.args.self.now in
-    let (known, there, off, objects) = seen_there l.objects.entries seen (typed_view c.args.object.now) c.as_bytes-name.result.now c.as_bytes-name.ensures.value are.objects told l.types.items c.args.number
+    let (known, there, off, objects) = seen_there l.objects.entries seen (typed_view c.args.object.now) c.lent-name.result c.lent-name.ensures are.objects told l.types.items c.args.number
     c.in-Some.place once at are.types (sym c.in-Some.ensures.index) c.in-Some.ensures.within in
     (off ∙ ap not (sym (rw (c.type_at.ensures, there) at c.eq.ensures)), record { named = are.named; objects = objects; types = are.types })
 
@@ -18,8 +18,8 @@ returns g c = λ told seen once at are.
     let l = c.args.self.now in
     let x = typed_view c.args.object.now in
     let none = sym c.in_default.ensures.index in
-    let last = put_last l.objects.entries c.insert.new.self.entries c.as_bytes-name.result c.args.object c.as_bytes-name.ensures.value c.in_ok-insert.ensures.entries none in
-    let new = seen_new l.objects.entries seen x c.as_bytes-name.result.now c.as_bytes-name.ensures.value are.objects none in (
+    let last = put_last l.objects.entries c.insert.new.self.entries c.lent-name.result c.args.object c.lent-name.ensures c.in_ok-insert.ensures.entries none in
+    let new = seen_new l.objects.entries seen x c.lent-name.result c.lent-name.ensures are.objects none in (
       new.0,
       record {
         named = last.1 are.named;
