@@ -23,7 +23,7 @@ use pddl_formula::{Formula, TypeNames};
 use pddl_hash::Hashed;
 use pddl_problem::{GroundFunction, InitItem, Problem};
 use pddl_sizes::{ObjectOrder, action_ground_size, ground_size};
-use pddl_token::Name;
+use pddl_token::{LentName, Name};
 use pddl_types::{Declared, Fitting, Listed, Types};
 use std::alloc::{AllocError, Allocator};
 use std::marker::Model;
@@ -278,7 +278,7 @@ impl<'m, 'a, A: Allocator, B: Allocator> Task<'m, 'a, A, B> {
     pub fn object_number(&self, name: &[u8]) -> Option<usize>
         ensures { result ≡ position (bytes_eq name.now) (object_names (task_of_files self.now)) }
     {
-        self.listed.objects.get_index_of(name)
+        self.listed.objects.get_index_of(&LentName::of(name))
     }
 
     /// The number of the predicate of a name, or `None` where there is none.

@@ -29,13 +29,13 @@ use std::alloc::Allocator;
 fn type_of<'k, 'm, 'a, A: Allocator, B: Allocator>(
     known: &Known<'k, 'm, 'a, A, B>,
     scope: &Scope<'m, 'a, A, B>,
-    term: &LentTerm,
+    term: &LentTerm<'_, A>,
 ) -> Option<usize>
     ensures { (told : ToldValue) → AreAllTold known.now told scope.now → IsAtOf told (typed_term (setting_of known.now) (bound_in scope.now) (term_in term.now)) result }
 {
     match term {
         LentTerm::Object(object) => known.listed.type_of(*object),
-        LentTerm::Variable(variable) => scope.number_of(*variable),
+        LentTerm::Variable(variable) => scope.number_of(variable.as_bytes()),
     }
 }
 
