@@ -1,6 +1,6 @@
 //! Objects by name, each with its type.
 
-ghost use Rattle.std.specs.Prelude.{◌≡◌, ◌++◌, ◌∷◌, [], List, map, not, length, find, slice_get, IfOk};
+ghost use Rattle.std.specs.Prelude.{◌≡◌, ◌++◌, ◌∷◌, [], List, map, not, length, find, slice_get, IfOk, OnOk};
 ghost use Rattle.pddl_formula.specs.TypedLists.{TypedValue, typed_view};
 ghost use Rattle.pddl_task.specs.Names.{is_named};
 ghost use Rattle.pddl_faults.specs.Passes.{Passes};
@@ -45,6 +45,14 @@ impl<'m, 'a, A: Allocator, B: Allocator> Listed<'m, 'a, A, B> {
         ensures { result ≡ slice_get self.now.types.items object }
     {
         self.types.get(object).copied()
+    }
+
+    /// Makes room for so many more objects.
+    fn reserve(&mut self, more: usize) -> Result<(), AllocError>
+        ensures { (told : ToldValue) (seen : List TypedValue) → AreSeen told seen self.old → OnOk result (AreSeen told seen self.new) }
+    {
+        self.objects.reserve(more)?;
+        self.types.reserve(more)
     }
 
     /// Adds an object whose type is told at a number, where its name is new. Answers whether the first of its name has this type.
@@ -103,6 +111,7 @@ impl<'m, 'a, A: Allocator, B: Allocator> Listed<'m, 'a, A, B> {
             → IfOk result (λ found. IsFound (numbered 24 (off_types seen (map typed_view objects.now.items))) found × AreSeen told.new (seen ++ map typed_view objects.now.items) self.new) }
     {
         let numbers = told.tell_all(*self.types.allocator(), types, objects)?;
+        self.reserve(objects.len())?;
         let found = self.put_each(objects, &numbers)?;
         Ok(found)
     }
