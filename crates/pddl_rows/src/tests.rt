@@ -17,7 +17,7 @@ fn all_hold<R: Print + AllocGlobal>(rt: &R, text: &[u8], rows: u64) -> Result<()
 
 #[test]
 fn changed_problems(rt: HostRuntime) -> Result<(), Fail> {
-    all_hold(&rt, rows::CHANGED_PROBLEMS, 57)
+    all_hold(&rt, rows::CHANGED_PROBLEMS, 63)
 }
 
 #[test]

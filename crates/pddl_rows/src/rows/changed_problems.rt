@@ -288,6 +288,65 @@ file
 | link: fault 26 UnknownName ok
 refused problem
 
+row names 15
+copy lamps
+file
+copy two
+change b - big => b abcdefghijklmnopqrstuv abcdefghijklmnopqrstuw - big
+change (ok b) => (ok ABCDEFGHIJKLMNOPQRSTUV) (ok abcdefghijklmnopqrstuw)
+file
+| good: problem two
+good problem
+
+row names 16
+copy lamps
+file
+copy two
+change b - big => b abcdefghijklmnopqrstuvw abcdefghijklmnopqrstuvx - big
+change (ok b) => (ok abcdefghijklmnopqrstuvW) (ok abcdefghijklmnopqrstuvx)
+file
+| good: problem two
+good problem
+
+row names 17
+copy lamps
+file
+copy two
+change b - big => b abcdefghijklmnopqrstuv - big
+change (ok b) => (ok abcdefghijklmnopqrstux)
+file
+| link: fault 26 UnknownName abcdefghijklmnopqrstux
+refused problem
+
+row names 18
+copy lamps
+file
+copy two
+change b - big => b abcdefghijklmnopqrstuv - big
+change (ok b) => (ok abcdefghijklmnopqrstuvw)
+file
+| link: fault 26 UnknownName abcdefghijklmnopqrstuvw
+refused problem
+
+row names 19
+copy lamps
+file
+copy two
+change b - big => b abcdefghijklmnopqrstuvw - big
+change (ok b) => (ok abcdefghijklmnopqrstuv)
+file
+| link: fault 26 UnknownName abcdefghijklmnopqrstuv
+refused problem
+
+row names 20
+copy lamps
+file
+copy two
+change b - big => b abcdefghijklmnopqrstuvw - big abcdefghijklmnopqrstuvw - lamp
+file
+| link: fault 24 NameTwice abcdefghijklmnopqrstuvw
+refused problem
+
 row arities 1
 copy lamps
 file
