@@ -74,7 +74,7 @@ impl<'n> PartialEq for LentName<'n> {
     ghost laws = { partial_equiv_from_equiv nat_list_eq_equiv };
 
     fn eq(&self, other: &LentName<'n>) -> bool {
-        self.as_bytes() == other.as_bytes()
+        self.text.is_same_few(&other.text) || self.as_bytes() == other.as_bytes()
     }
 }
 

@@ -1,12 +1,13 @@
 //! Names, folded to lower case.
 
 ghost use Rattle.std.proofs.Common.{ap};
-ghost use Rattle.std.specs.Prelude.{◌≡◌, ◌≤◌, List, ℕ, length, take, bytes_eq, is_some, IfOk, IfSome, IsTrue};
+ghost use Rattle.std.specs.Prelude.{◌≡◌, ◌≤◌, List, ℕ, true, length, take, bytes_eq, is_some, IfOk, IfSome, IsTrue};
 ghost use Rattle.std.specs.Cmp.{partial_equiv_from_equiv};
 ghost use Rattle.std.specs.Cmp.Lexicographic.{bytes_decides, nat_list_eq_equiv};
 ghost use Rattle.std.specs.Hash as fed;
 ghost use Rattle.std.specs.List.{list_all};
 ghost use Rattle.pddl_token.specs.Names.{folded, name_of, name_byte, is_name, is_first_byte, is_later_byte};
+ghost use Rattle.pddl_token.specs.NameTexts.{letters_of};
 
 use crate::lent_name::LentName;
 use std::alloc::{AllocError, Allocator};
@@ -22,6 +23,18 @@ pub(crate) enum NameText<T> {
     /// So many of the bytes; zeros are behind them.
     Few(u8, [u8; FEW]),
     Many(T),
+}
+
+impl<T> NameText<T> {
+    /// Whether both texts lie in the values themselves, and these are the same, which is found by fewer steps than by going over the bytes in turn.
+    pub(crate) fn is_same_few(&self, other: &NameText<T>) -> bool
+        ensures { (bytes_of : T → List ℕ) → result ≡ true → letters_of bytes_of self.now ≡ letters_of bytes_of other.now }
+    {
+        match (self, other) {
+            (NameText::Few(n, a), NameText::Few(m, b)) => *n == *m && *a == *b,
+            _ => false,
+        }
+    }
 }
 
 /// A name: an ASCII letter, then letters, digits, `-` and `_`, its letters in lower case
@@ -155,7 +168,7 @@ impl<A: Allocator> PartialEq for Name<A> {
     ghost laws = { partial_equiv_from_equiv nat_list_eq_equiv };
 
     fn eq(&self, other: &Name<A>) -> bool {
-        self.as_bytes() == other.as_bytes()
+        self.text.is_same_few(&other.text) || self.as_bytes() == other.as_bytes()
     }
 }
 
