@@ -141,7 +141,7 @@ fn value_of<'a, B: Allocator>(
 }
 
 /// The item of `:init` of a list of these items.
-fn init_of_list<'a, B: Allocator>(
+pub fn init_of_list<'a, B: Allocator>(
     alloc: &'a B,
     items: &[Item<'_, &'a B>],
 ) -> Result<Option<InitItem<&'a B>>, AllocError>
@@ -169,7 +169,7 @@ fn init_of_list<'a, B: Allocator>(
 /// literals; that numbers are those in range is own).
 ///
 /// Fails where memory for it is refused.
-pub fn init_of<'a, B: Allocator>(
+fn init_of<'a, B: Allocator>(
     alloc: &'a B,
     item: &Item<'_, &'a B>,
 ) -> Result<Option<InitItem<&'a B>>, AllocError>

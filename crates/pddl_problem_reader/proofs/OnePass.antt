@@ -3,12 +3,16 @@ use Rattle.std.proofs.Common.{◌≡◌, ℕ, ◌≤◌, Bool, true, false, true
 use Rattle.std.specs.Prelude.{◌≢◌, IfOk, IsOk, OnOk, option_map}
 use Rattle.std.specs.Result.{result_ok}
 use Rattle.std.proofs.lemmas.List.{append_assoc, append-nil, map_push}
+use Rattle.pddl_token.specs.declared.token.Span.{Span}
 use Rattle.pddl_token.specs.declared.token.TokenKind.{TokenKind}
 use Rattle.pddl_token.specs.declared.token.TokenKind.TheVariants.{Open, Close, Keyword}
 use Rattle.pddl_token.specs.Spelling.{PlacedWord, Spells}
 use Rattle.pddl_token.specs.Trees.{Placed, placed_leaf, placed_node, placed_of, list_of, all_erased, erased}
 use Rattle.pddl_scan.specs.Scanning.{LexedTo}
 use Rattle.pddl_build.specs.Results.{PushesFound}
+use Rattle.pddl_items.specs.declared.item.Item.{Item}
+use Rattle.pddl_items.specs.Items.{item_view, items_view}
+use Rattle.pddl_items.specs.ItemTrees.{item_trees}
 use Rattle.pddl_items.specs.Inner.TreeReading.{both, all_of}
 use Rattle.pddl_items.proofs.TreeLists.{all_erased_list, list_of_trees_of}
 use Rattle.pddl_text.specs.Lists.{span_over, none, plain, nested}
@@ -19,7 +23,7 @@ use Rattle.pddl_file.specs.Inner.Begun.{HasBegun, words_of, ReadsSection}
 use Rattle.pddl_file.specs.Inner.WordReading.{key_by, key_of, nothing_seen, with_seen}
 use Rattle.pddl_file.proofs.Begun.{begun_on, begun_ends}
 use Rattle.pddl_problem.specs.Inits.{InitValue}
-use Rattle.pddl_init_reader.specs.Inner.InitReading.{init_at}
+use Rattle.pddl_init_reader.specs.Inner.InitReading.{init_at, init_of_list}
 use Rattle.pddl_problem_reader.specs.ProblemTexts.{init}
 use Rattle.pddl_problem_reader.specs.Inner.ProblemReading.{content_at, part_at, problem_readers}
 use Rattle.pddl_problem_reader.specs.Inner.Slots.{SlotsValue, no_slots, fill, FillsPart}
@@ -67,6 +71,11 @@ all_more f (z ∷ zs) x ys y e at = both_last (f z) (all_of (map f zs)) (all_of 
 map_through : {X Y Z : Type 0} (f : Y → Z) (g : X → Y) (xs : List X) → map f (map g xs) ≡ map (λ x. f (g x)) xs
 map_through f g [] = refl
 map_through f g (x ∷ xs) = ap (λ zs. f (g x) ∷ zs) (map_through f g xs)
+
+-- what a list says is what its items say
+pub list_says : {A : Type 0} (span : Span) (items : List (Item A)) (x : Option InitValue) → init_of_list (item_trees items) ≡ x → init_at (erased (placed_node span (placed_of (items_view items)))) ≡ x
+list_says span items x says =
+    ap init_of_list (ap list_of (all_erased_list (items_view items)) ∙ list_of_trees_of (map erased (items_view items)) ∙ map_through erased item_view items) ∙ says
 
 -- a keyword is no parenthesis
 not_kind : (w : PlacedWord) (kind other : TokenKind) → w.kind ≡ kind → kind ≢ other → w.kind ≢ other

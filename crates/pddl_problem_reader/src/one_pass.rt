@@ -5,7 +5,7 @@
 ghost use Rattle.std.specs.Prelude.{◌≡◌, ◌<◌, ◌≤◌, ◌++◌, ◌∷◌, [], Some, None, List, ℕ, map, length, IfOk, IfSome, IsOk, OnOk, codes};
 ghost use Rattle.pddl_token.specs.Spelling.{PlacedWord};
 ghost use Rattle.pddl_scan.specs.Scanning.{LexedTo};
-ghost use Rattle.pddl_items.specs.ItemTrees.{item_tree};
+ghost use Rattle.pddl_items.specs.ItemTrees.{item_trees};
 ghost use Rattle.pddl_items.specs.Items.{item_view};
 ghost use Rattle.pddl_sections.specs.Inner.Verdicts.{turn};
 ghost use Rattle.pddl_sections.specs.Inner.Answers.{first_missing};
@@ -13,21 +13,21 @@ ghost use Rattle.pddl_file.specs.Inner.Begun.{HasBegun};
 ghost use Rattle.pddl_file.specs.Inner.WordReading.{with_seen};
 ghost use Rattle.pddl_file.specs.declared.keyword.SectionKeyword.{SectionKeyword};
 ghost use Rattle.pddl_problem.specs.Inits.{InitValue, init_view};
-ghost use Rattle.pddl_init_reader.specs.Inner.InitReading.{init_at};
+ghost use Rattle.pddl_init_reader.specs.Inner.InitReading.{init_of_list};
 ghost use Rattle.pddl_problem_reader.specs.ProblemTexts.{init, required};
 ghost use Rattle.pddl_problem_reader.specs.Inner.ProblemReading.{problem_readers};
 ghost use Rattle.pddl_problem_reader.specs.Inner.Slots.{slots_view, no_slots, fill, FillsPart, has_slot};
-ghost use Rattle.pddl_problem_reader.specs.Inner.OnePass.{IsInitBehind, ReadsInits, FillsTurn, HoldsFile};
+ghost use Rattle.pddl_problem_reader.specs.Inner.OnePass.{IsInitBehind, OpensOrCloses, ReadsInits, FillsTurn, HoldsFile};
 
 use crate::section::Slots;
 use crate::section_reader::read_section;
 use pddl_build::{push_found, set_list};
 use pddl_file::{SectionKeyword, Seen, Stop, begin_file, end_behind, next_section, word_behind};
-use pddl_init_reader::init_of;
+use pddl_init_reader::init_of_list;
 use pddl_items::{Item, is_word};
 use pddl_problem::InitItem;
 use pddl_scan::LONGEST;
-use pddl_text::{DEEPEST, NextItem, next_item};
+use pddl_text::{DEEPEST, NextItem, add_list, next_token};
 use pddl_token::{Name, TokenKind};
 use std::alloc::Allocator;
 
@@ -47,22 +47,39 @@ fn init_behind(text: &[u8], from: usize) -> Option<usize>
     }
 }
 
-/// Adds what an item of `:init` says.
+/// Adds what an item of `:init` says that is a list of these items.
 fn add_init<'a, B: Allocator>(
     alloc: &'a B,
     inits: &mut Vec<InitItem<&'a B>, &'a B>,
-    item: Item<'_, &'a B>,
+    items: &[Item<'_, &'a B>],
 ) -> Result<(), Stop>
-    ensures { OnOk result ((x : InitValue) × (init_at (item_tree item.entry) ≡ Some x) × (map init_view inits.new.items ≡ map init_view inits.old.items ++ x ∷ [])) }
+    ensures { OnOk result ((x : InitValue) × (init_of_list (item_trees items.now) ≡ Some x) × (map init_view inits.new.items ≡ map init_view inits.old.items ++ x ∷ [])) }
 {
-    if push_found(inits, init_of(alloc, &item))? {
+    if push_found(inits, init_of_list(alloc, items))? {
         Ok(())
     } else {
         Err(Stop::Wrong)
     }
 }
 
-/// Puts what the items up to the end of `:init` say into an empty list.
+/// Where the next list begins behind a place, which moves behind its `(`; `None` where an end comes.
+fn next_opening(text: &[u8], at: &mut usize) -> Result<Option<u32>, Stop>
+    requires short { length text.now ≤ LONGEST }
+    ensures next { (words : List PlacedWord) → LexedTo text.now words at.old → IfOk result (OpensOrCloses text.now words at.new) }
+    ensures further { OnOk result ((at.old < at.new) × (at.new ≤ length text.now)) }
+{
+    let Some(token) = next_token(text, *at)? else {
+        return Err(Stop::Wrong);
+    };
+    *at = token.span.end as usize;
+    match token.kind {
+        TokenKind::Open => Ok(Some(token.span.start)),
+        TokenKind::Close => Ok(None),
+        _ => Err(Stop::Wrong),
+    }
+}
+
+/// Puts what the items up to the end of `:init` say into an empty list. One list after the other is read into the same memory.
 fn add_inits<'a, B: Allocator>(
     alloc: &'a B,
     inits: &mut Vec<InitItem<&'a B>, &'a B>,
@@ -74,14 +91,13 @@ fn add_inits<'a, B: Allocator>(
     ensures inits { (words : List PlacedWord) → LexedTo text.now words at.old → OnOk result (ReadsInits text.now words at.new (map init_view inits.new.items)) }
     ensures further { OnOk result ((at.old < at.new) × (at.new ≤ length text.now)) }
 {
-    let mut lists = Vec::new(alloc);
-    loop {
-        match next_item(alloc, text, at, DEEPEST - 2, &mut lists)? {
-            NextItem::Item(item) => add_init(alloc, inits, item)?,
-            NextItem::End(Some(_)) => return Ok(()),
-            NextItem::End(None) => return Err(Stop::Wrong),
-        }
+    let mut items = Vec::new(alloc);
+    while let Some(start) = next_opening(text, at)? {
+        items.clear();
+        add_list(alloc, text, at, DEEPEST - 2, &mut items, start)?;
+        add_init(alloc, inits, &items)?;
     }
+    Ok(())
 }
 
 /// Keeps what `:init` says, where that was read.

@@ -2,7 +2,7 @@
 
 ghost use Rattle.std.specs.Prelude.{◌≡◌, ◌<◌, ◌≤◌, ℕ, List, length, true, ◌==◌};
 ghost use Rattle.std.specs.List.{prefix_len};
-ghost use Rattle.std.specs.Char.{is_ascii_digit, is_ascii_alphabetic};
+ghost use Rattle.std.specs.Char.{is_ascii_digit, is_ascii_alphabetic, is_ascii_whitespace};
 ghost use Rattle.pddl_token.specs.Bytes.{begins, is_line_byte, is_word_byte};
 ghost use Rattle.pddl_token.specs.Number.{value_of};
 ghost use Rattle.pddl_scan.specs.Inner.Reading.{number_len, next_comment, next_number, next_by, next_of, IsGapAt, Reads};
@@ -151,7 +151,8 @@ fn scan(text: &[u8]) -> Next
 
 /// Whether a blank stands at the front, which is a gap by itself.
 pub fn begins_with_blank(text: &[u8]) -> bool
-    ensures { result ≡ true → IsGapAt 1 text.now }
+    ensures blank { result ≡ begins is_ascii_whitespace text.now }
+    ensures gap { result ≡ true → IsGapAt 1 text.now }
 {
     match text {
         [] => false,

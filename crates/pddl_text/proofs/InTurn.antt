@@ -1,6 +1,6 @@
 -- Items that are read one by one.
-use Rattle.std.proofs.Common.{◌≡◌, ℕ, suc, ◌-◌, ◌<◌, ◌≤◌, List, [], ◌∷◌, ◌++◌, length, take, drop, refl, ap, subst, ◌∙◌, arith}
-use Rattle.std.specs.Prelude.{Option, Some, None, Result, Ok, Err, IfOk}
+use Rattle.std.proofs.Common.{◌≡◌, ℕ, suc, ◌≤◌, List, [], ◌∷◌, ◌++◌, length, take, drop, refl, ap, subst, ◌∙◌, arith}
+use Rattle.std.specs.Prelude.{Option, None, Result, Ok, Err, IfOk}
 use Rattle.std.proofs.lemmas.List.{append_assoc, length-take, take-append-le, drop-append-le}
 use Rattle.pddl_token.specs.declared.token.TokenKind.TheVariants.{Open}
 use Rattle.pddl_token.specs.declared.token.Span.{Span}
@@ -10,31 +10,25 @@ use Rattle.pddl_scan.specs.declared.fault.TextFault.{TextFault}
 use Rattle.pddl_scan.specs.Scanning.{LexedTo}
 use Rattle.pddl_text.specs.Lists.{AreItems, none, nested}
 use Rattle.pddl_text.specs.Texts.{HasItems}
-use Rattle.pddl_text.specs.Inner.NextItems.{ReadsOn, ReadsItems, Closes}
-use Rattle.pddl_text.specs.declared.in_turn.NextItem.{NextItem}
-use Rattle.pddl_text.specs.declared.in_turn.NextItem.TheVariants.{Item, End}
+use Rattle.pddl_text.specs.Inner.NextItems.{ReadsItem, ReadsItems, ReadsList}
 
 -- a list's words, behind others
 regroup : (words : List PlacedWord) (opening : PlacedWord) (more : List PlacedWord) (closing : PlacedWord) → ((words ++ opening ∷ []) ++ more) ++ closing ∷ [] ≡ words ++ opening ∷ (more ++ closing ∷ [])
 regroup words opening more closing = append_assoc (words ++ opening ∷ []) more (closing ∷ []) ∙ append_assoc words (opening ∷ []) (more ++ closing ∷ [])
 
 -- a list whose items and end were read
-pub list_on : {A : Type 0} (text : List ℕ) (words : List PlacedWord) (opening : PlacedWord) (levels : ℕ) (items : List Placed) (start at : ℕ) (end : Option ℕ) (r : Result (NextItem A) TextFault)
-    → opening.kind ≡ Open → opening.span.start ≡ start → 0 < levels → ReadsItems text (words ++ opening ∷ []) (levels - 1) items at end → Closes items start end r → IfOk r (ReadsOn text words levels at)
-list_on text words opening levels items start at (Some e) (Ok (Item item)) is_open starts some (more, form, (w, is_close, ends, lexed)) is =
+pub list_read : (text : List ℕ) (words : List PlacedWord) (opening : PlacedWord) (levels : ℕ) (items : List Placed) (start at end : ℕ) → opening.kind ≡ Open → opening.span.start ≡ start
+    → ReadsList text (words ++ opening ∷ []) levels items at end → ReadsItem text words levels at (placed_node (record { start = start; end = end }) (placed_of items))
+list_read text words opening levels items start at end is_open starts (below, deep, (more, form, (w, is_close, ends, lexed))) =
     let own : Span = record { start = opening.span.start; end = w.span.end } in
-    let told : Span = record { start = start; end = e } in
+    let told : Span = record { start = start; end = end } in
     let same : own ≡ told = λ i. record { start = starts i; end = ends i } in
     let whole : List Placed = placed_node own (placed_of items) ∷ [] in
-    let list : AreItems (suc (levels - 1)) (opening ∷ (more ++ w ∷ [])) whole = nested opening w more [] items [] is_open is_close form none refl refl in
-    let deep : suc (levels - 1) ≡ levels = omega (arith, some) in (
+    let list : AreItems (suc below) (opening ∷ (more ++ w ∷ [])) whole = nested opening w more [] items [] is_open is_close form none refl refl in (
       opening ∷ (more ++ w ∷ []),
       subst (λ ws. LexedTo text ws at) (regroup words opening more w) lexed,
-      rw (is, ← same) (subst (λ n. AreItems n (opening ∷ (more ++ w ∷ [])) whole) deep list),
+      rw (← same) (subst (λ n. AreItems n (opening ∷ (more ++ w ∷ [])) whole) deep list),
     )
-list_on text words opening levels items start at (Some e) (Ok (End other)) is_open starts some read is = absurd is
-list_on text words opening levels items start at None (Ok next) is_open starts some read is = absurd is
-list_on text words opening levels items start at end (Err fault) is_open starts some read is = tt
 
 -- ---- what stands behind those that were there
 

@@ -8,13 +8,12 @@ use Rattle.pddl_token.specs.declared.token.Span.{Span}
 use Rattle.pddl_scan.specs.declared.fault.TextFault.TheVariants.{Unclosed}
 use Rattle.pddl_items.specs.declared.item.Item.{Item}
 use Rattle.pddl_text.specs.declared.nesting.OpenList.{OpenList}
-use Rattle.pddl_items.specs.declared.item.Item.TheOpen.{Item-F}
-use Rattle.pddl_items.specs.declared.item.Item.TheVariants.{Word as Leaf, List as Group, rolls-Word, rolls-List}
-use Rattle.pddl_items.specs.declared.item.Item.TheFolds.{fold-roll-Item}
+use Rattle.pddl_items.specs.declared.item.Item.TheVariants.{List as Group}
+use Rattle.pddl_items.proofs.TreeLists.{item_view_list}
 use Rattle.pddl_token.specs.declared.token.Token.{Token}
 use Rattle.pddl_token.specs.Spelling.{PlacedWord, view}
-use Rattle.pddl_token.specs.Trees.{Placed, placed_leaf, placed_node, placed_of}
-use Rattle.pddl_items.specs.Items.{item_step, item_view, items_view}
+use Rattle.pddl_token.specs.Trees.{Placed, placed_node, placed_of}
+use Rattle.pddl_items.specs.Items.{item_view, items_view}
 use Rattle.pddl_text.specs.Inner.Nesting.{Opened, Nest, with_item, next_nest, BeginWithin, inner_items, stack_of, nest_of, IsLeftOpen}
 
 -- as many open lists
@@ -53,14 +52,6 @@ begin_more (list ∷ outer) len more within le = (omega (arith, within.0, le), w
 -- of a popped list, where it begins, and so the outer lists
 pub begin_popped : (opened lists : List OpenList) (list : OpenList) (len : ℕ) → BeginWithin (reverse opened) len → opened ≡ lists ++ list ∷ [] → (list.begins ≤ len) × BeginWithin (reverse lists) list.begins
 begin_popped opened lists list len within opened_are = subst (λ t. BeginWithin t len) (ap reverse opened_are ∙ pushed_first lists list) within
-
--- a word as a tree
-pub item_view_word : (A : Type 0) (token : Token) → item_view {A = A} (Leaf token) ≡ placed_leaf (view token)
-item_view_word A token = ap item_view (sym (rolls-Word token)) ∙ fold-roll-Item _ Placed item_step (Item-F.Word token)
-
--- a list of items as a tree
-item_view_list : {A : Type 0} (inner : Vec (Item A) A) (span : Span) → item_view (Group inner span) ≡ placed_node span (placed_of (items_view inner.items))
-item_view_list inner span = ap item_view (sym (rolls-List inner span)) ∙ fold-roll-Item _ Placed item_step (Item-F.List inner span)
 
 -- an opening's list is pushed
 pub open_next : {A : Type 0} (opened lists : List OpenList) (items : List (Item A)) (list : OpenList) (w : PlacedWord) → w.kind ≡ Open → length opened < 128

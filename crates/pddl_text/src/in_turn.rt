@@ -4,8 +4,8 @@ ghost use Rattle.std.specs.Prelude.{◌≡◌, ◌<◌, ◌≤◌, ◌++◌, ◌
 ghost use Rattle.pddl_token.specs.declared.token.TokenKind.{TokenKind};
 ghost use Rattle.pddl_token.specs.Spelling.{PlacedWord};
 ghost use Rattle.pddl_scan.specs.Scanning.{LexedTo};
-ghost use Rattle.pddl_items.specs.Items.{items_view};
-ghost use Rattle.pddl_text.specs.Inner.NextItems.{EndsAt, ReadsOn, ReadsItems, IfRead, IfClosed, Closes};
+ghost use Rattle.pddl_items.specs.Items.{item_view, items_view};
+ghost use Rattle.pddl_text.specs.Inner.NextItems.{ReadsItem, ReadsOn, ReadsItems, ReadsList, IfRead, IfClosed};
 
 use crate::lexer::next_token;
 use pddl_items::Item;
@@ -30,7 +30,6 @@ pub enum NextItem<'t, A: Allocator> {
 /// # Errors
 ///
 /// Some fault of the text that stands in what is read, which need not be the first; [`TextFault::Memory`] where memory is refused.
-#[cycle(items)]
 pub fn next_item<'t, 'a, B: Allocator>(
     alloc: &'a B,
     text: &'t [u8],
@@ -48,7 +47,10 @@ pub fn next_item<'t, 'a, B: Allocator>(
     };
     *at = token.span.end as usize;
     match token.kind {
-        TokenKind::Open => next_list(alloc, text, at, levels, lists, token.span.start),
+        TokenKind::Open => {
+            let list = list_behind(alloc, text, at, levels, lists, token.span.start)?;
+            Ok(NextItem::Item(list))
+        }
         TokenKind::Close => Ok(NextItem::End(Some(token.span.end))),
         _ => Ok(NextItem::Item(Item::Word(token))),
     }
@@ -56,44 +58,51 @@ pub fn next_item<'t, 'a, B: Allocator>(
 
 /// The list whose `(` stands before a place, and began at another.
 #[cycle(items)]
-fn next_list<'t, 'a, B: Allocator>(
+fn list_behind<'t, 'a, B: Allocator>(
     alloc: &'a B,
     text: &'t [u8],
     at: &mut usize,
     levels: usize,
     lists: &mut Vec<Item<'t, &'a B>, &'a B>,
     start: u32,
-) -> Result<NextItem<'t, &'a B>, TextFault>
+) -> Result<Item<'t, &'a B>, TextFault>
     requires short { length text.now ≤ LONGEST }
-    ensures next { (words : List PlacedWord) (opening : PlacedWord) → opening.kind ≡ TokenKind.Open → opening.span.start ≡ start
-        → LexedTo text.now (words ++ opening ∷ []) at.old → IfOk result (ReadsOn text.now words levels at.new) }
-    ensures further { IfOk result (λ _. (at.old < at.new) × (at.new ≤ length text.now)) }
+    ensures list { (words : List PlacedWord) (opening : PlacedWord) → opening.kind ≡ TokenKind.Open → opening.span.start ≡ start
+        → LexedTo text.now (words ++ opening ∷ []) at.old → IfOk result (λ item. ReadsItem text.now words levels at.new (item_view item)) }
+    ensures further { OnOk result ((at.old < at.new) × (at.new ≤ length text.now)) }
     ensures lists { OnOk result (lists.new.items ≡ lists.old.items) }
+{
+    let begins = lists.len();
+    let end = add_list(alloc, text, at, levels, lists, start)?;
+    let items = lists.split_off(begins)?;
+    Ok(Item::List(items, Span { start, end }))
+}
+
+/// Puts the items of the list whose `(` stands before a place, and began at another, behind those of `items`. Answers where its `)` ends, and the place moves there.
+///
+/// # Errors
+///
+/// Those of [`next_item`].
+#[cycle(items)]
+pub fn add_list<'t, 'a, B: Allocator>(
+    alloc: &'a B,
+    text: &'t [u8],
+    at: &mut usize,
+    levels: usize,
+    items: &mut Vec<Item<'t, &'a B>, &'a B>,
+    start: u32,
+) -> Result<u32, TextFault>
+    requires short { length text.now ≤ LONGEST }
+    ensures list { (words : List PlacedWord) → LexedTo text.now words at.old
+        → IfOk result (ReadsList text.now words levels (items_view (drop (length items.old.items) items.new.items)) at.new) }
+    ensures before { OnOk result (take (length items.old.items) items.new.items ≡ items.old.items) }
+    ensures further { OnOk result ((at.old < at.new) × (at.new ≤ length text.now)) }
 {
     if levels == 0 {
         return Err(TextFault::TooDeep { at: start });
     }
-    let begins = lists.len();
-    let end = add_items(alloc, text, at, levels - 1, lists)?;
-    closed(lists, begins, start, end)
-}
-
-/// The list of the items from a place of a buffer on, where its end was read. They leave the buffer into memory for as much.
-fn closed<'t, 'a, B: Allocator>(
-    lists: &mut Vec<Item<'t, &'a B>, &'a B>,
-    begins: usize,
-    start: u32,
-    end: Option<u32>,
-) -> Result<NextItem<'t, &'a B>, TextFault>
-    requires { begins ≤ length lists.old.items }
-    ensures before { OnOk result (lists.new.items ≡ take begins lists.old.items) }
-    ensures closes { Closes (items_view (drop begins lists.old.items)) start end result }
-{
-    match end {
-        Some(end) => {
-            let items = lists.split_off(begins)?;
-            Ok(NextItem::Item(Item::List(items, Span { start, end })))
-        }
+    match add_items(alloc, text, at, levels - 1, items)? {
+        Some(end) => Ok(end),
         None => Err(TextFault::Unclosed { at: start }),
     }
 }
@@ -114,9 +123,17 @@ pub(crate) fn add_items<'t, 'a, B: Allocator>(
     ensures further { IfOk result (IfClosed ((at.old < at.new) × (at.new ≤ length text.now))) }
 {
     loop {
-        match next_item(alloc, text, at, levels, items)? {
-            NextItem::Item(item) => items.push(item)?,
-            NextItem::End(end) => return Ok(end),
+        let Some(token) = next_token(text, *at)? else {
+            return Ok(None);
+        };
+        *at = token.span.end as usize;
+        match token.kind {
+            TokenKind::Open => {
+                let list = list_behind(alloc, text, at, levels, items, token.span.start)?;
+                items.push(list)?
+            }
+            TokenKind::Close => return Ok(Some(token.span.end)),
+            _ => items.push(Item::Word(token))?,
         }
     }
 }

@@ -19,7 +19,7 @@ mod places;
 mod plan_lexer;
 mod texts;
 
-pub use in_turn::{NextItem, next_item};
+pub use in_turn::{NextItem, add_list, next_item};
 pub use lexer::{lex, next_token, one_spelling};
 pub use nesting::{DEEPEST, list_fault_behind, lists, one_nesting};
 pub use pieces::{levels_as_read, pieces_read_back, tree_reads_back};

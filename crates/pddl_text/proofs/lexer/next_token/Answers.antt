@@ -13,7 +13,7 @@ loop-at-preserved c = record {
 
 pub loop-at-preserved-then-begins_with_blank : goal.loop-at-preserved-then-begins_with_blank
 loop-at-preserved-then-begins_with_blank c = record {
-  lexed = λ words lexed. gap_lexed _ words c.loop-at.at 1 (c.loop-at.invariant.lexed words lexed) (subst (IsGapAt 1) c.split_at.ensures.back (c.begins_with_blank.ensures c.if-begins_with_blank.true));
+  lexed = λ words lexed. gap_lexed _ words c.loop-at.at 1 (c.loop-at.invariant.lexed words lexed) (subst (IsGapAt 1) c.split_at.ensures.back (c.begins_with_blank.ensures.gap c.if-begins_with_blank.true));
   further = omega (arith, c.loop-at.invariant.further);
 }
 

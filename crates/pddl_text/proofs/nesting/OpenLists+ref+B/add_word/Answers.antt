@@ -1,5 +1,6 @@
 use Rattle.std.proofs.Common.{reverse, length, arith, ◌∙◌, ap}
-use Rattle.pddl_text.proofs.Stacks.{item_added, item_view_word, begin_more}
+use Rattle.pddl_items.proofs.TreeLists.{item_view_word}
+use Rattle.pddl_text.proofs.Stacks.{item_added, begin_more}
 use Rattle.pddl_text.specs.Inner.Nesting.{nest_of, with_item}
 use Rattle.pddl_text.proofs.nesting.OpenLists+ref+B.add_word.Goals as goal
 
