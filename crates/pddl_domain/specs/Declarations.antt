@@ -4,7 +4,6 @@ use Rattle.pddl_token.specs.Trees.{Tree}
 use Rattle.pddl_token.specs.TreeWords.{list, SpellsName}
 use Rattle.pddl_formula.specs.Terms.{IsPredicate}
 use Rattle.pddl_formula.specs.TypedLists.{WithType, TypedValue, typed_view, IsTypeName, IsType, IsTypedList, AreTypedVariables}
-use Rattle.pddl_formula.specs.Groups.{AreGroupedBy}
 use Rattle.pddl_domain.specs.declared.declared_types.DeclaredType.{DeclaredType}
 use Rattle.pddl_domain.specs.declared.domain.DeclaredPredicate.{DeclaredPredicate}
 use Rattle.pddl_domain.specs.declared.domain.DeclaredFunction.{DeclaredFunction}
@@ -27,10 +26,6 @@ FunctionValue = WithType Signature (List (List ℕ))
 -- a declared type of the program without where it lies in memory
 abbrev pub type_view : {A : _} → DeclaredType A → TypeValue
 type_view t = record { item = t.name; of = t.parent.value }
-
--- a declared type that says so has the parent of the one before it, and the first does not say so
-abbrev pub AreGroupedTypes : {A : _} → List (DeclaredType A) → Type 0
-AreGroupedTypes ts = AreGroupedBy type_view (λ t. t.shares) ts
 
 -- a declared predicate without where it lies in memory
 abbrev pub predicate_view : {A : _} → DeclaredPredicate A → Signature

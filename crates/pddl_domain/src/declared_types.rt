@@ -2,10 +2,10 @@
 
 ghost use Rattle.std.specs.Prelude.{◌≡◌, ◌<◌, ◌-◌, true, [], ◌++◌, map, length, vec_len, OnOk, OnErr};
 ghost use Rattle.pddl_formula.specs.TypedLists.{of_type};
-ghost use Rattle.pddl_formula.specs.Groups.{HaveOneType};
-ghost use Rattle.pddl_domain.specs.Declarations.{type_view, AreGroupedTypes};
+ghost use Rattle.pddl_formula.specs.Groups.{HaveOneType, IsGrown};
+ghost use Rattle.pddl_domain.specs.Declarations.{type_view};
 
-use pddl_formula::TypeName;
+use pddl_formula::{Groups, TypeName};
 use std::alloc::{AllocError, Allocator};
 use std::marker::Model;
 use std::ops::DerefSlice;
@@ -16,8 +16,6 @@ use std::rc::Rc;
 pub struct DeclaredType<A: Allocator> {
     pub name: TypeName<A>,
     pub parent: Rc<TypeName<A>, A>,
-    /// Whether it is in a group with the type before it, whose parent it has.
-    pub(crate) shares: bool,
 }
 
 /// Declared types, each with its parent.
@@ -27,39 +25,34 @@ pub struct DeclaredType<A: Allocator> {
 #[derive(Drop)]
 pub struct DeclaredTypes<A: Allocator> {
     types: Vec<DeclaredType<A>, A>,
+    groups: Groups<A>,
 }
 
 impl<A: Allocator> Model for DeclaredTypes<A> {
-    ghost use Rattle.std.specs.Prelude.{Vec};
+    ghost use Rattle.std.specs.Prelude.{Vec, map};
     ghost use Rattle.pddl_domain.specs.declared.declared_types.DeclaredType.{DeclaredType};
-    ghost use Rattle.pddl_domain.specs.Declarations.{AreGroupedTypes};
+    ghost use Rattle.pddl_formula.specs.Groups.{AreGrouped};
+    ghost use Rattle.pddl_domain.specs.Declarations.{type_view};
 
     ghost Value = { Vec (DeclaredType A) A };
 
     ghost view = { λ t. t.types };
 
-    ghost invariant = { λ t. AreGroupedTypes t.types.items };
+    ghost invariant = { λ t. AreGrouped (map type_view t.types.items) t.groups };
 }
 
-/// Adds types below one parent.
+/// Adds types below one parent; some of them may be there where memory is refused.
 fn add_below<A: Allocator>(
     types: &mut Vec<DeclaredType<A>, A>,
     names: Vec<TypeName<A>, A>,
     parent: &Rc<TypeName<A>, A>,
 ) -> Result<(), AllocError>
-    requires { AreGroupedTypes types.old.items }
-    ensures grouped { AreGroupedTypes types.new.items }
     ensures added { OnOk result (map type_view types.new.items ≡ map type_view types.old.items ++ of_type names.items parent.now.value) }
+    ensures grown { IsGrown (map type_view types.old.items) (map type_view types.new.items) }
 {
-    let mut shares = false;
     for name in names {
         let parent = parent.clone()?;
-        types.push(DeclaredType {
-            name,
-            parent,
-            shares,
-        })?;
-        shares = true;
+        types.push(DeclaredType { name, parent })?;
     }
     Ok(())
 }
@@ -71,6 +64,7 @@ impl<'a, B: Allocator> DeclaredTypes<&'a B> {
     {
         DeclaredTypes {
             types: Vec::new(alloc),
+            groups: Groups::new(alloc),
         }
     }
 }
@@ -86,7 +80,9 @@ impl<A: Allocator> DeclaredTypes<A> {
     ) -> Result<(), AllocError>
         ensures { OnOk result (map type_view self.new.items ≡ map type_view self.old.items ++ of_type names.items parent.now.value) }
     {
-        add_below(&mut self.types, names, parent)
+        let first = self.types.len();
+        add_below(&mut self.types, names, parent)?;
+        self.groups.add(first, self.types.len())
     }
 
     /// Puts other types behind these, as groups of their own.
@@ -96,8 +92,14 @@ impl<A: Allocator> DeclaredTypes<A> {
         ensures ok { OnOk result (self.new.items ≡ self.old.items ++ other.items) }
         ensures kept { OnErr result (self.new.items ≡ self.old.items) }
     {
-        let mut other = other;
-        self.types.append(&mut other.types)
+        let DeclaredTypes { mut types, groups } = other;
+        let count = self.types.len();
+        self.groups.append(count, groups)?;
+        let appended = self.types.append(&mut types);
+        if appended.is_err() {
+            self.groups.truncate(count);
+        }
+        appended
     }
 
     /// How many types there are.
@@ -120,13 +122,7 @@ impl<A: Allocator> DeclaredTypes<A> {
         ensures later { result ≡ true → 0 < place }
         ensures same { result ≡ true → HaveOneType (map type_view self.now.items) (place - 1) place }
     {
-        if place == 0 {
-            return false;
-        }
-        match self.types.get(place) {
-            Some(declared) => declared.shares,
-            None => false,
-        }
+        self.groups.shares(place)
     }
 }
 

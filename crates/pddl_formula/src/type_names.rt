@@ -180,6 +180,4 @@ fn know_type_names<A: Allocator>(names: &[TypeName<A>])
 pub struct Typed<A: Allocator> {
     pub name: Name<A>,
     pub types: TypeNames<A>,
-    /// Whether it is in a group with the item before it, whose type it has.
-    pub(crate) shares: bool,
 }

@@ -2,8 +2,9 @@
 
 ghost use Rattle.std.specs.Prelude.{◌≡◌, ◌<◌, ◌-◌, true, [], ◌++◌, map, length, vec_len, OnOk, OnErr};
 ghost use Rattle.pddl_formula.specs.TypedLists.{typed_view, of_type};
-ghost use Rattle.pddl_formula.specs.Groups.{AreGrouped, HaveOneType};
+ghost use Rattle.pddl_formula.specs.Groups.{HaveOneType, IsGrown};
 
+use crate::groups::Groups;
 use crate::type_names::{TypeNames, Typed};
 use pddl_token::Name;
 use std::alloc::{AllocError, Allocator};
@@ -17,39 +18,34 @@ use std::ops::DerefSlice;
 #[derive(Drop)]
 pub struct TypedList<A: Allocator> {
     items: Vec<Typed<A>, A>,
+    groups: Groups<A>,
 }
 
 impl<A: Allocator> Model for TypedList<A> {
-    ghost use Rattle.std.specs.Prelude.{Vec};
+    ghost use Rattle.std.specs.Prelude.{Vec, map};
     ghost use Rattle.pddl_formula.specs.declared.type_names.Typed.{Typed};
+    ghost use Rattle.pddl_formula.specs.TypedLists.{typed_view};
     ghost use Rattle.pddl_formula.specs.Groups.{AreGrouped};
 
     ghost Value = { Vec (Typed A) A };
 
     ghost view = { λ t. t.items };
 
-    ghost invariant = { λ t. AreGrouped t.items.items };
+    ghost invariant = { λ t. AreGrouped (map typed_view t.items.items) t.groups };
 }
 
-/// Adds names of one type.
+/// Adds names of one type; some of them may be there where memory is refused.
 fn add_names<A: Allocator>(
     items: &mut Vec<Typed<A>, A>,
     names: Vec<Name<A>, A>,
     types: &TypeNames<A>,
 ) -> Result<(), AllocError>
-    requires { AreGrouped items.old.items }
-    ensures grouped { AreGrouped items.new.items }
     ensures added { OnOk result (map typed_view items.new.items ≡ map typed_view items.old.items ++ of_type names.items types.now) }
+    ensures grown { IsGrown (map typed_view items.old.items) (map typed_view items.new.items) }
 {
-    let mut shares = false;
     for name in names {
         let types = types.share()?;
-        items.push(Typed {
-            name,
-            types,
-            shares,
-        })?;
-        shares = true;
+        items.push(Typed { name, types })?;
     }
     Ok(())
 }
@@ -61,6 +57,7 @@ impl<'a, B: Allocator> TypedList<&'a B> {
     {
         TypedList {
             items: Vec::new(alloc),
+            groups: Groups::new(alloc),
         }
     }
 }
@@ -72,7 +69,9 @@ impl<A: Allocator> TypedList<A> {
     pub fn add(&mut self, names: Vec<Name<A>, A>, types: &TypeNames<A>) -> Result<(), AllocError>
         ensures { OnOk result (map typed_view self.new.items ≡ map typed_view self.old.items ++ of_type names.items types.now) }
     {
-        add_names(&mut self.items, names, types)
+        let first = self.items.len();
+        add_names(&mut self.items, names, types)?;
+        self.groups.add(first, self.items.len())
     }
 
     /// Puts the items of another list behind those of this one, as groups of their own.
@@ -82,8 +81,14 @@ impl<A: Allocator> TypedList<A> {
         ensures ok { OnOk result (self.new.items ≡ self.old.items ++ other.items) }
         ensures kept { OnErr result (self.new.items ≡ self.old.items) }
     {
-        let mut other = other;
-        self.items.append(&mut other.items)
+        let TypedList { mut items, groups } = other;
+        let count = self.items.len();
+        self.groups.append(count, groups)?;
+        let appended = self.items.append(&mut items);
+        if appended.is_err() {
+            self.groups.truncate(count);
+        }
+        appended
     }
 
     /// How many items there are.
@@ -106,13 +111,7 @@ impl<A: Allocator> TypedList<A> {
         ensures later { result ≡ true → 0 < place }
         ensures same { result ≡ true → HaveOneType (map typed_view self.now.items) (place - 1) place }
     {
-        if place == 0 {
-            return false;
-        }
-        match self.items.get(place) {
-            Some(item) => item.shares,
-            None => false,
-        }
+        self.groups.shares(place)
     }
 }
 

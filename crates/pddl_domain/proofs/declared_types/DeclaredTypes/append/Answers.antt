@@ -1,7 +1,21 @@
-use Rattle.std.proofs.Common.{is_ok}
-use Rattle.pddl_formula.proofs.Grouped.{grouped_if}
+use Rattle.std.proofs.Common.{map, sym, ◌∙◌}
+use Rattle.std.proofs.lemmas.List.{map-append}
 use Rattle.pddl_domain.specs.Declarations.{type_view}
+use Rattle.pddl_formula.proofs.Grouped.{many_seen, grouped_both, grouped_cut}
 use Rattle.pddl_domain.proofs.declared_types.DeclaredTypes.append.Goals as goal
 
 pub invariant_of-self : goal.invariant_of-self
-invariant_of-self g c = rw c.append.ensures.items (grouped_if type_view (λ t. t.shares) (is_ok c.append.result) c.self.inside.types.items c.other.inside.types.items c.self.invariant c.other.invariant)
+invariant_of-self g c i s = c.self.invariant i (c.in_err-append.ensures.kept i s)
+
+pub invariant_of-self-then-is_err : goal.invariant_of-self-then-is_err
+invariant_of-self-then-is_err g c =
+    rw (c.append-appended.ensures.items, c.if-is_err.ensures.negation)
+    (grouped_cut (map type_view c.self.inside.types.items) c.self.inside.groups c.other.inside.groups c.append.new.self c.truncate.new.self c.len-count.result c.self.invariant c.append.ensures.only c.truncate.ensures)
+
+pub invariant_of-self-else-is_err : goal.invariant_of-self-else-is_err
+invariant_of-self-else-is_err g c =
+    let types = c.self.inside.types in
+    let more = c.other.inside.types in
+    rw (c.append-appended.ensures.items, c.if-is_err.ensures.negation, map-append type_view types.items more.items)
+    (grouped_both (map type_view types.items) (map type_view more.items) c.self.inside.groups c.other.inside.groups c.append.new.self c.len-count.result c.self.invariant c.other.invariant
+    (many_seen type_view types ∙ sym c.len-count.ensures) c.append.ensures.only)
