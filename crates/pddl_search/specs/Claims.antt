@@ -1,16 +1,16 @@
 -- What an item of `:init` claims of a ground atom, or of a function of objects.
 use Rattle.std.specs.Prelude.{◌||◌, ℕ, Bool, true, false, List, Option, Some, None}
 use Rattle.std.specs.List.{list_any}
-use Rattle.pddl_problem.specs.Inits.{GroundValue, InitValue, holds, fails, value}
+use Rattle.pddl_problem.specs.Inits.{InitValue, fails, value}
 use Rattle.pddl_task.specs.Faults.{contradicts, revalues, starts_above_zero}
+use Rattle.pddl_search.specs.Grounds.{ClaimValue, claim_of}
 use Rattle.pddl_search.specs.declared.init.Claimed.{Claimed}
 use Rattle.pddl_search.specs.declared.init.Claimed.TheVariants.{Literals, Values}
 
--- what is claimed: an atom has 1 where it holds and 0 where it fails, a function of objects its value
-abbrev pub claim_in : Claimed → InitValue → Option (GroundValue × ℕ)
-claim_in Literals (holds f) = Some (f, 1)
-claim_in Literals (fails f) = Some (f, 0)
+-- what is claimed of atoms, or of functions of objects
+abbrev pub claim_in : Claimed → InitValue → Option ClaimValue
 claim_in Literals (value f n) = None
+claim_in Literals i = Some (claim_of i)
 claim_in Values (value f n) = Some (f, n)
 claim_in Values _ = None
 

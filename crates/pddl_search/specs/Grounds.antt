@@ -1,5 +1,5 @@
--- Predicates and functions of objects, as items of `:init` have them. Those that compare as equal are the same, which is what a table's keys have to show.
-use Rattle.std.specs.Prelude.{◌≡◌, true, bytes_eq}
+-- What items of `:init` claim of predicates and functions of objects. Those that compare as equal are the same, which is what a table's keys have to show.
+use Rattle.std.specs.Prelude.{◌≡◌, ℕ, Bool, true, bytes_eq}
 use Rattle.std.proofs.Common.{ap, ◌∙◌}
 use Rattle.std.specs.Cmp.{IsEquivalence, and_equiv, on_equiv, first_so, second_so}
 use Rattle.std.specs.Cmp.Lexicographic.{pointwise_decides, bytes_decides, lists_equiv, nat_list_eq_equiv}
@@ -7,14 +7,22 @@ use Rattle.pddl_problem.specs.Inits.{GroundValue, InitValue, holds, fails, value
 use Rattle.pddl_task.specs.Names.{same_names}
 use Rattle.pddl_task.specs.Faults.{same_ground}
 
--- the predicate or the function of an item, with its objects
-abbrev pub ground_in : InitValue → GroundValue
-ground_in (holds f) = f
-ground_in (fails f) = f
-ground_in (value f n) = f
+-- a claim: of what, and a number
+abbrev pub ClaimValue : Type 0
+ClaimValue = GroundValue × ℕ
 
-pub ground_equiv : IsEquivalence same_ground
-ground_equiv = and_equiv (on_equiv (λ (g : GroundValue). g.name) nat_list_eq_equiv) (on_equiv (λ (g : GroundValue). g.objects) (lists_equiv nat_list_eq_equiv))
+-- what an item claims: an atom has 1 where it holds and 0 where it fails, a function of objects its value
+abbrev pub claim_of : InitValue → ClaimValue
+claim_of (holds f) = (f, 1)
+claim_of (fails f) = (f, 0)
+claim_of (value f n) = (f, n)
+
+-- two claim something of the same
+abbrev pub same_claimed : ClaimValue → ClaimValue → Bool
+same_claimed c d = same_ground c.0 d.0
+
+pub claimed_equiv : IsEquivalence same_claimed
+claimed_equiv = and_equiv (on_equiv (λ (c : ClaimValue). c.0.name) nat_list_eq_equiv) (on_equiv (λ (c : ClaimValue). c.0.objects) (lists_equiv nat_list_eq_equiv))
 
 pub ground_is : (f g : GroundValue) → same_ground f g ≡ true → f ≡ g
 ground_is f g h =

@@ -6,12 +6,12 @@ ghost use Rattle.std.specs.Hash as fed;
 ghost use Rattle.std.proofs.Common.{ap};
 ghost use Rattle.pddl_problem.specs.Inits.{init_view};
 ghost use Rattle.pddl_task.specs.Names.{wrong_words};
-ghost use Rattle.pddl_task.specs.Faults.{same_ground, contradicts, init_name, clashing, wrong_values, starts_above_zero};
+ghost use Rattle.pddl_task.specs.Faults.{contradicts, init_name, clashing, wrong_values, starts_above_zero};
 ghost use Rattle.pddl_faults.specs.Passes.{fault_of, Passes};
 ghost use Rattle.pddl_search.specs.Claims.{claim_in, wrong_in, fault_number, is_failure};
-ghost use Rattle.pddl_search.specs.Grounds.{ground_in, ground_equiv, ground_is};
+ghost use Rattle.pddl_search.specs.Grounds.{claim_of, same_claimed, claimed_equiv, ground_is};
 
-use indexmap::IndexMap;
+use indexmap::IndexSet;
 use pddl_faults::LinkFault;
 use pddl_hash::Hashed;
 use pddl_problem::InitItem;
@@ -32,52 +32,11 @@ fn name_of<'d, A: Allocator>(item: &'d InitItem<A>) -> &'d [u8]
 
 /// The names of its objects.
 fn objects_of<'d, A: Allocator>(item: &'d InitItem<A>) -> &'d [Name<A>]
-    ensures { result.now ≡ (ground_in (init_view item.now)).objects }
+    ensures { result.now ≡ (claim_of (init_view item.now)).0.objects }
 {
     match item {
         InitItem::Holds(fact) | InitItem::Fails(fact) => &fact.objects,
         InitItem::Value(call, _) => &call.objects,
-    }
-}
-
-/// The predicate or the function of an item with the names of its objects, as a key of a table, which is no more than the item lent. Two are equal where their
-/// names are.
-#[derive(Drop)]
-struct Ground<'d, A: Allocator> {
-    item: &'d InitItem<A>,
-}
-
-impl<'d, A: Allocator> Model for Ground<'d, A> {
-    ghost use Rattle.pddl_problem.specs.Inits.{GroundValue, init_view};
-    ghost use Rattle.pddl_search.specs.Grounds.{ground_in};
-
-    ghost Value = { GroundValue };
-
-    ghost view = { λ g. ground_in (init_view g.item.now) };
-}
-
-impl<'d, A: Allocator> PartialEq for Ground<'d, A> {
-    ghost eq = { same_ground };
-
-    ghost laws = { partial_equiv_from_equiv ground_equiv };
-
-    fn eq(&self, other: &Ground<'d, A>) -> bool {
-        name_of(self.item) == name_of(other.item) && objects_of(self.item) == objects_of(other.item)
-    }
-}
-
-impl<'d, A: Allocator> Eq for Ground<'d, A> {
-    ghost laws = { ground_equiv };
-}
-
-impl<'d, A: Allocator> Hash for Ground<'d, A> {
-    ghost hash_input = { λ g. fed.slice fed.u8 g.name ++ fed.slice (fed.slice fed.u8) g.objects };
-
-    ghost respects_eq = { λ f g same. ap (λ h. fed.slice fed.u8 h.name ++ fed.slice (fed.slice fed.u8) h.objects) (ground_is f g same) };
-
-    fn hash<H: Hasher>(&self, state: &mut H) {
-        name_of(self.item).hash(state);
-        objects_of(self.item).hash(state);
     }
 }
 
@@ -88,17 +47,66 @@ enum Claimed {
     Values,
 }
 
-/// What an item claims: 1 of an atom that holds, 0 of one that fails, or the value of a function of objects in billionths.
-fn claim<'d, A: Allocator>(item: &'d InitItem<A>, kind: Claimed) -> Option<(Ground<'d, A>, u64)>
-    ensures { result ≡ claim_in kind (init_view item.now) }
-{
-    let number = match (kind, item) {
-        (Claimed::Literals, InitItem::Holds(_)) => 1,
-        (Claimed::Literals, InitItem::Fails(_)) => 0,
-        (Claimed::Values, InitItem::Value(_, amount)) => amount.billionths(),
-        _ => return None,
-    };
-    Some((Ground { item }, number))
+/// What an item claims, as a key of a table, which is no more than the item lent. Two are equal where the names of their predicates or functions and of their
+/// objects are, whatever is claimed.
+#[derive(Drop)]
+struct Claim<'d, A: Allocator> {
+    item: &'d InitItem<A>,
+}
+
+impl<'d, A: Allocator> Model for Claim<'d, A> {
+    ghost use Rattle.pddl_problem.specs.Inits.{init_view};
+    ghost use Rattle.pddl_search.specs.Grounds.{ClaimValue, claim_of};
+
+    ghost Value = { ClaimValue };
+
+    ghost view = { λ c. claim_of (init_view c.item.now) };
+}
+
+impl<'d, A: Allocator> PartialEq for Claim<'d, A> {
+    ghost eq = { same_claimed };
+
+    ghost laws = { partial_equiv_from_equiv claimed_equiv };
+
+    fn eq(&self, other: &Claim<'d, A>) -> bool {
+        name_of(self.item) == name_of(other.item) && objects_of(self.item) == objects_of(other.item)
+    }
+}
+
+impl<'d, A: Allocator> Eq for Claim<'d, A> {
+    ghost laws = { claimed_equiv };
+}
+
+impl<'d, A: Allocator> Hash for Claim<'d, A> {
+    ghost hash_input = { λ c. fed.slice fed.u8 c.0.name ++ fed.slice (fed.slice fed.u8) c.0.objects };
+
+    ghost respects_eq = { λ c d same. ap (λ g. fed.slice fed.u8 g.name ++ fed.slice (fed.slice fed.u8) g.objects) (ground_is c.0 d.0 same) };
+
+    fn hash<H: Hasher>(&self, state: &mut H) {
+        name_of(self.item).hash(state);
+        objects_of(self.item).hash(state);
+    }
+}
+
+impl<'d, A: Allocator> Claim<'d, A> {
+    /// What an item claims, where that is what is looked at.
+    fn of(item: &'d InitItem<A>, kind: Claimed) -> Option<Claim<'d, A>>
+        ensures { result ≡ claim_in kind (init_view item.now) }
+    {
+        let is_claimed = matches!(item, InitItem::Value(..)) == matches!(kind, Claimed::Values);
+        is_claimed.then_some(Claim { item })
+    }
+
+    /// 1 of an atom that holds, 0 of one that fails, or the value of a function of objects in billionths.
+    fn number(&self) -> u64
+        ensures { result ≡ self.now.1 }
+    {
+        match self.item {
+            InitItem::Holds(_) => 1,
+            InitItem::Fails(_) => 0,
+            InitItem::Value(_, amount) => amount.billionths(),
+        }
+    }
 }
 
 /// The fault of an item that is wrong.
@@ -122,17 +130,18 @@ fn starts_above_zero<A: Allocator>(item: &InitItem<A>) -> bool
 
 /// Adds what is claimed. No item claims another number than one before it, and none a total cost above 0.
 fn add_claims<'d, 'a, A: Allocator, B: Allocator>(
-    claims: &mut IndexMap<Ground<'d, A>, u64, Hashed, &'a B>,
+    claims: &mut IndexSet<Claim<'d, A>, Hashed, &'a B>,
     init: &'d [InitItem<A>],
     kind: Claimed,
 ) -> Result<(), LinkFault<'d>>
-    requires { claims.old.entries ≡ [] }
+    requires { claims.old.keys ≡ [] }
     ensures { Passes (fault_number kind) (wrong_words (wrong_in kind) init_name [] (map init_view init.now)) result }
 {
     for item in init {
-        if let Some((ground, number)) = claim(item, kind) {
-            let before = claims.insert(ground, number)?.unwrap_or(number);
-            if number != before || starts_above_zero(item) {
+        if let Some(claim) = Claim::of(item, kind) {
+            let number = claim.number();
+            let (place, _) = claims.insert_full(claim)?;
+            if number != claims[place].number() || starts_above_zero(item) {
                 return Err(wrong_item(item, kind));
             }
         }
@@ -149,7 +158,7 @@ fn claims_agree<'d, 'a, A: Allocator, B: Allocator>(
 ) -> Result<(), LinkFault<'d>>
     ensures { Passes (fault_number kind) (wrong_words (wrong_in kind) init_name [] (map init_view init.now)) result }
 {
-    let mut claims = IndexMap::with_hasher(alloc, hashed);
+    let mut claims = IndexSet::with_hasher(alloc, hashed);
     add_claims(&mut claims, init, kind)
 }
 

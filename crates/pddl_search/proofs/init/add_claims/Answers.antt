@@ -1,32 +1,29 @@
-use Rattle.std.proofs.Common.{◌≡◌, true, ◌||◌, refl, sym, ◌∙◌}
+use Rattle.std.proofs.Common.{◌≡◌, true, false, ◌||◌, refl, sym, ◌∙◌, arith}
+use Rattle.std.proofs.Math.Bool.{or-true}
+use Rattle.std.proofs.lemmas.Bool.Decides.{nat_tests}
 use Rattle.pddl_problem.specs.Inits.{init_view}
 use Rattle.pddl_task.specs.Faults.{starts_above_zero}
-use Rattle.pddl_task.proofs.Lists.{or_left, or_right, or_none}
-use Rattle.pddl_search.proofs.InitClaims.{unequal, unequal_yes, unequal_no, told_before, checked_start, checked_none, checked_wrong, checked_more}
+use Rattle.pddl_search.proofs.InitClaims.{unequal, checked_start, checked_none, checked_wrong, checked_more}
 use Rattle.pddl_search.proofs.init.add_claims.Goals as goal
-use Rattle.pddl_search.proofs.init.add_claims.Goals.{then-number-before-via-then-number-before, then-number-before-via-else-number-before+then-starts_above_zero, in-Some+in_ok-insert+else-number-before+else-starts_above_zero, in_default}
+use Rattle.pddl_search.proofs.init.add_claims.Goals.{then-number-via-then-number, then-number-via-else-number+then-starts_above_zero, in-Some+in_ok-place+else-number+else-starts_above_zero, in_default}
 
 pub loop-item-init : goal.loop-item-init
-loop-item-init g c = checked_start c.args.claims.now.entries c.requires
+loop-item-init g c = checked_start c.args.claims.now.keys c.requires
 
-pub returns-then-number-before : goal.returns-then-number-before
-returns-then-number-before g c =
-    let x = init_view c.item-item.result in
-    let differs = unequal c.in-Some.number c.unwrap_or-before.result in
-    let wrong : differs || starts_above_zero x ≡ true = elim c.then-number-before.branch [
-      | then-number-before-via-then-number-before w ↦ or_left differs (starts_above_zero x) (unequal_yes c.in-Some.number c.unwrap_or-before.result w.if-number-before.true)
-      | then-number-before-via-else-number-before+then-starts_above_zero w ↦ or_right differs (starts_above_zero x) (sym w.starts_above_zero.ensures ∙ w.if-starts_above_zero.true)
+pub returns-then-number : goal.returns-then-number
+returns-then-number g c =
+    let wrong : unequal c.in-Some.claim.1 c.index.result.now.1 || starts_above_zero (init_view c.item-item.result) ≡ true = elim c.then-number.branch [
+      | then-number-via-then-number w ↦ grind (arith, nat_tests, w.if-number.true, c.number-number.ensures, c.number.ensures)
+      | then-number-via-else-number+then-starts_above_zero w ↦ rw (sym w.starts_above_zero.ensures ∙ w.if-starts_above_zero.true, or-true) refl
     ] in
-    let before_is = told_before c.loop-item.claims.entries c.in-Some.ground c.in-Some.number c.unwrap_or-before.result c.in_ok-insert.field-0 c.unwrap_or-before.ensures c.in_ok-insert.ensures.old in
-    rw c.wrong_item.ensures (refl, checked_wrong c.loop-item-test.true c.item-item.is c.loop-item.invariant (sym c.claim.ensures ∙ c.in-Some.is) before_is wrong)
+    rw c.wrong_item.ensures (refl, checked_wrong c.loop-item-test.true c.item-item.is c.loop-item.invariant (sym c.of.ensures ∙ c.in-Some.is) c.in_ok-place.ensures.keys c.in_ok-place.ensures.index c.index.ensures wrong)
 
 pub loop-item-preserved : goal.loop-item-preserved
 loop-item-preserved g c =
-    elim c.match-claim.branch [
-      | in-Some+in_ok-insert+else-number-before+else-starts_above_zero w ↦
-          let right = or_none (unequal w.in-Some.number w.unwrap_or-before.result) (starts_above_zero (init_view c.item-item.result)) (unequal_no w.in-Some.number w.unwrap_or-before.result w.if-number-before.false)
-          (sym w.starts_above_zero.ensures ∙ w.if-starts_above_zero.false) in
-          let before_is = told_before c.loop-item.claims.entries w.in-Some.ground w.in-Some.number w.unwrap_or-before.result w.in_ok-insert.field-0 w.unwrap_or-before.ensures w.in_ok-insert.ensures.old in
-          rw w.claims-is (checked_more c.loop-item-test.true c.item-item.is c.loop-item.invariant (sym c.claim.ensures ∙ w.in-Some.is) before_is w.insert.new.self.entries right w.in_ok-insert.ensures.updates.0)
-      | in_default w ↦ rw w.claims-is (checked_none c.loop-item-test.true c.item-item.is c.loop-item.invariant (sym c.claim.ensures ∙ w.in_default.is))
+    elim c.match-of.branch [
+      | in-Some+in_ok-place+else-number+else-starts_above_zero w ↦
+          let right : unequal w.in-Some.claim.1 w.index.result.now.1 || starts_above_zero (init_view c.item-item.result) ≡ false =
+          grind (arith, nat_tests, w.if-number.false, w.number-number.ensures, w.number.ensures, w.starts_above_zero.ensures, w.if-starts_above_zero.false) in
+          rw w.claims-is (checked_more c.loop-item-test.true c.item-item.is c.loop-item.invariant (sym c.of.ensures ∙ w.in-Some.is) w.in_ok-place.ensures.keys w.in_ok-place.ensures.index w.index.ensures right)
+      | in_default w ↦ rw w.claims-is (checked_none c.loop-item-test.true c.item-item.is c.loop-item.invariant (sym c.of.ensures ∙ w.in_default.is))
     ]

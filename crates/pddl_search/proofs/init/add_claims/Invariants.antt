@@ -3,4 +3,4 @@ use Rattle.pddl_search.proofs.InitClaims.{Checked}
 use Rattle.pddl_search.proofs.init.add_claims.Given as goal
 
 abbrev pub invariant-loop-item : goal.invariant-loop-item
-invariant-loop-item g l = Checked init_view l.kind l.init l.item-index l.claims.entries
+invariant-loop-item g l = Checked init_view l.kind l.init l.item-index l.claims.keys
