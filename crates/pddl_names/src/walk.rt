@@ -5,7 +5,7 @@
 ghost use Rattle.std.specs.Prelude.{◌≡◌, [], map, option_map};
 ghost use Rattle.std.specs.List.{flat_map};
 ghost use Rattle.pddl_formula.specs.Formulas.{formula_view, formulas_of};
-ghost use Rattle.pddl_effect.specs.Effects.{effect_view, effects_of};
+ghost use Rattle.pddl_effect.specs.Effects.{amount_view, effect_view, effects_of, increase};
 ghost use Rattle.pddl_domain.specs.Actions.{action_view};
 ghost use Rattle.pddl_problem.specs.Inits.{init_view, metric_view};
 ghost use Rattle.pddl_problem.specs.Problems.{problem_view};
@@ -19,7 +19,7 @@ use crate::known::Known;
 use crate::uses::{enter, look};
 use indexmap::IndexSet;
 use pddl_domain::Action;
-use pddl_effect::Effect;
+use pddl_effect::{Amount, Effect};
 use pddl_faults::{LinkFault, lower, once};
 use pddl_formula::Formula;
 use pddl_hash::Hashed;
@@ -79,6 +79,21 @@ fn search_formulas<'k, 'm, 'a, A: Allocator, B: Allocator>(
     found
 }
 
+/// Searches an increase of the costs.
+fn search_increase<'k, 'm, 'a, 'd, A: Allocator, B: Allocator>(
+    known: &Known<'k, 'm, 'a, A, B>,
+    told: &mut Told<'m, 'a, A, B>,
+    scope: &Scope<'m, 'a, A, B>,
+    amount: &'d Amount<A>,
+) -> Result<(), LinkFault<'d>>
+    requires { AreAllTold known.now told.old scope.now }
+    ensures kept { told.new ≡ told.old }
+    ensures found { IsFound (flat_map (faults_by known.now) (effect_places (increase (amount_view amount.now)) (bound_in scope.now))) result }
+{
+    let cost = look(known, told, scope, &Part::total_cost());
+    lower(cost, look(known, told, scope, &Part::of_amount(amount)))
+}
+
 /// Searches an effect.
 #[cycle(effects)]
 fn search_effect<'k, 'm, 'a, A: Allocator, B: Allocator>(
@@ -105,10 +120,7 @@ fn search_effect<'k, 'm, 'a, A: Allocator, B: Allocator>(
             lower(condition, search_effect(known, told, scope, inner))
         }
         Effect::Add(atom) | Effect::Del(atom) => look(known, told, &*scope, &Part::of_atom(atom)),
-        Effect::Increase(amount) => {
-            let cost = look(known, told, &*scope, &Part::total_cost());
-            lower(cost, look(known, told, &*scope, &Part::of_amount(amount)))
-        }
+        Effect::Increase(amount) => search_increase(known, told, &*scope, amount),
     }
 }
 

@@ -1,5 +1,5 @@
 -- Tables of what is declared, as it is put into them one after another, and the types of parameters.
-use Rattle.std.proofs.Common.{◌≡◌, ◌≤◌, ℕ, Bool, true, false, ◌||◌, cond, List, [], ◌∷◌, ◌++◌, map, length, Option, Some, None, refl, ap, sym, ◌∙◌, subst, bytes_eq, append_assoc, arith}
+use Rattle.std.proofs.Common.{◌≡◌, ◌≤◌, ℕ, Bool, true, false, not, ◌||◌, cond, List, [], ◌∷◌, ◌++◌, map, length, Option, Some, None, refl, ap, sym, ◌∙◌, subst, bytes_eq, append_assoc, arith}
 use Rattle.std.specs.Prelude.{is_some, find, slice_get}
 use Rattle.std.specs.Borrow.{Bor}
 use Rattle.std.specs.Map.{lookup}
@@ -31,6 +31,10 @@ use Rattle.pddl_types.proofs.ToldTypes.{slots_still, slots_more}
 pub none_found : {X : Type 0} (o : Option X) → is_some o ≡ false → o ≡ None
 none_found None h = refl
 none_found (Some x) h = cc
+
+turned : (b c : Bool) → c ≡ not b → not c ≡ b
+turned true c is = ap not is
+turned false c is = ap not is
 
 -- one that is found stays so with one more
 found_still : {X : Type 0} (o : Option X) (b : Bool) (x : X) → (b ≡ true → is_some o ≡ true) → option_or o (cond b (Some x) None) ≡ o
@@ -104,12 +108,12 @@ module _ {A B S : Type 0} (m : IndexMap (Bor (List ℕ)) (Slots A B) S) {before 
       sym (is_among seen g.name) ∙ sym (ap is_some (have.first.first g.name)) ∙ is_among (map signature_in m.entries) g.name ∙ sym (is_symbol m.entries g.name)
       ∙ ap (λ n. is_some (lookup (λ j. bytes_eq n j.now) m.entries)) (sym name) ∙ sym is
 
-  pub put_old : true ≡ is_some (lookup (λ j. bytes_eq k.now j.now) m.entries) → (is_in (map symbol_of seen) g.name ≡ true) × HaveFirst after m.entries (seen ++ g ∷ [])
+  put_old : true ≡ is_some (lookup (λ j. bytes_eq k.now j.now) m.entries) → (is_in (map symbol_of seen) g.name ≡ true) × HaveFirst after m.entries (seen ++ g ∷ [])
   put_old is =
       let there = seen_there true is in (there, record { first = first_still have.first g there; slots = slots_still before after m.entries kept have.slots })
 
   -- a new name comes last
-  pub put_new : (v : Slots A B) (next : Rows A B) → false ≡ is_some (lookup (λ j. bytes_eq k.now j.now) m.entries) → next ≡ insert_entry (λ a b. bytes_eq a.now b.now) m.entries k v
+  put_new : (v : Slots A B) (next : Rows A B) → false ≡ is_some (lookup (λ j. bytes_eq k.now j.now) m.entries) → next ≡ insert_entry (λ a b. bytes_eq a.now b.now) m.entries k v
       → map typed_view v.parameters.now ≡ g.parameters → IsSlotsAt after v → (is_in (map symbol_of seen) g.name ≡ false) × HaveFirst after next (seen ++ g ∷ [])
   put_new v next none put parameters at =
       let new = seen_there false none in
@@ -122,6 +126,14 @@ module _ {A B S : Type 0} (m : IndexMap (Bor (List ℕ)) (Slots A B) S) {before 
           slots = slots_more before after m.entries (k, v) kept have.slots at;
         }),
       )
+
+  pub put_where_new : (v : Slots A B) (next : Rows A B) (is_new : Bool) → is_new ≡ not (is_some (lookup (λ j. bytes_eq k.now j.now) m.entries))
+      → next ≡ cond is_new (insert_entry (λ a b. bytes_eq a.now b.now) m.entries k v) m.entries → map typed_view v.parameters.now ≡ g.parameters → IsSlotsAt after v
+      → (is_in (map symbol_of seen) g.name ≡ not is_new) × HaveFirst after next (seen ++ g ∷ [])
+  put_where_new v next true is put parameters at = put_new v next (turned (is_some (lookup (λ j. bytes_eq k.now j.now) m.entries)) true is) put parameters at
+  put_where_new v next false is put parameters at =
+      let (there, have) = put_old (turned (is_some (lookup (λ j. bytes_eq k.now j.now) m.entries)) false is) in
+      (there, subst (λ (rows : Rows A B). HaveFirst after rows (seen ++ g ∷ [])) (sym put) have)
 
 -- ---- the types of the parameters of actions
 

@@ -4,6 +4,7 @@
 #![tactic(auto)]
 
 mod declared;
+mod entries;
 mod fitting;
 mod listed;
 mod signatures;

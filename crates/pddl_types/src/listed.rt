@@ -22,11 +22,12 @@ use std::alloc::{AllocError, Allocator};
 /// Objects by name, each as it is listed with its type.
 pub type Objects<'m, 'a, A, B> = IndexMap<LentName<'m>, &'m Typed<A>, Hashed, &'a B>;
 
-/// Constants and then objects by name, in the order in which they are listed, each at its first place, and for each the number at which its type is told.
+/// Constants and then objects by name, in the order in which they are listed, each at its first place, and for each the number at which its type is told,
+/// in four bytes.
 #[derive(Drop)]
 pub struct Listed<'m, 'a, A: Allocator, B: Allocator> {
     pub objects: Objects<'m, 'a, A, B>,
-    pub types: Vec<usize, &'a B>,
+    pub types: Vec<u32, &'a B>,
 }
 
 impl<'m, 'a, A: Allocator, B: Allocator> Listed<'m, 'a, A, B> {
@@ -44,7 +45,10 @@ impl<'m, 'a, A: Allocator, B: Allocator> Listed<'m, 'a, A, B> {
     fn type_at(&self, object: usize) -> Option<usize>
         ensures { result ≡ slice_get self.now.types.items object }
     {
-        self.types.get(object).copied()
+        match self.types.get(object) {
+            Some(number) => Some(*number as usize),
+            None => None,
+        }
     }
 
     /// Makes room for so many more objects.
@@ -57,7 +61,7 @@ impl<'m, 'a, A: Allocator, B: Allocator> Listed<'m, 'a, A, B> {
 
     /// Adds an object whose type is told at a number, where its name is new. Answers whether the first of its name has this type.
     ///
-    /// Fails where memory for it is refused.
+    /// Fails where memory for it is refused, or where no `u32` has its number.
     fn put(&mut self, object: &'m Typed<A>, number: usize) -> Result<bool, AllocError>
         ensures { (told : ToldValue) (seen : List TypedValue) → AreDistinct told → IsAt told object.now.types number → AreSeen told seen self.old
             → IfOk result (λ right. (is_off seen (typed_view object.now) ≡ not right) × AreSeen told (seen ++ typed_view object.now ∷ []) self.new) }
@@ -66,6 +70,9 @@ impl<'m, 'a, A: Allocator, B: Allocator> Listed<'m, 'a, A, B> {
         if let Some(place) = self.objects.get_index_of(&name) {
             return Ok(self.type_at(place) == Some(number));
         }
+        let Ok(number) = u32::try_from(number) else {
+            return Err(AllocError);
+        };
         self.objects.insert(name, object)?;
         self.types.push(number)?;
         Ok(true)
@@ -134,7 +141,7 @@ impl<'m, 'a, A: Allocator, B: Allocator> Listed<'m, 'a, A, B> {
         let types = self.types.as_slice();
         let mut numbers = Vec::with_capacity(*self.types.allocator(), types.len())?;
         for number in types {
-            numbers.push(told.first_at(*number))?;
+            numbers.push(told.first_at(*number as usize))?;
         }
         ObjectOrder::of(numbers)
     }

@@ -13,6 +13,7 @@ ghost use Rattle.pddl_types.specs.Told.{AreTold, AreKept, unknown_among};
 ghost use Rattle.pddl_types.specs.KnownNames.{action_signature};
 ghost use Rattle.pddl_types.specs.Signatures.{HaveFirst};
 
+use crate::entries::put_new;
 use crate::told::Told;
 use crate::types::Types;
 use indexmap::IndexMap;
@@ -102,16 +103,11 @@ fn put_one<'m, 'a, A: Allocator, B: Allocator, D: Declares<A>>(
 {
     let parameters = declared.parameters();
     let numbers = told.tell_all(*table.allocator(), types, parameters)?;
-    let name = declared.name();
-    if table.contains_key(name) {
-        return Ok(false);
-    }
     let slots = Slots {
         parameters: parameters.as_slice(),
         numbers,
     };
-    table.insert(name, slots)?;
-    Ok(true)
+    Ok(put_new(table, declared.name(), slots)?)
 }
 
 /// Puts what is declared into an empty table, and tells the types of parameters. Answers the fault of a name that stands twice.

@@ -1,12 +1,14 @@
 //! The types that are written in files, by number, with the tops of their primitives.
 
-ghost use Rattle.std.specs.Prelude.{◌≡◌, [], ℕ, List, map, filter, not, IfOk, OnOk};
+ghost use Rattle.std.specs.Prelude.{◌≡◌, [], ℕ, List, None, map, filter, not, position, IfOk, OnOk};
+ghost use Rattle.std.specs.Map.{keys_of};
 ghost use Rattle.pddl_formula.specs.TypedLists.{typed_view};
-ghost use Rattle.pddl_task.specs.Names.{is_in};
+ghost use Rattle.pddl_task.specs.Names.{is_in, same_names};
 ghost use Rattle.pddl_task.specs.Types.{types_of, pairs, fits};
 ghost use Rattle.pddl_faults.specs.Passes.{Passes};
 ghost use Rattle.pddl_types.specs.Told.{told_in, tops_at, first_at, IsAt, AreAt, AreTold, AreKept, unknown_among};
 
+use crate::entries::put;
 use crate::types::Types;
 use indexmap::IndexMap;
 use pddl_faults::LinkFault;
@@ -50,6 +52,30 @@ fn tops_at<'m, 'a, 't, A: Allocator, B: Allocator>(
     }
 }
 
+/// Tells a type that is not told yet, and answers its number.
+///
+/// # Errors
+///
+/// `LinkFault::UnknownType` of the first primitive that is no type; `Memory` where memory for the tops is refused.
+fn tell_new<'m, 'a, A: Allocator, B: Allocator>(
+    told: &mut IndexMap<&'m TypeNames<A>, Vec<Span, &'a B>, Hashed, &'a B>,
+    types: &Types<'m, 'a, A, B>,
+    names: &'m TypeNames<A>,
+) -> Result<usize, LinkFault<'m>>
+    requires told { AreTold types.now (told_in told.old.entries) }
+    requires new { None ≡ position (λ t. same_names names.now t.now) (keys_of told.old.entries) }
+    ensures told { AreTold types.now (told_in told.new.entries) }
+    ensures kept { AreKept (told_in told.old.entries) (told_in told.new.entries) }
+    ensures passes { Passes 23 (filter (λ t. not (is_in (types_of types.now.declared) t)) names.now) result }
+    ensures number { IfOk result (IsAt (told_in told.new.entries) names.now) }
+{
+    types.known(names)?;
+    let number = told.len();
+    let tops = types.tops(*told.allocator(), names);
+    put(told, names, tops)?;
+    Ok(number)
+}
+
 impl<'m, 'a, A: Allocator, B: Allocator> Told<'m, 'a, A, B> {
     /// No types.
     pub fn new(alloc: &'a B, hashed: Hashed) -> Told<'m, 'a, A, B>
@@ -77,14 +103,10 @@ impl<'m, 'a, A: Allocator, B: Allocator> Told<'m, 'a, A, B> {
         ensures passes { Passes 23 (filter (λ t. not (is_in (types_of types.now.declared) t)) names.now) result }
         ensures number { IfOk result (IsAt self.new names.now) }
     {
-        if let Some(number) = self.types.get_index_of(&names) {
-            return Ok(number);
+        match self.types.get_index_of(&names) {
+            Some(number) => Ok(number),
+            None => tell_new(&mut self.types, types, names),
         }
-        types.known(names)?;
-        let tops = types.tops(*self.types.allocator(), names)?;
-        let number = self.types.len();
-        self.types.insert(names, tops)?;
-        Ok(number)
     }
 
     /// Tells the types of a list's items, each once for a group, and puts their numbers into an empty list.

@@ -1,14 +1,14 @@
-use Rattle.std.proofs.Common.{[], ◌∷◌, ◌∙◌, map, refl, ap, inl, inr, arith}
+use Rattle.std.proofs.Common.{◌∙◌, map, refl, ap, inl, inr, arith}
 use denote.Param.Weighed.{most}
 use Rattle.std.proofs.lemmas.Result.{err_from_is_err_and}
 use Rattle.pddl_formula.specs.TypedLists.{typed_view}
-use Rattle.pddl_effect.specs.Effects.{amount_view, effect_view, effects_of}
+use Rattle.pddl_effect.specs.Effects.{effect_view, effects_of}
 use Rattle.pddl_formula.specs.Formulas.{formula_view}
 use Rattle.pddl_effect.proofs.effect.Effect.TheLaws.{the_size}
 use Rattle.pddl_formula.proofs.Depths.{among}
 use Rattle.pddl_effect.proofs.Depths.{under_all, under_each, under_when}
 use Rattle.pddl_effect.proofs.Views.{view_add, view_del, view_when, view_forall, view_increase}
-use Rattle.pddl_task.specs.Places.{places_in, effect_places, effects_places, binding, at, calls, bare, total_cost, amount_part}
+use Rattle.pddl_task.specs.Places.{places_in, effect_places, effects_places, binding}
 use Rattle.pddl_faults.proofs.FoundFaults.{up_to_none}
 use Rattle.pddl_search.specs.Scopes.{bound_in}
 use Rattle.pddl_names.specs.Uses.{faults_by}
@@ -25,18 +25,14 @@ search_effect-returns-in-When-clause-found g t c =
 
 pub search_effect-returns-in-Add-clause-found : goal.search_effect-returns-in-Add-clause-found
 search_effect-returns-in-Add-clause-found g t c =
-    let found = rw c.of_atom.ensures at c.look-in-Add.ensures.found in
+    let found = rw c.of_atom.ensures at c.look.ensures.found in
     elim c.in-Add.is [
       | inl here ↦ rw (here, view_add c.in-Add.atom) found
       | inr here ↦ rw (here, view_del c.in-Add.atom) found
     ]
 
 pub search_effect-returns-in-Increase-clause-found : goal.search_effect-returns-in-Increase-clause-found
-search_effect-returns-in-Increase-clause-found g t c =
-    let b = bound_in c.args.scope.now in
-    rw (c.in-Increase.is, view_increase c.in-Increase.amount)
-    (in_turn (faults_by c.args.known.now) (at b (calls (bare total_cost)) ∷ []) (at b (amount_part (amount_view c.in-Increase.amount)) ∷ []) c.look-cost.result c.look.result c.lower-in-Increase.result
-    c.lower-in-Increase.ensures.found (rw c.total_cost.ensures at c.look-cost.ensures.found) (rw c.of_amount.ensures at c.look.ensures.found))
+search_effect-returns-in-Increase-clause-found g t c = rw (c.in-Increase.is, view_increase c.in-Increase.amount) c.search_increase.ensures.found
 
 pub search_effect-returns-in_err-repeated-in-Forall-clause-found : goal.search_effect-returns-in_err-repeated-in-Forall-clause-found
 search_effect-returns-in_err-repeated-in-Forall-clause-found g t c =

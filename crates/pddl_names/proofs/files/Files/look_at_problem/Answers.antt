@@ -1,18 +1,14 @@
-use Rattle.std.proofs.Common.{[], ◌∷◌, map, refl, sym, ap, subst}
+use Rattle.std.proofs.Common.{sym, ap, subst}
 use Rattle.std.specs.Prelude.{OnOk}
 use Rattle.std.proofs.lemmas.Result.{err_from_is_err_and}
-use Rattle.pddl_formula.specs.TypedLists.{typed_view}
 use Rattle.pddl_domain.specs.Domains.{domain_view}
-use Rattle.pddl_problem.specs.Inits.{init_view}
 use Rattle.pddl_problem.specs.Problems.{problem_view}
-use Rattle.pddl_task.specs.Faults.{object_types, clashing, contradicts, contradictions, wrong_values, cost_values, other_metrics}
 use Rattle.pddl_faults.specs.Found.{IsFound, numbered}
 use Rattle.pddl_faults.proofs.FoundFaults.{found_rest}
 use Rattle.pddl_types.specs.Told.{unknown_among}
 use Rattle.pddl_names.specs.FaultParts.{problem_in, joined, problem_parts}
 use Rattle.pddl_names.specs.Held.{HoldAll}
-use Rattle.pddl_names.proofs.FoundParts.{found_parts, passed_part, stopped_at, holds_on}
-use Rattle.pddl_faults.proofs.FoundFaults.{passed_as}
+use Rattle.pddl_names.proofs.FoundParts.{stopped_at, holds_on}
 use Rattle.pddl_names.proofs.HeldFiles.{symbols_still}
 use Rattle.pddl_names.proofs.files.Files.look_at_problem.Goals as goal
 
@@ -36,18 +32,11 @@ returns-in_ok-objects-in-Some-clause-found g c =
     let d = domain_view c.args.self.now.domain.now in
     let q = problem_view c.in-Some.problem.now in
     let seen = c.in_ok-objects-in-Some.ensures.seen d.constants c.requires.constants_are in
-    subst (λ p. IsFound (joined (problem_parts ts d p)) c.lower-in-Some-2.result) (sym (ap problem_in c.in-Some.is))
-    (found_rest (numbered 23 (unknown_among ts q.objects)) _ c.lower-in-Some-2.result (ap (numbered 23) c.in_ok-objects-in-Some.ensures.passes)
-    (c.lower-in-Some-2.ensures.found _ _ seen.0
-    (c.lower-in-Some.ensures.found _ _ c.look_at_places-places.ensures.found
-    (found_parts (numbered 29 (contradictions q) ∷ numbered 31 (cost_values q) ∷ []) (numbered 25 (object_types q.objects) ∷ numbered 33 (other_metrics q.metric) ∷ [])
-    c.lower-init.result c.lower-others.result c.lower.result c.lower.ensures.found
-    (c.lower-init.ensures.found _ _ (passed_as 29 c.contradictions-literals.result (ap (λ is. clashing contradicts [] (map init_view is)) c.deref.ensures.value) c.contradictions-literals.ensures)
-    (passed_part 31 c.cost_values.result (ap (λ is. wrong_values [] (map init_view is)) c.deref-in-Some.ensures.value) c.cost_values.ensures))
-    (c.lower-others.ensures.found _ _ (passed_as 25 c.object_types.result (ap (λ xs. object_types (map typed_view xs)) c.deref-in-Some-2.ensures.value) c.object_types.ensures)
-    (passed_part 33 c.metric.result refl c.metric.ensures))))))
+    subst (λ p. IsFound (joined (problem_parts ts d p)) c.lower-in-Some.result) (sym (ap problem_in c.in-Some.is))
+    (found_rest (numbered 23 (unknown_among ts q.objects)) _ c.lower-in-Some.result (ap (numbered 23) c.in_ok-objects-in-Some.ensures.passes)
+    (c.lower-in-Some.ensures.found _ _ seen.0 (c.lower.ensures.found _ _ c.look_at_places-places.ensures.found c.look_at_parts-parts.ensures)))
 
 pub returns-in_ok-objects-in-Some-clause-held : goal.returns-in_ok-objects-in-Some-clause-held
 returns-in_ok-objects-in-Some-clause-held g c =
-    subst (λ q. OnOk c.lower-in-Some-2.result (HoldAll (domain_view c.args.self.now.domain.now) q c.args.self.now.types.now c.add.new.self c.look_at_places-places.new.declared))
-    (sym (ap problem_in c.in-Some.is)) (holds_on c.lower-in-Some-2.result c.look_at_places-places.ensures.held)
+    subst (λ q. OnOk c.lower-in-Some.result (HoldAll (domain_view c.args.self.now.domain.now) q c.args.self.now.types.now c.add.new.self c.look_at_places-places.new.declared))
+    (sym (ap problem_in c.in-Some.is)) (holds_on c.lower-in-Some.result c.look_at_places-places.ensures.held)

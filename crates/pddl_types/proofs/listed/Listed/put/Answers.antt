@@ -1,4 +1,4 @@
-use Rattle.std.proofs.Common.{map, not, sym, ap, ◌∙◌}
+use Rattle.std.proofs.Common.{◌≡◌, map, not, sym, ap, subst, arith, ◌∙◌}
 use Rattle.pddl_formula.specs.TypedLists.{typed_view}
 use Rattle.pddl_types.specs.KnownNames.{object_in}
 use Rattle.pddl_types.specs.Told.{IsAt}
@@ -18,12 +18,13 @@ returns g c = λ told seen once at are.
     let l = c.args.self.now in
     let x = typed_view c.args.object.now in
     let none = sym c.in_default.ensures.index in
+    let same : c.args.number ≡ c.in-Ok.number = omega arith in
     let last = put_last l.objects.entries c.insert.new.self.entries c.lent-name.result c.args.object c.lent-name.ensures c.in_ok-insert.ensures.entries none in
     let new = seen_new l.objects.entries seen x c.lent-name.result c.lent-name.ensures are.objects none in (
       new.0,
       record {
         named = last.1 are.named;
         objects = last.0 ∙ new.1;
-        types = rw (last.0, c.in_ok-push.ensures.items) (each_more (IsAt told) (map object_in l.objects.entries) l.types.items x c.args.number at are.types);
+        types = rw (last.0, c.in_ok-push.ensures.items) (each_more (IsAt told) (map object_in l.objects.entries) l.types.items x c.in-Ok.number (subst (IsAt told c.args.object.now.types) same at) are.types);
       },
     )
