@@ -1,15 +1,15 @@
 -- Spans that are apart, what they hold, and tops of spans.
-use Rattle.std.proofs.Common.{◌≡◌, ℕ, zero, suc, ◌+◌, ◌-◌, ◌<◌, ◌≤◌, ◌==◌, ◌&&◌, leb, Bool, true, false, List, [], ◌∷◌, length, sym, ap, ◌∙◌, subst, arith, inl, inr}
+use Rattle.std.proofs.Common.{◌≡◌, ℕ, zero, suc, ◌+◌, ◌-◌, ◌<◌, ◌≤◌, ◌==◌, ◌&&◌, leb, Bool, true, false, List, [], ◌∷◌, length, take, drop, sym, ap, ◌∙◌, subst, arith, inl, inr}
 use Rattle.std.proofs.lemmas.Bool.{leb-true, leb-false, le-leb, eq-eqb, and_parts, and_from, cases_eq, cases_lt, cond_both, or_left, or_right, and_left, and_right, lt-leb}
-use Rattle.std.proofs.lemmas.List.{get_or_default}
+use Rattle.std.proofs.lemmas.List.{get_or_default, get_or-drop, get_or-take, length-drop, length-take-le}
 use Rattle.std.proofs.lemmas.List.Elements.{Contains-get_or}
 use Rattle.std.proofs.lemmas.List.Filters.{All-dedup}
 use Rattle.std.proofs.lemmas.List.Folds.{list_any_at, Any-from_list_any, list_any_none, list_all_at}
 use Rattle.std.proofs.lemmas.List.Kept.{AllPairs-cons, Contains-from_dedup}
-use Rattle.std.proofs.lemmas.List.Sorted.{Contains-permutation, IsPermutation-sym, IsNonDecreasingBy-drop, IsNonDecreasingBy-from_default, IsPartitionedBy-leb}
+use Rattle.std.proofs.lemmas.List.Sorted.{Contains-permutation, IsPermutation-sym, IsNonDecreasingBy-drop, IsNonDecreasingBy-from_default, IsNonDecreasingBy-take, IsPartitionedBy-leb}
 use Rattle.std.specs.Prelude.{Contains}
 use Rattle.std.specs.List.{AllPairs, dedup, dedup_from}
-use Rattle.std.specs.List.Sorted.{IsNonDecreasingBy, IsPartitionedBy, IsPermutation}
+use Rattle.std.specs.List.Sorted.{IsNonDecreasingBy, IsPartitionPoint, IsPartitionedBy, IsPermutation}
 use Rattle.pddl_forest.specs.Spans.{holds, some_holds, span_at, AreApart, AreTops, hold_all}
 use Rattle.pddl_forest.specs.declared.spans.Span.{Span}
 use Rattle.pddl_forest.specs.Inner.{at}
@@ -36,8 +36,34 @@ module _ {spans : List Span} (h : AreApart spans) where
     | inr other ↦ omega (arith, own i (omega (arith, le, low)), behind i j (omega (arith, le, other)) low)
   ]
 
-pub parted : (spans : List Span) (n : ℕ) → AreApart spans → IsPartitionedBy (λ s. leb s.first n) spans
-parted spans n h = IsPartitionedBy-leb (λ s. s.first) spans n (IsNonDecreasingBy-from_default (λ s. s.first) spans (record { first = 0; last = 0 }) (rising h))
+-- of a part of them, those that begin at or before a number stand in front of the others
+pub parted : (spans : List Span) (n start many : ℕ) → AreApart spans → IsPartitionedBy (λ s. leb s.first n) (take many (drop start spans))
+parted spans n start many h =
+    IsPartitionedBy-leb (λ s. s.first) (take many (drop start spans)) n (IsNonDecreasingBy-take (λ s. s.first) many (drop start spans)
+    (IsNonDecreasingBy-drop (λ s. s.first) start spans (IsNonDecreasingBy-from_default (λ s. s.first) spans (record { first = 0; last = 0 }) (rising h))))
+
+-- where they end in the part, they end in all, if those in front of the part begin so too, and the one behind it does not
+pub parted_at : {spans : List Span} (n start end many : ℕ) → AreApart spans → start + many ≤ end → end ≤ length spans → ((i : ℕ) → i < start → (at spans i).first ≤ n)
+    → (end < length spans → n < (at spans end).first) → IsPartitionPoint (λ s. leb s.first n ≡ true) (λ s. leb s.first n ≡ false) (take (end - start) (drop start spans)) many
+    → ((i : ℕ) → i < start + many → (at spans i).first ≤ n) × ((i : ℕ) → start + many ≤ i → i < length spans → n < (at spans i).first)
+parted_at {spans} n start end many apart few within before after point = (
+  λ i low. elim (cases_lt i start) as (λ _. (at spans i).first ≤ n) [
+    | inl in_front ↦ before i in_front
+    | inr from ↦ leb-true (at spans i).first n (rw (one i from (omega (arith, low, few))) at (point.0 (i - start) none (omega arith) (omega (arith, low, from))))
+  ],
+  λ i past low. elim (cases_lt i end) as (λ _. n < (at spans i).first) [
+    | inl inside ↦
+        let long = length-take-le (end - start) (drop start spans) (omega (arith, within, length-drop start spans)) in
+        leb-false (at spans i).first n (rw (one i (omega (arith, past)) inside) at (point.1 (i - start) none (omega (arith, past)) (omega (arith, past, inside, long))))
+    | inr from ↦ omega (arith, after (omega (arith, from, low)), rising apart end i from low)
+  ],
+)
+  where
+    none : Span
+    none = record { first = 0; last = 0 }
+
+    one : (i : ℕ) → start ≤ i → i < end → at (take (end - start) (drop start spans)) (i - start) ≡ at spans i
+    one i from inside = get_or-take (end - start) (drop start spans) (i - start) none (omega (arith, from, inside)) ∙ get_or-drop start spans (i - start) none ∙ ap (at spans) (omega (arith, from))
 
 -- a number that some span holds is held by the last that begins at or before it
 pub last_holds : {spans : List Span} (n point : ℕ) → AreApart spans → point ≤ length spans → ((i : ℕ) → i < point → (at spans i).first ≤ n)

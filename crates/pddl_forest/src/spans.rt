@@ -20,22 +20,31 @@ impl Span {
     }
 }
 
-/// How many of some spans, each behind the one before, begin at or before a number.
-fn begun_by(spans: &[Span], number: usize) -> usize
+/// How many of some spans, each behind the one before, begin at or before a number. It is looked for from near a place on, in steps that double: the work
+/// grows with the logarithm of how far behind that place it is.
+fn begun_by(spans: &[Span], number: usize, near: usize) -> usize
     requires { AreApart spans.now }
     ensures within { result ≤ length spans.now }
     ensures before { (i : ℕ) → i < result → (at spans.now i).first ≤ number }
     ensures behind { (i : ℕ) → result ≤ i → i < length spans.now → number < (at spans.now i).first }
 {
-    spans.partition_point(|span| span.first <= number)
+    let mut start = 0;
+    let mut end = near.min(spans.len());
+    let mut step = 1;
+    while end < spans.len() && spans[end].first <= number {
+        start = end + 1;
+        end = start.saturating_add(step).min(spans.len());
+        step = step.saturating_mul(2);
+    }
+    start + spans[start..end].partition_point(|span| span.first <= number)
 }
 
-/// The place behind that of the one which holds a number, of some spans, each behind the one before; 0 where none does.
-fn behind_holder(spans: &[Span], number: usize) -> usize
+/// The place behind that of the one which holds a number, of some spans, each behind the one before; 0 where none does. It is looked for near a place.
+fn behind_holder(spans: &[Span], number: usize, near: usize) -> usize
     requires { AreApart spans.now }
     ensures { some_holds spans.now number ≡ not (result == 0) }
 {
-    let behind = begun_by(spans, number);
+    let behind = begun_by(spans, number, near);
     if behind > 0 && spans[behind - 1].holds(number) {
         behind
     } else {
@@ -53,7 +62,7 @@ fn hold_each(outer: &[Span], inner: &[Span]) -> bool
         if next < outer.len() && outer[next].holds(span.first) {
             next += 1;
         } else {
-            next = behind_holder(outer, span.first);
+            next = behind_holder(outer, span.first, next.saturating_sub(1));
             if next == 0 {
                 return false;
             }
@@ -73,7 +82,7 @@ fn hold_runs(outer: &[Span], inner: &[Span]) -> bool
         if next < inner.len() && inner[next].first < span.first {
             return false;
         }
-        next = begun_by(inner, span.last);
+        next = begun_by(inner, span.last, next);
     }
     next == inner.len()
 }
