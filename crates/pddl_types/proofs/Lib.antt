@@ -5,6 +5,7 @@ pub mod TypeForests
 pub mod NamedSpans
 pub mod ListedObjects
 pub mod FittingSpans
+pub mod TopRows
 pub mod ToldTypes
 pub mod TypeTables
 pub mod TaskNames

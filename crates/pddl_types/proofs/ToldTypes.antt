@@ -1,17 +1,17 @@
 -- Types that are told by number, with their tops, the numbers of items' types, and what is found of pairs of them.
-use Rattle.std.proofs.Common.{◌≡◌, ℕ, zero, suc, ◌+◌, ◌-◌, ◌<◌, ◌==◌, ◌&&◌, cond, Bool, true, false, not, List, [], ◌∷◌, ◌++◌, map, filter, length, take, Option, Some, None, position, refl, sym, ap, ◌∙◌, subst, arith, append-nil, append_assoc}
-use Rattle.std.specs.Prelude.{IsTrue, option_map, slice_get}
+use Rattle.std.proofs.Common.{◌≡◌, ℕ, zero, suc, ◌+◌, ◌-◌, ◌<◌, ◌==◌, ◌&&◌, cond, Bool, true, false, not, List, [], ◌∷◌, ◌++◌, map, filter, length, take, Option, Some, None, Result, Ok, Err, position, refl, sym, ap, ◌∙◌, subst, arith, append-nil, append_assoc}
+use Rattle.std.specs.Prelude.{IsTrue, IfOk, Vec, option_map, slice_get}
 use Rattle.std.specs.Borrow.{Bor}
 use Rattle.std.specs.Cmp.Lexicographic.{bytes_decides, pointwise_decides}
 use Rattle.std.specs.List.{IsDistinct, AllByRecursion, list_all, position_or_len}
 use Rattle.std.specs.Map.{keys_of, lookup}
-use Rattle.std.specs.declared.vec.Vec.{Vec}
 use Rattle.std.proofs.lemmas.Bool.{eqb-true, eq-eqb}
 use Rattle.std.proofs.lemmas.Cmp.{nat_list_eq_equiv, lists_equiv}
 use Rattle.std.proofs.lemmas.List.{length-append, length-map, map_push, take_more}
 use Rattle.std.proofs.lemmas.List.Elements.{All-weaker, All-push, All-contains}
 use Rattle.std.proofs.lemmas.Option.{same_Some, get_or_from_slice_get, slice_get_within, slice_get-map}
 use Rattle.std.specs.Option.{option_map_or}
+use Rattle.std.specs.Result.{IsOkAnd}
 use Rattle.indexmap.specs.IndexMap.{insert_entry}
 use Rattle.indexmap.proofs.MapLemmas.{Missing-position, insert_entry-absent, or_len-first}
 use Rattle.indexmap.proofs.RemoveLemmas.{own_first}
@@ -72,8 +72,8 @@ Key = Bor (List Name)
 abbrev same_keys : Key → Key → Bool
 same_keys t u = same_names t.now u.now
 
-abbrev entry_in : {B : Type 0} → Key × Vec Span B → Entry
-entry_in e = (e.0.now, e.1.items)
+abbrev entry_in : Key × List Span → Entry
+entry_in e = (e.0.now, e.1)
 
 entry_of : (told : ToldValue) (names : List Name) (n : ℕ) → IsAt told names n → (e : Entry) × (slice_get told n ≡ Some e) × (e.0 ≡ names)
 entry_of told names n at = entry_seen (λ (e : Entry). e.0) told n names (slice_get-map (λ (e : Entry). e.0) told n ∙ at)
@@ -110,12 +110,12 @@ pass_all q (n ∷ names) h =
     elim (q n) as (λ b. cond (not b) (n ∷ rest) rest ≡ [] → (b && list_all q names) ≡ true) [ true ↦ λ none. pass_all q names none | false ↦ λ none. cc ] h
 
 -- keys that differ are types that do
-distinct_told : {B : Type 0} (es : List (Key × Vec Span B)) → IsDistinct same_keys (keys_of es) → AreDistinct (told_in es)
+distinct_told : (es : List (Key × List Span)) → IsDistinct same_keys (keys_of es) → AreDistinct (told_in es)
 unfolding IsDistinct
 distinct_told [] once = tt
-distinct_told {B} (e ∷ es) once = (apart es once.0, distinct_told es once.1)
+distinct_told (e ∷ es) once = (apart es once.0, distinct_told es once.1)
   where
-    apart : (ds : List (Key × Vec Span B)) → AllByRecursion (λ u. same_keys e.0 u ≡ false) (keys_of ds) → AllByRecursion (λ f. same_names e.0.now f ≡ false) (keys_of (told_in ds))
+    apart : (ds : List (Key × List Span)) → AllByRecursion (λ u. same_keys e.0 u ≡ false) (keys_of ds) → AllByRecursion (λ f. same_names e.0.now f ≡ false) (keys_of (told_in ds))
     apart [] h = tt
     apart (d ∷ ds) h = (h.0, apart ds h.1)
 
@@ -155,9 +155,9 @@ module _ {t : TypesValue} {told : ToldValue} (are : AreTold t told) where
       decide of to (tops_at told number) (tops_at told slot) first.0 (tops_there to slot there).0 first.1
 
 -- the tops that are read of an entry
-pub tops_read : {B : Type 0} (entries : List (Key × Vec Span B)) (n : ℕ) (read : Option (Key × Vec Span B)) → read ≡ slice_get entries n → option_map_or (λ e. e.1.items) read [] ≡ tops_at (told_in entries) n
-tops_read {B} entries n None is = ap (λ (o : Option Entry). option_map_or (λ e. e.1) o []) (ap (option_map entry_in) is ∙ sym (slice_get-map entry_in entries n))
-tops_read {B} entries n (Some e) is = ap (λ (o : Option Entry). option_map_or (λ e. e.1) o []) (ap (option_map entry_in) is ∙ sym (slice_get-map entry_in entries n))
+pub tops_read : (entries : List (Key × List Span)) (n : ℕ) (read : Option (Key × List Span)) → read ≡ slice_get entries n → option_map_or (λ e. e.1) read [] ≡ tops_at (told_in entries) n
+tops_read entries n None is = ap (λ (o : Option Entry). option_map_or (λ e. e.1) o []) (ap (option_map entry_in) is ∙ sym (slice_get-map entry_in entries n))
+tops_read entries n (Some e) is = ap (λ (o : Option Entry). option_map_or (λ e. e.1) o []) (ap (option_map entry_in) is ∙ sym (slice_get-map entry_in entries n))
 
 -- a number that has tops is one of a type
 pub some_tops : (told : ToldValue) (n : ℕ) (tops : List Span) → tops ≡ tops_at told n → 0 < length tops → n < length told
@@ -183,34 +183,40 @@ module _ (told : ToldValue) (once : AreDistinct told) where
 -- ---- a type is told
 
 -- the type that was looked for is that of the number which it was found at
-pub found_there : {B : Type 0} (entries : List (Key × Vec Span B)) (k : Key) (n : ℕ) → Some n ≡ position (same_keys k) (keys_of entries) → IsAt (told_in entries) k.now n
-found_there {B} entries k n found =
+pub found_there : (entries : List (Key × List Span)) (k : Key) (n : ℕ) → Some n ≡ position (same_keys k) (keys_of entries) → IsAt (told_in entries) k.now n
+found_there entries k n found =
     let (e, at, same) = entry_found (same_keys k) entries n (sym found) in
     ap (option_map (λ (d : Entry). d.0)) (slice_get-map entry_in entries n ∙ ap (option_map entry_in) at)
     ∙ ap Some (sym ((pointwise_decides bytes_decides k.now e.0.now).0 same))
 
+-- its tops, as they were made
+pub made_told : {B E : Type 0} {t : TypesValue} {names : List Name} (made : Result (Vec Span B) E) (tops : List Span) → IfOk made (λ v. IsTold t names v.items) → IsOkAnd made (λ v. tops ≡ v.items)
+    → IsTold t names tops
+made_told {t} {names} (Ok v) tops told is = subst (IsTold t names) (sym is) told
+made_told (Err e) tops told is = absurd is
+
 -- one that is not there comes last
-module _ {B : Type 0} (entries next : List (Key × Vec Span B)) (k : Key) (tops : Vec Span B) (told : ToldValue) (told_are : told_in entries ≡ told) (none : None ≡ position (same_keys k) (keys_of entries))
+module _ (entries next : List (Key × List Span)) (k : Key) (tops : List Span) (told : ToldValue) (told_are : told_in entries ≡ told) (none : None ≡ position (same_keys k) (keys_of entries))
     (put : next ≡ insert_entry same_keys entries k tops) where
-  told_last : told_in next ≡ told ++ (k.now, tops.items) ∷ []
+  told_last : told_in next ≡ told ++ (k.now, tops) ∷ []
   told_last =
       ap told_in (put ∙ insert_entry-absent same_keys k tops entries (Missing-position (same_keys k) entries (sym none)).absent) ∙ map_push entry_in entries (k, tops)
-      ∙ ap (λ ts. ts ++ (k.now, tops.items) ∷ []) told_are
+      ∙ ap (λ ts. ts ++ (k.now, tops) ∷ []) told_are
 
   pub last_kept : AreKept told (told_in next)
-  last_kept = ((k.now, tops.items) ∷ [], told_last)
+  last_kept = ((k.now, tops) ∷ [], told_last)
 
   pub last_there : (n : ℕ) → n ≡ length entries → IsAt (told_in next) k.now n
   last_there n is =
       let many = is ∙ sym (length-map entries entry_in) ∙ ap length told_are in
-      rw (told_last, many) (ap (option_map (λ (e : Entry). e.0)) (at_end told (k.now, tops.items)))
+      rw (told_last, many) (ap (option_map (λ (e : Entry). e.0)) (at_end told (k.now, tops)))
 
-  pub are_more : {t : TypesValue} → AreTold t told → IsDistinct same_keys (keys_of next) → IsTold t k.now tops.items → filter (λ n. not (is_in (types_of t.declared) n)) k.now ≡ []
+  pub are_more : {t : TypesValue} → AreTold t told → IsDistinct same_keys (keys_of next) → IsTold t k.now tops → filter (λ n. not (is_in (types_of t.declared) n)) k.now ≡ []
       → AreTold t (told_in next)
   are_more {t} are once tell known = record {
     once = distinct_told next once;
     each =
-        rw told_last (All-push (λ (e : Entry). IsTold t e.0 e.1 × IsTrue (are_types t.declared e.0)) told (k.now, tops.items) are.each (tell, pass_all (is_in (types_of t.declared)) k.now known));
+        rw told_last (All-push (λ (e : Entry). IsTold t e.0 e.1 × IsTrue (are_types t.declared e.0)) told (k.now, tops) are.each (tell, pass_all (is_in (types_of t.declared)) k.now known));
   }
 
 -- ---- types of so many items

@@ -4,7 +4,6 @@ use Rattle.std.specs.Borrow.{Bor}
 use Rattle.std.specs.List.{All, IsDistinct, flat_map}
 use Rattle.std.specs.Map.{keys_of, lookup}
 use Rattle.std.specs.Option.{option_map_or}
-use Rattle.std.specs.declared.vec.Vec.{Vec}
 use Rattle.pddl_forest.specs.Spans.{hold_all}
 use Rattle.pddl_forest.specs.declared.spans.Span.{Span}
 use Rattle.pddl_formula.specs.TypedLists.{TypedValue}
@@ -23,8 +22,8 @@ abbrev pub ToldValue : Type 0
 ToldValue = List (List Name × List Span)
 
 -- types that are lent, with their tops
-abbrev pub told_in : {B : _} → List (Bor (List Name) × Vec Span B) → ToldValue
-told_in entries = map (λ e. (e.0.now, e.1.items)) entries
+abbrev pub told_in : List (Bor (List Name) × List Span) → ToldValue
+told_in entries = map (λ e. (e.0.now, e.1)) entries
 
 -- the tops of the type of a number
 abbrev pub tops_at : ToldValue → ℕ → List Span

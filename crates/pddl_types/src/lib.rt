@@ -9,6 +9,7 @@ mod fitting;
 mod listed;
 mod signatures;
 mod told;
+mod tops;
 mod type_table;
 mod types;
 

@@ -5,10 +5,12 @@ ghost use Rattle.std.specs.Map.{keys_of};
 ghost use Rattle.pddl_formula.specs.TypedLists.{typed_view};
 ghost use Rattle.pddl_task.specs.Names.{is_in, same_names};
 ghost use Rattle.pddl_task.specs.Types.{types_of, pairs, fits};
+ghost use Rattle.pddl_forest.specs.Spans.{AreApart, hold_all};
 ghost use Rattle.pddl_faults.specs.Passes.{Passes};
-ghost use Rattle.pddl_types.specs.Told.{told_in, tops_at, first_at, IsAt, AreAt, AreTold, AreKept, unknown_among};
+ghost use Rattle.pddl_types.specs.Told.{told_in, tops_at, first_at, IsAt, AreAt, AreTold, AreKept, AreFitting, unknown_among};
 
 use crate::entries::put;
+use crate::tops::Tops;
 use crate::types::Types;
 use indexmap::IndexMap;
 use pddl_faults::LinkFault;
@@ -24,7 +26,7 @@ use std::marker::Model;
 /// Contracts see each type with its tops.
 #[derive(Drop)]
 pub struct Told<'m, 'a, A: Allocator, B: Allocator> {
-    types: IndexMap<&'m TypeNames<A>, Vec<Span, &'a B>, Hashed, &'a B>,
+    types: IndexMap<&'m TypeNames<A>, Tops<'a, B>, Hashed, &'a B>,
     /// Whether one type fits another, by their numbers: for types of many tops, which are gone over once.
     fitting: IndexMap<(usize, usize), bool, Hashed, &'a B>,
 }
@@ -41,7 +43,7 @@ impl<'m, 'a, A: Allocator, B: Allocator> Model for Told<'m, 'a, A, B> {
 
 /// The tops of the type of a number, or none where no type has it.
 fn tops_at<'m, 'a, 't, A: Allocator, B: Allocator>(
-    types: &'t IndexMap<&'m TypeNames<A>, Vec<Span, &'a B>, Hashed, &'a B>,
+    types: &'t IndexMap<&'m TypeNames<A>, Tops<'a, B>, Hashed, &'a B>,
     number: usize,
 ) -> &'t [Span]
     ensures { result.now ≡ tops_at (told_in types.now.entries) number }
@@ -52,13 +54,55 @@ fn tops_at<'m, 'a, 't, A: Allocator, B: Allocator>(
     }
 }
 
+/// Whether the tops of the type of a slot hold the first number of each top of the type of another number.
+///
+/// Fails where memory is refused.
+fn hold_many<'m, 'a, A: Allocator, B: Allocator>(
+    types: &IndexMap<&'m TypeNames<A>, Tops<'a, B>, Hashed, &'a B>,
+    slot: usize,
+    number: usize,
+) -> Result<bool, AllocError>
+    requires { (n : ℕ) → AreApart (tops_at (told_in types.now.entries) n) }
+    ensures { IfOk result (λ fit. fit ≡ hold_all (tops_at (told_in types.now.entries) slot) (tops_at (told_in types.now.entries) number)) }
+{
+    match (types.get_index(slot), types.get_index(number)) {
+        (Some((_, tops)), Some((_, others))) => tops.hold_all(others),
+        _ => Ok(hold_all(tops_at(types, slot), tops_at(types, number))),
+    }
+}
+
+/// The same, which is found once and kept by the two numbers where both have many tops.
+fn hold_once<'m, 'a, A: Allocator, B: Allocator>(
+    types: &IndexMap<&'m TypeNames<A>, Tops<'a, B>, Hashed, &'a B>,
+    fitting: &mut IndexMap<(usize, usize), bool, Hashed, &'a B>,
+    slot: usize,
+    number: usize,
+) -> Result<bool, AllocError>
+    requires apart { (n : ℕ) → AreApart (tops_at (told_in types.now.entries) n) }
+    requires fitting { AreFitting (told_in types.now.entries) fitting.old.entries }
+    ensures fitting { AreFitting (told_in types.now.entries) fitting.new.entries }
+    ensures fit { IfOk result (λ fit. fit ≡ hold_all (tops_at (told_in types.now.entries) slot) (tops_at (told_in types.now.entries) number)) }
+{
+    let told = tops_at(types, number);
+    let tops = tops_at(types, slot);
+    if told.len() < 8 || tops.len() < 8 {
+        return Ok(hold_all(tops, told));
+    }
+    if let Some(fit) = fitting.get(&(number, slot)) {
+        return Ok(*fit);
+    }
+    let fit = hold_many(types, slot, number)?;
+    fitting.insert((number, slot), fit)?;
+    Ok(fit)
+}
+
 /// Tells a type that is not told yet, and answers its number.
 ///
 /// # Errors
 ///
 /// `LinkFault::UnknownType` of the first primitive that is no type; `Memory` where memory for the tops is refused.
 fn tell_new<'m, 'a, A: Allocator, B: Allocator>(
-    told: &mut IndexMap<&'m TypeNames<A>, Vec<Span, &'a B>, Hashed, &'a B>,
+    told: &mut IndexMap<&'m TypeNames<A>, Tops<'a, B>, Hashed, &'a B>,
     types: &Types<'m, 'a, A, B>,
     names: &'m TypeNames<A>,
 ) -> Result<usize, LinkFault<'m>>
@@ -71,7 +115,7 @@ fn tell_new<'m, 'a, A: Allocator, B: Allocator>(
 {
     types.known(names)?;
     let number = told.len();
-    let tops = types.tops(*told.allocator(), names);
+    let tops = Tops::made(types.tops(*told.allocator(), names));
     put(told, names, tops)?;
     Ok(number)
 }
@@ -182,16 +226,6 @@ impl<'m, 'a, A: Allocator, B: Allocator> Told<'m, 'a, A, B> {
         ensures fits { (of : List (List ℕ)) (to : List (List ℕ)) → IsAt self.old of number → IsAt self.old to slot → IfOk result (λ fit. fit ≡ fits (pairs types.now.declared) of to) }
     {
         types.tops_decide();
-        let told = tops_at(&self.types, number);
-        let tops = tops_at(&self.types, slot);
-        if told.len() < 8 || tops.len() < 8 {
-            return Ok(hold_all(tops, told));
-        }
-        if let Some(fit) = self.fitting.get(&(number, slot)) {
-            return Ok(*fit);
-        }
-        let fit = hold_all(tops, told);
-        self.fitting.insert((number, slot), fit)?;
-        Ok(fit)
+        hold_once(&self.types, &mut self.fitting, slot, number)
     }
 }

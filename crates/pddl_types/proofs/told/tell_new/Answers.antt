@@ -1,7 +1,7 @@
 use Rattle.std.proofs.Common.{refl, sym, subst}
 use Rattle.std.proofs.lemmas.Result.{err_from_is_err_and}
 use Rattle.pddl_types.specs.Told.{told_in, AreTold}
-use Rattle.pddl_types.proofs.ToldTypes.{kept_self, last_kept, last_there, are_more}
+use Rattle.pddl_types.proofs.ToldTypes.{kept_self, made_told, last_kept, last_there, are_more}
 use Rattle.pddl_types.proofs.told.tell_new.Goals as goal
 
 pub returns-in_err-known : goal.returns-in_err-known
@@ -20,7 +20,7 @@ returns-clause-told g c =
     let (tops, made) = c.in_ok-put.ensures.made in
     let entries = c.args.told.now.entries in
     are_more entries c.put.new.table.entries c.args.names tops (told_in entries) refl c.requires.new (rw made at c.in_ok-put.ensures.entries)
-    c.requires.told c.in_ok-put.ensures.unique (rw made at c.tops-tops.ensures.told) c.in_ok-known.ensures
+    c.requires.told c.in_ok-put.ensures.unique (made_told c.tops.result tops c.tops.ensures.told (rw made at c.made-tops.ensures)) c.in_ok-known.ensures
 
 pub returns-clause-kept : goal.returns-clause-kept
 returns-clause-kept g c =

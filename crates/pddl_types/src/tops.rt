@@ -1,0 +1,152 @@
+//! The tops of a type that is told, with rows of bits that say which numbers they begin at, and which they hold.
+
+ghost use Rattle.std.specs.Prelude.{◌≡◌, ◌||◌, ◌↔◌, ℕ, [], true, IsTrue, IfOk, IfSome, IsOkAnd, OnOk};
+ghost use Rattle.std.specs.List.{list_all};
+ghost use Rattle.pddl_bit_rows.specs.BitRows.{has_bit};
+ghost use Rattle.pddl_forest.specs.Spans.{holds, hold_all, AreApart};
+ghost use Rattle.pddl_types.specs.TopRows.{AreRowsOf};
+
+use pddl_bit_rows::{clear_bits, is_bit_set, set_bit, share_no_bit};
+use pddl_forest::{Span, hold_all};
+use std::alloc::{AllocError, Allocator};
+use std::marker::Model;
+
+/// Which numbers some tops begin at, and which they hold.
+#[derive(Drop)]
+struct Rows<'a, B: Allocator> {
+    begun: Vec<u64, &'a B>,
+    held: Vec<u64, &'a B>,
+}
+
+/// The tops of a type, with their rows where they are many and not far apart: whether they hold what others begin at is then found by a look at each word of
+/// the others' rows, or at a bit for each of the others where these have none.
+///
+/// Contracts see the tops.
+#[derive(Drop)]
+pub(crate) struct Tops<'a, B: Allocator> {
+    spans: Vec<Span, &'a B>,
+    rows: Option<Rows<'a, B>>,
+}
+
+impl<'a, B: Allocator> Model for Tops<'a, B> {
+    ghost use Rattle.std.specs.Prelude.{List, IfSome};
+    ghost use Rattle.pddl_forest.specs.declared.spans.Span.{Span};
+    ghost use Rattle.pddl_types.specs.TopRows.{AreRowsOf};
+
+    ghost Value = { List Span };
+
+    ghost view = { λ t. t.spans.items };
+
+    ghost invariant = { λ t. IfSome t.rows (λ r. AreRowsOf r.begun.items r.held.items t.spans.items) };
+}
+
+/// Sets the bits of the numbers of a span.
+///
+/// Fails where memory for them is refused.
+fn set_span<'a, B: Allocator>(row: &mut Vec<u64, &'a B>, span: Span) -> Result<(), AllocError>
+    ensures { OnOk result ((i : ℕ) → has_bit row.new.items i ≡ (holds span i || has_bit row.old.items i)) }
+{
+    for number in span.first..=span.last {
+        set_bit(row, number)?;
+    }
+    Ok(())
+}
+
+impl<'a, B: Allocator> Rows<'a, B> {
+    /// Sets the bits of some tops in empty rows.
+    ///
+    /// Fails where memory for them is refused.
+    fn set(&mut self, spans: &[Span]) -> Result<(), AllocError>
+        requires begun { self.old.begun.items ≡ [] }
+        requires held { self.old.held.items ≡ [] }
+        ensures { OnOk result (AreRowsOf self.new.begun.items self.new.held.items spans.now) }
+    {
+        for span in spans {
+            set_bit(&mut self.begun, span.first)?;
+            set_span(&mut self.held, *span)?;
+        }
+        Ok(())
+    }
+
+    /// Whether they hold all numbers that others begin at.
+    ///
+    /// Fails where memory for a row is refused.
+    fn hold(&self, others: &Rows<'a, B>) -> Result<bool, AllocError>
+        ensures { IfOk result (λ all. IsTrue all ↔ ((i : ℕ) → has_bit others.now.begun.items i ≡ true → has_bit self.now.held.items i ≡ true)) }
+    {
+        let mut missed = Vec::from_slice(*others.begun.allocator(), &others.begun)?;
+        clear_bits(&mut missed, &self.held);
+        Ok(share_no_bit(&missed, &missed))
+    }
+}
+
+/// The rows of some tops, where these are eight or more and on the average not more than 128 numbers apart: they take four words for each at most.
+///
+/// Fails where memory for them is refused.
+fn rows_of<'a, B: Allocator>(
+    alloc: &'a B,
+    spans: &[Span],
+) -> Result<Option<Rows<'a, B>>, AllocError>
+    ensures { IfOk result (λ rows. IfSome rows (λ r. AreRowsOf r.begun.items r.held.items spans.now)) }
+{
+    match spans.last() {
+        Some(last) if 8 <= spans.len() && last.last / 128 < spans.len() => {
+            let mut rows = Rows {
+                begun: Vec::new(alloc),
+                held: Vec::new(alloc),
+            };
+            let set = rows.set(spans);
+            set.and(Ok(Some(rows)))
+        }
+        _ => Ok(None),
+    }
+}
+
+/// Whether the bits of the first numbers of some spans are set.
+fn are_bits_set(row: &[u64], spans: &[Span]) -> bool
+    ensures { result ≡ list_all (λ s. has_bit row.now s.first) spans.now }
+{
+    for span in spans {
+        if !is_bit_set(row, span.first) {
+            return false;
+        }
+    }
+    true
+}
+
+impl<'a, B: Allocator> Tops<'a, B> {
+    /// These tops, once they are made.
+    ///
+    /// Fails as they failed, and where memory for their rows is refused.
+    pub(crate) fn made(
+        spans: Result<Vec<Span, &'a B>, AllocError>,
+    ) -> Result<Tops<'a, B>, AllocError>
+        ensures { IfOk result (λ tops. IsOkAnd spans.entry (λ made. tops ≡ made.items)) }
+    {
+        let spans = spans?;
+        let rows = rows_of(*spans.allocator(), &spans)?;
+        Ok(Tops { spans, rows })
+    }
+
+    /// The tops.
+    pub(crate) fn as_slice(&self) -> &[Span]
+        ensures { result.now ≡ self.now }
+    {
+        &self.spans
+    }
+
+    /// Whether they hold the first number of each of other tops.
+    ///
+    /// Fails where memory for a row is refused.
+    pub(crate) fn hold_all(&self, others: &Tops<'a, B>) -> Result<bool, AllocError>
+        requires outer { AreApart self.now }
+        requires inner { AreApart others.now }
+        ensures { IfOk result (λ all. all ≡ hold_all self.now others.now) }
+    {
+        match (&self.rows, &others.rows) {
+            (Some(rows), Some(of_others)) => rows.hold(of_others),
+            (Some(rows), None) => Ok(are_bits_set(&rows.held, &others.spans)),
+            (None, _) => Ok(hold_all(&self.spans, &others.spans)),
+        }
+    }
+}
