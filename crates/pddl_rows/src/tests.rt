@@ -92,7 +92,7 @@ fn tasks(rt: HostRuntime) -> Result<(), Fail> {
 
 #[test]
 fn terms(rt: HostRuntime) -> Result<(), Fail> {
-    all_hold(&rt, rows::TERMS, 44)
+    all_hold(&rt, rows::TERMS, 49)
 }
 
 #[test]

@@ -227,4 +227,68 @@ copy bare
 file
 | link: fault 28 ArgumentType s
 refused problem
+
+# Of two types of many primitives, whether one fits the other is told by the numbers of these, which are near each other here.
+part (define (domain d) (:types
+series 12  t#0 - s c#0 - t#0
+part  o) (:predicates (p ?x - (either
+series 12  t#0
+part )) (q ?x - (either o
+series 11  t#0
+part )))
+keep many
+
+row terms 24
+growths 20
+copy many
+part  (:action n :parameters (?v - (either
+series 12  c#0
+part ) ?w - (either o
+series 11  c#0
+file )) :precondition (and (p ?v) (q ?w))))
+| good: domain d
+good domain
+
+row terms 25
+growths 20
+copy many
+part  (:action n :parameters (?v - (either
+series 12  c#0
+file )) :precondition (and (p ?v) (q ?v))))
+| link: fault 28 ArgumentType q
+refused domain
+copy bare
+file
+| link: fault 28 ArgumentType q
+refused problem
+
+# Here they are far from each other.
+part (define (domain d) (:types
+series 8  t#0
+series 1000  u#0
+series 8  t#8
+part  o) (:predicates (p ?x - (either
+series 16  t#0
+part )) (q ?x - (either o
+series 15  t#1
+part )))
+keep far
+
+row terms 26
+copy far
+part  (:action n :parameters (?v - (either
+series 16  t#0
+part ) ?w - (either o
+series 14  t#2
+file )) :precondition (and (p ?v) (q ?w))))
+| good: domain d
+once good domain
+
+row terms 27
+copy far
+part  (:action n :parameters (?v - (either
+series 16  t#0
+file )) :precondition (and (p ?v) (q ?v))))
+| link: fault 28 ArgumentType q
+once refused domain
 ";
