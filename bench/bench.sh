@@ -120,6 +120,12 @@ for count in 500 2000; do
     linked "problem, spoken of $count" "$(seconds "$program" format problem "$problem")" problem "$domain" "$problem"
 done
 
+for count in 800 2400; do
+    make subsets "$count" domain
+    make subsets-goal "$count" problem
+    linked "problem, subsets of $count" "$(seconds "$program" format problem "$problem")" problem "$domain" "$problem"
+done
+
 for count in 10000 40000; do
     make above "$count" domain
     make above-goal "$count" problem
