@@ -5,8 +5,9 @@
 # files that link, beside those of `format`, which reads and prints them, and of the same work in plain Rust; of `plan` on valid
 # plans, beside those of the same work in plain Rust; and of `plan` alone on actions that quantify over very many variables, and of
 # `serial` beside `plan`. Among those that link are files with an `either` of all of many types, and a variable of it that is
-# spoken of often; variables that hide one another; types below one with a long name; slots and variables before an `either` of
-# many types; types above themselves, on a long chain or in pairs, are refused. Each figure is that of the best of five runs.
+# spoken of often; variables of subsets of the types of many slots; variables that hide one another; types below one with a long
+# name; slots and variables before an `either` of many types; types above themselves, on a long chain or in pairs, are refused.
+# Each figure is that of the best of five runs.
 # Wants GNU time, Python 3 and rustc.
 here=$(cd "$(dirname "$0")" && pwd) || exit 1
 "$here/../pddlcheck" --help >/dev/null || exit 1
