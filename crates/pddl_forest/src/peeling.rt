@@ -1,6 +1,6 @@
 //! Places that are peeled off in turn, each once no child of it is left. What is left lies on ways from parent to parent that go round.
 
-ghost use Rattle.std.specs.Prelude.{◌≡◌, ◌+◌, ◌<◌, ◌≤◌, ◌↔◌, ℕ, IsTrue, List, [], length, replicate, IfOk, OnOk};
+ghost use Rattle.std.specs.Prelude.{◌≡◌, ◌+◌, ◌^◌, ◌<◌, ◌≤◌, ◌↔◌, ℕ, IsTrue, List, [], length, replicate, IfOk, OnOk};
 ghost use Rattle.pddl_forest.specs.Forests.{number_at};
 ghost use Rattle.pddl_forest.specs.Rounds.{HasRound, AreRounds};
 ghost use Rattle.pddl_forest.specs.Inner.{AreCounted, AreListed, ArePeeled, GoRound, AreUnder, at, put_under};
@@ -42,6 +42,7 @@ fn list_leaves<'a, B: Allocator>(
 fn put_under(spans: &mut [Span], place: usize, parent: usize)
     requires place { place < length spans.old }
     requires parent { parent < length spans.old }
+    requires short { length spans.old < 2 ^ 32 }
     requires fits { (at spans.old parent).last + 1 + (at spans.old place).last ≤ length spans.old }
     ensures { spans.new ≡ put_under spans.old place parent }
 {
@@ -60,6 +61,7 @@ fn peel<'a, B: Allocator>(
     order: &mut Vec<usize, &'a B>,
     spans: &mut [Span],
 ) -> Result<(), AllocError>
+    requires short { length parents.now < 2 ^ 32 }
     requires within { (i : ℕ) → i < length parents.now → number_at parents.now i < length parents.now }
     requires leaves { ArePeeled parents.now left.old order.old.items 0 }
     requires none { AreUnder parents.now order.old.items 0 spans.old }
@@ -91,6 +93,7 @@ pub fn children_left<'a, B: Allocator>(
     order: &mut Vec<usize, &'a B>,
     spans: &mut [Span],
 ) -> Result<Vec<usize, &'a B>, AllocError>
+    requires short { length parents.now < 2 ^ 32 }
     requires within { (i : ℕ) → i < length parents.now → number_at parents.now i < length parents.now }
     requires clear { order.old.items ≡ [] }
     requires none { (places : List ℕ) → AreUnder parents.now places 0 spans.old }

@@ -1,19 +1,19 @@
 //! Spans of numbers, and what they hold.
 
-ghost use Rattle.std.specs.Prelude.{◌≡◌, ◌==◌, ◌<◌, ◌≤◌, ℕ, length, not};
+ghost use Rattle.std.specs.Prelude.{◌≡◌, ◌==◌, ◌+◌, ◌<◌, ◌≤◌, ℕ, length, not};
 ghost use Rattle.pddl_forest.specs.Spans.{holds, some_holds, hold_all, AreApart};
 ghost use Rattle.pddl_forest.specs.Inner.{at};
 
-/// The numbers from a first to a last.
+/// The numbers from a first to a last, in four bytes each.
 #[derive(Clone, Copy)]
 pub struct Span {
-    pub first: usize,
-    pub last: usize,
+    pub first: u32,
+    pub last: u32,
 }
 
 impl Span {
     /// Whether it holds a number.
-    pub fn holds(self, number: usize) -> bool
+    pub fn holds(self, number: u32) -> bool
         ensures { result ≡ holds self number }
     {
         self.first <= number && number <= self.last
@@ -22,7 +22,7 @@ impl Span {
 
 /// How many of some spans, each behind the one before, begin at or before a number. It is looked for from near a place on, in steps that double: the work
 /// grows with the logarithm of how far behind that place it is.
-fn begun_by(spans: &[Span], number: usize, near: usize) -> usize
+fn begun_by(spans: &[Span], number: u32, near: usize) -> usize
     requires { AreApart spans.now }
     ensures within { result ≤ length spans.now }
     ensures before { (i : ℕ) → i < result → (at spans.now i).first ≤ number }
@@ -40,9 +40,10 @@ fn begun_by(spans: &[Span], number: usize, near: usize) -> usize
 }
 
 /// The place behind that of the one which holds a number, of some spans, each behind the one before; 0 where none does. It is looked for near a place.
-fn behind_holder(spans: &[Span], number: usize, near: usize) -> usize
+fn behind_holder(spans: &[Span], number: u32, near: usize) -> usize
     requires { AreApart spans.now }
-    ensures { some_holds spans.now number ≡ not (result == 0) }
+    ensures within { result ≤ length spans.now }
+    ensures holds { some_holds spans.now number ≡ not (result == 0) }
 {
     let behind = begun_by(spans, number, near);
     if behind > 0 && spans[behind - 1].holds(number) {
@@ -52,20 +53,37 @@ fn behind_holder(spans: &[Span], number: usize, near: usize) -> usize
     }
 }
 
-/// Whether spans, each behind the one before, hold the first number of each of others. What holds one is looked for first behind what held the one before.
+/// How many of the four spans from a place on end before a number, which is found without a jump; 0 where fewer than four stand there.
+fn passed(spans: &[Span], number: u32, place: usize) -> usize
+    requires { place ≤ length spans.now }
+    ensures { place + result ≤ length spans.now }
+{
+    match &spans[place..] {
+        [a, b, c, d, ..] => {
+            usize::from(a.last < number)
+                + usize::from(b.last < number)
+                + usize::from(c.last < number)
+                + usize::from(d.last < number)
+        }
+        _ => 0,
+    }
+}
+
+/// Whether spans, each behind the one before, hold the first number of each of others. What holds one is looked for first among the four from what held the
+/// one before.
 fn hold_each(outer: &[Span], inner: &[Span]) -> bool
     requires { AreApart outer.now }
     ensures { result ≡ hold_all outer.now inner.now }
 {
-    let mut next = 0;
+    let mut place = 0;
     for span in inner {
-        if next < outer.len() && outer[next].holds(span.first) {
-            next += 1;
-        } else {
-            next = behind_holder(outer, span.first, next.saturating_sub(1));
-            if next == 0 {
+        place += passed(outer, span.first, place);
+        if place == outer.len() || !outer[place].holds(span.first) {
+            let behind = behind_holder(outer, span.first, place);
+            if behind == 0 {
                 return false;
             }
+            place = behind - 1;
         }
     }
     true

@@ -13,13 +13,13 @@ use std::alloc::{AllocError, Allocator};
 /// The numbers of the types of objects, and the objects in their order. So those whose types are under one stand side by side.
 #[derive(Drop)]
 pub struct ObjectOrder<'a, B: Allocator> {
-    pub numbers: Vec<usize, &'a B>,
+    pub numbers: Vec<u32, &'a B>,
     objects: Vec<usize, &'a B>,
     ghost ordered: { ∥ IsOrderOf numbers.items objects.items ∥₁ },
 }
 
 /// The number of the type of an object, or 0 past the last.
-fn type_number(numbers: &[usize], object: usize) -> usize
+fn type_number(numbers: &[u32], object: usize) -> u32
     ensures { result ≡ number_at numbers.now object }
 {
     numbers.get(object).map_or(0, |number| *number)
@@ -29,7 +29,7 @@ impl<'a, B: Allocator> ObjectOrder<'a, B> {
     /// That of objects whose types have these numbers.
     ///
     /// Fails where memory for it is refused.
-    pub fn of(numbers: Vec<usize, &'a B>) -> Result<ObjectOrder<'a, B>, AllocError>
+    pub fn of(numbers: Vec<u32, &'a B>) -> Result<ObjectOrder<'a, B>, AllocError>
         ensures { IfOk result (λ order. order.numbers.items ≡ numbers.entry.items) }
     {
         let mut objects: Vec<usize, &'a B> = (0..numbers.len()).collect(*numbers.allocator())?;
@@ -38,7 +38,7 @@ impl<'a, B: Allocator> ObjectOrder<'a, B> {
     }
 
     /// The number of the type of an object, or `None` past the last.
-    pub fn number(&self, object: usize) -> Option<usize>
+    pub fn number(&self, object: usize) -> Option<u32>
         ensures { result ≡ slice_get self.now.numbers.items object }
     {
         self.numbers.get(object).copied()

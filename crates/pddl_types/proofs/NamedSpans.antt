@@ -1,5 +1,5 @@
 -- Types by their spans: what is under a type is what has its first number in the type's span.
-use Rattle.std.proofs.Common.{◌≡◌, ℕ, ◌<◌, ◌≤◌, Bool, true, false, ◌&&◌, eqb, leb, List, map, length, refl, sym, ap, ◌∙◌, subst, arith, eqb-true, leb-true}
+use Rattle.std.proofs.Common.{◌≡◌, ℕ, ◌^◌, ◌<◌, ◌≤◌, Bool, true, false, ◌&&◌, eqb, leb, List, map, length, refl, sym, ap, ◌∙◌, subst, arith, eqb-true, leb-true}
 use Rattle.std.specs.Prelude.{◌↔◌, IsTrue, Contains}
 use Rattle.std.specs.Cmp.{both_ways}
 use Rattle.std.specs.List.{list_any}
@@ -35,7 +35,7 @@ abbrev pub AreInTable : TypesValue → Type 0
 AreInTable t = (rows : List Row) × (t.names ≡ names_in rows) × IsTypeTable t.declared rows × AreSpans (parents_in rows) t.spans
 
 pub in_table : {declared : List TypeValue} {rows : List Row} {spans : List Span} {t : TypesValue} → record { declared = declared; names = names_in rows; spans = spans } ≡ t
-    → IsTypeTable declared rows × AreSpans (parents_in rows) spans → AreInTable t
+    → IsTypeTable declared rows × AreSpans (parents_in rows) spans × (length spans < 2 ^ 32) → AreInTable t
 in_table {rows = rows} is h = subst AreInTable is (rows, refl, h.0, h.1)
 
 module _ (t : TypesValue) (h : AreInTable t) where

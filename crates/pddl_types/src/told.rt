@@ -206,7 +206,7 @@ impl<'m, 'a, A: Allocator, B: Allocator> Told<'m, 'a, A, B> {
     }
 
     /// The first number of these tops, or 0 where there are none.
-    pub fn first_at(&self, number: usize) -> usize
+    pub fn first_at(&self, number: usize) -> u32
         ensures { result ≡ first_at self.now number }
     {
         self.at(number).first().map_or(0, |top| top.first)

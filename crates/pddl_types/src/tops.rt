@@ -47,7 +47,7 @@ fn set_span<'a, B: Allocator>(row: &mut Vec<u64, &'a B>, span: Span) -> Result<(
     ensures { OnOk result ((i : ℕ) → has_bit row.new.items i ≡ (holds span i || has_bit row.old.items i)) }
 {
     for number in span.first..=span.last {
-        set_bit(row, number)?;
+        set_bit(row, number as usize)?;
     }
     Ok(())
 }
@@ -62,7 +62,7 @@ impl<'a, B: Allocator> Rows<'a, B> {
         ensures { OnOk result (AreRowsOf self.new.begun.items self.new.held.items spans.now) }
     {
         for span in spans {
-            set_bit(&mut self.begun, span.first)?;
+            set_bit(&mut self.begun, span.first as usize)?;
             set_span(&mut self.held, *span)?;
         }
         Ok(())
@@ -90,7 +90,7 @@ fn rows_of<'a, B: Allocator>(
     ensures { IfOk result (λ rows. IfSome rows (λ r. AreRowsOf r.begun.items r.held.items spans.now)) }
 {
     match spans.last() {
-        Some(last) if 8 <= spans.len() && last.last / 128 < spans.len() => {
+        Some(last) if 8 <= spans.len() && last.last as usize / 128 < spans.len() => {
             let mut rows = Rows {
                 begun: Vec::new(alloc),
                 held: Vec::new(alloc),
@@ -107,7 +107,7 @@ fn are_bits_set(row: &[u64], spans: &[Span]) -> bool
     ensures { result ≡ list_all (λ s. has_bit row.now s.first) spans.now }
 {
     for span in spans {
-        if !is_bit_set(row, span.first) {
+        if !is_bit_set(row, span.first as usize) {
             return false;
         }
     }

@@ -1,6 +1,6 @@
 //! The table of the types of a domain, each with the place of its parent, and the spans of its places, or the first type that is above itself.
 
-ghost use Rattle.std.specs.Prelude.{◌≡◌, List, [], ◌∷◌, map, Contains, IfOk, OnOk};
+ghost use Rattle.std.specs.Prelude.{◌≡◌, ◌<◌, ◌^◌, List, [], ◌∷◌, length, map, Contains, IfOk, OnOk};
 ghost use Rattle.pddl_domain.specs.Declarations.{TypeValue, type_view};
 ghost use Rattle.pddl_task.specs.Names.{repeated, item_of};
 ghost use Rattle.pddl_task.specs.Types.{types_of};
@@ -113,6 +113,7 @@ pub(crate) fn spans_of<'m, 'a, A: Allocator, B: Allocator>(
     declared: &'m [DeclaredType<A>],
 ) -> Result<Vec<Span, &'a B>, LinkFault<'m>>
     requires { IsTypeTable (map type_view declared.now) table.now.entries }
+    ensures short { IfOk result (λ spans. length spans.items < 2 ^ 32) }
     ensures spans { IfOk result (λ spans. AreSpans (parents_in table.now.entries) spans.items) }
     ensures cycle { Passes 22 (cycle_in (map type_view declared.now)) result }
 {

@@ -33,7 +33,7 @@ pub struct Types<'m, 'a, A: Allocator, B: Allocator> {
 }
 
 impl<'m, 'a, A: Allocator, B: Allocator> Model for Types<'m, 'a, A, B> {
-    ghost use Rattle.std.specs.Prelude.{map};
+    ghost use Rattle.std.specs.Prelude.{◌<◌, ◌^◌, map, length};
     ghost use Rattle.pddl_domain.specs.Declarations.{type_view};
     ghost use Rattle.pddl_forest.specs.Spans.{AreSpans};
     ghost use Rattle.pddl_types.specs.TypeTables.{IsTypeTable, names_in, parents_in};
@@ -43,7 +43,7 @@ impl<'m, 'a, A: Allocator, B: Allocator> Model for Types<'m, 'a, A, B> {
 
     ghost view = { λ t. record { declared = map type_view t.declared.now; names = names_in t.parents.entries; spans = t.spans.items } };
 
-    ghost invariant = { λ t. IsTypeTable (map type_view t.declared.now) t.parents.entries × AreSpans (parents_in t.parents.entries) t.spans.items };
+    ghost invariant = { λ t. IsTypeTable (map type_view t.declared.now) t.parents.entries × AreSpans (parents_in t.parents.entries) t.spans.items × (length t.spans.items < 2 ^ 32) };
 }
 
 impl<'m, 'a, A: Allocator, B: Allocator> Types<'m, 'a, A, B> {
@@ -89,10 +89,13 @@ impl<'m, 'a, A: Allocator, B: Allocator> Types<'m, 'a, A, B> {
     {
         match self.parents.get_index_of(name) {
             Some(place) => self.spans[place],
-            None => Span {
-                first: self.spans.len(),
-                last: self.spans.len(),
-            },
+            None => {
+                let past = self.spans.len() as u32;
+                Span {
+                    first: past,
+                    last: past,
+                }
+            }
         }
     }
 
@@ -113,7 +116,7 @@ impl<'m, 'a, A: Allocator, B: Allocator> Types<'m, 'a, A, B> {
     }
 
     /// Whether a type of this number is under some primitive of a slot's type with these tops.
-    pub fn is_under_tops(&self, number: usize, tops: &[Span]) -> bool
+    pub fn is_under_tops(&self, number: u32, tops: &[Span]) -> bool
         requires { AreApart tops.now }
         ensures { (slot : List (List ℕ)) (n : List ℕ) → IsTold self.now slot tops.now → number ≡ (span_of self.now n).first
             → IsTrue (is_in (types_of self.now.declared) n) → result ≡ list_any (is_under (pairs self.now.declared) n) slot }
@@ -127,7 +130,7 @@ impl<'m, 'a, A: Allocator, B: Allocator> Types<'m, 'a, A, B> {
     }
 
     /// The same, where each primitive is looked up.
-    pub fn is_under_some<S: Allocator>(&self, number: usize, slot: &TypeNames<S>) -> bool
+    pub fn is_under_some<S: Allocator>(&self, number: u32, slot: &TypeNames<S>) -> bool
         ensures { (n : List ℕ) → number ≡ (span_of self.now n).first → IsTrue (is_in (types_of self.now.declared) n) → result ≡ list_any (is_under (pairs self.now.declared) n) slot.now }
     {
         let _ = &self.spans;

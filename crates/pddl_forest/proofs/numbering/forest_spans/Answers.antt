@@ -1,4 +1,4 @@
-use Rattle.std.proofs.Common.{◌≡◌, length, sym, subst, ◌∙◌, true≢false, arith}
+use Rattle.std.proofs.Common.{◌≡◌, length, ap, sym, subst, ◌∙◌, true≢false, arith}
 use Rattle.std.proofs.lemmas.List.{get_or_default}
 use Rattle.pddl_forest.specs.Rounds.{AreRounds}
 use Rattle.pddl_forest.specs.Spans.{AreSpans}
@@ -21,6 +21,7 @@ number_from_top-requires g c =
     let spans = c.children_left.new.spans in
     let long : c.in_ok-spans.spans.len ≡ length spans = omega (arith, c.in_ok-spans.ensures.len, c.in_ok-left.ensures.under.long) in
     rw (c.deref.ensures.value, c.deref_mut-3.ensures.value, in_place spans _ c.in_ok-spans.spans.len long) record {
+      short = omega (arith, c.if-parents.false);
       order = in_order c.in_ok-left.ensures.left c.requires.within c.requires.some (λ round. true≢false (sym (c.has_round.ensures.round.1 round) ∙ c.if-has_round.false));
       under = c.in_ok-left.ensures.under;
     }
@@ -28,8 +29,10 @@ number_from_top-requires g c =
 pub returns : goal.returns
 returns g c =
     let spans = c.number_from_top.new.spans in
+    let same = in_place spans _ c.in_ok-spans.spans.len (omega (arith, c.in_ok-spans.ensures.len, c.number_from_top.ensures.many)) in
     record {
-      spans = subst (AreSpans c.args.parents.now) (sym (in_place spans _ c.in_ok-spans.spans.len (omega (arith, c.in_ok-spans.ensures.len, c.number_from_top.ensures.many)))) c.number_from_top.ensures;
+      short = omega (arith, ap length same, c.number_from_top.ensures.many, c.if-parents.false);
+      spans = subst (AreSpans c.args.parents.now) (sym same) c.number_from_top.ensures;
       none = λ round. true≢false (sym (c.has_round.ensures.round.1 round) ∙ c.if-has_round.false);
       round = tt;
     }
@@ -38,4 +41,4 @@ pub returns-then-has_round : goal.returns-then-has_round
 returns-then-has_round g c =
     let h = c.has_round.ensures in
     let long : c.in_ok-left.left.len ≡ length c.has_round.new.numbers = omega (arith, c.in_ok-left.ensures.left.counted.long, h.numbers.many) in
-    record { spans = tt; none = tt; round = (h.round.0 c.if-has_round.true, subst (AreRounds c.args.parents.now) (sym (in_place c.has_round.new.numbers _ c.in_ok-left.left.len long)) h.numbers) }
+    record { short = tt; spans = tt; none = tt; round = (h.round.0 c.if-has_round.true, subst (AreRounds c.args.parents.now) (sym (in_place c.has_round.new.numbers _ c.in_ok-left.left.len long)) h.numbers) }

@@ -16,6 +16,7 @@ put_under-requires g c =
     record {
       place = omega (arith, place_low h.peeled low c.index-place.ensures c.requires.within, h.under.long);
       parent = omega (arith, parent_low h.peeled low c.index-place.ensures c.requires.within, h.peeled.counted.long, h.under.long);
+      short = omega (arith, c.requires.short, h.under.long);
       fits = omega (arith, put_fits (upward h.peeled c.requires.within) low h.under c.index-place.ensures, h.under.long);
     }
 

@@ -21,6 +21,7 @@ returns-in-Ok g c =
     let none = rw c.in-Ok.is at c.in_ok-spans.ensures.none in
     let spans = rw c.in-Ok.is at c.in_ok-spans.ensures.spans in
     record {
+      short = rw c.in-Ok.is at c.in_ok-spans.ensures.short;
       spans = subst (λ ps. AreSpans ps c.in-Ok.spans.items) same spans;
       cycle = no_cycle (map type_view c.args.declared.now) c.args.table.now.entries c.requires (subst (λ ps. HasRound ps → ⊥) same none);
     }

@@ -26,4 +26,4 @@ returns-clause-cycle g c =
 pub invariant_of-result : goal.invariant_of-result
 invariant_of-result g c =
     let (same, spans) = rw (← c.in_ok-parents-2.ensures) at (made c.in_ok-parents.parents c.spans_of-spans.result) in
-    (rw (c.as_slice.ensures.value, ← same) c.in_ok-parents.ensures, rw (← same) (rw spans at c.spans_of-spans.ensures.spans))
+    (rw (c.as_slice.ensures.value, ← same) c.in_ok-parents.ensures, rw (← same) (rw spans at c.spans_of-spans.ensures.spans), rw spans at c.spans_of-spans.ensures.short)

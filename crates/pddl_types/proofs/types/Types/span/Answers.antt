@@ -20,7 +20,6 @@ returns-in-None g c =
     let rows = c.self.inside.parents.entries in
     let spans = c.self.inside.spans.items in
     let past : length spans ≡ number_in (names_in rows) c.args.name.now = omega (arith, number_past rows c.args.name.now (no_place rows c.args.name.now (sym c.in-None.ensures.index)), c.self.invariant.1.many, length-map rows (λ (r : Row). r.1)) in
-    let first : c.len.result ≡ length spans = omega (arith, c.len.ensures, c.self.inside.spans.ok.0) in
-    let last : c.len-in-None.result ≡ length spans = omega (arith, c.len-in-None.ensures, c.self.inside.spans.ok.0) in
-    ap (λ n. record { first = n; last = c.len-in-None.result }) first ∙ ap (λ n. record { first = length spans; last = n }) last
+    let many : c.len-past.result ≡ length spans = omega (arith, c.len-past.ensures, c.self.inside.spans.ok.0) in
+    ap (λ n. record { first = n; last = n }) many
     ∙ sym (get_or_past spans (number_in (names_in rows) c.args.name.now) _ (omega (arith, past))) ∙ ap (λ t. span_of t c.args.name.now) c.self.view_is
