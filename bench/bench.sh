@@ -1,12 +1,13 @@
 #!/bin/sh
 # Prints MB/s and peak memory of `format`, and of the same work in plain Rust, on files of 1, 4 and 16 MiB: plans that are
 # plain, timed, and with many comments; domains of many actions; problems of many objects and facts. Then seconds and peak
-# memory of `format` on plans of many short steps and of many long ones, beside those of plain Rust; of `domain` and `problem` on
-# files that link, beside those of `format`, which reads and prints them, and of the same work in plain Rust; of `plan` on valid
-# plans, beside those of the same work in plain Rust; and of `plan` alone on actions that quantify over very many variables, and of
-# `serial` beside `plan`. Among those that link are files with an `either` of all of many types, and a variable of it that is
-# spoken of often; variables of subsets of the types of many slots; variables that hide one another; types below one with a long
-# name; slots and variables before an `either` of many types; types above themselves, on a long chain or in pairs, are refused.
+# memory of `format` on plans of many short steps and of many long ones, beside those of plain Rust; of `domain` and `problem`
+# on files that link, beside those of `format`, which reads and prints them, and of the same work in plain Rust; of `plan` on
+# valid plans, beside those of the same work in plain Rust; and of `plan` alone on actions that quantify over very many
+# variables, and of `serial` beside `plan`. Among those that link are files with an `either` of all of many types, and a
+# variable of it that is spoken of often; variables of subsets of the types of many slots, which stand side by side or far
+# apart; variables that hide one another; types below one with a long name; slots and variables before an `either` of many
+# types; types above themselves, on a long chain or in pairs, are refused.
 # Each figure is that of the best of five runs.
 # Wants GNU time, Python 3 and rustc.
 here=$(cd "$(dirname "$0")" && pwd) || exit 1
@@ -125,6 +126,12 @@ for count in 800 2400; do
     make subsets "$count" domain
     make subsets-goal "$count" problem
     linked "problem, subsets of $count" "$(seconds "$program" format problem "$problem")" problem "$domain" "$problem"
+done
+
+for count in 600 1800; do
+    make apart "$count" domain
+    make apart-goal "$count" problem
+    linked "problem, $count apart" "$(seconds "$program" format problem "$problem")" problem "$domain" "$problem"
 done
 
 for count in 10000 40000; do

@@ -5,7 +5,7 @@ A plan has steps with three objects each: plain, timed, or with a comment before
 actions; a problem has many objects and a long `:init`.
 
 Usage: files.py plain|timed|comments|domain|problem MIB
-       files.py actions|items|parameters|variables|hidden|outermost|eithers|facts|spoken|crossed|crossed-goal|subsets|subsets-goal|above|above-goal|seen|ring|rings|below|slots|named|named-facts|named-constants|named-objects|short|long N
+       files.py actions|items|parameters|variables|hidden|outermost|eithers|facts|spoken|crossed|crossed-goal|subsets|subsets-goal|apart|apart-goal|above|above-goal|seen|ring|rings|below|slots|named|named-facts|named-constants|named-objects|short|long N
 
 The second form makes a domain with so many actions, or a problem of it with so many items in `:init` and two objects for each five of them: these link.
 So do a domain with an action of so many parameters, and a problem of it whose goal quantifies over so many variables of a type with one object, beside
@@ -13,7 +13,8 @@ twice as many others; each variable is spoken of once. So do problems of it whos
 outermost. So do a domain of so many types with a slot and a parameter of an `either` of them all, a problem of it with an object
 of each and three facts for each, one whose goal speaks thirty times as often of a variable of that `either`, and a valid plan of a step for each. So do so many types with as many predicates of a slot of an `either` of them all, and a problem
 of it whose goal has each of these of each of as many variables of such an `either`. So do so many types with a fourth as many predicates, whose slots are of an `either` of each second
-type and of one more, and a problem of it whose goal has each of these of each of a sixth as many variables, of an `either` of a half of the second types. So do so many types below a chain of as many others, each of which is the type of a predicate's slot, and a problem
+type and of one more, and a problem of it whose goal has each of these of each of a sixth as many variables, of an `either` of a half of the second types. So do so many types with 129 others before each, and two fifths as many predicates, whose slots are of an
+`either` of all of the former and of one of the others, and a problem of it whose goal has each of these of each of as many variables, of an `either` of three tenths of the former. So do so many types below a chain of as many others, each of which is the type of a predicate's slot, and a problem
 of it whose goal has each predicate of one variable of an `either` of half of the types below. So do so many types below one whose name has five letters for each of them, and
 so many types with a predicate of as many slots, and a quantifier of as many variables, each list before one `either` of them all. So do an action that speaks so many times of a parameter whose type has a name of as many letters,
 and a problem of it with so many facts of an object of that type; and a domain with so many constants of such a type, and a problem of it that lists them again. So many types in a chain, the last two of which are above themselves, do not, nor do so many in pairs, each the parent of the other. Or it makes a plan of so many steps, each with two objects of few letters, or with eight of many.
@@ -183,6 +184,21 @@ def subset_variables(count):
     return f"(define (problem subsets-1)\n  (:domain subsets)\n  (:init)\n  (:goal (forall (\n{variables})\n    (and {atoms}))))\n"
 
 
+def slots_apart(count):
+    types = " ".join(" ".join(f"u{number}x{other}" for other in range(129)) + f" t{number}" for number in range(count))
+    predicates = "\n".join(f"    (p{slot} ?x - (either {numbered('t#', count)} u{slot}x0))" for slot in range(2 * count // 5))
+    return f"(define (domain apart)\n  (:types {types})\n  (:predicates\n{predicates}))\n"
+
+
+def variables_apart(count):
+    numbers = random.Random(13)
+    many = 2 * count // 5
+    eithers = (" ".join(f"t{number}" for number in range(count) if numbers.random() < 0.3) or "t0" for _variable in range(many))
+    variables = "\n".join(f"    ?v{variable} - (either {either})" for variable, either in enumerate(eithers))
+    atoms = "\n".join(" ".join(f"(p{slot} ?v{variable})" for slot in range(many)) for variable in range(many))
+    return f"(define (problem apart-1)\n  (:domain apart)\n  (:init)\n  (:goal (forall (\n{variables})\n    (and {atoms}))))\n"
+
+
 def chain_above(count):
     chain = "".join(f"c{number + 1} - c{number}\n    " for number in range(count - 1))
     predicates = " ".join(f"(p{number} ?x - c{number})" for number in range(count))
@@ -259,6 +275,8 @@ COUNTED = {
     "crossed-goal": crossed_variables,
     "subsets": crossed_subsets,
     "subsets-goal": subset_variables,
+    "apart": slots_apart,
+    "apart-goal": variables_apart,
     "above": chain_above,
     "above-goal": below_chain,
     "seen": many_seen,
