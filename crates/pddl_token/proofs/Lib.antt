@@ -4,4 +4,5 @@ pub mod Values
 pub mod NumberTexts
 pub mod FoldedNames
 pub mod NameBytes
+pub mod FrontNames
 pub mod Options

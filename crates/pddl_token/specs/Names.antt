@@ -1,7 +1,8 @@
 -- Names, and the case of letters.
-use Rattle.std.specs.Prelude.{ℕ, List, [], ◌∷◌, map, Bool, false, ◌&&◌, ◌||◌, ◌==◌, Option, Some, None, if◌then◌else◌}
-use Rattle.std.specs.Char.{to_ascii_lowercase, is_ascii_lowercase, is_ascii_digit}
-use Rattle.std.specs.List.{list_all}
+use Rattle.std.specs.Prelude.{◌≡◌, ℕ, List, [], ◌∷◌, map, take, Bool, true, false, ◌&&◌, ◌||◌, ◌==◌, Option, Some, None, if◌then◌else◌}
+use Rattle.std.specs.Char.{to_ascii_lowercase, is_ascii_lowercase, is_ascii_digit, is_ascii_alphabetic}
+use Rattle.std.specs.List.{list_all, prefix_len}
+use Rattle.pddl_token.specs.Bytes.{begins, is_word_byte}
 
 -- a text with its ASCII letters in lower case
 abbrev pub folded : List ℕ → List ℕ
@@ -27,3 +28,9 @@ is_name (b ∷ bytes) = is_first_byte b && list_all is_later_byte bytes
 -- the name that a text spells: the folded text, where that is a name
 abbrev pub name_of : List ℕ → Option (List ℕ)
 name_of text = if is_name (folded text) then Some (folded text) else None
+
+-- at the front of a text stands a name so long, as long as can be
+pub record IsFrontName (text name : List ℕ) (len : ℕ) : Type 0 where
+  pub letter : begins is_ascii_alphabetic text ≡ true
+  pub len_is : len ≡ prefix_len is_word_byte text
+  pub name_is : name_of (take len text) ≡ Some name

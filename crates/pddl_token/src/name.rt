@@ -1,12 +1,14 @@
 //! Names, folded to lower case.
 
 ghost use Rattle.std.proofs.Common.{ap};
-ghost use Rattle.std.specs.Prelude.{◌≡◌, ◌≤◌, List, ℕ, true, length, take, bytes_eq, is_some, IfOk, IfSome, IsTrue};
+ghost use Rattle.std.specs.Prelude.{◌≡◌, ◌≤◌, List, ℕ, true, false, length, take, bytes_eq, is_some, IfOk, IfSome, IsTrue, MatchOption};
 ghost use Rattle.std.specs.Cmp.{partial_equiv_from_equiv};
 ghost use Rattle.std.specs.Cmp.Lexicographic.{bytes_decides, nat_list_eq_equiv};
 ghost use Rattle.std.specs.Hash as fed;
-ghost use Rattle.std.specs.List.{list_all};
-ghost use Rattle.pddl_token.specs.Names.{folded, name_of, name_byte, is_name, is_first_byte, is_later_byte};
+ghost use Rattle.std.specs.Char.{is_ascii_alphabetic};
+ghost use Rattle.std.specs.List.{list_all, prefix_len};
+ghost use Rattle.pddl_token.specs.Bytes.{begins, is_word_byte};
+ghost use Rattle.pddl_token.specs.Names.{folded, name_of, name_byte, is_name, is_first_byte, is_later_byte, IsFrontName};
 ghost use Rattle.pddl_token.specs.NameTexts.{letters_of};
 
 use crate::lent_name::LentName;
@@ -110,6 +112,32 @@ fn short_name(text: &[u8]) -> Option<[u8; FEW]>
     }
 }
 
+/// How many bytes of names stand at the front.
+fn name_len(text: &[u8]) -> usize
+    ensures value { result ≡ prefix_len is_word_byte text.now }
+    ensures in_range { result ≤ length text.now }
+{
+    text.iter().take_while(|b| name_byte(**b) != 0).count()
+}
+
+/// The bytes of names at the front of a text, folded to lower case with zeros behind them where they are at most 22, and how many they are.
+fn folded_front(text: &[u8]) -> ([u8; FEW], usize)
+    ensures letters { result.1 ≤ FEW → take result.1 result.0 ≡ folded (take result.1 text.now) }
+    ensures room { length result.0 ≡ FEW }
+    ensures len { result.1 ≡ prefix_len is_word_byte text.now }
+{
+    let mut bytes = [0; FEW];
+    let few = text.len().min(FEW);
+    for i in 0..few {
+        let byte = name_byte(text[i]);
+        if byte == 0 {
+            return (bytes, i);
+        }
+        bytes[i] = byte;
+    }
+    (bytes, few + name_len(text.split_at(few).1))
+}
+
 impl<'a, B: Allocator> Name<&'a B> {
     /// The name that a text spells, in any case of its letters, or `None` for what is no name.
     ///
@@ -135,6 +163,39 @@ impl<'a, B: Allocator> Name<&'a B> {
                 Ok(None)
             }
         }
+    }
+
+    /// The name that a text spells, of which these are the bytes where they are few.
+    fn of(alloc: &'a B, bytes: [u8; FEW], text: &[u8]) -> Result<Name<&'a B>, AllocError>
+        requires name { is_name (folded text.now) ≡ true }
+        requires letters { length text.now ≤ FEW → take (length text.now) bytes ≡ folded text.now }
+        ensures { IfOk result (λ name. name ≡ folded text.now) }
+    {
+        let len = text.len();
+        if len <= FEW {
+            Ok(Name {
+                text: NameText::Few(len as u8, bytes),
+            })
+        } else {
+            let lower = text.to_ascii_lowercase(alloc)?;
+            Ok(Name {
+                text: NameText::Many(Box::new(alloc, lower)?),
+            })
+        }
+    }
+
+    /// The longest name at the front of a text, in any case of its letters, and its length; or `None` where no letter is first.
+    ///
+    /// Fails where memory for the name's bytes is refused, as [`Name::new`] does.
+    pub fn at_front(alloc: &'a B, text: &[u8]) -> Result<Option<(Name<&'a B>, usize)>, AllocError>
+        ensures { IfOk result (λ found. MatchOption found (begins is_ascii_alphabetic text.now ≡ false) (λ front. IsFrontName text.now front.0 front.1)) }
+    {
+        match text {
+            [first, ..] if first.is_ascii_alphabetic() => {}
+            _ => return Ok(None),
+        }
+        let (bytes, len) = folded_front(text);
+        Ok(Some((Name::of(alloc, bytes, text.split_at(len).0)?, len)))
     }
 }
 
