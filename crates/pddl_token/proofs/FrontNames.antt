@@ -1,5 +1,5 @@
 -- The longest name at the front of a text.
-use Rattle.std.proofs.Common.{◌≡◌, ℕ, ◌+◌, true, List, [], ◌∷◌, take, get_or, refl, arith}
+use Rattle.std.proofs.Common.{◌≡◌, ℕ, ◌+◌, true, List, [], ◌∷◌, take, refl, arith}
 use Rattle.std.proofs.Math.Numerals.{one-add}
 use Rattle.std.specs.Char.{to_ascii_lowercase, is_ascii_alphabetic}
 use Rattle.std.specs.List.{list_all, prefix_len}
@@ -7,11 +7,6 @@ use Rattle.std.proofs.lemmas.Bool.{cond_both}
 use Rattle.std.proofs.lemmas.Bool.Decides.{nat_tests}
 use Rattle.pddl_token.specs.Bytes.{begins, is_word_byte}
 use Rattle.pddl_token.specs.Names.{folded, is_first_byte, is_later_byte, is_name}
-
--- a letter is first
-pub letter_begins : (text : List ℕ) → is_ascii_alphabetic (get_or text 0 0) ≡ true → begins is_ascii_alphabetic text ≡ true
-letter_begins [] letter = letter
-letter_begins (b ∷ text) letter = letter
 
 word_byte_folded : (b : ℕ) → is_word_byte b ≡ true → is_later_byte (to_ascii_lowercase b) ≡ true
 word_byte_folded b word = grind (arith, nat_tests, word)

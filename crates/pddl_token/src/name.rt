@@ -112,6 +112,16 @@ fn short_name(text: &[u8]) -> Option<[u8; FEW]>
     }
 }
 
+/// Whether a letter is first.
+fn begins_name(text: &[u8]) -> bool
+    ensures { result ≡ begins is_ascii_alphabetic text.now }
+{
+    match text {
+        [] => false,
+        [first, ..] => first.is_ascii_alphabetic(),
+    }
+}
+
 /// How many bytes of names stand at the front.
 fn name_len(text: &[u8]) -> usize
     ensures value { result ≡ prefix_len is_word_byte text.now }
@@ -187,12 +197,12 @@ impl<'a, B: Allocator> Name<&'a B> {
     /// The longest name at the front of a text, in any case of its letters, and its length; or `None` where no letter is first.
     ///
     /// Fails where memory for the name's bytes is refused, as [`Name::new`] does.
+    #[tactic(auto, using(crate::proofs::FrontNames::front_is_name))]
     pub fn at_front(alloc: &'a B, text: &[u8]) -> Result<Option<(Name<&'a B>, usize)>, AllocError>
         ensures { IfOk result (λ found. MatchOption found (begins is_ascii_alphabetic text.now ≡ false) (λ front. IsFrontName text.now front.0 front.1)) }
     {
-        match text {
-            [first, ..] if first.is_ascii_alphabetic() => {}
-            _ => return Ok(None),
+        if !begins_name(text) {
+            return Ok(None);
         }
         let (bytes, len) = folded_front(text);
         Ok(Some((Name::of(alloc, bytes, text.split_at(len).0)?, len)))
