@@ -13,3 +13,4 @@ pub mod Behind
 pub mod FaultPlaces
 pub mod AllGiven
 pub mod LinesBegun
+pub mod NextWords
