@@ -4,5 +4,6 @@ pub mod Values
 pub mod NumberTexts
 pub mod FoldedNames
 pub mod NameBytes
+pub mod NameWords
 pub mod FrontNames
 pub mod Options

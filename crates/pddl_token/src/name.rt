@@ -1,11 +1,12 @@
 //! Names, folded to lower case.
 
 ghost use Rattle.std.proofs.Common.{ap};
-ghost use Rattle.std.specs.Prelude.{◌≡◌, ◌≤◌, List, ℕ, true, false, length, take, bytes_eq, is_some, IfOk, IfSome, IsTrue, MatchOption};
+ghost use Rattle.std.specs.Prelude.{◌≡◌, ◌≤◌, ◌+◌, List, ℕ, true, false, length, take, drop, bytes_eq, is_some, IfOk, IfSome, IsTrue, MatchOption};
 ghost use Rattle.std.specs.Cmp.{partial_equiv_from_equiv};
 ghost use Rattle.std.specs.Cmp.Lexicographic.{bytes_decides, nat_list_eq_equiv};
 ghost use Rattle.std.specs.Hash as fed;
 ghost use Rattle.std.specs.Char.{is_ascii_alphabetic};
+ghost use Rattle.std.specs.Int.{w64, to_le_bytes};
 ghost use Rattle.std.specs.List.{list_all, prefix_len};
 ghost use Rattle.pddl_token.specs.Bytes.{begins, is_word_byte};
 ghost use Rattle.pddl_token.specs.Names.{folded, name_of, name_byte, is_name, is_first_byte, is_later_byte, IsFrontName};
@@ -27,13 +28,33 @@ pub(crate) enum NameText<T> {
     Many(T),
 }
 
+/// Eight of the bytes, as a number.
+fn word_at(bytes: &[u8; FEW], place: usize) -> u64
+    requires { place + 8 ≤ FEW }
+    ensures { to_le_bytes w64 result ≡ take 8 (drop place bytes.now) }
+{
+    let mut word = [0; 8];
+    word.copy_from_slice(&bytes[place..place + 8]);
+    u64::from_le_bytes(word)
+}
+
+/// Whether the bytes are the same; the last eight overlap those before them.
+#[tactic(auto, using(crate::proofs::NameWords::same_words))]
+fn are_same(some: &[u8; FEW], others: &[u8; FEW]) -> bool
+    ensures { result ≡ true → some.now ≡ others.now }
+{
+    word_at(some, 0) == word_at(others, 0)
+        && word_at(some, 8) == word_at(others, 8)
+        && word_at(some, 14) == word_at(others, 14)
+}
+
 impl<T> NameText<T> {
     /// Whether both texts lie in the values themselves, and these are the same, which is found by fewer steps than by going over the bytes in turn.
     pub(crate) fn is_same_few(&self, other: &NameText<T>) -> bool
         ensures { (bytes_of : T → List ℕ) → result ≡ true → letters_of bytes_of self.now ≡ letters_of bytes_of other.now }
     {
         match (self, other) {
-            (NameText::Few(n, a), NameText::Few(m, b)) => *n == *m && *a == *b,
+            (NameText::Few(n, a), NameText::Few(m, b)) => *n == *m && are_same(a, b),
             _ => false,
         }
     }
