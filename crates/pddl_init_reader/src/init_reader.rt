@@ -141,7 +141,7 @@ fn value_of<'a, B: Allocator>(
 }
 
 /// The item of `:init` of a list of these items.
-pub fn init_of_list<'a, B: Allocator>(
+fn init_of_list<'a, B: Allocator>(
     alloc: &'a B,
     items: &[Item<'_, &'a B>],
 ) -> Result<Option<InitItem<&'a B>>, AllocError>

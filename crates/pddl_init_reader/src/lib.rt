@@ -6,5 +6,5 @@
 mod init_reader;
 mod laws;
 
-pub use init_reader::{init_of_list, inits_of, metric_of};
+pub use init_reader::{inits_of, metric_of};
 pub use laws::{inits_as_spelled, metrics_as_spelled};

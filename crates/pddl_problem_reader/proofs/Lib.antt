@@ -1,5 +1,6 @@
 pub mod PartLaws
 mod SlotLaws
+mod InitTexts
 mod OnePass
 pub mod ProblemTexts
 mod ItemTurns

@@ -16,18 +16,22 @@ use Rattle.pddl_items.specs.ItemTrees.{item_trees}
 use Rattle.pddl_items.specs.Inner.TreeReading.{both, all_of}
 use Rattle.pddl_items.proofs.TreeLists.{all_erased_list, list_of_trees_of}
 use Rattle.pddl_text.specs.Lists.{span_over, none, plain, nested}
+use Rattle.pddl_text.proofs.Nests.{items_append}
 use Rattle.pddl_sections.specs.Inner.Verdicts.{key_turn, turn, verdict}
 use Rattle.pddl_file.specs.declared.keyword.SectionKeyword.TheVariants as keys
 use Rattle.pddl_file.specs.declared.keyword.Seen.{Seen}
 use Rattle.pddl_file.specs.Inner.Begun.{HasBegun, words_of, ReadsSection}
 use Rattle.pddl_file.specs.Inner.WordReading.{key_by, key_of, nothing_seen, with_seen}
 use Rattle.pddl_file.proofs.Begun.{begun_on, begun_ends}
-use Rattle.pddl_problem.specs.Inits.{InitValue}
-use Rattle.pddl_init_reader.specs.Inner.InitReading.{init_at, init_of_list}
+use Rattle.pddl_problem.specs.Inits.{InitValue, IsInit}
+use Rattle.pddl_init_reader.specs.Inner.InitReading.{init_at}
+use Rattle.pddl_init_reader.proofs.InitLaws.{init_reads}
 use Rattle.pddl_problem_reader.specs.ProblemTexts.{init}
 use Rattle.pddl_problem_reader.specs.Inner.ProblemReading.{content_at, part_at, problem_readers}
 use Rattle.pddl_problem_reader.specs.Inner.Slots.{SlotsValue, no_slots, fill, FillsPart}
-use Rattle.pddl_problem_reader.specs.Inner.OnePass.{IsInitBehind, ReadsInits, HoldsFile}
+use Rattle.pddl_problem_reader.specs.Inner.InitTexts.{ReadsTree}
+use Rattle.pddl_problem_reader.specs.Inner.OnePass.{IsInitBehind, ReadsSome, ReadsInits, HoldsFile}
+use Rattle.pddl_problem_reader.proofs.InitTexts.{not_kind}
 use Rattle.pddl_problem_reader.proofs.SlotLaws.{SoFar, so_far_next}
 
 -- ---- answers
@@ -43,13 +47,6 @@ then_ok (Ok u) (Ok v) needs p q f = f p q
 then_ok (Err e) (Ok v) needs p q f = absurd (true≢false (sym needs))
 then_ok r (Err e) needs p q f = tt
 
--- a value that was put behind a list
-pub pushed_one : {T V E : Type 0} (view : T → V) (read : Option V) (old new : List T) (value : Result (Option T) E) → IfOk value (λ v. option_map view v ≡ read)
-    → PushesFound old value new (Ok true) → (x : V) × (read ≡ Some x) × (map view new ≡ map view old ++ x ∷ [])
-pushed_one view read old new (Ok (Some y)) is (put, done) = (view y, sym is, ap (map view) put ∙ map_push view old y)
-pushed_one view read old new (Ok None) is (put, done) = absurd (cc)
-pushed_one view read old new (Err e) is (put, done) = absurd (cc)
-
 -- ---- items of `:init`
 
 both_last : {V : Type 0} (o : Option V) (os more : Option (List V)) (ys : List V) (y : V) → both o os ≡ Some ys → ((zs : List V) → os ≡ Some zs → more ≡ Some (zs ++ y ∷ [])) → both o more ≡ Some (ys ++ y ∷ [])
@@ -60,26 +57,28 @@ both_last (Some x) (Some zs) more ys y e on =
     ap (both (Some x)) (on zs refl) ∙ ap (λ ws. Some (ws ++ y ∷ [])) is
 
 -- one more value
-pub all_more : {T V : Type 0} (f : T → Option V) (xs : List T) (x : T) (ys : List V) (y : V) → all_of (map f xs) ≡ Some ys → f x ≡ Some y → all_of (map f (xs ++ x ∷ [])) ≡ Some (ys ++ y ∷ [])
+all_more : {T V : Type 0} (f : T → Option V) (xs : List T) (x : T) (ys : List V) (y : V) → all_of (map f xs) ≡ Some ys → f x ≡ Some y → all_of (map f (xs ++ x ∷ [])) ≡ Some (ys ++ y ∷ [])
 all_more f [] x ys y e at =
     let is : [] ≡ ys = cc in
     ap (λ o. both o (Some [])) at ∙ ap (λ ws. Some (ws ++ y ∷ [])) is
 all_more f (z ∷ zs) x ys y e at = both_last (f z) (all_of (map f zs)) (all_of (map f (zs ++ x ∷ []))) ys y e (λ ws is. all_more f zs x ws y is at)
+
+-- one more item
+pub init_more : (text : List ℕ) (words : List PlacedWord) (at to : ℕ) (inits : List InitValue) (x : InitValue) (some : ReadsSome text words at inits) → ReadsTree (IsInit x) text (words ++ some.more) 126 to
+    → ReadsSome text words to (inits ++ x ∷ [])
+init_more text words at to inits x some read = record {
+  more = some.more ++ read.more;
+  items = some.items ++ read.item ∷ [];
+  lexed = rw (← append_assoc words some.more read.more) read.lexed;
+  form = items_append some.form read.more (read.item ∷ []) read.form;
+  reads = all_more (λ p. init_at (erased p)) some.items read.item inits x some.reads (init_reads.complete (erased read.item) x read.holds);
+}
 
 -- ---- the section of `:init`
 
 map_through : {X Y Z : Type 0} (f : Y → Z) (g : X → Y) (xs : List X) → map f (map g xs) ≡ map (λ x. f (g x)) xs
 map_through f g [] = refl
 map_through f g (x ∷ xs) = ap (λ zs. f (g x) ∷ zs) (map_through f g xs)
-
--- what a list says is what its items say
-pub list_says : {A : Type 0} (span : Span) (items : List (Item A)) (x : Option InitValue) → init_of_list (item_trees items) ≡ x → init_at (erased (placed_node span (placed_of (items_view items)))) ≡ x
-list_says span items x says =
-    ap init_of_list (ap list_of (all_erased_list (items_view items)) ∙ list_of_trees_of (map erased (items_view items)) ∙ map_through erased item_view items) ∙ says
-
--- a keyword is no parenthesis
-not_kind : (w : PlacedWord) (kind other : TokenKind) → w.kind ≡ kind → kind ≢ other → w.kind ≢ other
-not_kind w kind other is differ e = differ (sym is ∙ e)
 
 pub not_true : (b : Bool) → not b ≡ true → b ≡ false
 not_true false e = refl

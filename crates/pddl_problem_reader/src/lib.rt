@@ -3,6 +3,7 @@
 //! It answers a problem exactly where the text spells one, and then that one; else the first fault.
 #![tactic(auto)]
 
+mod init_texts;
 mod one_pass;
 mod problem_reader;
 mod section;

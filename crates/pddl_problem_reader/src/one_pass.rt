@@ -5,7 +5,6 @@
 ghost use Rattle.std.specs.Prelude.{◌≡◌, ◌<◌, ◌≤◌, ◌++◌, ◌∷◌, [], Some, None, List, ℕ, map, length, IfOk, IfSome, IsOk, OnOk, codes};
 ghost use Rattle.pddl_token.specs.Spelling.{PlacedWord};
 ghost use Rattle.pddl_scan.specs.Scanning.{LexedTo};
-ghost use Rattle.pddl_items.specs.ItemTrees.{item_trees};
 ghost use Rattle.pddl_items.specs.Items.{item_view};
 ghost use Rattle.pddl_sections.specs.Inner.Verdicts.{turn};
 ghost use Rattle.pddl_sections.specs.Inner.Answers.{first_missing};
@@ -13,23 +12,22 @@ ghost use Rattle.pddl_file.specs.Inner.Begun.{HasBegun};
 ghost use Rattle.pddl_file.specs.Inner.WordReading.{with_seen};
 ghost use Rattle.pddl_file.specs.declared.keyword.SectionKeyword.{SectionKeyword};
 ghost use Rattle.pddl_problem.specs.Inits.{InitValue, init_view};
-ghost use Rattle.pddl_init_reader.specs.Inner.InitReading.{init_of_list};
 ghost use Rattle.pddl_problem_reader.specs.ProblemTexts.{init, required};
 ghost use Rattle.pddl_problem_reader.specs.Inner.ProblemReading.{problem_readers};
 ghost use Rattle.pddl_problem_reader.specs.Inner.Slots.{slots_view, no_slots, fill, FillsPart, has_slot};
-ghost use Rattle.pddl_problem_reader.specs.Inner.OnePass.{IsInitBehind, OpensOrCloses, ReadsInits, FillsTurn, HoldsFile};
+ghost use Rattle.pddl_problem_reader.specs.Inner.OnePass.{IsInitBehind, ReadsInits, FillsTurn, HoldsFile};
 
+use crate::init_texts::{init_item_behind, sign_behind};
 use crate::section::Slots;
 use crate::section_reader::read_section;
-use pddl_build::{push_found, set_list};
+use pddl_build::set_list;
 use pddl_file::{SectionKeyword, Seen, Stop, begin_file, end_behind, next_section, word_behind};
-use pddl_init_reader::init_of_list;
 use pddl_items::{Item, is_word};
 use pddl_problem::InitItem;
 use pddl_scan::LONGEST;
-use pddl_text::{DEEPEST, NextItem, add_list, next_token};
+use pddl_text::{NextItem, next_sign};
 use pddl_token::{Name, TokenKind};
-use std::alloc::Allocator;
+use std::alloc::{AllocError, Allocator};
 
 /// The place behind `(:init`, where that stands next behind a place.
 fn init_behind(text: &[u8], from: usize) -> Option<usize>
@@ -47,39 +45,18 @@ fn init_behind(text: &[u8], from: usize) -> Option<usize>
     }
 }
 
-/// Adds what an item of `:init` says that is a list of these items.
+/// Puts an item of `:init` behind those before.
 fn add_init<'a, B: Allocator>(
-    alloc: &'a B,
     inits: &mut Vec<InitItem<&'a B>, &'a B>,
-    items: &[Item<'_, &'a B>],
-) -> Result<(), Stop>
-    ensures { OnOk result ((x : InitValue) × (init_of_list (item_trees items.now) ≡ Some x) × (map init_view inits.new.items ≡ map init_view inits.old.items ++ x ∷ [])) }
+    init: InitItem<&'a B>,
+) -> Result<(), AllocError>
+    ensures { OnOk result (map init_view inits.new.items ≡ map init_view inits.old.items ++ init_view init.entry ∷ []) }
 {
-    if push_found(inits, init_of_list(alloc, items))? {
-        Ok(())
-    } else {
-        Err(Stop::Wrong)
-    }
+    inits.push(init)?;
+    Ok(())
 }
 
-/// Where the next list begins behind a place, which moves behind its `(`; `None` where an end comes.
-fn next_opening(text: &[u8], at: &mut usize) -> Result<Option<u32>, Stop>
-    requires short { length text.now ≤ LONGEST }
-    ensures next { (words : List PlacedWord) → LexedTo text.now words at.old → IfOk result (OpensOrCloses text.now words at.new) }
-    ensures further { OnOk result ((at.old < at.new) × (at.new ≤ length text.now)) }
-{
-    let Some(token) = next_token(text, *at)? else {
-        return Err(Stop::Wrong);
-    };
-    *at = token.span.end as usize;
-    match token.kind {
-        TokenKind::Open => Ok(Some(token.span.start)),
-        TokenKind::Close => Ok(None),
-        _ => Err(Stop::Wrong),
-    }
-}
-
-/// Puts what the items up to the end of `:init` say into an empty list. One list after the other is read into the same memory.
+/// Puts what the items up to the end of `:init` say into an empty list.
 fn add_inits<'a, B: Allocator>(
     alloc: &'a B,
     inits: &mut Vec<InitItem<&'a B>, &'a B>,
@@ -91,13 +68,12 @@ fn add_inits<'a, B: Allocator>(
     ensures inits { (words : List PlacedWord) → LexedTo text.now words at.old → OnOk result (ReadsInits text.now words at.new (map init_view inits.new.items)) }
     ensures further { OnOk result ((at.old < at.new) × (at.new ≤ length text.now)) }
 {
-    let mut items = Vec::new(alloc);
-    while let Some(start) = next_opening(text, at)? {
-        items.clear();
-        add_list(alloc, text, at, DEEPEST - 2, &mut items, start)?;
-        add_init(alloc, inits, &items)?;
+    let mut names = Vec::new(alloc);
+    while next_sign(text, at, TokenKind::Open) {
+        let init = init_item_behind(alloc, &mut names, text, at)?;
+        add_init(inits, init)?;
     }
-    Ok(())
+    sign_behind(text, at, TokenKind::Close)
 }
 
 /// Keeps what `:init` says, where that was read.

@@ -79,12 +79,8 @@ fn list_behind<'t, 'a, B: Allocator>(
 }
 
 /// Puts the items of the list whose `(` stands before a place, and began at another, behind those of `items`. Answers where its `)` ends, and the place moves there.
-///
-/// # Errors
-///
-/// Those of [`next_item`].
 #[cycle(items)]
-pub fn add_list<'t, 'a, B: Allocator>(
+fn add_list<'t, 'a, B: Allocator>(
     alloc: &'a B,
     text: &'t [u8],
     at: &mut usize,

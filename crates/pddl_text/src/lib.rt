@@ -1,8 +1,7 @@
 //! The words, lists and places of PDDL texts.
 //!
 //! [`lex`] gives the words of a text as tokens, [`lists`] the lists that tokens form, and [`items_of`] both at once. [`next_token`] and [`next_item`] give words and
-//! items one by one, and [`add_list`] those of a list, to who goes over a text that is right; which fault a text has is not told by the latter two. [`next_name`] and
-//! [`next_sign`] read a word of which it is known what it may be, and make no token of it.
+//! items one by one, and [`next_name`] and [`next_sign`] words of which it is known what they may be, to who goes over a text that is right; which fault a text has is told by the first alone.
 //! [`position`] gives the line and column of a place. A place is a number of bytes from the beginning of the text. Of a text that comes in pieces, of
 //! which none is kept, a [`PlanLexer`] gives the words and [`Places`] the positions.
 //!
@@ -21,7 +20,7 @@ mod places;
 mod plan_lexer;
 mod texts;
 
-pub use in_turn::{NextItem, add_list, next_item};
+pub use in_turn::{NextItem, next_item};
 pub use lexer::{lex, next_token, one_spelling};
 pub use nesting::{DEEPEST, list_fault_behind, lists, one_nesting};
 pub use next_words::{next_name, next_sign};

@@ -1,6 +1,6 @@
 //! Names and signs of a text one by one, for who knows which may stand next: no token is made of them, and a name is folded as its end is looked for.
 
-ghost use Rattle.std.specs.Prelude.{◌≡◌, ◌<◌, ◌≤◌, List, length, IsTrue, IfOk, IfSome, MatchOption};
+ghost use Rattle.std.specs.Prelude.{◌≡◌, ◌<◌, ◌≤◌, List, length, false, IsTrue, IfOk, IfSome, MatchOption};
 ghost use Rattle.pddl_token.specs.declared.token.TokenKind.{TokenKind};
 ghost use Rattle.pddl_token.specs.Spelling.{PlacedWord};
 ghost use Rattle.pddl_scan.specs.Scanning.{LexedTo};
@@ -84,6 +84,7 @@ fn sign_byte(kind: TokenKind) -> Option<u8>
 pub fn next_sign(text: &[u8], at: &mut usize, kind: TokenKind) -> bool
     ensures next { (words : List PlacedWord) → LexedTo text.now words at.old → IsTrue result → ReadsSign text.now words at.new kind }
     ensures further { IsTrue result → (at.old < at.new) × (at.new ≤ length text.now) }
+    ensures stays { result ≡ false → at.new ≡ at.old }
 {
     let begin = word_begin(text, *at);
     match sign_byte(kind) {

@@ -1,5 +1,5 @@
 -- A problem's text read in one pass. No public contract names these.
-use Rattle.std.specs.Prelude.{◌≡◌, ℕ, List, [], ◌∷◌, ◌++◌, map, Option, Some, None, codes}
+use Rattle.std.specs.Prelude.{◌≡◌, ℕ, List, [], ◌∷◌, ◌++◌, map, Option, Some, codes}
 use Rattle.pddl_token.specs.declared.token.TokenKind.TheVariants.{Open, Close, Keyword}
 use Rattle.pddl_token.specs.Names.{folded}
 use Rattle.pddl_token.specs.Spelling.{PlacedWord}
@@ -26,11 +26,6 @@ pub record IsInitBehind (text : List ℕ) (words : List PlacedWord) (at : ℕ) :
   pub is_keyword : keyword.kind ≡ Keyword
   pub is_init : folded keyword.text ≡ codes ":init"
   pub lexed : LexedTo text (words ++ opening ∷ keyword ∷ []) at
-
--- behind words stands an opening that starts at a place, or a closing, up to whose end the text is read
-abbrev pub OpensOrCloses : List ℕ → List PlacedWord → ℕ → Option ℕ → Type 0
-OpensOrCloses text words at (Some start) = (opening : PlacedWord) × (opening.kind ≡ Open) × (opening.span.start ≡ start) × LexedTo text (words ++ opening ∷ []) at
-OpensOrCloses text words at None = (closing : PlacedWord) × (closing.kind ≡ Close) × LexedTo text (words ++ closing ∷ []) at
 
 -- behind words stand these items of `:init`
 pub record ReadsSome (text : List ℕ) (words : List PlacedWord) (at : ℕ) (inits : List InitValue) : Type 0 where

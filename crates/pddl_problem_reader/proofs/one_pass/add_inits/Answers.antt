@@ -1,46 +1,36 @@
-use Rattle.std.proofs.Common.{[], ◌∷◌, ◌++◌, refl, arith}
-use Rattle.std.specs.Prelude.{Some}
-use Rattle.std.proofs.lemmas.List.{append_assoc, append-nil}
-use Rattle.pddl_token.specs.declared.token.Span.{Span}
-use Rattle.pddl_token.specs.Trees.{placed_node, placed_of, erased}
-use Rattle.pddl_items.specs.Items.{items_view}
+use Rattle.std.proofs.Common.{[], ◌++◌, sym, refl, arith, subst}
+use Rattle.std.proofs.lemmas.List.{append-nil}
+use Rattle.std.proofs.lemmas.Result.{on_ok_weaker}
+use Rattle.pddl_scan.specs.Scanning.{LexedTo}
 use Rattle.pddl_text.specs.Lists.{none}
-use Rattle.pddl_text.proofs.Nests.{items_append}
-use Rattle.pddl_text.proofs.InTurn.{list_read}
-use Rattle.pddl_init_reader.specs.Inner.InitReading.{init_at}
-use Rattle.pddl_problem_reader.proofs.OnePass.{all_more, list_says}
+use Rattle.pddl_problem.specs.Inits.{init_view}
+use Rattle.pddl_problem_reader.proofs.OnePass.{init_more}
 use Rattle.pddl_problem_reader.proofs.one_pass.add_inits.Goals as goal
 
-pub loop-items-init : goal.loop-items-init
-loop-items-init g c = record {
+pub loop-names-init : goal.loop-names-init
+loop-names-init g c = record {
   read = λ words lexed. record { more = []; items = []; lexed = rw (append-nil words) lexed; form = none; reads = rw c.requires.empty refl };
   further = omega arith;
 }
 
-pub loop-items-preserved : goal.loop-items-preserved
-loop-items-preserved g c =
-    let items = c.add_list.new.items.items in
-    let span : Span = record { start = c.in-Some.start; end = c.in_ok-add_list.field-0 } in
-    let p = placed_node span (placed_of (items_view items)) in
-    let (x, says, pushed) = c.in_ok-add_init.ensures in
-    record {
-      read = λ words lexed.
-          let some = c.loop-items.invariant.read words lexed in
-          let (opening, is_open, starts, opened) = rw c.in-Some.is at (c.in_ok-start.ensures.next (words ++ some.more) some.lexed) in
-          let list = rw c.clear.ensures.items at (c.in_ok-add_list.ensures.list ((words ++ some.more) ++ opening ∷ []) opened) in
-          let (own, behind, form) = list_read c.args.text.now (words ++ some.more) opening 126 (items_view items) span.start c.add_list.new.at span.end is_open starts list in
-          record {
-            more = some.more ++ own;
-            items = some.items ++ p ∷ [];
-            lexed = rw (← append_assoc words some.more own) behind;
-            form = items_append some.form own (p ∷ []) form;
-            reads = rw pushed (all_more (λ q. init_at (erased q)) some.items p _ x some.reads (list_says span items (Some x) (rw c.deref.ensures.value at says)));
-          };
-      further = omega (arith, c.loop-items.invariant.further, c.in_ok-start.ensures.further.0, c.in_ok-add_list.ensures.further.0);
-    }
+pub loop-names-preserved : goal.loop-names-preserved
+loop-names-preserved g c = record {
+  read = λ words lexed.
+      let some = c.loop-names.invariant.read words lexed in
+      let (opening, is_open, opened) = c.loop-names-test.ensures.next (words ++ some.more) some.lexed c.loop-names-test.true in
+      let read = c.in_ok-init.ensures.init (words ++ some.more) opening is_open opened in
+      rw c.in_ok-add_init.ensures (init_more c.args.text.now words c.loop-names.at c.init_item_behind.new.at _ (init_view c.in_ok-init.init) some read);
+  further = let opened = c.loop-names-test.ensures.further c.loop-names-test.true in omega (arith, c.loop-names.invariant.further, opened.0, c.in_ok-init.ensures.further.0);
+}
 
 pub returns-clause-inits : goal.returns-clause-inits
 returns-clause-inits g c = λ words lexed.
-    let some = c.loop-items.invariant.read words lexed in
-    let (closing, is_close, behind) = rw c.in_default.is at (c.in_ok-start.ensures.next (words ++ some.more) some.lexed) in
-    record { before = c.loop-items.at; some = some; closing = closing; is_close = is_close; lexed = behind }
+    let some = c.loop-names.invariant.read words lexed in
+    let here = subst (LexedTo c.args.text.now (words ++ some.more)) (sym (c.loop-names-test.ensures.stays c.loop-names-test.false)) some.lexed in
+    on_ok_weaker c.sign_behind.result (λ (closing, is_close, behind). record { before = c.loop-names.at; some = some; closing = closing; is_close = is_close; lexed = behind })
+    (c.sign_behind.ensures.sign (words ++ some.more) here)
+
+pub returns-clause-further : goal.returns-clause-further
+returns-clause-further g c =
+    let stays = c.loop-names-test.ensures.stays c.loop-names-test.false in
+    on_ok_weaker c.sign_behind.result (λ moved. (omega (arith, c.loop-names.invariant.further, stays, moved.0), moved.1)) c.sign_behind.ensures.further
