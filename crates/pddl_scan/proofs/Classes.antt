@@ -28,10 +28,6 @@ digit_no_blank b e = grind (arith, nat_tests)
 pub digit_no_letter : (b : ℕ) → is_ascii_digit b ≡ true → is_ascii_alphabetic b ≡ false
 digit_no_letter b e = grind (arith, nat_tests)
 
--- a letter is a word byte
-pub letter_is_word_byte : (b : ℕ) → is_ascii_alphabetic b ≡ true → is_word_byte b ≡ true
-letter_is_word_byte b e = grind (arith, nat_tests)
-
 -- a digit is a word byte
 pub digit_is_word_byte : (b : ℕ) → is_ascii_digit b ≡ true → is_word_byte b ≡ true
 digit_is_word_byte b e = grind (arith, nat_tests)

@@ -16,7 +16,8 @@ use Rattle.pddl_token.specs.Spelling.{Part, gap, word, spelling, IsBlank, IsComm
 use Rattle.pddl_scan.specs.Inner.Reading.{number_len}
 use Rattle.pddl_token.proofs.Runs.{run_len}
 use Rattle.pddl_scan.proofs.Numbers.{number_nonempty, number_begins, number_len_is, ends_number}
-use Rattle.pddl_scan.proofs.Classes.{class_of_blank, class_of_letter, class_of_digit, letter_is_word_byte}
+use Rattle.pddl_token.proofs.FrontNames.{letter_is_word_byte}
+use Rattle.pddl_scan.proofs.Classes.{class_of_blank, class_of_letter, class_of_digit}
 
 -- the word in the first bytes
 abbrev pub taken : TokenKind → ℕ → List ℕ → Part

@@ -20,7 +20,8 @@ use Rattle.pddl_scan.specs.Faults.{IsStray, IsLongestNumber}
 use Rattle.pddl_scan.specs.Inner.Reading.{number_len, next_comment, next_number, next_by, next_of, IsWordAt, Reads}
 use Rattle.pddl_token.proofs.Runs.{run_passes, run_stops}
 use Rattle.pddl_scan.proofs.Numbers.{number_begins, number_nonempty, number_len_is, number_at, is_longest}
-use Rattle.pddl_scan.proofs.Classes.{class_of_blank, class_of_letter, class_of_digit, letter_is_word_byte, Says, class_says}
+use Rattle.pddl_token.proofs.FrontNames.{letter_is_word_byte}
+use Rattle.pddl_scan.proofs.Classes.{class_of_blank, class_of_letter, class_of_digit, Says, class_says}
 
 -- ---- where no word begins
 

@@ -2,14 +2,14 @@
 
 ghost use Rattle.std.specs.Prelude.{◌≡◌, ◌<◌, ◌≤◌, ℕ, List, length, true, ◌==◌};
 ghost use Rattle.std.specs.List.{prefix_len};
-ghost use Rattle.std.specs.Char.{is_ascii_digit, is_ascii_alphabetic, is_ascii_whitespace};
+ghost use Rattle.std.specs.Char.{is_ascii_digit, is_ascii_whitespace};
 ghost use Rattle.pddl_token.specs.Bytes.{begins, is_line_byte, is_word_byte};
 ghost use Rattle.pddl_token.specs.Number.{value_of};
 ghost use Rattle.pddl_scan.specs.Inner.Reading.{number_len, next_comment, next_number, next_by, next_of, IsGapAt, Reads};
 ghost use Rattle.pddl_scan.specs.Inner.Parts.{Settles, ReadsOn};
 
 use crate::bytes::{ByteClass, class_of, is_line_byte, is_word_byte};
-use pddl_token::{TokenKind, digits_len, value_of};
+use pddl_token::{TokenKind, begins_name, digits_len, value_of, word_len};
 
 /// What stands at the front of a text.
 #[derive(Clone, Copy)]
@@ -33,23 +33,6 @@ fn word(kind: TokenKind, len: usize) -> Next
     ensures { result ≡ Next.Word kind len }
 {
     Next::Word { kind, len }
-}
-
-/// How many word bytes stand at the front.
-fn word_len(text: &[u8]) -> usize
-    ensures value { result ≡ prefix_len is_word_byte text.now }
-    ensures in_range { result ≤ length text.now }
-{
-    text.iter().take_while(|b| is_word_byte(**b)).count()
-}
-
-fn begins_name(text: &[u8]) -> bool
-    ensures { result ≡ begins is_ascii_alphabetic text.now }
-{
-    match text {
-        [] => false,
-        [first, ..] => first.is_ascii_alphabetic(),
-    }
 }
 
 fn begins_digits(text: &[u8]) -> bool

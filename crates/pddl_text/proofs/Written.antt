@@ -14,7 +14,7 @@ use Rattle.pddl_token.specs.Spelling.{Word, PlacedWord, placed, Part, gap, word,
 use Rattle.pddl_scan.specs.Faults.{IsValued, AreValued}
 use Rattle.pddl_token.specs.Trees.{Tree, leaf, node, Trees, no_trees, tree, unplaced}
 use Rattle.pddl_text.specs.Pieces.{Piece, token, blanks, piece_text, pieces_text, tokens_of, is_joining, IsApart, AreWritten, opening_word, closing_word, tree_words, trees_words, IsWritable, AreWritable, tree_pieces, first_pieces, later_pieces}
-use Rattle.pddl_scan.proofs.Classes.{letter_is_word_byte}
+use Rattle.pddl_token.proofs.FrontNames.{letter_is_word_byte}
 
 -- ---- what may follow
 

@@ -25,7 +25,8 @@ pub no_byte_at : (text : List ℕ) (i : ℕ) → i < length text → name_byte (
 no_byte_at text i lt none =
     list_all_at is_later_byte (folded text) i 0 (rw (length-map text to_ascii_lowercase) lt) (rw (get_or-map to_ascii_lowercase text i 0 0 lt) (no_byte (get_or text i 0) none))
 
-first_letter : (b : ℕ) → is_ascii_alphabetic b ≡ true → is_first_byte (to_ascii_lowercase b) ≡ true
+-- a letter is one that may be first
+pub first_letter : (b : ℕ) → is_ascii_alphabetic b ≡ true → is_first_byte (to_ascii_lowercase b) ≡ true
 first_letter b letter = grind (arith, nat_tests, letter)
 
 -- where a letter is first, all bytes tell

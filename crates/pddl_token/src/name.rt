@@ -133,8 +133,8 @@ fn short_name(text: &[u8]) -> Option<[u8; FEW]>
     }
 }
 
-/// Whether a letter is first.
-fn begins_name(text: &[u8]) -> bool
+/// Whether a letter is first, which begins a name.
+pub fn begins_name(text: &[u8]) -> bool
     ensures { result ≡ begins is_ascii_alphabetic text.now }
 {
     match text {
@@ -143,8 +143,8 @@ fn begins_name(text: &[u8]) -> bool
     }
 }
 
-/// How many bytes of names stand at the front.
-fn name_len(text: &[u8]) -> usize
+/// How many bytes that may stand in names are at the front.
+pub fn word_len(text: &[u8]) -> usize
     ensures value { result ≡ prefix_len is_word_byte text.now }
     ensures in_range { result ≤ length text.now }
 {
@@ -166,7 +166,7 @@ fn folded_front(text: &[u8]) -> ([u8; FEW], usize)
         }
         bytes[i] = byte;
     }
-    (bytes, few + name_len(text.split_at(few).1))
+    (bytes, few + word_len(text.split_at(few).1))
 }
 
 impl<'a, B: Allocator> Name<&'a B> {

@@ -17,20 +17,20 @@ pub loop-names-preserved : goal.loop-names-preserved
 loop-names-preserved g c = record {
   read = λ words lexed.
       let some = c.loop-names.invariant.read words lexed in
-      let (opening, is_open, opened) = c.loop-names-test.ensures.next (words ++ some.more) some.lexed c.loop-names-test.true in
+      let (opening, is_open, opened) = c.loop-names-test.ensures.next (words ++ some.more) some.lexed refl in
       let read = c.in_ok-init.ensures.init (words ++ some.more) opening is_open opened in
       rw c.in_ok-add_init.ensures (init_more c.args.text.now words c.loop-names.at c.init_item_behind.new.at _ (init_view c.in_ok-init.init) some read);
-  further = let opened = c.loop-names-test.ensures.further c.loop-names-test.true in omega (arith, c.loop-names.invariant.further, opened.0, c.in_ok-init.ensures.further.0);
+  further = let opened = c.loop-names-test.ensures.further refl in omega (arith, c.loop-names.invariant.further, opened.0, c.in_ok-init.ensures.further.0);
 }
 
 pub returns-clause-inits : goal.returns-clause-inits
 returns-clause-inits g c = λ words lexed.
     let some = c.loop-names.invariant.read words lexed in
-    let here = subst (LexedTo c.args.text.now (words ++ some.more)) (sym (c.loop-names-test.ensures.stays c.loop-names-test.false)) some.lexed in
+    let here = subst (LexedTo c.args.text.now (words ++ some.more)) (sym (c.loop-names-test.ensures.stays refl)) some.lexed in
     on_ok_weaker c.sign_behind.result (λ (closing, is_close, behind). record { before = c.loop-names.at; some = some; closing = closing; is_close = is_close; lexed = behind })
     (c.sign_behind.ensures.sign (words ++ some.more) here)
 
 pub returns-clause-further : goal.returns-clause-further
 returns-clause-further g c =
-    let stays = c.loop-names-test.ensures.stays c.loop-names-test.false in
+    let stays = c.loop-names-test.ensures.stays refl in
     on_ok_weaker c.sign_behind.result (λ moved. (omega (arith, c.loop-names.invariant.further, stays, moved.0), moved.1)) c.sign_behind.ensures.further
