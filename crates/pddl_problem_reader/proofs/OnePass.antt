@@ -1,18 +1,12 @@
 -- What is read of a problem's text in one pass.
 use Rattle.std.proofs.Common.{◌≡◌, ℕ, ◌≤◌, Bool, true, false, true≢false, not, List, [], ◌∷◌, ◌++◌, map, length, Option, Some, None, Result, Ok, Err, refl, sym, ap, subst, ◌∙◌, codes}
-use Rattle.std.specs.Prelude.{◌≢◌, IfOk, IsOk, OnOk, option_map}
+use Rattle.std.specs.Prelude.{IfOk, IsOk, OnOk, option_map}
 use Rattle.std.specs.Result.{result_ok}
-use Rattle.std.proofs.lemmas.List.{append_assoc, append-nil, map_push}
-use Rattle.pddl_token.specs.declared.token.Span.{Span}
-use Rattle.pddl_token.specs.declared.token.TokenKind.{TokenKind}
+use Rattle.std.proofs.lemmas.List.{append_assoc, append-nil}
 use Rattle.pddl_token.specs.declared.token.TokenKind.TheVariants.{Open, Close, Keyword}
 use Rattle.pddl_token.specs.Spelling.{PlacedWord, Spells}
 use Rattle.pddl_token.specs.Trees.{Placed, placed_leaf, placed_node, placed_of, list_of, all_erased, erased}
 use Rattle.pddl_scan.specs.Scanning.{LexedTo}
-use Rattle.pddl_build.specs.Results.{PushesFound}
-use Rattle.pddl_items.specs.declared.item.Item.{Item}
-use Rattle.pddl_items.specs.Items.{item_view, items_view}
-use Rattle.pddl_items.specs.ItemTrees.{item_trees}
 use Rattle.pddl_items.specs.Inner.TreeReading.{both, all_of}
 use Rattle.pddl_items.proofs.TreeLists.{all_erased_list, list_of_trees_of}
 use Rattle.pddl_text.specs.Lists.{span_over, none, plain, nested}
