@@ -235,6 +235,56 @@ file (define (problem p) (:domain d) (:init) (:goal ()) (:objects) (:requirement
 | requirement strips
 good list problem
 
+row items of :init 1
+file (define (problem p) (:domain d) (:init;a\n(P;b\nA\tb)(NOT(p a)) ( = ( F ) 1.5 ) (=\fg 2)(r)) (:goal ()))
+| problem p
+| domain d
+| holds p a b
+| fails p a
+| value 1500000000 of f
+| value 2000000000 of g
+| holds r
+good list problem
+
+row items of :init 2
+file (define (problem p) (:domain d) (:init (Abcdefghijklmnopqrst- abcdefghijklmnopqrstuV) (p abcdefghijklmnopqrstuvW) (= (abcdefghijklmnopqrstuvw-_0123456789-ABCDEF a0) 0)) (:goal ()))
+| problem p
+| domain d
+| holds abcdefghijklmnopqrst- abcdefghijklmnopqrstuv
+| holds p abcdefghijklmnopqrstuvw
+| value 0 of abcdefghijklmnopqrstuvw-_0123456789-abcdef a0
+good list problem
+
+row items of :init 3
+file (define (problem p) (:init (not (p) (q))))
+| fault 11 20..41
+refused list problem
+
+row items of :init 4
+file (define (problem p) (:init (p (a))))
+| fault 11 20..35
+refused list problem
+
+row items of :init 5
+file (define (problem p) (:init ()))
+| fault 11 20..30
+refused list problem
+
+row items of :init 6
+file (define (problem p) (:init (not p)))
+| fault 11 20..35
+refused list problem
+
+row items of :init 7
+file (define (problem p) (:init (= f)))
+| fault 11 20..33
+refused list problem
+
+row items of :init 8
+file (define (problem p) (:init (= (f 1) 2)))
+| fault 11 20..39
+refused list problem
+
 row the parts of two lamps, whose growths are refused
 growths 20
 copy two
