@@ -11,7 +11,9 @@ ghost use Rattle.pddl_commands.specs.Checks.{good_line, IsDomainJudged, IsProble
 use pddl_domain::{Domain, let_go_domain};
 use pddl_domain_reader::read_domain;
 use pddl_faults::LinkFault;
-use pddl_file_lines::{Formatted, Outcome, refused_domain, refused_link, refused_problem};
+use pddl_file_lines::{
+    Formatted, Outcome, let_go_text, refused_domain, refused_link, refused_problem,
+};
 use pddl_link::{check_domain, link};
 use pddl_linked_task::let_go_task;
 use pddl_problem::{Problem, let_go_problem};
@@ -93,7 +95,7 @@ pub fn checked_domain<'a, B: Allocator>(
 {
     match read_domain(alloc, &text) {
         Ok(domain) => {
-            drop(text);
+            let_go_text(text);
             let answer = judged_domain(alloc, &domain);
             let_go_domain(domain);
             answer
@@ -112,7 +114,7 @@ pub fn checked_problem<'a, B: Allocator>(
 {
     match read_problem(alloc, &text) {
         Ok(problem) => {
-            drop(text);
+            let_go_text(text);
             let answer = judged_problem(alloc, domain, &problem);
             let_go_problem(problem);
             answer

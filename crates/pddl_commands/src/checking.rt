@@ -15,7 +15,7 @@ use pddl_device::{Sink, Source, write_text};
 use pddl_domain::{Domain, let_go_domain};
 use pddl_domain_reader::read_domain;
 use pddl_file_lines::{
-    Content, Formatted, Outcome, RunFault, or_memory, read_file, refused_domain,
+    Content, Formatted, Outcome, RunFault, let_go_text, or_memory, read_file, refused_domain,
 };
 use pddl_kind::Kind;
 use std::alloc::Allocator;
@@ -85,7 +85,7 @@ fn read_both<'a, B: Allocator, S: Source, T: Source>(
     match read_file(alloc, Kind::Domain, domain)? {
         Content::Text(text) => match read_domain(alloc, &text) {
             Ok(read) => {
-                drop(text);
+                let_go_text(text);
                 let answer = read_problem_checked(alloc, &read, problem);
                 let_go_domain(read);
                 answer

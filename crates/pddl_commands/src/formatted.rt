@@ -9,7 +9,7 @@ ghost use Rattle.pddl_commands.specs.Formats.{IsFormatted};
 use pddl_domain::let_go_domain;
 use pddl_domain_reader::read_domain;
 use pddl_file_layout::{domain_text, problem_text};
-use pddl_file_lines::{Formatted, Outcome, refused_domain, refused_problem};
+use pddl_file_lines::{Formatted, Outcome, let_go_text, refused_domain, refused_problem};
 use pddl_layout::plan_text;
 use pddl_plan::Plan;
 use pddl_problem::let_go_problem;
@@ -34,7 +34,7 @@ pub(crate) fn formatted_domain<'a, B: Allocator>(
 {
     match read_domain(alloc, &text) {
         Ok(domain) => {
-            drop(text);
+            let_go_text(text);
             let printed = domain_text(alloc, &domain);
             let_go_domain(domain);
             good(printed)
@@ -52,7 +52,7 @@ pub(crate) fn formatted_problem<'a, B: Allocator>(
 {
     match read_problem(alloc, &text) {
         Ok(problem) => {
-            drop(text);
+            let_go_text(text);
             let printed = problem_text(alloc, &problem);
             let_go_problem(problem);
             good(printed)

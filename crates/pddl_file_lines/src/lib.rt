@@ -15,5 +15,5 @@ pub use fault_names::FaultName;
 pub use line::{fault_line, push_number};
 pub use outcome::{Formatted, Outcome, RunFault, or_memory, status};
 pub use plan_file::{PlanContent, let_go_plan, read_plan_file};
-pub use reading::{Content, read_file};
+pub use reading::{Content, let_go_text, read_file};
 pub use refused::{refused_domain, refused_link, refused_problem};

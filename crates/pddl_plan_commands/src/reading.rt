@@ -17,8 +17,8 @@ use pddl_device::Source;
 use pddl_domain::{Domain, let_go_domain};
 use pddl_domain_reader::read_domain;
 use pddl_file_lines::{
-    Content, Formatted, Outcome, PlanContent, RunFault, let_go_plan, or_memory, read_file,
-    read_plan_file, refused_domain, refused_problem,
+    Content, Formatted, Outcome, PlanContent, RunFault, let_go_plan, let_go_text, or_memory,
+    read_file, read_plan_file, refused_domain, refused_problem,
 };
 use pddl_kind::Kind;
 use pddl_problem::{Problem, let_go_problem};
@@ -79,7 +79,7 @@ fn read_problem_and_plan<'a, B: Allocator, S: Source, T: Source>(
     match read_file(alloc, Kind::Problem, problem)? {
         Content::Text(text) => match read_problem(alloc, &text) {
             Ok(read) => {
-                drop(text);
+                let_go_text(text);
                 let answer = read_plan_checked(alloc, domain, &read, plan, wanted);
                 let_go_problem(read);
                 answer
@@ -121,7 +121,7 @@ pub(crate) fn read_each<'a, B: Allocator, S: Source, T: Source, U: Source>(
     match read_file(alloc, Kind::Domain, domain)? {
         Content::Text(text) => match read_domain(alloc, &text) {
             Ok(read) => {
-                drop(text);
+                let_go_text(text);
                 let answer = read_problem_and_plan(alloc, &read, problem, plan, wanted);
                 let_go_domain(read);
                 answer
