@@ -63,18 +63,20 @@ impl<A: Allocator> Predicate<A> {
     }
 }
 
-/// Whether a name heads formulas or effects.
+/// Whether a name heads formulas or effects: by its first letter most do not.
 fn is_reserved(name: &[u8]) -> bool
     ensures { result ≡ not (is_none_of reserved name.now) }
 {
-    name == b"and".as_slice()
-        || name == b"or".as_slice()
-        || name == b"not".as_slice()
-        || name == b"imply".as_slice()
-        || name == b"exists".as_slice()
-        || name == b"forall".as_slice()
-        || name == b"when".as_slice()
-        || name == b"increase".as_slice()
+    match name {
+        [b'a', ..] => name == b"and".as_slice(),
+        [b'o', ..] => name == b"or".as_slice(),
+        [b'n', ..] => name == b"not".as_slice(),
+        [b'i', ..] => name == b"imply".as_slice() || name == b"increase".as_slice(),
+        [b'e', ..] => name == b"exists".as_slice(),
+        [b'f', ..] => name == b"forall".as_slice(),
+        [b'w', ..] => name == b"when".as_slice(),
+        _ => false,
+    }
 }
 
 /// A predicate and its arguments.

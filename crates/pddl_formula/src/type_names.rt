@@ -6,6 +6,7 @@ ghost use Rattle.std.specs.Cmp.{partial_equiv_from_equiv};
 ghost use Rattle.std.specs.Cmp.Lexicographic.{pointwise, bytes_decides, pointwise_decides, lists_equiv, nat_list_eq_equiv};
 ghost use Rattle.std.specs.Hash as fed;
 ghost use Rattle.std.specs.List.{list_all};
+ghost use Rattle.pddl_token.specs.Names.{fed_name};
 ghost use Rattle.pddl_formula.specs.Reserved.{is_type_name, type_name_of, is_type, type_of};
 
 use pddl_token::Name;
@@ -77,12 +78,12 @@ impl<A: Allocator> Eq for TypeName<A> {
 }
 
 impl<A: Allocator> Hash for TypeName<A> {
-    ghost hash_input = { fed.slice fed.u8 };
+    ghost hash_input = { fed_name };
 
-    ghost respects_eq = { λ t u same. ap (fed.slice fed.u8) ((bytes_decides t u).0 same) };
+    ghost respects_eq = { λ t u same. ap fed_name ((bytes_decides t u).0 same) };
 
     fn hash<H: Hasher>(&self, state: &mut H) {
-        self.as_bytes().hash(state);
+        state.write(self.as_bytes());
     }
 }
 
@@ -157,9 +158,9 @@ impl<A: Allocator> Eq for TypeNames<A> {
 }
 
 impl<A: Allocator> Hash for TypeNames<A> {
-    ghost hash_input = { fed.slice (fed.slice fed.u8) };
+    ghost hash_input = { fed.slice fed_name };
 
-    ghost respects_eq = { λ t u same. ap (fed.slice (fed.slice fed.u8)) ((pointwise_decides bytes_decides t u).0 same) };
+    ghost respects_eq = { λ t u same. ap (fed.slice fed_name) ((pointwise_decides bytes_decides t u).0 same) };
 
     fn hash<H: Hasher>(&self, state: &mut H) {
         self.as_slice().hash(state);

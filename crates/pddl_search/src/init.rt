@@ -4,6 +4,7 @@ ghost use Rattle.std.specs.Prelude.{◌≡◌, [], ◌++◌, map, Some};
 ghost use Rattle.std.specs.Cmp.{partial_equiv_from_equiv};
 ghost use Rattle.std.specs.Hash as fed;
 ghost use Rattle.std.proofs.Common.{ap};
+ghost use Rattle.pddl_token.specs.Names.{fed_name};
 ghost use Rattle.pddl_problem.specs.Inits.{init_view};
 ghost use Rattle.pddl_task.specs.Names.{wrong_words};
 ghost use Rattle.pddl_task.specs.Faults.{contradicts, init_name, clashing, wrong_values, starts_above_zero};
@@ -78,12 +79,12 @@ impl<'d, A: Allocator> Eq for Claim<'d, A> {
 }
 
 impl<'d, A: Allocator> Hash for Claim<'d, A> {
-    ghost hash_input = { λ c. fed.slice fed.u8 c.0.name ++ fed.slice (fed.slice fed.u8) c.0.objects };
+    ghost hash_input = { λ c. fed_name c.0.name ++ fed.slice fed_name c.0.objects };
 
-    ghost respects_eq = { λ c d same. ap (λ g. fed.slice fed.u8 g.name ++ fed.slice (fed.slice fed.u8) g.objects) (ground_is c.0 d.0 same) };
+    ghost respects_eq = { λ c d same. ap (λ g. fed_name g.name ++ fed.slice fed_name g.objects) (ground_is c.0 d.0 same) };
 
     fn hash<H: Hasher>(&self, state: &mut H) {
-        name_of(self.item).hash(state);
+        state.write(name_of(self.item));
         objects_of(self.item).hash(state);
     }
 }

@@ -1,5 +1,6 @@
 -- Names, and the case of letters.
 use Rattle.std.specs.Prelude.{◌≡◌, ℕ, List, [], ◌∷◌, map, take, Bool, true, false, ◌&&◌, ◌||◌, ◌==◌, Option, Some, None, if◌then◌else◌}
+use Rattle.std.specs.Hash.{HashWrites}
 use Rattle.std.specs.Char.{to_ascii_lowercase, is_ascii_lowercase, is_ascii_digit, is_ascii_alphabetic}
 use Rattle.std.specs.List.{list_all, prefix_len}
 use Rattle.pddl_token.specs.Bytes.{begins, is_word_byte}
@@ -34,3 +35,7 @@ pub record IsFrontName (text name : List ℕ) (len : ℕ) : Type 0 where
   pub letter : begins is_ascii_alphabetic text ≡ true
   pub len_is : len ≡ prefix_len is_word_byte text
   pub name_is : name_of (take len text) ≡ Some name
+
+-- what a hasher is fed of a name: its bytes in one write
+abbrev pub fed_name : List ℕ → HashWrites
+fed_name name = name ∷ []

@@ -4,7 +4,7 @@ ghost use Rattle.std.proofs.Common.{ap};
 ghost use Rattle.std.specs.Prelude.{◌≡◌, ◌≤◌, take, bytes_eq};
 ghost use Rattle.std.specs.Cmp.{partial_equiv_from_equiv};
 ghost use Rattle.std.specs.Cmp.Lexicographic.{bytes_decides, nat_list_eq_equiv};
-ghost use Rattle.std.specs.Hash as fed;
+ghost use Rattle.pddl_token.specs.Names.{fed_name};
 
 use crate::name::{FEW, NameText};
 use std::hash::{Hash, Hasher};
@@ -83,11 +83,11 @@ impl<'n> Eq for LentName<'n> {
 }
 
 impl<'n> Hash for LentName<'n> {
-    ghost hash_input = { fed.slice fed.u8 };
+    ghost hash_input = { fed_name };
 
-    ghost respects_eq = { λ m n same. ap (fed.slice fed.u8) ((bytes_decides m n).0 same) };
+    ghost respects_eq = { λ m n same. ap fed_name ((bytes_decides m n).0 same) };
 
     fn hash<H: Hasher>(&self, state: &mut H) {
-        self.as_bytes().hash(state);
+        state.write(self.as_bytes());
     }
 }

@@ -4,12 +4,11 @@ ghost use Rattle.std.proofs.Common.{ap};
 ghost use Rattle.std.specs.Prelude.{◌≡◌, ◌≤◌, ◌+◌, List, ℕ, true, false, length, take, drop, bytes_eq, is_some, IfOk, IfSome, IsTrue, MatchOption};
 ghost use Rattle.std.specs.Cmp.{partial_equiv_from_equiv};
 ghost use Rattle.std.specs.Cmp.Lexicographic.{bytes_decides, nat_list_eq_equiv};
-ghost use Rattle.std.specs.Hash as fed;
 ghost use Rattle.std.specs.Char.{is_ascii_alphabetic};
 ghost use Rattle.std.specs.Int.{w64, to_le_bytes};
 ghost use Rattle.std.specs.List.{list_all, prefix_len};
 ghost use Rattle.pddl_token.specs.Bytes.{begins, is_word_byte};
-ghost use Rattle.pddl_token.specs.Names.{folded, name_of, name_byte, is_name, is_first_byte, is_later_byte, IsFrontName};
+ghost use Rattle.pddl_token.specs.Names.{folded, name_of, name_byte, is_name, is_first_byte, is_later_byte, IsFrontName, fed_name};
 ghost use Rattle.pddl_token.specs.NameTexts.{letters_of};
 
 use crate::lent_name::LentName;
@@ -269,12 +268,12 @@ impl<A: Allocator> Eq for Name<A> {
 }
 
 impl<A: Allocator> Hash for Name<A> {
-    ghost hash_input = { fed.slice fed.u8 };
+    ghost hash_input = { fed_name };
 
-    ghost respects_eq = { λ m n same. ap (fed.slice fed.u8) ((bytes_decides m n).0 same) };
+    ghost respects_eq = { λ m n same. ap fed_name ((bytes_decides m n).0 same) };
 
     fn hash<H: Hasher>(&self, state: &mut H) {
-        self.as_bytes().hash(state);
+        state.write(self.as_bytes());
     }
 }
 
