@@ -226,6 +226,14 @@ number_reads text begun =
     })
     (λ no_value. record { number = it.number; after = it.after; longest = longest; no_value = some_or_none (value_of it.number) (rw front at no_value); not_glued = ap (begins is_word_byte) (sym rest) ∙ no_word_byte }))
 
+-- a number with a value
+pub number_here : (text : List ℕ) (value : ℕ) → begins is_ascii_digit text ≡ true → begins is_word_byte (drop (number_len text) text) ≡ false → value_of (take (number_len text) text) ≡ Some value
+    → IsWordAt Number (number_len text) text
+unfolding next_number
+number_here text value begun ends valued =
+    let is : next_number text ≡ next.Word Number (number_len text) = rw (ends, valued) refl in
+    subst (λ answer. Reads answer text) is (number_reads text begun)
+
 -- ---- any byte
 
 -- what stands at a byte of this class

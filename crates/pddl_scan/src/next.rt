@@ -1,15 +1,15 @@
 //! What stands at the front of a text.
 
-ghost use Rattle.std.specs.Prelude.{◌≡◌, ◌<◌, ◌≤◌, ℕ, List, length, true, ◌==◌};
+ghost use Rattle.std.specs.Prelude.{◌≡◌, ◌<◌, ◌≤◌, ℕ, List, length, true, ◌==◌, IfSome};
 ghost use Rattle.std.specs.List.{prefix_len};
 ghost use Rattle.std.specs.Char.{is_ascii_digit, is_ascii_whitespace};
 ghost use Rattle.pddl_token.specs.Bytes.{begins, is_line_byte, is_word_byte};
 ghost use Rattle.pddl_token.specs.Number.{value_of};
-ghost use Rattle.pddl_scan.specs.Inner.Reading.{number_len, next_comment, next_number, next_by, next_of, IsGapAt, Reads};
+ghost use Rattle.pddl_scan.specs.Inner.Reading.{number_len, next_comment, next_number, next_by, next_of, IsGapAt, IsNumberAt, Reads};
 ghost use Rattle.pddl_scan.specs.Inner.Parts.{Settles, ReadsOn};
 
 use crate::bytes::{ByteClass, class_of, is_line_byte, is_word_byte};
-use pddl_token::{TokenKind, begins_name, digits_len, value_of, word_len};
+use pddl_token::{Fixed, TokenKind, begins_name, digits_len, value_of, word_len};
 
 /// What stands at the front of a text.
 #[derive(Clone, Copy)]
@@ -141,6 +141,22 @@ pub fn begins_with_blank(text: &[u8]) -> bool
         [] => false,
         [first, ..] => first.is_ascii_whitespace(),
     }
+}
+
+/// The value of the number at the front of a text, which is as long as can be, and its length; `None` where no digit is first, a word byte follows the
+/// number, or it has no value.
+pub fn number_at_front(text: &[u8]) -> Option<(Fixed, usize)>
+    ensures { IfSome result (λ front. IsNumberAt text.now front.0 front.1) }
+{
+    if !begins_digits(text) {
+        return None;
+    }
+    let len = number_len(text);
+    let (number, after) = text.split_at(len);
+    if begins_with_word_byte(after) {
+        return None;
+    }
+    Some((value_of(number)?, len))
 }
 
 /// What stands at the front of a text that has a byte.

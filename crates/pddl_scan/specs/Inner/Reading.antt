@@ -1,5 +1,5 @@
 -- What is read at the front of a text: as a function of the bytes, and what the answer means. No public contract names these.
-use Rattle.std.specs.Prelude.{ℕ, ◌+◌, ◌<◌, ◌≤◌, List, [], ◌∷◌, length, take, drop, nat_lt, ◌==◌, is_some, if◌then◌else◌}
+use Rattle.std.specs.Prelude.{◌≡◌, ℕ, ◌+◌, ◌<◌, ◌≤◌, List, [], ◌∷◌, length, take, drop, nat_lt, ◌==◌, Some, is_some, if◌then◌else◌}
 use Rattle.std.specs.List.{prefix_len}
 use Rattle.std.specs.Char.{is_ascii_digit, is_ascii_alphabetic}
 use Rattle.pddl_token.specs.Bytes.{is_line_byte, is_word_byte, begins, begins_decimals}
@@ -66,6 +66,10 @@ pub record IsWordAt (kind : TokenKind) (len : ℕ) (text : List ℕ) : Type 0 wh
   pub in_range : len ≤ length text
   pub is_part : IsPart (word (word_at kind len text)) (drop len text)
   pub valued : IsValued kind (take len text)
+
+-- the first bytes are a number of this value
+abbrev pub IsNumberAt : List ℕ → ℕ → ℕ → Type 0
+IsNumberAt text value len = IsWordAt kinds.Number len text × (value_of (take len text) ≡ Some value)
 
 -- what an answer says of the text
 abbrev pub Reads : Next → List ℕ → Type 0
