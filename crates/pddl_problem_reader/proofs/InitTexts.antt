@@ -32,7 +32,7 @@ name_item levels w name more items spells form =
     plain w (not_kind w Name Open spells.1.0 (λ e. absurd (cc (e)))) (not_kind w Name Close spells.1.0 (λ e. absurd (cc (e)))) form
 
 -- and so are several
-names_form : (levels : ℕ) (names : List (List ℕ)) (words : List PlacedWord) → AreNames names words → AreItems levels words (map placed_leaf words)
+pub names_form : (levels : ℕ) (names : List (List ℕ)) (words : List PlacedWord) → AreNames names words → AreItems levels words (map placed_leaf words)
 names_form levels [] [] are = none
 names_form levels [] (w ∷ words) are = absurd are
 names_form levels (name ∷ names) [] are = absurd are

@@ -1,6 +1,7 @@
 pub mod PartLaws
 mod SlotLaws
 mod InitTexts
+mod ObjectTexts
 mod OnePass
 pub mod ProblemTexts
 mod ItemTurns

@@ -10,21 +10,23 @@ use Rattle.pddl_scan.specs.Scanning.{LexedTo}
 use Rattle.pddl_items.specs.Inner.TreeReading.{both, all_of}
 use Rattle.pddl_items.proofs.TreeLists.{all_erased_list, list_of_trees_of}
 use Rattle.pddl_text.specs.Lists.{span_over, none, plain, nested}
+use Rattle.pddl_text.specs.Inner.NextWords.{ReadsSign}
 use Rattle.pddl_text.proofs.Nests.{items_append}
 use Rattle.pddl_sections.specs.Inner.Verdicts.{key_turn, turn, verdict}
+use Rattle.pddl_file.specs.declared.keyword.SectionKeyword.{SectionKeyword}
 use Rattle.pddl_file.specs.declared.keyword.SectionKeyword.TheVariants as keys
 use Rattle.pddl_file.specs.declared.keyword.Seen.{Seen}
 use Rattle.pddl_file.specs.Inner.Begun.{HasBegun, words_of, ReadsSection}
-use Rattle.pddl_file.specs.Inner.WordReading.{key_by, key_of, nothing_seen, with_seen}
+use Rattle.pddl_file.specs.Inner.WordReading.{key_by, key_of, nothing_seen, has_seen, with_seen}
 use Rattle.pddl_file.proofs.Begun.{begun_on, begun_ends}
 use Rattle.pddl_problem.specs.Inits.{InitValue, IsInit}
 use Rattle.pddl_init_reader.specs.Inner.InitReading.{init_at}
 use Rattle.pddl_init_reader.proofs.InitLaws.{init_reads}
-use Rattle.pddl_problem_reader.specs.ProblemTexts.{init}
+use Rattle.pddl_problem_reader.specs.ProblemTexts.{Part, init}
 use Rattle.pddl_problem_reader.specs.Inner.ProblemReading.{content_at, part_at, problem_readers}
 use Rattle.pddl_problem_reader.specs.Inner.Slots.{SlotsValue, no_slots, fill, FillsPart}
 use Rattle.pddl_problem_reader.specs.Inner.InitTexts.{ReadsTree}
-use Rattle.pddl_problem_reader.specs.Inner.OnePass.{IsInitBehind, ReadsSome, ReadsInits, HoldsFile}
+use Rattle.pddl_problem_reader.specs.Inner.OnePass.{IsSectionBehind, ReadsSome, ReadsPart, HoldsFile}
 use Rattle.pddl_problem_reader.proofs.InitTexts.{not_kind}
 use Rattle.pddl_problem_reader.proofs.SlotLaws.{SoFar, so_far_next}
 
@@ -68,61 +70,68 @@ init_more text words at to inits x some read = record {
   reads = all_more (λ p. init_at (erased p)) some.items read.item inits x some.reads (init_reads.complete (erased read.item) x read.holds);
 }
 
--- ---- the section of `:init`
-
 map_through : {X Y Z : Type 0} (f : Y → Z) (g : X → Y) (xs : List X) → map f (map g xs) ≡ map (λ x. f (g x)) xs
 map_through f g [] = refl
 map_through f g (x ∷ xs) = ap (λ zs. f (g x) ∷ zs) (map_through f g xs)
+
+-- the items of the section
+pub init_part : (text : List ℕ) (words : List PlacedWord) (at to : ℕ) (inits : List InitValue) (some : ReadsSome text words at inits) → ReadsSign text (words ++ some.more) to Close
+    → ReadsPart keys.Init (init inits) text words to
+init_part text words at to inits some (closing, is_close, lexed) = record {
+  more = some.more;
+  items = some.items;
+  form = some.form;
+  says = ap (λ os. option_map init (all_of os)) (map_through init_at erased some.items) ∙ ap (option_map init) some.reads;
+  closing = closing;
+  is_close = is_close;
+  lexed = lexed;
+}
+
+-- ---- sections that are read from the text
 
 pub not_true : (b : Bool) → not b ≡ true → b ≡ false
 not_true false e = refl
 not_true true e = absurd (true≢false (sym e))
 
--- its words, behind others
+-- the words of a section, behind others
 regroup : (words more : List PlacedWord) (opening keyword closing : PlacedWord) → ((words ++ opening ∷ keyword ∷ []) ++ more) ++ closing ∷ [] ≡ words ++ opening ∷ ((keyword ∷ more) ++ closing ∷ [])
 regroup words more opening keyword closing =
     append_assoc (words ++ opening ∷ keyword ∷ []) more (closing ∷ []) ∙ append_assoc words (opening ∷ keyword ∷ []) (more ++ closing ∷ [])
 
-module _ (text : List ℕ) (words : List PlacedWord) (at next : ℕ) (inits : List InitValue) (behind : IsInitBehind text words at)
-    (read : ReadsInits text (words ++ behind.opening ∷ behind.keyword ∷ []) next inits) where
+module _ (text : List ℕ) (words : List PlacedWord) (at next : ℕ) (name : List ℕ) (key : SectionKeyword) (part : Part) (behind : IsSectionBehind name text words at)
+    (read : ReadsPart key part text (words ++ behind.opening ∷ behind.keyword ∷ []) next) (named : key_of name ≡ Some key) where
   abbrev inside : List Placed
-  inside = placed_leaf behind.keyword ∷ read.some.items
+  inside = placed_leaf behind.keyword ∷ read.items
 
   abbrev section : Placed
   section = placed_node (span_over behind.opening read.closing) (placed_of inside)
 
-  head_is : key_by behind.keyword.kind behind.keyword.text ≡ Some keys.Init
-  head_is = ap (λ kind. key_by kind behind.keyword.text) behind.is_keyword ∙ ap key_of behind.is_init
+  head_is : key_by behind.keyword.kind behind.keyword.text ≡ Some key
+  head_is = ap (λ kind. key_by kind behind.keyword.text) behind.is_keyword ∙ (ap key_of behind.is_name ∙ named)
 
-  trees_are : list_of (all_erased (placed_of read.some.items)) ≡ map erased read.some.items
-  trees_are = ap list_of (all_erased_list read.some.items) ∙ list_of_trees_of (map erased read.some.items)
+  trees_are : list_of (all_erased (placed_of read.items)) ≡ map erased read.items
+  trees_are = ap list_of (all_erased_list read.items) ∙ list_of_trees_of (map erased read.items)
 
-  content_is : content_at (Some keys.Init) (list_of (all_erased (placed_of read.some.items))) ≡ Some (init inits)
-  content_is =
-      ap (content_at (Some keys.Init)) trees_are
-      ∙ ap (λ os. option_map init (all_of os)) (map_through init_at erased read.some.items)
-      ∙ ap (option_map init) read.some.reads
-
-  part_is : part_at (erased section) ≡ Some (init inits)
-  part_is = ap (λ k. content_at k (list_of (all_erased (placed_of read.some.items)))) head_is ∙ content_is
+  part_is : part_at (erased section) ≡ Some part
+  part_is = ap (λ k. content_at k (list_of (all_erased (placed_of read.items)))) head_is ∙ (ap (content_at (Some key)) trees_are ∙ read.says)
 
   -- it fills its slot
-  pub init_section : (seen : Seen) (before after : SlotsValue) (seen_then : Seen) → seen.init ≡ false → after ≡ fill before (init inits) → seen_then ≡ with_seen seen keys.Init
+  pub part_section : (seen : Seen) (before after : SlotsValue) (seen_then : Seen) → has_seen seen key ≡ false → after ≡ fill before part → seen_then ≡ with_seen seen key
       → ReadsSection (λ p. FillsPart (turn problem_readers seen p) before after) text words next seen seen_then
-  init_section seen before after seen_then unseen made noted =
-      let form = nested {levels = 126} behind.opening read.closing (behind.keyword ∷ read.some.more) [] inside [] behind.is_open read.is_close
-      (plain behind.keyword (not_kind behind.keyword Keyword Open behind.is_keyword (λ e. absurd (cc (e)))) (not_kind behind.keyword Keyword Close behind.is_keyword (λ e. absurd (cc (e)))) read.some.form)
+  part_section seen before after seen_then unseen made noted =
+      let form = nested {levels = 126} behind.opening read.closing (behind.keyword ∷ read.more) [] inside [] behind.is_open read.is_close
+      (plain behind.keyword (not_kind behind.keyword Keyword Open behind.is_keyword (λ e. absurd (cc (e)))) (not_kind behind.keyword Keyword Close behind.is_keyword (λ e. absurd (cc (e)))) read.form)
       none refl refl in
       record {
-        more = behind.opening ∷ ((behind.keyword ∷ read.some.more) ++ read.closing ∷ []);
+        more = behind.opening ∷ ((behind.keyword ∷ read.more) ++ read.closing ∷ []);
         section = section;
-        key = keys.Init;
-        lexed = subst (λ ws. LexedTo text ws next) (regroup words read.some.more behind.opening behind.keyword read.closing) read.lexed;
+        key = key;
+        lexed = subst (λ ws. LexedTo text ws next) (regroup words read.more behind.opening behind.keyword read.closing) read.lexed;
         form = form;
         holds = record {
-          part = init inits;
+          part = part;
           is = ap (λ k. key_turn problem_readers k seen (part_at (erased section)) section) head_is
-              ∙ ap (λ x. key_turn problem_readers (Some keys.Init) seen x section) part_is ∙ rw unseen refl;
+              ∙ (ap (λ x. key_turn problem_readers (Some key) seen x section) part_is ∙ rw unseen refl);
           made = made;
         };
         next_is = noted;

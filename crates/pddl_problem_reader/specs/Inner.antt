@@ -2,4 +2,5 @@
 pub mod ProblemReading
 pub mod Slots
 pub mod InitTexts
+pub mod ObjectTexts
 pub mod OnePass

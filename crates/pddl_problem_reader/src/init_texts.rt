@@ -10,18 +10,17 @@ ghost use Rattle.pddl_token.specs.TreeWords.{SpellsName};
 ghost use Rattle.pddl_scan.specs.Scanning.{LexedTo};
 ghost use Rattle.pddl_text.specs.Inner.NextWords.{ReadsName, ReadsSign};
 ghost use Rattle.pddl_formula.specs.Reserved.{predicate_of};
-ghost use Rattle.pddl_problem.specs.Inits.{IsFact, IsGroundFunction, IsInit, fact_view, function_view, init_view};
+ghost use Rattle.pddl_problem.specs.Inits.{IsGroundFunction, IsInit, function_view, init_view};
 ghost use Rattle.pddl_problem_reader.specs.Inner.InitTexts.{ReadsNames, ReadsObjects, ReadsTree};
 
-use pddl_file::{Stop, word_behind};
+use pddl_file::Stop;
 use pddl_formula::Predicate;
 use pddl_problem::{Fact, GroundFunction, InitItem};
-use pddl_scan::LONGEST;
-use pddl_text::{next_name, next_sign};
-use pddl_token::{Name, TokenKind, value_of};
+use pddl_text::{next_name, next_number, next_sign};
+use pddl_token::{Name, TokenKind};
 use std::alloc::{AllocError, Allocator};
 
-/// The place moves behind `(`, `)` or `=`, which stands next.
+/// The place moves behind `(`, `)`, `-` or `=`, which stands next.
 pub fn sign_behind(text: &[u8], at: &mut usize, kind: TokenKind) -> Result<(), Stop>
     ensures sign { (words : List PlacedWord) → LexedTo text.now words at.old → OnOk result (ReadsSign text.now words at.new kind) }
     ensures further { OnOk result ((at.old < at.new) × (at.new ≤ length text.now)) }
@@ -49,7 +48,7 @@ fn name_behind<'a, B: Allocator>(
 }
 
 /// Puts the names that stand next into an empty list.
-fn add_names<'a, B: Allocator>(
+pub fn add_names<'a, B: Allocator>(
     alloc: &'a B,
     names: &mut Vec<Name<&'a B>, &'a B>,
     text: &[u8],
@@ -129,19 +128,17 @@ fn value_behind<'a, B: Allocator>(
     text: &[u8],
     at: &mut usize,
 ) -> Result<InitItem<&'a B>, Stop>
-    requires short { length text.now ≤ LONGEST }
     ensures value { (words : List PlacedWord) (opening : PlacedWord) → opening.kind ≡ TokenKind.Open → LexedTo text.now (words ++ opening ∷ []) at.old
         → IfOk result (λ init. ReadsTree (IsInit (init_view init)) text.now words 126 at.new) }
     ensures further { OnOk result ((at.old < at.new) × (at.new ≤ length text.now)) }
 {
     sign_behind(text, at, TokenKind::Equal)?;
     let function = function_behind(alloc, names, text, at)?;
-    let number = word_behind(text, at, TokenKind::Number)?;
+    let Some(number) = next_number(text, at) else {
+        return Err(Stop::Wrong);
+    };
     sign_behind(text, at, TokenKind::Close)?;
-    match value_of(number) {
-        Some(number) => Ok(InitItem::Value(function, number)),
-        None => Err(Stop::Wrong),
-    }
+    Ok(InitItem::Value(function, number))
 }
 
 /// A fact that does not hold, behind `(not`, the last words that were read.
@@ -169,7 +166,6 @@ pub fn init_item_behind<'a, B: Allocator>(
     text: &[u8],
     at: &mut usize,
 ) -> Result<InitItem<&'a B>, Stop>
-    requires short { length text.now ≤ LONGEST }
     ensures init { (words : List PlacedWord) (opening : PlacedWord) → opening.kind ≡ TokenKind.Open → LexedTo text.now (words ++ opening ∷ []) at.old
         → IfOk result (λ init. ReadsTree (IsInit (init_view init)) text.now words 126 at.new) }
     ensures further { OnOk result ((at.old < at.new) × (at.new ≤ length text.now)) }

@@ -4,6 +4,7 @@
 #![tactic(auto)]
 
 mod init_texts;
+mod object_texts;
 mod one_pass;
 mod problem_reader;
 mod section;

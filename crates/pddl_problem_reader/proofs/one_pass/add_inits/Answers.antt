@@ -1,10 +1,10 @@
-use Rattle.std.proofs.Common.{[], ◌++◌, sym, refl, arith, subst}
+use Rattle.std.proofs.Common.{[], ◌++◌, map, sym, refl, arith, subst}
 use Rattle.std.proofs.lemmas.List.{append-nil}
 use Rattle.std.proofs.lemmas.Result.{on_ok_weaker}
 use Rattle.pddl_scan.specs.Scanning.{LexedTo}
 use Rattle.pddl_text.specs.Lists.{none}
 use Rattle.pddl_problem.specs.Inits.{init_view}
-use Rattle.pddl_problem_reader.proofs.OnePass.{init_more}
+use Rattle.pddl_problem_reader.proofs.OnePass.{init_more, init_part}
 use Rattle.pddl_problem_reader.proofs.one_pass.add_inits.Goals as goal
 
 pub loop-names-init : goal.loop-names-init
@@ -27,7 +27,7 @@ pub returns-clause-inits : goal.returns-clause-inits
 returns-clause-inits g c = λ words lexed.
     let some = c.loop-names.invariant.read words lexed in
     let here = subst (LexedTo c.args.text.now (words ++ some.more)) (sym (c.loop-names-test.ensures.stays refl)) some.lexed in
-    on_ok_weaker c.sign_behind.result (λ (closing, is_close, behind). record { before = c.loop-names.at; some = some; closing = closing; is_close = is_close; lexed = behind })
+    on_ok_weaker c.sign_behind.result (init_part c.args.text.now words c.loop-names.at c.sign_behind.new.at (map init_view c.loop-names.inits.items) some)
     (c.sign_behind.ensures.sign (words ++ some.more) here)
 
 pub returns-clause-further : goal.returns-clause-further
