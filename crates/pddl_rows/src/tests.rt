@@ -77,7 +77,7 @@ fn read_plans(rt: HostRuntime) -> Result<(), Fail> {
 
 #[test]
 fn read_problems(rt: HostRuntime) -> Result<(), Fail> {
-    all_hold(&rt, rows::READ_PROBLEMS, 53)
+    all_hold(&rt, rows::READ_PROBLEMS, 66)
 }
 
 #[test]

@@ -285,6 +285,83 @@ file (define (problem p) (:init (= (f 1) 2)))
 | fault 11 20..39
 refused list problem
 
+row values of :init 1
+file (define (problem p) (:domain d) (:init (= f 007.50)(= (g)9999999999.999999999) (= (h a);1 2\n0.0000000010) (= i 3;4\n)) (:goal ()))
+| problem p
+| domain d
+| value 7500000000 of f
+| value 9999999999999999999 of g
+| value 1 of h a
+| value 3000000000 of i
+good list problem
+
+row values of :init 2
+file (define (problem p) (:init (= f 1a)))
+| Glued { at: 32 }
+refused list problem
+
+row values of :init 3
+file (define (problem p) (:init (= f 10000000000)))
+| NumberRange { at: 32 }
+refused list problem
+
+row values of :init 4
+file (define (problem p) (:init (= f 1.)))
+| Stray { at: 33 }
+refused list problem
+
+row values of :init 5
+file (define (problem p) (:init (= f -1)))
+| fault 11 20..36
+refused list problem
+
+row objects 1
+file (define (problem p) (:domain d) (:init) (:goal ()) (:objects A;1\nb-c - T d -(EITHER T u)e -v f g))
+| problem p
+| domain d
+| object a t
+| object b-c t
+| object d t u
+| object e v
+| object f object
+| object g object
+good list problem
+
+row objects 2
+file (define (problem p) (:objects - t))
+| fault 11 20..34
+refused list problem
+
+row objects 3
+file (define (problem p) (:objects a - (either)))
+| fault 11 20..43
+refused list problem
+
+row objects 4
+file (define (problem p) (:objects a - either))
+| fault 11 20..41
+refused list problem
+
+row objects 5
+file (define (problem p) (:objects a - t - u))
+| fault 11 20..40
+refused list problem
+
+row objects 6
+file (define (problem p) (:objects a - 5))
+| fault 11 20..36
+refused list problem
+
+row objects 7
+file (define (problem p) (:objects (a)))
+| fault 11 20..34
+refused list problem
+
+row objects 8
+file (define (problem p) (:objects a - (t u) b))
+| fault 11 20..42
+refused list problem
+
 row the parts of two lamps, whose growths are refused
 growths 20
 copy two
