@@ -7,6 +7,7 @@ use Rattle.std.specs.Map.{keys_of}
 use Rattle.std.specs.Option.{option_map_or}
 use Rattle.std.proofs.lemmas.List.{drop_all, take_all, length-map, map-append, map_push}
 use Rattle.std.proofs.lemmas.List.Elements.{filter-append}
+use Rattle.std.proofs.lemmas.List.Quantifiers.{position-Some}
 use Rattle.std.proofs.lemmas.Option.{slice_get_within, slice_get-get_or}
 use Rattle.indexmap.specs.IndexMap.{insert_entry}
 use Rattle.indexmap.proofs.MapLemmas.{Missing-position, insert_entry-absent}
@@ -75,11 +76,12 @@ module _ {A : Type 0} (es : List (Name × Bor (Typed A))) (seen : List TypedValu
 
   -- a name that is there is at odds where its number is another, and nothing is put
   pub seen_there : (told : ToldValue) (numbers : List ℕ) (number place : ℕ) → AreDistinct told → IsAt told x.of number → AreAt told (map object_in es) numbers
-      → position (bytes_eq n) (keys_of es) ≡ Some place → place < length es
+      → position (bytes_eq n) (keys_of es) ≡ Some place
       → (known : ℕ) × (slice_get numbers place ≡ Some known) × (is_off seen x ≡ not (known == number)) × (map object_in es ≡ firsts (seen ++ x ∷ []))
-  seen_there told numbers number place once at are is low =
-      let (y, there) = some_at (map object_in es) place (omega (arith, low, length-map es object_in)) in
-      let (known, read) = some_at numbers place (omega (arith, low, length-map es object_in, are.many)) in
+  seen_there told numbers number place once at are is =
+      let low = (position-Some (bytes_eq n) (keys_of es) place [] is).0 in
+      let (y, there) = some_at (map object_in es) place (omega (arith, low, length-map es object_in, length-map es (λ e. e.0))) in
+      let (known, read) = some_at numbers place (omega (arith, low, length-map es object_in, length-map es (λ e. e.0), are.many)) in
       let found : find (is_named x.item) seen ≡ Some y = sym found_seen ∙ object_found es n place is ∙ there in (
         known,
         read,

@@ -1,5 +1,5 @@
 -- Tables of what is declared, as it is put into them one after another, and the types of parameters.
-use Rattle.std.proofs.Common.{◌≡◌, ◌≤◌, ℕ, Bool, true, false, not, ◌||◌, cond, List, [], ◌∷◌, ◌++◌, map, length, Option, Some, None, refl, ap, sym, ◌∙◌, subst, bytes_eq, append_assoc, arith}
+use Rattle.std.proofs.Common.{◌≡◌, ◌≤◌, ℕ, Bool, true, false, ◌||◌, cond, List, [], ◌∷◌, ◌++◌, map, length, Option, Some, None, refl, ap, sym, ◌∙◌, subst, bytes_eq, append_assoc, arith}
 use Rattle.std.specs.Prelude.{is_some, find, slice_get}
 use Rattle.std.specs.Borrow.{Bor}
 use Rattle.std.specs.Map.{lookup}
@@ -8,8 +8,9 @@ use Rattle.std.proofs.lemmas.List.{map-append}
 use Rattle.std.proofs.lemmas.List.Elements.{All-contains}
 use Rattle.std.proofs.lemmas.List.Folds.{find-append}
 use Rattle.std.proofs.lemmas.Option.{same_Some, slice_get_within}
-use Rattle.indexmap.specs.IndexMap.{IndexMap, insert_entry}
+use Rattle.indexmap.specs.IndexMap.{IndexMap, index_of, insert_entry}
 use Rattle.indexmap.proofs.CallerLemmas.{insert_entry-new}
+use Rattle.indexmap.proofs.MapLemmas.{some_index}
 use Rattle.pddl_formula.specs.TypedLists.{TypedValue, typed_view}
 use Rattle.pddl_domain.specs.Actions.{ActionValue}
 use Rattle.pddl_domain.specs.Declarations.{Signature}
@@ -31,10 +32,6 @@ use Rattle.pddl_types.proofs.ToldTypes.{slots_still, slots_more}
 pub none_found : {X : Type 0} (o : Option X) → is_some o ≡ false → o ≡ None
 none_found None h = refl
 none_found (Some x) h = cc
-
-turned : (b c : Bool) → c ≡ not b → not c ≡ b
-turned true c is = ap not is
-turned false c is = ap not is
 
 -- one that is found stays so with one more
 found_still : {X : Type 0} (o : Option X) (b : Bool) (x : X) → (b ≡ true → is_some o ≡ true) → option_or o (cond b (Some x) None) ≡ o
@@ -127,12 +124,12 @@ module _ {A B S : Type 0} (m : IndexMap (Bor (List ℕ)) (Slots A B) S) {before 
         }),
       )
 
-  pub put_where_new : (v : Slots A B) (next : Rows A B) (is_new : Bool) → is_new ≡ not (is_some (lookup (λ j. bytes_eq k.now j.now) m.entries))
-      → next ≡ cond is_new (insert_entry (λ a b. bytes_eq a.now b.now) m.entries k v) m.entries → map typed_view v.parameters.now ≡ g.parameters → IsSlotsAt after v
-      → (is_in (map symbol_of seen) g.name ≡ not is_new) × HaveFirst after next (seen ++ g ∷ [])
-  put_where_new v next true is put parameters at = put_new v next (turned (is_some (lookup (λ j. bytes_eq k.now j.now) m.entries)) true is) put parameters at
-  put_where_new v next false is put parameters at =
-      let (there, have) = put_old (turned (is_some (lookup (λ j. bytes_eq k.now j.now) m.entries)) false is) in
+  pub put_where_new : (v : Slots A B) (next : Rows A B) (place : Option ℕ) → place ≡ index_of (λ a b. bytes_eq a.now b.now) m k
+      → next ≡ cond (is_some place) m.entries (insert_entry (λ a b. bytes_eq a.now b.now) m.entries k v) → map typed_view v.parameters.now ≡ g.parameters → IsSlotsAt after v
+      → (is_in (map symbol_of seen) g.name ≡ is_some place) × HaveFirst after next (seen ++ g ∷ [])
+  put_where_new v next None is put parameters at = put_new v next (ap is_some is ∙ some_index (λ j. bytes_eq k.now j.now) m.entries) put parameters at
+  put_where_new v next (Some i) is put parameters at =
+      let (there, have) = put_old (ap is_some is ∙ some_index (λ j. bytes_eq k.now j.now) m.entries) in
       (there, subst (λ (rows : Rows A B). HaveFirst after rows (seen ++ g ∷ [])) (sym put) have)
 
 -- ---- the types of the parameters of actions

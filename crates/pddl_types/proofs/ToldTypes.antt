@@ -1,9 +1,9 @@
 -- Types that are told by number, with their tops, the numbers of items' types, and what is found of pairs of them.
 use Rattle.std.proofs.Common.{◌≡◌, ℕ, zero, suc, ◌+◌, ◌-◌, ◌<◌, ◌==◌, ◌&&◌, cond, Bool, true, false, not, List, [], ◌∷◌, ◌++◌, map, filter, length, take, Option, Some, None, Result, Ok, Err, position, refl, sym, ap, ◌∙◌, subst, arith, append-nil, append_assoc}
-use Rattle.std.specs.Prelude.{IsTrue, IfOk, Vec, option_map, slice_get}
+use Rattle.std.specs.Prelude.{IsTrue, IfOk, Vec, Contains, bytes_eq, option_map, slice_get}
 use Rattle.std.specs.Borrow.{Bor}
 use Rattle.std.specs.Cmp.Lexicographic.{bytes_decides, pointwise_decides}
-use Rattle.std.specs.List.{IsDistinct, AllByRecursion, list_all, position_or_len}
+use Rattle.std.specs.List.{IsDistinct, AllByRecursion, list_all, list_any, position_or_len}
 use Rattle.std.specs.Map.{keys_of, lookup}
 use Rattle.std.proofs.lemmas.Bool.{eqb-true, eq-eqb}
 use Rattle.std.proofs.lemmas.Cmp.{nat_list_eq_equiv, lists_equiv}
@@ -19,9 +19,10 @@ use Rattle.pddl_forest.specs.Spans.{AreApart, hold_all}
 use Rattle.pddl_forest.specs.declared.spans.Span.{Span}
 use Rattle.pddl_formula.specs.TypedLists.{TypedValue, typed_view}
 use Rattle.pddl_formula.specs.Groups.{HaveOneType}
+use Rattle.pddl_domain.specs.Declarations.{TypeValue}
 use Rattle.pddl_task.specs.Names.{Name, is_in, same_names}
-use Rattle.pddl_task.specs.Types.{types_of, pairs, fits}
-use Rattle.pddl_task.proofs.Lists.{at_place, and_left, and_right, some_at}
+use Rattle.pddl_task.specs.Types.{types_of, pairs, reaches, is_under, fits}
+use Rattle.pddl_task.proofs.Lists.{at_place, and_left, and_right, or_left, found_all, found_any, same_bytes, some_at}
 use Rattle.pddl_task.proofs.Numbers.{both_ways}
 use Rattle.pddl_types.specs.TypeSpans.{TypesValue, IsTold, HaveEach, are_types}
 use Rattle.pddl_types.specs.Told.{ToldValue, told_in, tops_at, IsAt, AreAt, AreDistinct, AreTold, AreKept, AreFitting}
@@ -179,6 +180,17 @@ module _ (told : ToldValue) (once : AreDistinct told) where
       both_ways (i == j) (same_names names others)
       (λ is. decided.1 (same_Some names others (sym at ∙ ap (λ n. option_map (λ (e : Entry). e.0) (slice_get told n)) (eqb-true i j is) ∙ also)))
       (λ is. eq-eqb i j (sym (number_is names i at) ∙ ap (λ ns. position_or_len (same_names ns) (keys_of told)) (decided.0 is) ∙ number_is others j also))
+
+-- ---- a type fits itself
+
+under_itself : (ps : List TypeValue) (steps : ℕ) (n : Name) → reaches ps steps n n ≡ true
+under_itself ps zero n = same_bytes n n refl
+under_itself ps (suc steps) n = or_left (bytes_eq n n) (list_any (λ e. bytes_eq n e.item && reaches ps steps e.of n) ps) (same_bytes n n refl)
+
+pub own_fits : (ps : List TypeValue) (told : ToldValue) (number : ℕ) (of to : List Name) → IsAt told of number → IsAt told to number → true ≡ fits ps of to
+own_fits ps told number of to at there =
+    sym (found_all (λ n. list_any (is_under ps n) to) of (λ n c.
+    found_any (is_under ps n) to n (subst (λ ns. Contains ns n) (same_Some of to (sym at ∙ there)) c) (under_itself ps (length ps) n)))
 
 -- ---- a type is told
 

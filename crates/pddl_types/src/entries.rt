@@ -2,10 +2,11 @@
 //!
 //! Their values are of any type here: a check does little for a value of which nothing is known, wherever memory is refused.
 
-ghost use Rattle.std.specs.Prelude.{◌≡◌, Ok, not, is_some, if◌then◌else◌, IfOk, OnOk, OnErr};
-ghost use Rattle.indexmap.specs.IndexMap.{get, insert_entry, IsUnchanged, IsUnique};
+ghost use Rattle.std.specs.Prelude.{◌≡◌, Ok, is_some, if◌then◌else◌, IfOk, OnOk, OnErr};
+ghost use Rattle.indexmap.specs.IndexMap.{index_of, insert_entry, IsUnchanged, IsUnique};
 
 use indexmap::IndexMap;
+use indexmap::map::Entry;
 use pddl_hash::Hashed;
 use std::alloc::{AllocError, Allocator};
 use std::hash::Hash;
@@ -27,20 +28,22 @@ pub(crate) fn put<K: Eq + Hash + Drop, V: Drop, B: Allocator>(
     Ok(())
 }
 
-/// Puts a value under a key where the key is new. Answers whether it is.
+/// Puts a value under a key where the key is new. Answers the place of the entry that the key has already, or `None` where it is new.
 ///
 /// Fails where memory for the entry is refused.
 pub(crate) fn put_new<K: Eq + Hash + Drop, V: Drop, B: Allocator>(
     table: &mut IndexMap<K, V, Hashed, B>,
     key: K,
     value: V,
-) -> Result<bool, AllocError>
-    ensures new { IfOk result (λ is_new. is_new ≡ not (is_some (get K.eq table.old key))) }
-    ensures entries { IfOk result (λ is_new. table.new.entries ≡ (if is_new then insert_entry K.eq table.old.entries key value else table.old.entries)) }
+) -> Result<Option<usize>, AllocError>
+    ensures place { IfOk result (λ place. place ≡ index_of K.eq table.old key) }
+    ensures entries { IfOk result (λ place. table.new.entries ≡ (if is_some place then table.old.entries else insert_entry K.eq table.old.entries key value)) }
 {
-    if table.contains_key(&key) {
-        return Ok(false);
+    match table.entry(key)? {
+        Entry::Occupied(first) => Ok(Some(first.index())),
+        Entry::Vacant(new) => {
+            new.insert(value);
+            Ok(None)
+        }
     }
-    put(table, key, Ok(value))?;
-    Ok(true)
 }

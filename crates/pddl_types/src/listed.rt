@@ -9,6 +9,7 @@ ghost use Rattle.pddl_types.specs.KnownNames.{object_in};
 ghost use Rattle.pddl_types.specs.Told.{ToldValue, first_at, IsAt, AreAt, AreDistinct, AreTold, AreKept, unknown_among};
 ghost use Rattle.pddl_types.specs.Objects.{IsAtOf, AreSeen, is_off, off_types};
 
+use crate::entries::put_new;
 use crate::told::Told;
 use crate::types::Types;
 use indexmap::IndexMap;
@@ -66,14 +67,12 @@ impl<'m, 'a, A: Allocator, B: Allocator> Listed<'m, 'a, A, B> {
         ensures { (told : ToldValue) (seen : List TypedValue) → AreDistinct told → IsAt told object.now.types number → AreSeen told seen self.old
             → IfOk result (λ right. (is_off seen (typed_view object.now) ≡ not right) × AreSeen told (seen ++ typed_view object.now ∷ []) self.new) }
     {
-        let name = object.name.lent();
-        if let Some(place) = self.objects.get_index_of(&name) {
+        if let Some(place) = put_new(&mut self.objects, object.name.lent(), object)? {
             return Ok(self.type_at(place) == Some(number));
         }
         let Ok(number) = u32::try_from(number) else {
             return Err(AllocError);
         };
-        self.objects.insert(name, object)?;
         self.types.push(number)?;
         Ok(true)
     }

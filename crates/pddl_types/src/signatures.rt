@@ -107,7 +107,7 @@ fn put_one<'m, 'a, A: Allocator, B: Allocator, D: Declares<A>>(
         parameters: parameters.as_slice(),
         numbers,
     };
-    Ok(put_new(table, declared.name(), slots)?)
+    Ok(put_new(table, declared.name(), slots)?.is_none())
 }
 
 /// Puts what is declared into an empty table, and tells the types of parameters. Answers the fault of a name that stands twice.

@@ -212,7 +212,7 @@ impl<'m, 'a, A: Allocator, B: Allocator> Told<'m, 'a, A, B> {
         self.at(number).first().map_or(0, |top| top.first)
     }
 
-    /// Whether a term of a type fits a slot of another, both by their numbers. Where both have many tops, what is found is kept.
+    /// Whether a term of a type fits a slot of another, both by their numbers; a type fits itself. Where both have many tops, what is found is kept.
     ///
     /// Fails where memory for that is refused.
     pub fn fits(
@@ -225,6 +225,9 @@ impl<'m, 'a, A: Allocator, B: Allocator> Told<'m, 'a, A, B> {
         ensures kept { self.new ≡ self.old }
         ensures fits { (of : List (List ℕ)) (to : List (List ℕ)) → IsAt self.old of number → IsAt self.old to slot → IfOk result (λ fit. fit ≡ fits (pairs types.now.declared) of to) }
     {
+        if number == slot {
+            return Ok(true);
+        }
         types.tops_decide();
         hold_once(&self.types, &mut self.fitting, slot, number)
     }
