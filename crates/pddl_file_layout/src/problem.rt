@@ -4,6 +4,7 @@ ghost use Rattle.std.specs.Prelude.{◌≡◌, ◌≤◌, IsTrue, IfOk, OnOk, On
 ghost use Rattle.std.specs.List.{list_all};
 ghost use Rattle.std.specs.Io.KnownBytes.{Appends};
 ghost use Rattle.pddl_device.specs.Device.{AppendsBeginning, HasFailed};
+ghost use Rattle.pddl_token.specs.Names.{is_name};
 ghost use Rattle.pddl_text.specs.Lists.{deepest};
 ghost use Rattle.pddl_text.specs.Pieces.{IsWithin};
 ghost use Rattle.pddl_problem.specs.Inits.{fact_view, function_view, init_view, direction_word, metric_view};
@@ -11,15 +12,25 @@ ghost use Rattle.pddl_problem.specs.Problems.{problem_view};
 ghost use Rattle.pddl_problem_reader.specs.ProblemTexts.{SpellsProblem};
 ghost use Rattle.pddl_file_layout.specs.ProblemLayout.{is_fact, is_ground_function, is_init, is_metric, is_problem, problem_tree, problem_text};
 ghost use Rattle.pddl_file_layout.specs.Inner.Printing.{Puts};
-ghost use Rattle.pddl_file_layout.specs.Inner.Texts.{spaced_by, ground_text, init_text, metric_text};
+ghost use Rattle.pddl_file_layout.specs.Inner.Texts.{spaced_by, word_text, ground_text, init_text, metric_text};
 
-use crate::formula::{put_formula, put_names};
+use crate::formula::put_formula;
 use crate::printing::{put, put_both, put_number};
 use crate::section::{put_objects, put_requirements};
 use pddl_device::{Sink, ToWrite, WriteFault};
-use pddl_problem::{Direction, Fact, GroundFunction, InitItem, Metric, Problem};
+use pddl_problem::{Direction, Fact, GroundFunction, InitItem, Metric, ObjectNames, Problem};
 use pddl_scan::LONGEST;
 use std::alloc::{AllocError, Allocator};
+
+/// Writes names of objects, a blank before each.
+fn put_object_names<A: Allocator, W: Sink>(out: &mut W, failed: &mut bool, names: &ObjectNames<A>)
+    ensures printed { Puts (W.contents out.old) (W.contents out.new) (W.failures out.old) (W.failures out.new) failed.old failed.new (spaced_by word_text names.now) }
+    ensures good { IsTrue (list_all is_name names.now) }
+{
+    for i in 0..names.len() {
+        put_both(out, failed, b" ", names.at(i));
+    }
+}
 
 /// Writes a predicate and its objects.
 fn put_fact<A: Allocator, W: Sink>(out: &mut W, failed: &mut bool, fact: &Fact<A>)
@@ -27,7 +38,7 @@ fn put_fact<A: Allocator, W: Sink>(out: &mut W, failed: &mut bool, fact: &Fact<A
     ensures good { IsTrue (is_fact (fact_view fact.now)) }
 {
     put_both(out, failed, b"(", fact.predicate.as_bytes());
-    put_names(out, failed, &fact.objects);
+    put_object_names(out, failed, &fact.objects);
     put(out, failed, b")");
 }
 
@@ -41,7 +52,7 @@ fn put_ground_function<A: Allocator, W: Sink>(
     ensures good { IsTrue (is_ground_function (function_view function.now)) }
 {
     put_both(out, failed, b"(", function.function.as_bytes());
-    put_names(out, failed, &function.objects);
+    put_object_names(out, failed, &function.objects);
     put(out, failed, b")");
 }
 

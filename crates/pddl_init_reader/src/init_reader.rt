@@ -13,8 +13,21 @@ use pddl_build::{both, list_if_right, push_found};
 use pddl_effect_reader::number_of;
 use pddl_formula_reader::{Head, head_of, names_of, predicate_of};
 use pddl_items::{Item, is_word_item, name_of};
-use pddl_problem::{Direction, Fact, GroundFunction, InitItem, Metric};
+use pddl_problem::{Direction, Fact, GroundFunction, InitItem, Metric, ObjectNames};
 use std::alloc::{AllocError, Allocator};
+
+/// The names of objects that some items spell, one each, or `None` where one of them spells none.
+fn objects_of<'a, B: Allocator>(
+    alloc: &'a B,
+    items: &[Item<'_, &'a B>],
+) -> Result<Option<ObjectNames<&'a B>>, AllocError>
+    ensures { IfOk result (λ found. found ≡ all_of (map name_at (item_trees items.now))) }
+{
+    match names_of(alloc, items)? {
+        Some(mut names) => Ok(Some(ObjectNames::of(&mut names)?)),
+        None => Ok(None),
+    }
+}
 
 /// The fact of a list of these items, or `None` where they are none: a predicate and names of objects.
 fn fact_of_list<'a, B: Allocator>(
@@ -29,7 +42,7 @@ fn fact_of_list<'a, B: Allocator>(
     let Some(predicate) = predicate_of(alloc, head)? else {
         return Ok(None);
     };
-    let Some(objects) = names_of(alloc, objects)? else {
+    let Some(objects) = objects_of(alloc, objects)? else {
         return Ok(None);
     };
     Ok(Some(Fact { predicate, objects }))
@@ -72,7 +85,7 @@ fn bare_function<'a, B: Allocator>(
     let Some(function) = name_of(alloc, item)? else {
         return Ok(None);
     };
-    let objects = Vec::new(alloc);
+    let objects = ObjectNames::none();
     Ok(Some(GroundFunction { function, objects }))
 }
 
@@ -89,7 +102,7 @@ fn list_function<'a, B: Allocator>(
     let Some(function) = name_of(alloc, head)? else {
         return Ok(None);
     };
-    let Some(objects) = names_of(alloc, objects)? else {
+    let Some(objects) = objects_of(alloc, objects)? else {
         return Ok(None);
     };
     Ok(Some(GroundFunction { function, objects }))

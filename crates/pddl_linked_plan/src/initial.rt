@@ -21,12 +21,12 @@ use std::alloc::{AllocError, Allocator};
 /// The number of an object of the task.
 fn object_number<'m, 'a, A: Allocator, B: Allocator>(
     task: &Task<'m, 'a, A, B>,
-    object: &Name<A>,
+    object: &[u8],
 ) -> usize
     requires { is_in (object_names (task_of_files task.now)) object.now ≡ true }
     ensures { result ≡ number_in (object_names (task_of_files task.now)) object.now }
 {
-    task.object_number(object.as_bytes()).unwrap()
+    task.object_number(object).unwrap()
 }
 
 /// The number of a predicate of the task.
@@ -53,8 +53,8 @@ fn numbered<'m, 'a, 'b, A: Allocator, B: Allocator, C: Allocator>(
 {
     let predicate = predicate_number(task, fact.predicate.as_bytes());
     let mut args = Vec::new(alloc);
-    for object in &fact.objects {
-        args.push(object_number(task, object))?;
+    for i in 0..fact.objects.len() {
+        args.push(object_number(task, fact.objects.at(i)))?;
     }
     Ok(Atom { predicate, args })
 }

@@ -21,7 +21,7 @@ ghost use Rattle.pddl_linked_task.specs.TaskTables.{AreTablesOf};
 use pddl_domain::{Action, Domain};
 use pddl_formula::{Formula, TypeNames};
 use pddl_hash::Hashed;
-use pddl_problem::{GroundFunction, InitItem, Problem};
+use pddl_problem::{GroundFunction, InitItem, ObjectNames, Problem};
 use pddl_sizes::{ObjectOrder, action_ground_size, ground_size};
 use pddl_token::{LentName, Name};
 use pddl_types::{Declared, Fitting, Listed, Types};
@@ -60,14 +60,14 @@ impl<'m, 'a, A: Allocator, B: Allocator> Model for Task<'m, 'a, A, B> {
 }
 
 /// Whether objects that are asked for have these names, in their order.
-fn are_asked<A: Allocator>(objects: &[&[u8]], names: &[Name<A>]) -> bool
+fn are_asked<A: Allocator>(objects: &[&[u8]], names: &ObjectNames<A>) -> bool
     ensures { result ≡ same_names (map (λ o. o.now) objects.now) names.now }
 {
     if objects.len() != names.len() {
         return false;
     }
     for i in 0..names.len() {
-        if objects[i] != names[i].as_bytes() {
+        if objects[i] != names.at(i) {
             return false;
         }
     }

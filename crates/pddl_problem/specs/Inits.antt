@@ -32,11 +32,11 @@ pub record MetricValue : Type 0 where
 
 -- a fact of the program without where it lies in memory
 abbrev pub fact_view : {A : _} → Fact A → GroundValue
-fact_view f = record { name = f.predicate; objects = f.objects.items }
+fact_view f = record { name = f.predicate; objects = f.objects }
 
 -- a function of the program, likewise
 abbrev pub function_view : {A : _} → GroundFunction A → GroundValue
-function_view f = record { name = f.function; objects = f.objects.items }
+function_view f = record { name = f.function; objects = f.objects }
 
 -- an item of `:init`, likewise
 abbrev pub init_view : {A : _} → InitItem A → InitValue

@@ -1,2 +1,3 @@
+pub mod HeldNames
 pub mod Inits
 pub mod Problems

@@ -1,5 +1,6 @@
 //! Problems and what they say.
 
+use crate::object_names::ObjectNames;
 use pddl_formula::{Formula, Predicate, TypedList};
 use pddl_hash::Hashed;
 use pddl_token::{Fixed, Name};
@@ -9,14 +10,14 @@ use std::alloc::Allocator;
 #[derive(Drop)]
 pub struct Fact<A: Allocator> {
     pub predicate: Predicate<A>,
-    pub objects: Vec<Name<A>, A>,
+    pub objects: ObjectNames<A>,
 }
 
 /// A function and the names of objects.
 #[derive(Drop)]
 pub struct GroundFunction<A: Allocator> {
     pub function: Name<A>,
-    pub objects: Vec<Name<A>, A>,
+    pub objects: ObjectNames<A>,
 }
 
 /// What an item of `:init` says: that a fact holds, that it does not, or the value of a function.

@@ -15,7 +15,7 @@ ghost use Rattle.pddl_problem_reader.specs.Inner.InitTexts.{ReadsNames, ReadsObj
 
 use pddl_file::Stop;
 use pddl_formula::Predicate;
-use pddl_problem::{Fact, GroundFunction, InitItem};
+use pddl_problem::{Fact, GroundFunction, InitItem, ObjectNames};
 use pddl_text::{next_name, next_number, next_sign};
 use pddl_token::{Name, TokenKind};
 use std::alloc::{AllocError, Allocator};
@@ -64,21 +64,21 @@ pub fn add_names<'a, B: Allocator>(
     Ok(())
 }
 
-/// The objects up to the `)` of a fact or a function. They are put into a list first that serves for one after the other, so that theirs takes just the memory
-/// that it needs.
+/// The objects up to the `)` of a fact or a function. They are put into a list first that serves for one after the other, so that theirs take just the memory
+/// that they need.
 fn objects_behind<'a, B: Allocator>(
     alloc: &'a B,
     names: &mut Vec<Name<&'a B>, &'a B>,
     text: &[u8],
     at: &mut usize,
-) -> Result<Vec<Name<&'a B>, &'a B>, Stop>
-    ensures objects { (words : List PlacedWord) → LexedTo text.now words at.old → IfOk result (λ objects. ReadsObjects text.now words at.new objects.items) }
+) -> Result<ObjectNames<&'a B>, Stop>
+    ensures objects { (words : List PlacedWord) → LexedTo text.now words at.old → IfOk result (λ objects. ReadsObjects text.now words at.new objects) }
     ensures further { OnOk result ((at.old < at.new) × (at.new ≤ length text.now)) }
 {
     names.clear();
     add_names(alloc, names, text, at)?;
     sign_behind(text, at, TokenKind::Close)?;
-    Ok(names.split_off(0)?)
+    Ok(ObjectNames::of(names)?)
 }
 
 /// The fact of a predicate's name, the last word that was read, and the objects behind it.
@@ -90,7 +90,7 @@ fn fact_behind<'a, B: Allocator>(
     name: Name<&'a B>,
 ) -> Result<Fact<&'a B>, Stop>
     ensures fact { (words : List PlacedWord) → LexedTo text.now words at.old
-        → IfOk result (λ fact. (predicate_of name.entry ≡ Some fact.predicate) × ReadsObjects text.now words at.new fact.objects.items) }
+        → IfOk result (λ fact. (predicate_of name.entry ≡ Some fact.predicate) × ReadsObjects text.now words at.new fact.objects) }
     ensures further { OnOk result ((at.old < at.new) × (at.new ≤ length text.now)) }
 {
     let Some(predicate) = Predicate::new(name) else {
@@ -112,7 +112,7 @@ fn function_behind<'a, B: Allocator>(
     ensures further { OnOk result ((at.old < at.new) × (at.new ≤ length text.now)) }
 {
     if let Some(function) = next_name(alloc, text, at)? {
-        let objects = Vec::new(alloc);
+        let objects = ObjectNames::none();
         return Ok(GroundFunction { function, objects });
     }
     sign_behind(text, at, TokenKind::Open)?;

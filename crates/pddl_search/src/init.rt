@@ -2,7 +2,6 @@
 
 ghost use Rattle.std.specs.Prelude.{◌≡◌, [], ◌++◌, map, Some};
 ghost use Rattle.std.specs.Cmp.{partial_equiv_from_equiv};
-ghost use Rattle.std.specs.Hash as fed;
 ghost use Rattle.std.proofs.Common.{ap};
 ghost use Rattle.pddl_token.specs.Names.{fed_name};
 ghost use Rattle.pddl_problem.specs.Inits.{init_view};
@@ -15,8 +14,7 @@ ghost use Rattle.pddl_search.specs.Grounds.{claim_of, same_claimed, claimed_equi
 use indexmap::IndexSet;
 use pddl_faults::LinkFault;
 use pddl_hash::Hashed;
-use pddl_problem::InitItem;
-use pddl_token::Name;
+use pddl_problem::{InitItem, ObjectNames};
 use std::alloc::Allocator;
 use std::hash::{Hash, Hasher};
 use std::marker::Model;
@@ -32,7 +30,7 @@ fn name_of<'d, A: Allocator>(item: &'d InitItem<A>) -> &'d [u8]
 }
 
 /// The names of its objects.
-fn objects_of<'d, A: Allocator>(item: &'d InitItem<A>) -> &'d [Name<A>]
+fn objects_of<'d, A: Allocator>(item: &'d InitItem<A>) -> &'d ObjectNames<A>
     ensures { result.now ≡ (claim_of (init_view item.now)).0.objects }
 {
     match item {
@@ -79,9 +77,9 @@ impl<'d, A: Allocator> Eq for Claim<'d, A> {
 }
 
 impl<'d, A: Allocator> Hash for Claim<'d, A> {
-    ghost hash_input = { λ c. fed_name c.0.name ++ fed.slice fed_name c.0.objects };
+    ghost hash_input = { λ c. fed_name c.0.name ++ c.0.objects };
 
-    ghost respects_eq = { λ c d same. ap (λ g. fed_name g.name ++ fed.slice fed_name g.objects) (ground_is c.0 d.0 same) };
+    ghost respects_eq = { λ c d same. ap (λ g. fed_name g.name ++ g.objects) (ground_is c.0 d.0 same) };
 
     fn hash<H: Hasher>(&self, state: &mut H) {
         state.write(name_of(self.item));

@@ -8,13 +8,14 @@ ghost use Rattle.pddl_search.specs.Parts.{part_in, term_in, term_name, terms_in}
 
 use pddl_effect::Amount;
 use pddl_formula::{Atom, Term};
+use pddl_problem::ObjectNames;
 use pddl_token::{Fixed, Name};
 use std::alloc::Allocator;
 
 /// A term, lent by its name.
 #[derive(Drop)]
 pub enum LentTerm<'d, A: Allocator> {
-    Object(&'d Name<A>),
+    Object(&'d [u8]),
     Variable(&'d Name<A>),
 }
 
@@ -22,7 +23,7 @@ pub enum LentTerm<'d, A: Allocator> {
 #[derive(Drop)]
 pub enum Terms<'d, A: Allocator> {
     Any(&'d [Term<A>]),
-    Objects(&'d [Name<A>]),
+    Objects(&'d ObjectNames<A>),
 }
 
 /// What stands at one place, lent.
@@ -71,7 +72,7 @@ impl<'d, A: Allocator> LentTerm<'d, A> {
         ensures { term_in result ≡ term_view term.now }
     {
         match term {
-            Term::Name(name) => LentTerm::Object(name),
+            Term::Name(name) => LentTerm::Object(name.as_bytes()),
             Term::Variable(name) => LentTerm::Variable(name),
         }
     }
@@ -81,7 +82,7 @@ impl<'d, A: Allocator> LentTerm<'d, A> {
         ensures { result.now ≡ term_name (term_in self.now) }
     {
         match self {
-            LentTerm::Object(name) => name.as_bytes(),
+            LentTerm::Object(name) => *name,
             LentTerm::Variable(name) => name.as_bytes(),
         }
     }
@@ -110,7 +111,7 @@ impl<'d, A: Allocator> Terms<'d, A> {
             }
             Terms::Objects(objects) => {
                 let objects = *objects;
-                LentTerm::Object(&objects[number])
+                LentTerm::Object(objects.at(number))
             }
         }
     }

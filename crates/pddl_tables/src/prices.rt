@@ -18,9 +18,8 @@ use pddl_compiled::Lookups;
 use pddl_evaluation::Prices;
 use pddl_hash::Hashed;
 use pddl_linked_task::Task;
-use pddl_problem::{GroundFunction, InitItem};
+use pddl_problem::{GroundFunction, InitItem, ObjectNames};
 use pddl_state::Atom;
-use pddl_token::Name;
 use std::alloc::{AllocError, Allocator};
 use std::marker::Model;
 
@@ -68,13 +67,13 @@ impl<'c, C: Allocator> Prices<&'c C> for TaskPrices<'c, C> {
 fn object_numbers<'c, A: Allocator, C: Allocator, L: Lookups<A, C>>(
     alloc: &'c C,
     lookups: &L,
-    names: &[Name<A>],
+    names: &ObjectNames<A>,
 ) -> Result<Vec<usize, &'c C>, AllocError>
     ensures { IfOk result (λ numbers. numbers.items ≡ map (number_in (L.tables lookups.now).objects) names.now) }
 {
     let mut numbers = Vec::with_capacity(alloc, names.len())?;
-    for name in names {
-        numbers.push(lookups.object_number(name.as_bytes()))?;
+    for i in 0..names.len() {
+        numbers.push(lookups.object_number(names.at(i)))?;
     }
     Ok(numbers)
 }

@@ -17,7 +17,7 @@ use pddl_faults::{LinkFault, lower, once};
 use pddl_formula::{Typed, TypedList};
 use pddl_hash::Hashed;
 use pddl_sizes::ObjectOrder;
-use pddl_token::{LentName, Name};
+use pddl_token::LentName;
 use std::alloc::{AllocError, Allocator};
 
 /// Objects by name, each as it is listed with its type.
@@ -123,11 +123,11 @@ impl<'m, 'a, A: Allocator, B: Allocator> Listed<'m, 'a, A, B> {
     }
 
     /// The number at which the type of the object of this name is told.
-    pub fn type_of<C: Allocator>(&self, name: &Name<C>) -> Option<usize>
+    pub fn type_of(&self, name: &[u8]) -> Option<usize>
         ensures { (told : ToldValue) → AreAt told (map object_in self.now.objects.entries) self.now.types.items
             → IsAtOf told (find (is_named name.now) (map object_in self.now.objects.entries)) result }
     {
-        let place = self.objects.get_index_of(&name.lent())?;
+        let place = self.objects.get_index_of(&LentName::of(name))?;
         self.type_at(place)
     }
 

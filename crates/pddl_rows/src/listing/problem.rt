@@ -3,17 +3,16 @@
 use super::domain::add_requirements;
 use super::types::add_typed;
 use pddl_file_lines::Outcome;
-use pddl_problem::{Direction, InitItem, Metric, Problem, let_go_problem};
+use pddl_problem::{Direction, InitItem, Metric, ObjectNames, Problem, let_go_problem};
 use pddl_problem_reader::read_problem;
 use pddl_row_driver::{Lines, add_file_fault};
-use pddl_token::Name;
 use std::alloc::Allocator;
 
 /// Adds a name and names of objects behind a word, and the line ends.
-fn add_names<A: Allocator>(word: &[u8], name: &[u8], objects: &[Name<A>], lines: &mut Lines) {
+fn add_names<A: Allocator>(word: &[u8], name: &[u8], objects: &ObjectNames<A>, lines: &mut Lines) {
     lines.words(&[word, name]);
-    for object in objects {
-        lines.word(object.as_bytes());
+    for i in 0..objects.len() {
+        lines.word(objects.at(i));
     }
     lines.end();
 }

@@ -17,4 +17,4 @@ returns-in_default-3 g c =
 pub returns : goal.returns
 returns g c =
     by_objects predicate_at fact_of_list (λ head ts. refl) c.args.items.now c.head-item.result c.in-len1-up.len_at_least c.head-item.is
-    c.in-Some.predicate (sym c.in-Some.is ∙ c.in_ok-predicate.ensures) _ (rest_is 1 c.args.items.now) (Some c.in-Some-2.objects.items) (rw c.in-Some-2.is at c.in_ok-objects.ensures)
+    c.in-Some.predicate (sym c.in-Some.is ∙ c.in_ok-predicate.ensures) _ (rest_is 1 c.args.items.now) (Some c.in-Some-2.objects) (rw c.in-Some-2.is at c.in_ok-objects.ensures)

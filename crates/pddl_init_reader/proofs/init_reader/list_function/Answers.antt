@@ -23,4 +23,4 @@ pub returns : goal.returns
 returns g c =
     by_objects name_at (λ (ts : List Tree). option_map ground_call (call_of_list name_at ts)) (λ head ts. called (name_at head) (all_of (map name_at ts)))
     c.args.items.now c.head-item.result c.in-len1-up.len_at_least c.head-item.is
-    c.in-Some.function (sym c.in-Some.is ∙ c.in_ok-function.ensures) _ (rest_is 1 c.args.items.now) (Some c.in-Some-2.objects.items) (rw c.in-Some-2.is at c.in_ok-objects.ensures)
+    c.in-Some.function (sym c.in-Some.is ∙ c.in_ok-function.ensures) _ (rest_is 1 c.args.items.now) (Some c.in-Some-2.objects) (rw c.in-Some-2.is at c.in_ok-objects.ensures)
