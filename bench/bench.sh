@@ -1,13 +1,8 @@
 #!/bin/sh
-# Prints MB/s and peak memory of `format`, and of the same work in plain Rust, on files of 1, 4 and 16 MiB: plans that are
-# plain, timed, and with many comments; domains of many actions; problems of many objects and facts. Then seconds and peak
-# memory of `format` on plans of many short steps and of many long ones, beside those of plain Rust; of `domain` and `problem`
-# on files that link, beside those of `format`, which reads and prints them, and of the same work in plain Rust; of `plan` on
-# valid plans, beside those of the same work in plain Rust; and of `plan` alone on actions that quantify over very many
-# variables, and of `serial` beside `plan`. Among those that link are files with an `either` of all of many types, and a
-# variable of it that is spoken of often; variables of subsets of the types of many slots, which stand side by side or far
-# apart; variables that hide one another; types below one with a long name; slots and variables before an `either` of many
-# types; types above themselves, on a long chain or in pairs, are refused.
+# Prints, beside the same work in plain Rust: bytes a second and memory of `format` on plans, domains and problems of 1, 4 and 16 MiB; then processor
+# seconds and peak memory of `format` on plans of short and of long steps, of `domain` and `problem` on files that link, small and near the limit of
+# 16 MiB, beside those of `format`, which reads and prints the last of them, and of `plan` on valid plans; and those of `plan` and `serial` alone on
+# actions that quantify over very many variables. `files.py` and `plan_files.py` say what each kind of file is.
 # Each figure is that of the best of five runs.
 # Wants GNU time, Python 3 and rustc.
 here=$(cd "$(dirname "$0")" && pwd) || exit 1
@@ -15,67 +10,39 @@ here=$(cd "$(dirname "$0")" && pwd) || exit 1
 program=$here/../crates/pddlcheck/out/pddlcheck
 folder=$(mktemp -d) || exit 1
 trap 'rm -rf "$folder"' EXIT
-rustc --edition 2021 -O -o "$folder/plain" "$here/plain.rs" || exit 1
-rustc --edition 2021 -O -o "$folder/plain_links" "$here/plain_links.rs" || exit 1
-rustc --edition 2021 -O -o "$folder/plain_plans" "$here/plain_plans.rs" || exit 1
+for name in plain plain_links plain_plans; do
+    rustc --edition 2021 -O -o "$folder/$name" "$here/$name.rs" || exit 1
+done
 
-# best NAME COMMAND..: MB/s and bytes of memory a byte of the file
-best() {
-    name=$1
+# runs OUT COMMAND..: processor seconds and KiB of the best run; what it printed goes to the file OUT
+runs() {
+    out=$1
     shift
-    for run in 1 2 3 4 5; do
-        /usr/bin/time -f '%e %M' "$@" 2>&1 >"$folder/$name" || exit 1
-    done | sort -n | head -n 1 | awk -v size="$size" '{
+    rm -f "$folder/times"
+    for _ in 1 2 3 4 5; do
+        /usr/bin/time -a -o "$folder/times" -f '%U %S %M' "$@" >"$folder/$out" || return 1
+    done
+    awk '{ print $1 + $2, $3 }' "$folder/times" | sort -n | head -n 1
+}
+
+# speed OUT COMMAND..: MB/s and bytes of memory a byte of the file
+speed() {
+    best=$(runs "$@") || return 1
+    echo "$best" | awk -v size="$size" '{
         speed = $1 > 0 ? sprintf("%.0f", size / $1 / 1e6) : "-"
         printf "%8s %8.1f", speed, $2 * 1024 / size
     }'
 }
 
-printf '%-9s %4s   %-17s   %-17s\n' '' '' 'pddlcheck' 'plain Rust'
-printf '%-9s %4s  %8s %8s   %8s %8s\n' file MiB MB/s memory MB/s memory
-for file in plain timed comments domain problem; do
-    case $file in
-        domain | problem) kind=$file ;;
-        *) kind=plan ;;
-    esac
-    for mib in 1 4 16; do
-        python3 "$here/files.py" "$file" "$mib" >"$folder/file" || exit 1
-        size=$(wc -c <"$folder/file")
-        ours=$(best ours "$program" format "$kind" "$folder/file") || exit 1
-        theirs=$(best theirs "$folder/plain" "$kind" "$folder/file") || exit 1
-        cmp -s "$folder/ours" "$folder/theirs" || echo "the two print different texts"
-        printf '%-9s %4d  %s   %s\n' "$file" "$mib" "$ours" "$theirs"
-    done
-done
-
-# seconds COMMAND..: seconds and MiB of the best run
+# seconds OUT COMMAND..: seconds and MiB
 seconds() {
-    for run in 1 2 3 4 5; do
-        /usr/bin/time -f '%e %M' "$@" 2>&1 >"$folder/line" || exit 1
-    done | sort -n | head -n 1 | awk '{ printf "%8.2f %8.0f", $1, $2 / 1024 }'
+    best=$(runs "$@") || return 1
+    echo "$best" | awk '{ printf "%8.2f %8.0f", $1, $2 / 1024 }'
 }
 
-printf '\n%-24s %8s   %-17s   %-17s\n' '' '' 'format' 'plain Rust'
-printf '%-24s %8s  %8s %8s   %8s %8s\n' file bytes seconds MiB seconds MiB
-for case in 'short 1000000' 'long 100000'; do
-    # shellcheck disable=SC2086
-    python3 "$here/files.py" $case >"$folder/file" || exit 1
-    printf '%-24s %8d  %s   %s\n' "plan, ${case#* } $(echo "$case" | cut -d ' ' -f 1) steps" "$(wc -c <"$folder/file")" \
-        "$(seconds "$program" format plan "$folder/file")" "$(seconds "$folder/plain" plan "$folder/file")"
-done
-
-# linked NAME FORMAT COMMAND FILE..: bytes of the files, the figures of `format`, and those of the command and of plain Rust
-linked() {
-    name=$1
-    format=$2
-    shift 2
-    # of files that do not link the status is 2
-    ours=$(seconds sh -c '"$@" || [ $? -eq 2 ]' linked "$program" "$@") || exit 1
-    cp "$folder/line" "$folder/ours"
-    theirs=$(seconds "$folder/plain_links" "$@") || exit 1
-    cmp -s "$folder/ours" "$folder/line" || echo "the two print different lines"
-    shift
-    printf '%-29s %8d  %17s   %s   %s\n' "$name" "$(cat "$@" | wc -c)" "$format" "$ours" "$theirs"
+# same: says so where the program and plain Rust printed different texts
+same() {
+    cmp -s "$folder/ours" "$folder/theirs" || echo "the two print different texts"
 }
 
 # make KIND N FILE
@@ -83,110 +50,167 @@ make() {
     python3 "$here/files.py" "$1" "$2" >"$folder/$3" || exit 1
 }
 
-domain=$folder/domain
-problem=$folder/problem
-printf '\n%-29s %8s   %-17s   %-17s   %-17s\n' '' '' 'format' 'linked' 'plain Rust'
-printf '%-29s %8s  %8s %8s   %8s %8s   %8s %8s\n' file bytes seconds MiB seconds MiB seconds MiB
-for count in 500 2000; do
-    make actions "$count" domain
-    linked "domain, $count actions" "$(seconds "$program" format domain "$domain")" domain "$domain"
-done
-make actions 1 domain
-for count in 125000 500000; do
-    make items "$count" problem
-    linked "problem, $count items" "$(seconds "$program" format problem "$problem")" problem "$domain" "$problem"
-done
-for count in 60000 240000; do
-    make parameters "$count" domain
-    linked "domain, $count parameters" "$(seconds "$program" format domain "$domain")" domain "$domain"
-    make parameters 1 domain
-    make variables "$count" problem
-    linked "problem, $count variables" "$(seconds "$program" format problem "$problem")" problem "$domain" "$problem"
-done
-for count in 225000 900000; do
-    make parameters 1 domain
-    for case in hidden outermost; do
-        make "$case" "$count" problem
-        linked "problem, $case $count" "$(seconds "$program" format problem "$problem")" problem "$domain" "$problem"
+printf '%-9s %4s   %-17s   %-17s\n' '' '' 'format' 'plain Rust'
+printf '%-9s %4s  %8s %8s   %8s %8s\n' file MiB MB/s memory MB/s memory
+for file in plain timed comments domain problem; do
+    case $file in
+        domain | problem) kind=$file ;;
+        *) kind=plan ;;
+    esac
+    for mib in 1 4 16; do
+        make "$file" "$mib" file
+        size=$(wc -c <"$folder/file")
+        ours=$(speed ours "$program" format "$kind" "$folder/file") || exit 1
+        theirs=$(speed theirs "$folder/plain" "$kind" "$folder/file") || exit 1
+        printf '%-9s %4d  %s   %s\n' "$file" "$mib" "$ours" "$theirs"
+        same
     done
 done
-for count in 5000 20000; do
-    make eithers "$count" domain
-    make facts "$count" problem
-    linked "problem, $count types" "$(seconds "$program" format problem "$problem")" problem "$domain" "$problem"
+
+printf '\n%-24s %8s   %-17s   %-17s\n' '' '' 'format' 'plain Rust'
+printf '%-24s %8s  %8s %8s   %8s %8s\n' plan bytes seconds MiB seconds MiB
+for case in 'short 1000000' 'long 100000'; do
+    # shellcheck disable=SC2086
+    make $case file
+    ours=$(seconds ours "$program" format plan "$folder/file") || exit 1
+    theirs=$(seconds theirs "$folder/plain" plan "$folder/file") || exit 1
+    printf '%-24s %8d  %s   %s\n' "$case" "$(wc -c <"$folder/file")" "$ours" "$theirs"
+    same
 done
 
-for count in 500 2000; do
-    make eithers "$count" domain
-    make spoken "$count" problem
-    linked "problem, spoken of $count" "$(seconds "$program" format problem "$problem")" problem "$domain" "$problem"
-done
-
-for count in 800 2400; do
-    make subsets "$count" domain
-    make subsets-goal "$count" problem
-    linked "problem, subsets of $count" "$(seconds "$program" format problem "$problem")" problem "$domain" "$problem"
-done
-
-for count in 600 1800; do
-    make apart "$count" domain
-    make apart-goal "$count" problem
-    linked "problem, $count apart" "$(seconds "$program" format problem "$problem")" problem "$domain" "$problem"
-done
-
-for count in 10000 40000; do
-    make above "$count" domain
-    make above-goal "$count" problem
-    linked "problem, $count types above" "$(seconds "$program" format problem "$problem")" problem "$domain" "$problem"
-done
-
-for count in 5000 20000; do
-    make below "$count" domain
-    # its canonical text names the parent once for each type, which makes gigabytes
-    linked "domain, $count types below" - domain "$domain"
-done
-
-for count in 5000 20000; do
-    make slots "$count" domain
-    # its canonical text names all types once for each slot
-    linked "domain, $count slots" - domain "$domain"
-done
-
-for count in 25000 100000; do
-    make named "$count" domain
-    linked "domain, name of $count" "$(seconds "$program" format domain "$domain")" domain "$domain"
-    make named-facts "$count" problem
-    linked "problem, name of $count" "$(seconds "$program" format problem "$problem")" problem "$domain" "$problem"
-    make named-constants "$count" domain
-    make named-objects "$count" problem
-    # its canonical text names the type once for each object
-    linked "problem, $count constants" - problem "$domain" "$problem"
-done
-
-for count in 25000 100000; do
-    for case in ring rings; do
-        # its types are above themselves
-        make "$case" "$count" domain
-        linked "domain, $case on $count types" "$(seconds "$program" format domain "$domain")" domain "$domain"
+# linked TITLE: for each line with the kind and number of a domain, of a problem where there is one, and `unprinted` where the canonical text of the
+# last names a type once for each of very many items, so that it is gigabytes long
+linked() {
+    printf '\n%-24s %8s   %-17s   %-17s   %-17s\n' "$1" '' 'format' 'linked' 'plain Rust'
+    printf '%-24s %8s  %8s %8s   %8s %8s   %8s %8s\n' file bytes seconds MiB seconds MiB seconds MiB
+    while read -r kind count other more unprinted; do
+        make "$kind" "$count" domain
+        case $other in
+            '' | unprinted)
+                unprinted=$other
+                name="$kind $count"
+                set -- domain "$folder/domain"
+                ;;
+            *)
+                make "$other" "$more" problem
+                name="$other $more"
+                set -- problem "$folder/domain" "$folder/problem"
+                ;;
+        esac
+        printed=$(printf '%17s' -)
+        if [ -z "$unprinted" ]; then
+            printed=$(seconds printed "$program" format "$1" "$folder/$1") || exit 1
+        fi
+        # of files that do not link the status is 2
+        # shellcheck disable=SC2016
+        ours=$(seconds ours sh -c '"$@" || [ $? -eq 2 ]' linked "$program" "$@") || exit 1
+        theirs=$(seconds theirs "$folder/plain_links" "$@") || exit 1
+        shift
+        printf '%-24s %8d  %s   %s   %s\n' "$name" "$(cat "$@" | wc -c)" "$printed" "$ours" "$theirs"
+        same
     done
-done
+}
+
+linked 'linking' <<'END'
+actions 500
+actions 2000
+actions 1 items 125000
+actions 1 items 500000
+parameters 60000
+parameters 240000
+parameters 1 variables 60000
+parameters 1 variables 240000
+parameters 1 hidden 225000
+parameters 1 hidden 900000
+parameters 1 outermost 225000
+parameters 1 outermost 900000
+eithers 5000 facts 5000
+eithers 20000 facts 20000
+eithers 500 spoken 500
+eithers 2000 spoken 2000
+slot 5000 slot-facts 5000
+slot 20000 slot-facts 20000
+subsets 800 subsets-goal 800
+subsets 2400 subsets-goal 2400
+apart 600 apart-goal 600
+apart 1800 apart-goal 1800
+above 10000 above-goal 10000
+above 40000 above-goal 40000
+chain 2500 chain-facts 2500
+chain 10000 chain-facts 10000
+below 5000 unprinted
+below 20000 unprinted
+slots 5000 unprinted
+slots 20000 unprinted
+named 25000
+named 100000
+named 25000 named-facts 25000
+named 100000 named-facts 100000
+named-constants 25000 named-objects 25000 unprinted
+named-constants 100000 named-objects 100000 unprinted
+retold 10000 retold-objects 10000 unprinted
+retold 40000 retold-objects 40000 unprinted
+costs 1 costs-values 30000
+costs 1 costs-values 120000
+late 1 late-facts 5000
+late 1 late-facts 20000
+late 1 repeated 100000
+late 1 repeated 400000
+ring 25000
+ring 100000
+rings 25000
+rings 100000
+END
+
+linked 'near the limit' <<'END'
+actions 48000
+actions 1 items 500000
+parameters 640000
+parameters 1 variables 390000
+parameters 1 hidden 1600000
+parameters 1 outermost 1600000
+eithers 500000
+eithers 50000 spoken 50000
+slot 400000 slot-facts 400000
+crossed 850 crossed-goal 850
+subsets 4600 subsets-goal 4600
+apart 2400 apart-goal 2400
+above 100000 above-goal 100000
+chain 73000 chain-facts 73000
+below 1250000 unprinted
+slots 400000 unprinted
+named 1190000 named-facts 1190000
+named-constants 1000000 named-objects 1000000 unprinted
+retold 400000 retold-objects 400000 unprinted
+costs 1 costs-values 480000
+late 1 late-facts 75000
+late 1 repeated 1500000
+ring 740000
+rings 760000
+END
+
+# plans NAME: the files of a valid plan
+plans() {
+    python3 "$here/plan_files.py" "$1" "$folder" || exit 1
+}
 
 printf '\n%-24s %8s   %-17s   %-17s\n' '' '' 'plan' 'plain Rust'
 printf '%-24s %8s  %8s %8s   %8s %8s\n' files bytes seconds MiB seconds MiB
 for case in walk together few moments adl; do
-    python3 "$here/plan_files.py" "$case" "$folder" || exit 1
+    plans "$case"
     set -- "$folder/domain.pddl" "$folder/problem.pddl" "$folder/plan.plan"
-    ours=$(seconds "$program" plan "$@") || exit 1
-    cp "$folder/line" "$folder/ours"
-    theirs=$(seconds "$folder/plain_plans" "$@") || exit 1
-    cmp -s "$folder/ours" "$folder/line" || echo "the two print different lines"
-    printf '%-24s %8d  %s   %s\n' "plan, $case" "$(cat "$@" | wc -c)" "$ours" "$theirs"
+    ours=$(seconds ours "$program" plan "$@") || exit 1
+    theirs=$(seconds theirs "$folder/plain_plans" "$@") || exit 1
+    printf '%-24s %8d  %s   %s\n' "$case" "$(cat "$@" | wc -c)" "$ours" "$theirs"
+    same
 done
 
 printf '\n%-24s %8s   %-17s   %-17s\n' '' '' 'plan' 'serial'
 printf '%-24s %8s  %8s %8s   %8s %8s\n' files bytes seconds MiB seconds MiB
 for case in walk together variables group nothing single names; do
-    python3 "$here/plan_files.py" "$case" "$folder" || exit 1
+    plans "$case"
     set -- "$folder/domain.pddl" "$folder/problem.pddl" "$folder/plan.plan"
-    printf '%-24s %8d  %s   %s\n' "$case" "$(cat "$@" | wc -c)" "$(seconds "$program" plan "$@")" "$(seconds "$program" serial "$@")"
+    plan=$(seconds ours "$program" plan "$@") || exit 1
+    serial=$(seconds ours "$program" serial "$@") || exit 1
+    printf '%-24s %8d  %s   %s\n' "$case" "$(cat "$@" | wc -c)" "$plan" "$serial"
 done

@@ -5,19 +5,50 @@ A plan has steps with three objects each: plain, timed, or with a comment before
 actions; a problem has many objects and a long `:init`.
 
 Usage: files.py plain|timed|comments|domain|problem MIB
-       files.py actions|items|parameters|variables|hidden|outermost|eithers|facts|spoken|crossed|crossed-goal|subsets|subsets-goal|apart|apart-goal|above|above-goal|seen|ring|rings|below|slots|named|named-facts|named-constants|named-objects|short|long N
+       files.py KIND N
 
-The second form makes a domain with so many actions, or a problem of it with so many items in `:init` and two objects for each five of them: these link.
-So do a domain with an action of so many parameters, and a problem of it whose goal quantifies over so many variables of a type with one object, beside
-twice as many others; each variable is spoken of once. So do problems of it whose goals have 118 quantifiers, one in the other, of which all but the first bind one name: the innermost variable is spoken of so many times, or the
-outermost. So do a domain of so many types with a slot and a parameter of an `either` of them all, a problem of it with an object
-of each and three facts for each, one whose goal speaks thirty times as often of a variable of that `either`, and a valid plan of a step for each. So do so many types with as many predicates of a slot of an `either` of them all, and a problem
-of it whose goal has each of these of each of as many variables of such an `either`. So do so many types with a fourth as many predicates, whose slots are of an `either` of each second
-type and of one more, and a problem of it whose goal has each of these of each of a sixth as many variables, of an `either` of a half of the second types. So do so many types with 129 others before each, and two fifths as many predicates, whose slots are of an
-`either` of all of the former and of one of the others, and a problem of it whose goal has each of these of each of as many variables, of an `either` of three tenths of the former. So do so many types below a chain of as many others, each of which is the type of a predicate's slot, and a problem
-of it whose goal has each predicate of one variable of an `either` of half of the types below. So do so many types below one whose name has five letters for each of them, and
-so many types with a predicate of as many slots, and a quantifier of as many variables, each list before one `either` of them all. So do an action that speaks so many times of a parameter whose type has a name of as many letters,
-and a problem of it with so many facts of an object of that type; and a domain with so many constants of such a type, and a problem of it that lists them again. So many types in a chain, the last two of which are above themselves, do not, nor do so many in pairs, each the parent of the other. Or it makes a plan of so many steps, each with two objects of few letters, or with eight of many.
+The second form makes a domain, or a problem or a plan of it, with so many of something:
+
+    actions           a domain of so many actions
+    items             a problem of it with so many items in `:init`, and two objects for each five of them
+    parameters        a domain with an action of so many parameters, each spoken of once
+    variables         a problem of it whose goal quantifies over so many variables of a type with one object, each spoken of once, beside twice as many other objects
+    hidden            a problem of it whose goal has 118 quantifiers, one in the other, all but the first of which bind one name: the innermost is spoken of so many times
+    outermost         the same, where the outermost is spoken of
+    eithers           so many types with a slot and a parameter of an `either` of them all
+    facts             a problem of it with an object of each type and three facts for each
+    spoken            a problem of it whose goal speaks thirty times as often of a variable of that `either`
+    seen              a valid plan of it with a step for each type
+    crossed           so many types, and as many predicates of a slot of an `either` of them all
+    crossed-goal      a problem of it whose goal has each of these of each of as many variables of such an `either`
+    subsets           so many types, and a fourth as many predicates, whose slots are of an `either` of each second type and of one more
+    subsets-goal      a problem of it whose goal has each of these of each of a sixth as many variables, of an `either` of a half of the second types
+    apart             so many types with 129 others before each, and two fifths as many predicates, whose slots are of an `either` of all of the former and of one of the others
+    apart-goal        a problem of it whose goal has each of these of each of as many variables, of an `either` of three tenths of the former
+    above             so many types below a chain of as many others, each of which is the type of a predicate's slot
+    above-goal        a problem of it whose goal has each predicate of one variable of an `either` of half of the types below
+    chain             so many types, one below the other, and a predicate of the first
+    chain-facts       a problem of it with ten objects of the last for each type, and a fact of each
+    slot              so many types, and a predicate of an `either` of them all
+    slot-facts        a problem of it with an object of the last type, and four facts of it for each type
+    retold            a fourth as many types, and so many constants of an `either` of them all
+    retold-objects    a problem of it that lists the constants again
+    costs             a domain with a function
+    costs-values      a problem of it with so many objects, and a value of the function for each
+    late              a domain with a predicate
+    late-facts        a problem of it with so many objects whose names differ behind a hundred letters, and a fact of each
+    repeated          a problem of it with one object that is listed so many times, and one fact as often
+    ring              so many types in a chain, the last two of which are above themselves
+    rings             so many types in pairs, each the parent of the other
+    below             so many types below one whose name has five letters for each of them
+    slots             so many types with a predicate of as many slots, and a quantifier of as many variables, each list before one `either` of them all
+    named             an action that speaks so many times of a parameter whose type has a name of as many letters
+    named-facts       a problem of it with so many facts of an object of that type
+    named-constants   a domain with so many constants of such a type
+    named-objects     a problem of it that lists these again
+    short, long       a plan of so many steps, each with two objects of few letters, or with eight of many
+
+All but `ring` and `rings` link; constants of an `either` are a fault, and so is a goal as large as that of `crossed-goal`, `subsets-goal` and `apart-goal`.
 """
 import itertools
 import random
@@ -211,6 +242,54 @@ def below_chain(count):
     return f"(define (problem above-1)\n  (:domain above)\n  (:init)\n  (:goal (exists (?v - (either {either}))\n    (and {atoms}))))\n"
 
 
+def chain_of_types(count):
+    chain = "".join(f"    t{number + 1} - t{number}\n" for number in range(count - 1))
+    return f"(define (domain chain)\n  (:types t0\n{chain}  )\n  (:predicates (seen ?x - t0)))\n"
+
+
+def chain_facts(count):
+    return (f"(define (problem chain-1)\n  (:domain chain)\n  (:objects {numbered('o#', 10 * count)} - t{count - 1})\n"
+            f"  (:init {numbered('(seen o#)', 10 * count)})\n  (:goal (seen o0)))\n")
+
+
+def one_slot(count):
+    return f"(define (domain slot)\n  (:types {numbered('t#', count)})\n  (:predicates (seen ?x - (either {numbered('t#', count)}))))\n"
+
+
+def one_slot_facts(count):
+    return f"(define (problem slot-1)\n  (:domain slot)\n  (:objects o - t{count - 1})\n  (:init {'(seen o) ' * (4 * count)})\n  (:goal (seen o)))\n"
+
+
+def either_constants(count):
+    types = numbered("t#", count // 4)
+    return f"(define (domain retold)\n  (:types {types})\n  (:constants {numbered('o#', count)} - (either {types})))\n"
+
+
+def either_objects(count):
+    return f"(define (problem retold-1)\n  (:domain retold)\n  (:objects {numbered('o#', count)} - (either {numbered('t#', count // 4)}))\n  (:init)\n  (:goal (and)))\n"
+
+
+def one_function(_count):
+    return "(define (domain costs)\n  (:functions (price ?x) - number))\n"
+
+
+def many_values(count):
+    return f"(define (problem costs-1)\n  (:domain costs)\n  (:objects {numbered('o#', count)})\n  (:init {numbered('(= (price o#) #)', count)})\n  (:goal (and)))\n"
+
+
+def one_predicate(_count):
+    return "(define (domain late)\n  (:predicates (seen ?x)))\n"
+
+
+def late_facts(count):
+    return (f"(define (problem late-1)\n  (:domain late)\n  (:objects {numbered('o' * 100 + '#', count)})\n"
+            f"  (:init {numbered('(seen ' + 'o' * 100 + '#)', count)})\n  (:goal (and)))\n")
+
+
+def repeated_items(count):
+    return f"(define (problem late-2)\n  (:domain late)\n  (:objects {'o ' * count})\n  (:init {'(seen o) ' * count})\n  (:goal (seen o)))\n"
+
+
 def many_seen(count):
     return "".join(f"(see o{number})\n" for number in range(count))
 
@@ -279,6 +358,17 @@ COUNTED = {
     "apart-goal": variables_apart,
     "above": chain_above,
     "above-goal": below_chain,
+    "chain": chain_of_types,
+    "chain-facts": chain_facts,
+    "slot": one_slot,
+    "slot-facts": one_slot_facts,
+    "retold": either_constants,
+    "retold-objects": either_objects,
+    "costs": one_function,
+    "costs-values": many_values,
+    "late": one_predicate,
+    "late-facts": late_facts,
+    "repeated": repeated_items,
     "seen": many_seen,
     "ring": ring_of_types,
     "rings": rings_of_types,

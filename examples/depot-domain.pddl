@@ -1,5 +1,6 @@
 ; A depot: trucks drive between places, forklifts load and unload crates, and batteries are charged
-; where there is a charger. What a plan costs is the length of its drives, and one for each other action.
+; where there is a charger. What a plan costs is the length of its drives, and one for each other action
+; but the opening of the gate.
 
 (define (domain depot)
   (:requirements :typing :negative-preconditions :disjunctive-preconditions :equality

@@ -30,7 +30,7 @@ fn moments(rt: HostRuntime) -> Result<(), Fail> {
 
 #[test]
 fn plans(rt: HostRuntime) -> Result<(), Fail> {
-    all_hold(&rt, rows::PLANS, 42)
+    all_hold(&rt, rows::PLANS, 43)
 }
 
 #[test]

@@ -42,7 +42,7 @@ fn format_plans(rt: HostRuntime) -> Result<(), Fail> {
 
 #[test]
 fn format_problems(rt: HostRuntime) -> Result<(), Fail> {
-    all_hold(&rt, rows::FORMAT_PROBLEMS, 24)
+    all_hold(&rt, rows::FORMAT_PROBLEMS, 25)
 }
 
 #[test]
@@ -62,7 +62,7 @@ fn layouts(rt: HostRuntime) -> Result<(), Fail> {
 
 #[test]
 fn problems(rt: HostRuntime) -> Result<(), Fail> {
-    all_hold(&rt, rows::PROBLEMS, 66)
+    all_hold(&rt, rows::PROBLEMS, 77)
 }
 
 #[test]

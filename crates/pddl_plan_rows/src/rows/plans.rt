@@ -524,4 +524,16 @@ times 100000  a
 file )
 | valid: 2 steps in 2 happenings, total-cost 0
 once good plan
+
+row a step of seven objects, at the cost of a function of these
+part (define (domain d) (:predicates (q ?a ?b ?c ?d ?e ?f ?g)) (:functions (total-cost) (h ?a ?b ?c ?d ?e ?f ?g))
+part  (:action n :parameters (?a ?b ?c ?d ?e ?f ?g) :precondition (q ?a ?b ?c ?d ?e ?f ?g)
+part  :effect (and (not (q ?a ?b ?c ?d ?e ?f ?g)) (q ?g ?f ?e ?d ?c ?b ?a) (increase (total-cost) (h ?a ?b ?c ?d ?e ?f ?g))))
+file )
+part (define (problem p) (:domain d) (:objects a b c d e f g) (:init (q a b c d e f g)
+part  (= (h g f e d c b a) 7) (= (h a b c d e f g) 5)
+file ) (:goal (q g f e d c b a)) (:metric minimize (total-cost)))
+file (n a b c d e f g)
+| valid: 1 steps in 1 happenings, total-cost 5
+good plan
 ";

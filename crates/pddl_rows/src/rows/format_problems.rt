@@ -166,4 +166,48 @@ copy two
 file
 copy two
 good format problem
+
+row facts and values of up to six names of up to 32 bytes together, and of more of each
+growths 20
+part (define (problem p) (:domain d) (:init\s
+part (q aaaaa bbbbb ccccc ddddd eeeeee ffffff)\s
+part (Q AAAAA BBBBB CCCCC DDDDDD EEEEEE FFFFFF)\s
+part (q a b c d e f g)\s
+part (Q NNNNNNNNNNNNNNNNNNNNNNNNNNNNNNNN)\s
+part (q nnnnnnnnnnnnnnnnnnnnnnnnnnnnnnnnn)\s
+part (Q MMMMMMMMMMMMMMMMMMMMMM KKKKKKKKKK)\s
+part (q mmmmmmmmmmmmmmmmmmmmmm kkkkkkkkkkk)\s
+part (Q)\s
+part (not (q aaaaa bbbbb ccccc ddddd eeeeee ffffff))\s
+part (NOT (Q AAAAA BBBBB CCCCC DDDDDD EEEEEE FFFFFF))\s
+part (not (q a b c d e f g))\s
+part (= (F AAAAA BBBBB CCCCC DDDDD EEEEEE FFFFFF) 1)\s
+part (= (f aaaaa bbbbb ccccc dddddd eeeeee ffffff) 2)\s
+part (= (F A B C D E F G) 3)\s
+part (= (f nnnnnnnnnnnnnnnnnnnnnnnnnnnnnnnn) 4)\s
+part (= (F NNNNNNNNNNNNNNNNNNNNNNNNNNNNNNNNN) 5)
+file ) (:goal (and)))
+| (define (problem p)
+|   (:domain d)
+part   (:init\s
+part (q aaaaa bbbbb ccccc ddddd eeeeee ffffff)\s
+part (q aaaaa bbbbb ccccc dddddd eeeeee ffffff)\s
+part (q a b c d e f g)\s
+part (q nnnnnnnnnnnnnnnnnnnnnnnnnnnnnnnn)\s
+part (q nnnnnnnnnnnnnnnnnnnnnnnnnnnnnnnnn)\s
+part (q mmmmmmmmmmmmmmmmmmmmmm kkkkkkkkkk)\s
+part (q mmmmmmmmmmmmmmmmmmmmmm kkkkkkkkkkk)\s
+part (q)\s
+part (not (q aaaaa bbbbb ccccc ddddd eeeeee ffffff))\s
+part (not (q aaaaa bbbbb ccccc dddddd eeeeee ffffff))\s
+part (not (q a b c d e f g))\s
+part (= (f aaaaa bbbbb ccccc ddddd eeeeee ffffff) 1)\s
+part (= (f aaaaa bbbbb ccccc dddddd eeeeee ffffff) 2)\s
+part (= (f a b c d e f g) 3)\s
+part (= (f nnnnnnnnnnnnnnnnnnnnnnnnnnnnnnnn) 4)\s
+part (= (f nnnnnnnnnnnnnnnnnnnnnnnnnnnnnnnnn) 5)
+| )
+|   (:goal (and))
+| )
+good format problem
 ";

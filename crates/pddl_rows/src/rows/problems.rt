@@ -514,4 +514,70 @@ change (ok b) => (ok b) (not (ok a))
 file
 | link: fault 29 InitContradiction ok
 refused problem
+
+row a fact and a value of seven objects
+file (define (domain d) (:types t u) (:predicates (q ?a ?b ?c ?d ?e ?f - t ?g - u) (r ?x ?y)) (:functions (f ?a ?b ?c ?d ?e ?f - t ?g - u) (h ?x ?y)))
+file (define (problem p) (:domain d) (:objects a b c d e f - t g - u ab bc - t) (:init (q a b c d e f g) (= (f a b c d e f g) 1)) (:goal (and)))
+| good: problem p
+good problem
+
+row the seventh object of a fact does not fit
+file (define (domain d) (:types t u) (:predicates (q ?a ?b ?c ?d ?e ?f - t ?g - u) (r ?x ?y)) (:functions (f ?a ?b ?c ?d ?e ?f - t ?g - u) (h ?x ?y)))
+file (define (problem p) (:domain d) (:objects a b c d e f - t g - u ab bc - t) (:init (q a b c d e f f)) (:goal (and)))
+| link: fault 28 ArgumentType q
+refused problem
+
+row the seventh object of a value does not fit
+file (define (domain d) (:types t u) (:predicates (q ?a ?b ?c ?d ?e ?f - t ?g - u) (r ?x ?y)) (:functions (f ?a ?b ?c ?d ?e ?f - t ?g - u) (h ?x ?y)))
+file (define (problem p) (:domain d) (:objects a b c d e f - t g - u ab bc - t) (:init (= (f a b c d e f a) 1)) (:goal (and)))
+| link: fault 28 ArgumentType f
+refused problem
+
+row the seventh object of a fact is not known
+file (define (domain d) (:types t u) (:predicates (q ?a ?b ?c ?d ?e ?f - t ?g - u) (r ?x ?y)) (:functions (f ?a ?b ?c ?d ?e ?f - t ?g - u) (h ?x ?y)))
+file (define (problem p) (:domain d) (:objects a b c d e f - t g - u ab bc - t) (:init (q a b c d e f z)) (:goal (and)))
+| link: fault 26 UnknownName z
+refused problem
+
+row six objects of a fact in place of seven
+file (define (domain d) (:types t u) (:predicates (q ?a ?b ?c ?d ?e ?f - t ?g - u) (r ?x ?y)) (:functions (f ?a ?b ?c ?d ?e ?f - t ?g - u) (h ?x ?y)))
+file (define (problem p) (:domain d) (:objects a b c d e f - t g - u ab bc - t) (:init (q a b c d e f)) (:goal (and)))
+| link: fault 27 Arity q
+refused problem
+
+row eight objects of a value in place of seven
+file (define (domain d) (:types t u) (:predicates (q ?a ?b ?c ?d ?e ?f - t ?g - u) (r ?x ?y)) (:functions (f ?a ?b ?c ?d ?e ?f - t ?g - u) (h ?x ?y)))
+file (define (problem p) (:domain d) (:objects a b c d e f - t g - u ab bc - t) (:init (= (f a b c d e f g g) 1)) (:goal (and)))
+| link: fault 27 Arity f
+refused problem
+
+row a fact of seven objects that holds and fails
+file (define (domain d) (:types t u) (:predicates (q ?a ?b ?c ?d ?e ?f - t ?g - u) (r ?x ?y)) (:functions (f ?a ?b ?c ?d ?e ?f - t ?g - u) (h ?x ?y)))
+file (define (problem p) (:domain d) (:objects a b c d e f - t g - u ab bc - t) (:init (q a b c d e f g) (q a b c d f e g) (not (q a b c d e f g))) (:goal (and)))
+| link: fault 29 InitContradiction q
+refused problem
+
+row two values for a function of seven objects
+file (define (domain d) (:types t u) (:predicates (q ?a ?b ?c ?d ?e ?f - t ?g - u) (r ?x ?y)) (:functions (f ?a ?b ?c ?d ?e ?f - t ?g - u) (h ?x ?y)))
+file (define (problem p) (:domain d) (:objects a b c d e f - t g - u ab bc - t) (:init (= (f a b c d e f g) 1) (= (f a b c d f e g) 2) (= (f a b c d e f g) 2)) (:goal (and)))
+| link: fault 31 CostValue f
+refused problem
+
+row one value twice for a function of seven objects
+file (define (domain d) (:types t u) (:predicates (q ?a ?b ?c ?d ?e ?f - t ?g - u) (r ?x ?y)) (:functions (f ?a ?b ?c ?d ?e ?f - t ?g - u) (h ?x ?y)))
+file (define (problem p) (:domain d) (:objects a b c d e f - t g - u ab bc - t) (:init (= (f a b c d e f g) 1) (= (f a b c d f e g) 2) (= (f a b c d e f g) 1)) (:goal (and)))
+| good: problem p
+good problem
+
+row facts and values of names that are cut elsewhere
+file (define (domain d) (:types t u) (:predicates (q ?a ?b ?c ?d ?e ?f - t ?g - u) (r ?x ?y)) (:functions (f ?a ?b ?c ?d ?e ?f - t ?g - u) (h ?x ?y)))
+file (define (problem p) (:domain d) (:objects a b c d e f - t g - u ab bc - t) (:init (r ab c) (not (r a bc)) (= (h ab c) 1) (= (h a bc) 2)) (:goal (and)))
+| good: problem p
+good problem
+
+row a fact and a value of two names, each twice
+file (define (domain d) (:types t u) (:predicates (q ?a ?b ?c ?d ?e ?f - t ?g - u) (r ?x ?y)) (:functions (f ?a ?b ?c ?d ?e ?f - t ?g - u) (h ?x ?y)))
+file (define (problem p) (:domain d) (:objects a b c d e f - t g - u ab bc - t) (:init (r ab c) (r a bc) (not (r ab c)) (= (h ab c) 1) (= (h ab c) 2)) (:goal (and)))
+| link: fault 29 InitContradiction r
+refused problem
 ";
