@@ -48,7 +48,7 @@ The second form makes a domain, or a problem or a plan of it, with so many of so
     named-objects     a problem of it that lists these again
     short, long       a plan of so many steps, each with two objects of few letters, or with eight of many
 
-All but `ring` and `rings` link; constants of an `either` are a fault, and so is a goal as large as that of `crossed-goal`, `subsets-goal` and `apart-goal`.
+All link but `ring` and `rings`, the constants of `retold`, and goals of `hidden` and `outermost` that are larger than may be.
 """
 import itertools
 import random
@@ -244,7 +244,7 @@ def below_chain(count):
 
 def chain_of_types(count):
     chain = "".join(f"    t{number + 1} - t{number}\n" for number in range(count - 1))
-    return f"(define (domain chain)\n  (:types t0\n{chain}  )\n  (:predicates (seen ?x - t0)))\n"
+    return f"(define (domain chain)\n  (:types\n    t0 - object\n{chain}  )\n  (:predicates (seen ?x - t0)))\n"
 
 
 def chain_facts(count):

@@ -168,7 +168,7 @@ copy two
 good format problem
 
 row facts and values of up to six names of up to 32 bytes together, and of more of each
-growths 20
+growths 17
 part (define (problem p) (:domain d) (:init\s
 part (q aaaaa bbbbb ccccc ddddd eeeeee ffffff)\s
 part (Q AAAAA BBBBB CCCCC DDDDDD EEEEEE FFFFFF)\s
