@@ -8,4 +8,4 @@ pub returns-clause-seen : goal.returns-clause-seen
 returns-clause-seen g c = λ seen are.
     let told = c.tell_all.new.self in
     let at = subst (AreAt told (map typed_view c.args.objects.now.items)) (sym c.deref.ensures.value) c.in_ok-numbers.ensures.numbers in
-    c.in_ok-found.ensures told seen c.in_ok-numbers.ensures.told.once at (c.in_ok-reserve.ensures told seen (seen_still c.in_ok-numbers.ensures.kept are))
+    c.in_ok-found.ensures told seen c.in_ok-numbers.ensures.told.once at (seen_still c.in_ok-numbers.ensures.kept are)
