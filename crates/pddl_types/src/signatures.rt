@@ -96,15 +96,15 @@ pub(crate) fn put<'m, 'a, A: Allocator, B: Allocator, D: Declares<A>>(
     types: &Types<'m, 'a, A, B>,
     told: &mut Told<'m, 'a, A, B>,
     table: &mut Signatures<'m, 'a, A, B>,
-    declared: &'m [D],
+    declared: &'m Vec<D, A>,
 ) -> Result<Result<(), LinkFault<'m>>, LinkFault<'m>>
     requires told { AreTold types.now told.old }
     requires empty { table.old.entries ≡ [] }
     ensures told { AreTold types.now told.new }
     ensures kept { AreKept told.old told.new }
-    ensures passes { Passes 23 (unknown_among types.now.declared (flat_map parameters_of (map D.signature declared.now))) result }
-    ensures found { IfOk result (IsFound (numbered 24 (repeated [] (map symbol_of (map D.signature declared.now))))) }
-    ensures held { IfOk result (λ _. HaveFirst told.new table.new.entries (map D.signature declared.now)) }
+    ensures passes { Passes 23 (unknown_among types.now.declared (flat_map parameters_of (map D.signature declared.now.items))) result }
+    ensures found { IfOk result (IsFound (numbered 24 (repeated [] (map symbol_of (map D.signature declared.now.items))))) }
+    ensures held { IfOk result (λ _. HaveFirst told.new table.new.entries (map D.signature declared.now.items)) }
 {
     let mut found = Ok(());
     for each in declared {

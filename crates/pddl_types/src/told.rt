@@ -103,31 +103,7 @@ impl<'m, 'a, A: Allocator, B: Allocator> Told<'m, 'a, A, B> {
         }
     }
 
-    /// Tells the types of a list's items, each once for a group, and puts their numbers into an empty list.
-    fn tell_each<'c, C: Allocator>(
-        &mut self,
-        types: &Types<'m, 'a, A, B>,
-        list: &'m TypedList<A>,
-        numbers: &mut Vec<usize, &'c C>,
-    ) -> Result<(), LinkFault<'m>>
-        requires told { AreTold types.now self.old }
-        requires empty { numbers.old.items ≡ [] }
-        ensures told { AreTold types.now self.new }
-        ensures kept { AreKept self.old self.new }
-        ensures passes { Passes 23 (unknown_among types.now.declared (map typed_view list.now.items)) result }
-        ensures numbers { OnOk result (AreAt self.new (map typed_view list.now.items) numbers.new.items) }
-    {
-        let mut number = 0;
-        for place in 0..list.len() {
-            if !list.shares(place) {
-                number = self.tell(types, &list[place].types)?;
-            }
-            numbers.push(number)?;
-        }
-        Ok(())
-    }
-
-    /// The numbers of the types of a list's items.
+    /// The numbers of the types of a list's items, which are told once for a group where they were not.
     ///
     /// # Errors
     ///
@@ -145,7 +121,14 @@ impl<'m, 'a, A: Allocator, B: Allocator> Told<'m, 'a, A, B> {
         ensures numbers { IfOk result (λ numbers. AreAt self.new (map typed_view list.now.items) numbers.items) }
     {
         let mut numbers = Vec::with_capacity(alloc, list.len())?;
-        self.tell_each(types, list, &mut numbers).and(Ok(numbers))
+        let mut number = 0;
+        for place in 0..list.len() {
+            if !list.shares(place) {
+                number = self.tell(types, &list[place].types)?;
+            }
+            numbers.push(number)?;
+        }
+        Ok(numbers)
     }
 
     /// The tops of the type of a number, or none where no type has it.

@@ -1,4 +1,4 @@
-use Rattle.std.proofs.Common.{◌+◌, [], map, not, take, drop, refl, sym, ap, ◌∙◌, subst}
+use Rattle.std.proofs.Common.{◌≡◌, ◌<◌, ◌+◌, ℕ, List, length, get_or, [], map, not, take, drop, refl, sym, ap, ◌∙◌, subst}
 use Rattle.std.proofs.lemmas.Result.{err_from_is_err_and}
 use Rattle.pddl_formula.specs.TypedLists.{typed_view}
 use Rattle.pddl_task.specs.Names.{word_if}
@@ -12,9 +12,14 @@ use Rattle.pddl_types.proofs.SignatureTables.{repeated_left, put_where_new}
 use Rattle.pddl_types.proofs.UnknownTypes.{declared_left}
 use Rattle.pddl_types.proofs.signatures.put.Goals as goal
 
+-- what is read of a list at a place
+item_read : {X : Type 0} {items xs : List X} {i : ℕ} {x : X} → items ≡ xs → i < length items → x ≡ get_or items i x → (i < length xs) × (x ≡ get_or xs i x)
+item_read {i = i} {x} same low is = subst (λ ys. (i < length ys) × (x ≡ get_or ys i x)) same (low, is)
+
 pub returns-in_err-numbers-clause-passes : goal.returns-in_err-numbers-clause-passes
 returns-in_err-numbers-clause-passes g c =
-    let left = declared_left c.args.types.now.declared g.D.Declares.signature c.args.declared.now c.loop-each.each-index c.each-item.result _ c.loop-each-test.true c.each-item.is c.parameters-parameters.ensures in
+    let (low, at) = item_read c.deref-each-items.ensures.value c.loop-each-test.true c.each-item.is in
+    let left = declared_left c.args.types.now.declared g.D.Declares.signature c.args.declared.now.items c.loop-each.each-index c.each-item.result _ low at c.parameters-parameters.ensures in
     let p = err_from_is_err_and c.from_residual.result c.from_residual.ensures.1 in
     rw (p.1, p.2) (pass_front 23 _ _ _ c.in_err-numbers.field-0.0 (sym c.loop-each.invariant.left ∙ left) c.in_err-numbers.ensures.passes)
 
@@ -27,16 +32,17 @@ returns-in_err-put_new-clause-kept g c = kept_then c.args.told.now c.loop-each.t
 pub loop-each-preserved : goal.loop-each-preserved
 loop-each-preserved g c =
     let signature = g.D.Declares.signature in
-    let all = c.args.declared.now in
+    let all = c.args.declared.now.items in
     let i = c.loop-each.each-index in
     let x = c.each-item.result in
     let before = c.loop-each.invariant in
+    let (low, at) = item_read c.deref-each-items.ensures.value c.loop-each-test.true c.each-item.is in
     let told = c.tell_all.new.self in
     let numbers = c.in_ok-numbers.numbers in
     let seen = map signature (take i all) in
-    let more = seen_more signature [] all i x c.loop-each-test.true c.each-item.is in
-    let left = declared_left c.args.types.now.declared signature all i x _ c.loop-each-test.true c.each-item.is c.parameters-parameters.ensures in
-    let rest = views_drop signature all i x c.loop-each-test.true c.each-item.is in
+    let more = seen_more signature [] all i x low at in
+    let left = declared_left c.args.types.now.declared signature all i x _ low at c.parameters-parameters.ensures in
+    let rest = views_drop signature all i x low at in
     let (twice, held) = put_where_new c.loop-each.table c.tell_all.ensures.kept seen before.held (signature x) c.name-name.result c.name-name.ensures (record { parameters = c.as_slice.result; numbers = numbers })
     c.put_new.new.table.entries c.in_ok-put_new.field-0 c.in_ok-put_new.ensures.place c.in_ok-put_new.ensures.entries (ap (map typed_view) c.as_slice.ensures.value ∙ c.parameters-parameters.ensures)
     (subst (λ xs. AreAt told (map typed_view xs) numbers.items) (sym c.as_slice.ensures.value) c.in_ok-numbers.ensures.numbers) in
