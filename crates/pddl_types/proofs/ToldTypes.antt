@@ -1,6 +1,6 @@
 -- Types that are told by number, with their tops, the numbers of items' types, and what is found of pairs of them.
-use Rattle.std.proofs.Common.{◌≡◌, ℕ, zero, suc, ◌+◌, ◌-◌, ◌<◌, ◌==◌, ◌&&◌, cond, Bool, true, false, not, List, [], ◌∷◌, ◌++◌, map, filter, length, take, Option, Some, None, Result, Ok, Err, position, refl, sym, ap, ◌∙◌, subst, arith, append-nil, append_assoc}
-use Rattle.std.specs.Prelude.{IsTrue, IfOk, Vec, Contains, bytes_eq, option_map, slice_get}
+use Rattle.std.proofs.Common.{◌≡◌, ℕ, zero, suc, ◌+◌, ◌-◌, ◌<◌, ◌==◌, ◌&&◌, cond, Bool, true, false, not, List, [], ◌∷◌, ◌++◌, map, filter, length, take, Option, Some, None, position, refl, sym, ap, ◌∙◌, subst, arith, append-nil, append_assoc}
+use Rattle.std.specs.Prelude.{IsTrue, Contains, bytes_eq, option_map, slice_get}
 use Rattle.std.specs.Borrow.{Bor}
 use Rattle.std.specs.Cmp.Lexicographic.{bytes_decides, pointwise_decides}
 use Rattle.std.specs.List.{IsDistinct, AllByRecursion, list_all, list_any, position_or_len}
@@ -11,9 +11,7 @@ use Rattle.std.proofs.lemmas.List.{length-append, length-map, map_push, take_mor
 use Rattle.std.proofs.lemmas.List.Elements.{All-weaker, All-push, All-contains}
 use Rattle.std.proofs.lemmas.Option.{same_Some, get_or_from_slice_get, slice_get_within, slice_get-map}
 use Rattle.std.specs.Option.{option_map_or}
-use Rattle.std.specs.Result.{IsOkAnd}
-use Rattle.indexmap.specs.IndexMap.{insert_entry}
-use Rattle.indexmap.proofs.MapLemmas.{Missing-position, insert_entry-absent, or_len-first}
+use Rattle.indexmap.proofs.MapLemmas.{or_len-first}
 use Rattle.indexmap.proofs.RemoveLemmas.{own_first}
 use Rattle.pddl_forest.specs.Spans.{AreApart, hold_all}
 use Rattle.pddl_forest.specs.declared.spans.Span.{Span}

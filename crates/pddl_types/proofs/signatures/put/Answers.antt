@@ -1,8 +1,11 @@
-use Rattle.std.proofs.Common.{◌≡◌, ◌<◌, ◌+◌, ℕ, List, length, get_or, [], map, not, take, drop, refl, sym, ap, ◌∙◌, subst}
+use Rattle.std.proofs.Common.{◌≡◌, ◌<◌, ◌≤◌, ◌+◌, arith, ℕ, List, length, get_or, [], map, not, take, drop, sym, ap, ◌∙◌, subst}
+use Rattle.std.proofs.lemmas.List.{drop_all, take_all}
 use Rattle.std.proofs.lemmas.Result.{err_from_is_err_and}
 use Rattle.pddl_formula.specs.TypedLists.{typed_view}
-use Rattle.pddl_task.specs.Names.{word_if}
-use Rattle.pddl_faults.proofs.FoundFaults.{passed_as, up_to_more}
+use Rattle.pddl_task.specs.Names.{repeated, word_if}
+use Rattle.pddl_task.specs.Settings.{symbol_of}
+use Rattle.pddl_faults.specs.Found.{numbered}
+use Rattle.pddl_faults.proofs.FoundFaults.{passed_as, up_to_more, up_to_all}
 use Rattle.pddl_faults.proofs.ListTurns.{views_drop, seen_more}
 use Rattle.pddl_faults.proofs.PassedParts.{pass_front}
 use Rattle.pddl_types.specs.Told.{AreAt}
@@ -25,6 +28,9 @@ returns-in_err-numbers-clause-passes g c =
 
 pub returns-in_err-numbers-clause-kept : goal.returns-in_err-numbers-clause-kept
 returns-in_err-numbers-clause-kept g c = kept_then c.args.told.now c.loop-each.told c.tell_all.new.self c.loop-each.invariant.kept c.tell_all.ensures.kept
+
+pub returns-in_err-put_new-clause-told : goal.returns-in_err-put_new-clause-told
+returns-in_err-put_new-clause-told g c = c.tell_all.ensures.told
 
 pub returns-in_err-put_new-clause-kept : goal.returns-in_err-put_new-clause-kept
 returns-in_err-put_new-clause-kept g c = kept_then c.args.told.now c.loop-each.told c.tell_all.new.self c.loop-each.invariant.kept c.tell_all.ensures.kept
@@ -56,4 +62,19 @@ loop-each-preserved g c =
           c.lower-found.ensures.found
           (passed_as 24 c.once.result (ap (word_if (not c.is_none-is_new.result)) c.name-name.ensures ∙ ap (λ b. word_if b (signature x).name) (sym (twice ∙ c.is_none-is_new.ensures))) c.once.ensures) before.found;
       left = rw (left, c.in_ok-numbers.ensures.passes) at before.left;
+    }
+
+pub returns : goal.returns
+returns g c =
+    let all = c.args.declared.now.items in
+    let i = c.loop-each.each-index in
+    let done = c.loop-each.invariant in
+    let past : length all ≤ i = omega (arith, c.loop-each-test.false, ap length c.deref-each-items.ensures.value) in
+    let seen = map g.D.Declares.signature (take i all) in
+    record {
+      told = done.types;
+      kept = done.kept;
+      passes = sym (rw (drop_all i all past) at done.left);
+      found = up_to_all (ap (λ xs. numbered 24 (repeated (map symbol_of seen) (map symbol_of (map g.D.Declares.signature xs)))) (drop_all i all past)) done.found;
+      held = rw (take_all i all past) at done.held;
     }

@@ -1,4 +1,4 @@
-use Rattle.std.proofs.Common.{[], map, Err, refl, ap, ◌∙◌, subst}
+use Rattle.std.proofs.Common.{[], map, Err, refl, ◌∙◌, subst}
 use Rattle.std.proofs.lemmas.Result.{err_from_is_err_and}
 use Rattle.pddl_domain.specs.Declarations.{function_view}
 use Rattle.pddl_task.specs.Names.{item_of, repeated}
