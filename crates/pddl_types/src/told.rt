@@ -40,7 +40,8 @@ impl<'m, 'a, A: Allocator, B: Allocator> Model for Told<'m, 'a, A, B> {
     ghost invariant = { λ t. AreFitting (told_in t.types.entries) t.fitting.entries };
 }
 
-/// Whether tops hold the first number of each top of the type of another number, both by their numbers; found once and kept where both have many tops.
+/// Whether the tops of a slot's type hold the first number of each top of another type. It is found once, and kept by the two types' numbers, where both have
+/// many tops.
 ///
 /// Fails where memory is refused.
 fn hold_once<'a, B: Allocator>(
@@ -148,7 +149,8 @@ impl<'m, 'a, A: Allocator, B: Allocator> Told<'m, 'a, A, B> {
         self.at(number).first().map_or(0, |top| top.first)
     }
 
-    /// Whether a term of a type fits a slot of another, both by their numbers; a type fits itself. Where both have many tops, what is found is kept.
+    /// Whether a term of a type fits a slot of another, both by their numbers; a type fits itself, and where no type has a number nothing
+    /// fits. Where both have many tops, what is found is kept.
     ///
     /// Fails where memory for that is refused.
     pub fn fits(
