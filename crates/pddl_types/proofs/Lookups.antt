@@ -19,9 +19,9 @@ use Rattle.pddl_task.proofs.Lists.{bytes_same, some_at}
 
 -- ---- by place
 
--- what is seen in each is seen in the views of the same list
-pub seen_of : {X Y Z : Type 0} (see : Y → Z) (view : X → Y) {xs ys : List X} → xs ≡ ys → map (λ x. see (view x)) xs ≡ map see (map view ys)
-seen_of see view {xs} same = sym (map-map see view xs) ∙ ap (λ zs. map see (map view zs)) same
+-- what is seen in each is seen in the views
+pub seen_of : {X Y Z : Type 0} (see : Y → Z) (view : X → Y) (xs : List X) → map (λ x. see (view x)) xs ≡ map see (map view xs)
+seen_of see view xs = sym (map-map see view xs)
 
 -- what is seen of an entry
 pub seen_entry : {E Y : Type 0} (view : E → Y) (es : List E) (k : ℕ) (e : E) → slice_get es k ≡ Some e → slice_get (map view es) k ≡ Some (view e)

@@ -1,6 +1,6 @@
 -- Types that are told by number, with their tops, the numbers of items' types, and what is found of pairs of them.
-use Rattle.std.proofs.Common.{◌≡◌, ℕ, zero, suc, ◌+◌, ◌-◌, ◌<◌, ◌==◌, ◌&&◌, cond, Bool, true, false, not, List, [], ◌∷◌, ◌++◌, map, filter, length, take, Option, Some, None, Result, Ok, Err, position, refl, sym, ap, ◌∙◌, subst, arith, append-nil, append_assoc}
-use Rattle.std.specs.Prelude.{IsTrue, IfOk, Vec, Contains, bytes_eq, option_map, slice_get}
+use Rattle.std.proofs.Common.{◌≡◌, ℕ, zero, suc, ◌+◌, ◌-◌, ◌<◌, ◌==◌, ◌&&◌, cond, Bool, true, false, not, List, [], ◌∷◌, ◌++◌, map, filter, length, take, Option, Some, None, position, refl, sym, ap, ◌∙◌, subst, arith, append-nil, append_assoc}
+use Rattle.std.specs.Prelude.{IsTrue, Contains, bytes_eq, option_map, slice_get}
 use Rattle.std.specs.Borrow.{Bor}
 use Rattle.std.specs.Cmp.Lexicographic.{bytes_decides, pointwise_decides}
 use Rattle.std.specs.List.{IsDistinct, AllByRecursion, list_all, list_any, position_or_len}
@@ -11,9 +11,7 @@ use Rattle.std.proofs.lemmas.List.{length-append, length-map, map_push, take_mor
 use Rattle.std.proofs.lemmas.List.Elements.{All-weaker, All-push, All-contains}
 use Rattle.std.proofs.lemmas.Option.{same_Some, get_or_from_slice_get, slice_get_within, slice_get-map}
 use Rattle.std.specs.Option.{option_map_or}
-use Rattle.std.specs.Result.{IsOkAnd}
-use Rattle.indexmap.specs.IndexMap.{insert_entry}
-use Rattle.indexmap.proofs.MapLemmas.{Missing-position, insert_entry-absent, or_len-first}
+use Rattle.indexmap.proofs.MapLemmas.{or_len-first}
 use Rattle.indexmap.proofs.RemoveLemmas.{own_first}
 use Rattle.pddl_forest.specs.Spans.{AreApart, hold_all}
 use Rattle.pddl_forest.specs.declared.spans.Span.{Span}
@@ -150,15 +148,21 @@ module _ {t : TypesValue} {told : ToldValue} (are : AreTold t told) where
   -- where tops decide, those of two numbers do
   pub decided_there :
       ((types slot : List Name) (first second : List Span) → IsTold t types first → IsTold t slot second → IsTrue (are_types t.declared types) → hold_all second first ≡ fits (pairs t.declared) types slot)
-      → (number slot : ℕ) (of to : List Name) → IsAt told of number → IsAt told to slot → hold_all (tops_at told slot) (tops_at told number) ≡ fits (pairs t.declared) of to
-  decided_there decide number slot of to at there =
-      let first = tops_there of number at in
-      decide of to (tops_at told number) (tops_at told slot) first.0 (tops_there to slot there).0 first.1
+      → (number slot : ℕ) (of to : List Name) → IsAt told of number → IsAt told to slot → (first second : List Span) → tops_at told number ≡ first → tops_at told slot ≡ second
+      → hold_all second first ≡ fits (pairs t.declared) of to
+  decided_there decide number slot of to at there first second is also =
+      let (own, known) = tops_there of number at in rw (← is, ← also) (decide of to (tops_at told number) (tops_at told slot) own (tops_there to slot there).0 known)
 
 -- the tops that are read of an entry
-pub tops_read : (entries : List (Key × List Span)) (n : ℕ) (read : Option (Key × List Span)) → read ≡ slice_get entries n → option_map_or (λ e. e.1) read [] ≡ tops_at (told_in entries) n
-tops_read entries n None is = ap (λ (o : Option Entry). option_map_or (λ e. e.1) o []) (ap (option_map entry_in) is ∙ sym (slice_get-map entry_in entries n))
-tops_read entries n (Some e) is = ap (λ (o : Option Entry). option_map_or (λ e. e.1) o []) (ap (option_map entry_in) is ∙ sym (slice_get-map entry_in entries n))
+pub tops_read : (entries : List (Key × List Span)) {told : ToldValue} → told_in entries ≡ told → (n : ℕ) (read : Option (Key × List Span)) → read ≡ slice_get entries n
+    → option_map_or (λ e. e.1) read [] ≡ tops_at told n
+tops_read entries are n None is = ap (λ (o : Option Entry). option_map_or (λ e. e.1) o []) (ap (option_map entry_in) is ∙ sym (slice_get-map entry_in entries n) ∙ ap (λ (ts : ToldValue). slice_get ts n) are)
+tops_read entries are n (Some e) is = ap (λ (o : Option Entry). option_map_or (λ e. e.1) o []) (ap (option_map entry_in) is ∙ sym (slice_get-map entry_in entries n) ∙ ap (λ (ts : ToldValue). slice_get ts n) are)
+
+-- where no entry is read, no type has the number
+pub none_there : (entries : List (Key × List Span)) {told : ToldValue} → told_in entries ≡ told → (n : ℕ) (names : List Name) → None ≡ slice_get entries n → IsAt told names n → ⊥
+none_there entries are n names none at =
+    let read = ap (option_map entry_in) none ∙ sym (slice_get-map entry_in entries n) ∙ ap (λ (ts : ToldValue). slice_get ts n) are in cc (ap (option_map (λ (e : Entry). e.0)) read, at)
 
 -- a number that has tops is one of a type
 pub some_tops : (told : ToldValue) (n : ℕ) (tops : List Span) → tops ≡ tops_at told n → 0 < length tops → n < length told
@@ -201,19 +205,10 @@ found_there entries k n found =
     ap (option_map (λ (d : Entry). d.0)) (slice_get-map entry_in entries n ∙ ap (option_map entry_in) at)
     ∙ ap Some (sym ((pointwise_decides bytes_decides k.now e.0.now).0 same))
 
--- its tops, as they were made
-pub made_told : {B E : Type 0} {t : TypesValue} {names : List Name} (made : Result (Vec Span B) E) (tops : List Span) → IfOk made (λ v. IsTold t names v.items) → IsOkAnd made (λ v. tops ≡ v.items)
-    → IsTold t names tops
-made_told {t} {names} (Ok v) tops told is = subst (IsTold t names) (sym is) told
-made_told (Err e) tops told is = absurd is
-
 -- one that is not there comes last
-module _ (entries next : List (Key × List Span)) (k : Key) (tops : List Span) (told : ToldValue) (told_are : told_in entries ≡ told) (none : None ≡ position (same_keys k) (keys_of entries))
-    (put : next ≡ insert_entry same_keys entries k tops) where
+module _ (entries next : List (Key × List Span)) (k : Key) (tops : List Span) {told : ToldValue} (put : next ≡ entries ++ (k, tops) ∷ []) (told_are : told_in entries ≡ told) where
   told_last : told_in next ≡ told ++ (k.now, tops) ∷ []
-  told_last =
-      ap told_in (put ∙ insert_entry-absent same_keys k tops entries (Missing-position (same_keys k) entries (sym none)).absent) ∙ map_push entry_in entries (k, tops)
-      ∙ ap (λ ts. ts ++ (k.now, tops) ∷ []) told_are
+  told_last = ap told_in put ∙ map_push entry_in entries (k, tops) ∙ ap (λ ts. ts ++ (k.now, tops) ∷ []) told_are
 
   pub last_kept : AreKept told (told_in next)
   last_kept = ((k.now, tops) ∷ [], told_last)

@@ -52,14 +52,6 @@ impl<'m, 'a, A: Allocator, B: Allocator> Listed<'m, 'a, A, B> {
         }
     }
 
-    /// Makes room for so many more objects.
-    fn reserve(&mut self, more: usize) -> Result<(), AllocError>
-        ensures { (told : ToldValue) (seen : List TypedValue) → AreSeen told seen self.old → OnOk result (AreSeen told seen self.new) }
-    {
-        self.objects.reserve(more)?;
-        self.types.reserve(more)
-    }
-
     /// Adds an object whose type is told at a number, where its name is new. Answers whether the first of its name has this type.
     ///
     /// Fails where memory for it is refused, or where no `u32` has its number.
@@ -89,6 +81,8 @@ impl<'m, 'a, A: Allocator, B: Allocator> Listed<'m, 'a, A, B> {
         ensures { (told : ToldValue) (seen : List TypedValue) → AreDistinct told → AreAt told (map typed_view objects.now.items) numbers.now → AreSeen told seen self.old
             → IfOk result (λ found. IsFound (numbered 24 (off_types seen (map typed_view objects.now.items))) found × AreSeen told (seen ++ map typed_view objects.now.items) self.new) }
     {
+        self.objects.reserve(objects.len())?;
+        self.types.reserve(objects.len())?;
         let mut found = Ok(());
         for place in 0..objects.len() {
             let object = &objects[place];
@@ -117,7 +111,6 @@ impl<'m, 'a, A: Allocator, B: Allocator> Listed<'m, 'a, A, B> {
             → IfOk result (λ found. IsFound (numbered 24 (off_types seen (map typed_view objects.now.items))) found × AreSeen told.new (seen ++ map typed_view objects.now.items) self.new) }
     {
         let numbers = told.tell_all(*self.types.allocator(), types, objects)?;
-        self.reserve(objects.len())?;
         let found = self.put_each(objects, &numbers)?;
         Ok(found)
     }

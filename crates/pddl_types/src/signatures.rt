@@ -87,29 +87,6 @@ pub struct Slots<'m, 'a, A: Allocator, B: Allocator> {
 /// Predicates, functions or actions by name, in the order in which they are declared; of several of one name the first.
 pub type Signatures<'m, 'a, A, B> = IndexMap<&'m [u8], Slots<'m, 'a, A, B>, Hashed, &'a B>;
 
-/// Puts what is declared into a table, where its name is new there, and tells the types of its parameters. Answers whether it is new.
-fn put_one<'m, 'a, A: Allocator, B: Allocator, D: Declares<A>>(
-    types: &Types<'m, 'a, A, B>,
-    told: &mut Told<'m, 'a, A, B>,
-    table: &mut Signatures<'m, 'a, A, B>,
-    declared: &'m D,
-) -> Result<bool, LinkFault<'m>>
-    requires { AreTold types.now told.old }
-    ensures told { AreTold types.now told.new }
-    ensures kept { AreKept told.old told.new }
-    ensures passes { Passes 23 (unknown_among types.now.declared (D.signature declared.now).parameters) result }
-    ensures held { (seen : List Signature) → HaveFirst told.old table.old.entries seen
-        → IfOk result (λ is_new. (is_in (map symbol_of seen) (D.signature declared.now).name ≡ not is_new) × HaveFirst told.new table.new.entries (seen ++ D.signature declared.now ∷ [])) }
-{
-    let parameters = declared.parameters();
-    let numbers = told.tell_all(*table.allocator(), types, parameters)?;
-    let slots = Slots {
-        parameters: parameters.as_slice(),
-        numbers,
-    };
-    Ok(put_new(table, declared.name(), slots)?.is_none())
-}
-
 /// Puts what is declared into an empty table, and tells the types of parameters. Answers the fault of a name that stands twice.
 ///
 /// # Errors
@@ -119,20 +96,27 @@ pub(crate) fn put<'m, 'a, A: Allocator, B: Allocator, D: Declares<A>>(
     types: &Types<'m, 'a, A, B>,
     told: &mut Told<'m, 'a, A, B>,
     table: &mut Signatures<'m, 'a, A, B>,
-    declared: &'m [D],
+    declared: &'m Vec<D, A>,
 ) -> Result<Result<(), LinkFault<'m>>, LinkFault<'m>>
     requires told { AreTold types.now told.old }
     requires empty { table.old.entries ≡ [] }
     ensures told { AreTold types.now told.new }
     ensures kept { AreKept told.old told.new }
-    ensures passes { Passes 23 (unknown_among types.now.declared (flat_map parameters_of (map D.signature declared.now))) result }
-    ensures found { IfOk result (IsFound (numbered 24 (repeated [] (map symbol_of (map D.signature declared.now))))) }
-    ensures held { IfOk result (λ _. HaveFirst told.new table.new.entries (map D.signature declared.now)) }
+    ensures passes { Passes 23 (unknown_among types.now.declared (flat_map parameters_of (map D.signature declared.now.items))) result }
+    ensures found { IfOk result (IsFound (numbered 24 (repeated [] (map symbol_of (map D.signature declared.now.items))))) }
+    ensures held { IfOk result (λ _. HaveFirst told.new table.new.entries (map D.signature declared.now.items)) }
 {
     let mut found = Ok(());
     for each in declared {
-        let is_new = put_one(types, told, table, each)?;
-        found = lower(found, once(is_new, each.name()));
+        let name = each.name();
+        let parameters = each.parameters();
+        let numbers = told.tell_all(*table.allocator(), types, parameters)?;
+        let slots = Slots {
+            parameters: parameters.as_slice(),
+            numbers,
+        };
+        let is_new = put_new(table, name, slots)?.is_none();
+        found = lower(found, once(is_new, name));
     }
     Ok(found)
 }

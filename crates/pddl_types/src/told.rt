@@ -1,15 +1,14 @@
 //! The types that are written in files, by number, with the tops of their primitives.
 
-ghost use Rattle.std.specs.Prelude.{◌≡◌, [], ℕ, List, None, map, filter, not, position, IfOk, OnOk};
-ghost use Rattle.std.specs.Map.{keys_of};
+ghost use Rattle.std.specs.Prelude.{◌≡◌, [], ℕ, List, map, filter, not, IfOk, OnOk};
 ghost use Rattle.pddl_formula.specs.TypedLists.{typed_view};
-ghost use Rattle.pddl_task.specs.Names.{is_in, same_names};
+ghost use Rattle.pddl_task.specs.Names.{is_in};
 ghost use Rattle.pddl_task.specs.Types.{types_of, pairs, fits};
 ghost use Rattle.pddl_forest.specs.Spans.{AreApart, hold_all};
 ghost use Rattle.pddl_faults.specs.Passes.{Passes};
-ghost use Rattle.pddl_types.specs.Told.{told_in, tops_at, first_at, IsAt, AreAt, AreTold, AreKept, AreFitting, unknown_among};
+ghost use Rattle.pddl_types.specs.Told.{ToldValue, tops_at, first_at, IsAt, AreAt, AreTold, AreKept, AreFitting, unknown_among};
 
-use crate::entries::put;
+use crate::entries::put_last;
 use crate::tops::Tops;
 use crate::types::Types;
 use indexmap::IndexMap;
@@ -41,83 +40,31 @@ impl<'m, 'a, A: Allocator, B: Allocator> Model for Told<'m, 'a, A, B> {
     ghost invariant = { λ t. AreFitting (told_in t.types.entries) t.fitting.entries };
 }
 
-/// The tops of the type of a number, or none where no type has it.
-fn tops_at<'m, 'a, 't, A: Allocator, B: Allocator>(
-    types: &'t IndexMap<&'m TypeNames<A>, Tops<'a, B>, Hashed, &'a B>,
-    number: usize,
-) -> &'t [Span]
-    ensures { result.now ≡ tops_at (told_in types.now.entries) number }
-{
-    match types.get_index(number) {
-        Some((_, tops)) => tops.as_slice(),
-        None => &[],
-    }
-}
-
-/// Whether the tops of the type of a slot hold the first number of each top of the type of another number.
+/// Whether the tops of a slot's type hold the first number of each top of another type. It is found once, and kept by the two types' numbers, where both have
+/// many tops.
 ///
 /// Fails where memory is refused.
-fn hold_many<'m, 'a, A: Allocator, B: Allocator>(
-    types: &IndexMap<&'m TypeNames<A>, Tops<'a, B>, Hashed, &'a B>,
-    slot: usize,
-    number: usize,
-) -> Result<bool, AllocError>
-    requires { (n : ℕ) → AreApart (tops_at (told_in types.now.entries) n) }
-    ensures { IfOk result (λ fit. fit ≡ hold_all (tops_at (told_in types.now.entries) slot) (tops_at (told_in types.now.entries) number)) }
-{
-    match (types.get_index(slot), types.get_index(number)) {
-        (Some((_, tops)), Some((_, others))) => tops.hold_all(others),
-        _ => Ok(hold_all(tops_at(types, slot), tops_at(types, number))),
-    }
-}
-
-/// The same, which is found once and kept by the two numbers where both have many tops.
-fn hold_once<'m, 'a, A: Allocator, B: Allocator>(
-    types: &IndexMap<&'m TypeNames<A>, Tops<'a, B>, Hashed, &'a B>,
+fn hold_once<'a, B: Allocator>(
     fitting: &mut IndexMap<(usize, usize), bool, Hashed, &'a B>,
-    slot: usize,
-    number: usize,
+    pair: (usize, usize),
+    told: &Tops<'a, B>,
+    tops: &Tops<'a, B>,
 ) -> Result<bool, AllocError>
-    requires apart { (n : ℕ) → AreApart (tops_at (told_in types.now.entries) n) }
-    requires fitting { AreFitting (told_in types.now.entries) fitting.old.entries }
-    ensures fitting { AreFitting (told_in types.now.entries) fitting.new.entries }
-    ensures fit { IfOk result (λ fit. fit ≡ hold_all (tops_at (told_in types.now.entries) slot) (tops_at (told_in types.now.entries) number)) }
+    requires told { AreApart told.now }
+    requires tops { AreApart tops.now }
+    ensures fitting { (types : ToldValue) → AreFitting types fitting.old.entries → tops_at types pair.0 ≡ told.now → tops_at types pair.1 ≡ tops.now → AreFitting types fitting.new.entries }
+    ensures fit { (types : ToldValue) → AreFitting types fitting.old.entries → tops_at types pair.0 ≡ told.now → tops_at types pair.1 ≡ tops.now
+        → IfOk result (λ fit. fit ≡ hold_all tops.now told.now) }
 {
-    let told = tops_at(types, number);
-    let tops = tops_at(types, slot);
-    if told.len() < 8 || tops.len() < 8 {
-        return Ok(hold_all(tops, told));
+    if told.as_slice().len() < 8 || tops.as_slice().len() < 8 {
+        return Ok(hold_all(tops.as_slice(), told.as_slice()));
     }
-    if let Some(fit) = fitting.get(&(number, slot)) {
+    if let Some(fit) = fitting.get(&pair) {
         return Ok(*fit);
     }
-    let fit = hold_many(types, slot, number)?;
-    fitting.insert((number, slot), fit)?;
+    let fit = tops.hold_all(told)?;
+    fitting.insert(pair, fit)?;
     Ok(fit)
-}
-
-/// Tells a type that is not told yet, and answers its number.
-///
-/// # Errors
-///
-/// `LinkFault::UnknownType` of the first primitive that is no type; `Memory` where memory for the tops is refused.
-fn tell_new<'m, 'a, A: Allocator, B: Allocator>(
-    told: &mut IndexMap<&'m TypeNames<A>, Tops<'a, B>, Hashed, &'a B>,
-    types: &Types<'m, 'a, A, B>,
-    names: &'m TypeNames<A>,
-) -> Result<usize, LinkFault<'m>>
-    requires told { AreTold types.now (told_in told.old.entries) }
-    requires new { None ≡ position (λ t. same_names names.now t.now) (keys_of told.old.entries) }
-    ensures told { AreTold types.now (told_in told.new.entries) }
-    ensures kept { AreKept (told_in told.old.entries) (told_in told.new.entries) }
-    ensures passes { Passes 23 (filter (λ t. not (is_in (types_of types.now.declared) t)) names.now) result }
-    ensures number { IfOk result (IsAt (told_in told.new.entries) names.now) }
-{
-    types.known(names)?;
-    let number = told.len();
-    let tops = Tops::made(types.tops(*told.allocator(), names));
-    put(told, names, tops)?;
-    Ok(number)
 }
 
 impl<'m, 'a, A: Allocator, B: Allocator> Told<'m, 'a, A, B> {
@@ -149,35 +96,15 @@ impl<'m, 'a, A: Allocator, B: Allocator> Told<'m, 'a, A, B> {
     {
         match self.types.get_index_of(&names) {
             Some(number) => Ok(number),
-            None => tell_new(&mut self.types, types, names),
-        }
-    }
-
-    /// Tells the types of a list's items, each once for a group, and puts their numbers into an empty list.
-    fn tell_each<'c, C: Allocator>(
-        &mut self,
-        types: &Types<'m, 'a, A, B>,
-        list: &'m TypedList<A>,
-        numbers: &mut Vec<usize, &'c C>,
-    ) -> Result<(), LinkFault<'m>>
-        requires told { AreTold types.now self.old }
-        requires empty { numbers.old.items ≡ [] }
-        ensures told { AreTold types.now self.new }
-        ensures kept { AreKept self.old self.new }
-        ensures passes { Passes 23 (unknown_among types.now.declared (map typed_view list.now.items)) result }
-        ensures numbers { OnOk result (AreAt self.new (map typed_view list.now.items) numbers.new.items) }
-    {
-        let mut number = 0;
-        for place in 0..list.len() {
-            if !list.shares(place) {
-                number = self.tell(types, &list[place].types)?;
+            None => {
+                types.known(names)?;
+                let tops = Tops::of(*self.types.allocator(), types, names);
+                Ok(put_last(&mut self.types, names, tops)?)
             }
-            numbers.push(number)?;
         }
-        Ok(())
     }
 
-    /// The numbers of the types of a list's items.
+    /// The numbers of the types of a list's items, which are told once for a group where they were not.
     ///
     /// # Errors
     ///
@@ -195,14 +122,24 @@ impl<'m, 'a, A: Allocator, B: Allocator> Told<'m, 'a, A, B> {
         ensures numbers { IfOk result (λ numbers. AreAt self.new (map typed_view list.now.items) numbers.items) }
     {
         let mut numbers = Vec::with_capacity(alloc, list.len())?;
-        self.tell_each(types, list, &mut numbers).and(Ok(numbers))
+        let mut number = 0;
+        for place in 0..list.len() {
+            if !list.shares(place) {
+                number = self.tell(types, &list[place].types)?;
+            }
+            numbers.push(number)?;
+        }
+        Ok(numbers)
     }
 
     /// The tops of the type of a number, or none where no type has it.
     pub fn at(&self, number: usize) -> &[Span]
         ensures { result.now ≡ tops_at self.now number }
     {
-        tops_at(&self.types, number)
+        match self.types.get_index(number) {
+            Some((_, tops)) => tops.as_slice(),
+            None => &[],
+        }
     }
 
     /// The first number of these tops, or 0 where there are none.
@@ -212,7 +149,8 @@ impl<'m, 'a, A: Allocator, B: Allocator> Told<'m, 'a, A, B> {
         self.at(number).first().map_or(0, |top| top.first)
     }
 
-    /// Whether a term of a type fits a slot of another, both by their numbers; a type fits itself. Where both have many tops, what is found is kept.
+    /// Whether a term of a type fits a slot of another, both by their numbers; a type fits itself, and where no type has a number nothing
+    /// fits. Where both have many tops, what is found is kept.
     ///
     /// Fails where memory for that is refused.
     pub fn fits(
@@ -229,6 +167,12 @@ impl<'m, 'a, A: Allocator, B: Allocator> Told<'m, 'a, A, B> {
             return Ok(true);
         }
         types.tops_decide();
-        hold_once(&self.types, &mut self.fitting, slot, number)
+        let Some((_, told)) = self.types.get_index(number) else {
+            return Ok(false);
+        };
+        let Some((_, tops)) = self.types.get_index(slot) else {
+            return Ok(false);
+        };
+        hold_once(&mut self.fitting, (number, slot), told, tops)
     }
 }

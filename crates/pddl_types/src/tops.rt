@@ -1,13 +1,16 @@
 //! The tops of a type that is told, with rows of bits that say which numbers they begin at, and which they hold.
 
-ghost use Rattle.std.specs.Prelude.{◌≡◌, ◌||◌, ◌↔◌, ℕ, [], true, IsTrue, IfOk, IfSome, IsOkAnd, OnOk};
+ghost use Rattle.std.specs.Prelude.{◌≡◌, ◌||◌, ◌↔◌, ℕ, [], true, IsTrue, IfOk, IfSome, OnOk};
 ghost use Rattle.std.specs.List.{list_all};
 ghost use Rattle.pddl_bit_rows.specs.BitRows.{has_bit};
 ghost use Rattle.pddl_forest.specs.Spans.{holds, hold_all, AreApart};
 ghost use Rattle.pddl_types.specs.TopRows.{AreRowsOf};
+ghost use Rattle.pddl_types.specs.TypeSpans.{IsTold};
 
+use crate::types::Types;
 use pddl_bit_rows::{clear_bits, is_bit_set, set_bit, share_no_bit};
 use pddl_forest::{Span, hold_all};
+use pddl_formula::TypeNames;
 use std::alloc::{AllocError, Allocator};
 use std::marker::Model;
 
@@ -115,16 +118,18 @@ fn are_bits_set(row: &[u64], spans: &[Span]) -> bool
 }
 
 impl<'a, B: Allocator> Tops<'a, B> {
-    /// These tops, once they are made.
+    /// The tops of a type's primitives.
     ///
-    /// Fails as they failed, and where memory for their rows is refused.
-    pub(crate) fn made(
-        spans: Result<Vec<Span, &'a B>, AllocError>,
+    /// Fails where memory for them or their rows is refused.
+    pub(crate) fn of<'m, A: Allocator>(
+        alloc: &'a B,
+        types: &Types<'m, 'a, A, B>,
+        names: &TypeNames<A>,
     ) -> Result<Tops<'a, B>, AllocError>
-        ensures { IfOk result (λ tops. IsOkAnd spans.entry (λ made. tops ≡ made.items)) }
+        ensures { IfOk result (IsTold types.now names.now) }
     {
-        let spans = spans?;
-        let rows = rows_of(*spans.allocator(), &spans)?;
+        let spans = types.tops(alloc, names)?;
+        let rows = rows_of(alloc, &spans)?;
         Ok(Tops { spans, rows })
     }
 

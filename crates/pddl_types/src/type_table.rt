@@ -37,7 +37,7 @@ fn place_of<'m, 'a, B: Allocator>(
 /// Puts `object` and the declared types into an empty table, each with the place of its parent, which is looked up once for each group.
 ///
 /// Fails where memory for it is refused.
-fn put_types<'m, 'a, A: Allocator, B: Allocator>(
+pub(crate) fn put_types<'m, 'a, A: Allocator, B: Allocator>(
     parents: &mut IndexMap<&'m [u8], usize, Hashed, &'a B>,
     declared: &'m DeclaredTypes<A>,
 ) -> Result<(), AllocError>
@@ -54,21 +54,6 @@ fn put_types<'m, 'a, A: Allocator, B: Allocator>(
         parents.insert(declared_type.name.as_bytes(), over)?;
     }
     Ok(())
-}
-
-/// The table of declared types, each with the place of its parent.
-///
-/// Fails where memory for it is refused.
-pub(crate) fn parent_table<'m, 'a, A: Allocator, B: Allocator>(
-    alloc: &'a B,
-    hashed: Hashed,
-    declared: &'m DeclaredTypes<A>,
-) -> Result<IndexMap<&'m [u8], usize, Hashed, &'a B>, AllocError>
-    requires { repeated [] (map item_of (map type_view declared.now.items)) ≡ [] }
-    ensures { IfOk result (λ parents. IsTypeTable (map type_view declared.now.items) parents.entries) }
-{
-    let mut parents = IndexMap::with_hasher(alloc, hashed);
-    put_types(&mut parents, declared).and(Ok(parents))
 }
 
 /// The places of the parents, in the table's order.

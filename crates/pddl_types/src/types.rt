@@ -10,9 +10,8 @@ ghost use Rattle.pddl_faults.specs.Passes.{Passes};
 ghost use Rattle.pddl_types.specs.TypeTables.{cycle_in};
 ghost use Rattle.pddl_types.specs.TypeSpans.{span_of, IsTold, DoTell, are_types};
 
-use crate::type_table::{parent_table, spans_of};
+use crate::type_table::{put_types, spans_of};
 use indexmap::IndexMap;
-use pddl_build::both_made;
 use pddl_domain::{DeclaredType, DeclaredTypes};
 use pddl_faults::LinkFault;
 use pddl_forest::{Span, hold_all, keep_tops};
@@ -61,9 +60,9 @@ impl<'m, 'a, A: Allocator, B: Allocator> Types<'m, 'a, A, B> {
         ensures types { IfOk result (λ types. types.declared ≡ map type_view declared.now.items) }
         ensures cycle { Passes 22 (cycle_in (map type_view declared.now.items)) result }
     {
-        let parents = parent_table(alloc, hashed, declared)?;
-        let spans = spans_of(alloc, &parents, declared);
-        let (parents, spans) = both_made(Ok(parents), spans)?;
+        let mut parents = IndexMap::with_hasher(alloc, hashed);
+        put_types(&mut parents, declared)?;
+        let spans = spans_of(alloc, &parents, declared)?;
         Ok(Types {
             declared: declared.as_slice(),
             parents,

@@ -11,9 +11,9 @@ use Rattle.pddl_types.proofs.signatures.put.Given as goal
 -- what was declared so far is held, each name that stands twice is found, and what is unknown is unknown in the rest
 abbrev pub invariant-loop-each : goal.invariant-loop-each
 invariant-loop-each g l =
-    let seen = map g.D.Declares.signature (take l.each-index l.declared) in
-    let left = map g.D.Declares.signature (drop l.each-index l.declared) in
-    let all = map g.D.Declares.signature l.declared in
+    let seen = map g.D.Declares.signature (take l.each-index l.declared.items) in
+    let left = map g.D.Declares.signature (drop l.each-index l.declared.items) in
+    let all = map g.D.Declares.signature l.declared.items in
     record {
       types : AreTold l.types l.told;
       kept : AreKept l.fn.told l.told;

@@ -1,4 +1,4 @@
-use Rattle.std.proofs.Common.{map, sym, ap, ◌∙◌, arith}
+use Rattle.std.proofs.Common.{map, refl, sym, ap, ◌∙◌, arith}
 use Rattle.std.proofs.lemmas.List.{length-map, drop_all}
 use Rattle.pddl_domain.specs.Declarations.{type_view}
 use Rattle.pddl_task.specs.Names.{item_of}
@@ -6,6 +6,9 @@ use Rattle.pddl_task.specs.Faults.{first_alone}
 use Rattle.pddl_types.specs.TypeTables.{Row}
 use Rattle.pddl_types.proofs.TypeForests.{some_cycle, stands, told_at}
 use Rattle.pddl_types.proofs.type_table.first_cycle.Goals as goal
+
+pub loop-declared_type-init : goal.loop-declared_type-init
+loop-declared_type-init g c = refl
 
 pub unreachable-requires : goal.unreachable-requires
 unreachable-requires g c = stands type_view c.args.declared.now c.requires.table c.loop-declared_type-test.true c.declared_type-item.is c.as_bytes-name.result c.as_bytes-name.ensures.value (sym c.get_index_of.ensures.index ∙ c.in_default.is)

@@ -22,7 +22,7 @@ on_ok (Err _) P h = tt
 pub returns-in_err-put-clause-passes : goal.returns-in_err-put-clause-passes
 returns-in_err-put-clause-passes g c =
     let ts = c.args.types.now.declared in
-    let actions = seen_of action_signature action_view c.deref.ensures.value in
+    let actions = seen_of action_signature action_view c.args.domain.now.actions.items in
     let p = err_from_is_err_and c.from_residual.result c.from_residual.ensures.1 in
     rw (p.1, p.2)
     (stands_front {T = Unit {0}} (numbered 23 (unknown_among ts (flat_map parameters_of (map action_signature (domain_view c.args.domain.now).actions)))) _ (Err c.in_err-put.field-0.0)
@@ -31,7 +31,7 @@ returns-in_err-put-clause-passes g c =
 pub returns-clause-passes : goal.returns-clause-passes
 returns-clause-passes g c =
     stands_back _ (numbered 24 (repeated [] (map symbol_of (map action_signature (domain_view c.args.domain.now).actions)))) c.in_ok-put.field-0
-    (subst (λ gs. IsFound (numbered 24 (repeated [] (map symbol_of gs))) c.in_ok-put.field-0) (seen_of action_signature action_view c.deref.ensures.value) c.in_ok-put.ensures.found)
+    (subst (λ gs. IsFound (numbered 24 (repeated [] (map symbol_of gs))) c.in_ok-put.field-0) (seen_of action_signature action_view c.args.domain.now.actions.items) c.in_ok-put.ensures.found)
 
 pub returns-clause-declared : goal.returns-clause-declared
 returns-clause-declared g c = λ once.
@@ -39,5 +39,5 @@ returns-clause-declared g c = λ once.
       told = c.put.ensures.told;
       predicates = have_all once.predicates (have_still c.put.ensures.kept refl c.requires.predicates);
       functions = have_all once.functions (have_still c.put.ensures.kept refl c.requires.functions);
-      actions = have_all once.actions (have_still (kept_self c.put.new.told) (seen_of action_signature action_view c.deref.ensures.value) c.in_ok-put.ensures.held);
+      actions = have_all once.actions (have_still (kept_self c.put.new.told) (seen_of action_signature action_view c.args.domain.now.actions.items) c.in_ok-put.ensures.held);
     })

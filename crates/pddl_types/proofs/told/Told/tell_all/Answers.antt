@@ -8,14 +8,14 @@ use Rattle.pddl_sizes.proofs.SharedTypes.{type_at}
 use Rattle.pddl_types.specs.Told.{AreTold, AreKept, IsAt}
 use Rattle.pddl_types.proofs.ToldTypes.{each_none, kept_self, kept_then, none_unknown, told_shared, told_next}
 use Rattle.pddl_types.proofs.UnknownTypes.{typed_left}
-use Rattle.pddl_types.proofs.told.Told.tell_each.Goals as goal
-use Rattle.pddl_types.proofs.told.Told.tell_each.Goals.{then-not-shares+in_ok-number, else-not-shares}
+use Rattle.pddl_types.proofs.told.Told.tell_all.Goals as goal
+use Rattle.pddl_types.proofs.told.Told.tell_all.Goals.{then-not-shares+in_ok-number, else-not-shares}
 
 pub loop-place-init : goal.loop-place-init
 loop-place-init g c = record {
   types = c.requires.told;
   kept = kept_self c.args.self.now;
-  told = record { each = rw c.requires.empty (each_none (IsAt c.args.self.now)); last = λ x some. absurd (omega (arith, some)) };
+  told = record { each = rw c.in_ok-numbers.ensures.items (each_none (IsAt c.args.self.now)); last = λ x some. absurd (omega (arith, some)) };
   left = refl;
 }
 
@@ -27,7 +27,7 @@ returns-in_err-number g c =
     let (x, at) = some_at (map typed_view items) place (omega (arith, low, length-map items typed_view)) in
     let own = type_at items c.deref.result.now place c.index-deref-place.result x c.deref.ensures.value low c.index-deref-place.is at in
     let left = typed_left c.args.types.now.declared (map typed_view items) place x at in
-    let p = err_from_is_err_and c.from_residual.result c.from_residual.ensures.1 in
+    let p = err_from_is_err_and c.from_residual-in_err-number.result c.from_residual-in_err-number.ensures.1 in
     rw p.1 (record {
       told = c.tell.ensures.told;
       kept = kept_then c.args.self.now c.loop-place.self c.tell.new.self c.loop-place.invariant.kept c.tell.ensures.kept;

@@ -2,7 +2,7 @@ use Rattle.std.proofs.Common.{◌≡◌, map, drop}
 use Rattle.pddl_formula.specs.TypedLists.{typed_view}
 use Rattle.pddl_types.specs.Told.{AreTold, AreKept, unknown_among}
 use Rattle.pddl_types.proofs.ToldTypes.{AreToldUpTo}
-use Rattle.pddl_types.proofs.told.Told.tell_each.Given as goal
+use Rattle.pddl_types.proofs.told.Told.tell_all.Given as goal
 
 -- what was told is kept, the types of the items so far are told, and what is unknown is unknown in the rest
 abbrev pub invariant-loop-place : goal.invariant-loop-place
