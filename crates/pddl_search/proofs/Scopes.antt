@@ -1,5 +1,5 @@
 -- Variables in scope and their depths by name.
-use Rattle.std.proofs.Common.{◌≡◌, ℕ, zero, suc, ◌+◌, ◌<◌, ◌≤◌, Bool, true, false, ◌||◌, not, cond, List, [], ◌∷◌, ◌++◌, map, length, drop, Option, Some, None, Result, Ok, refl, ap, sym, ◌∙◌, subst, bytes_eq, get_or, drop-cons, add-one, arith}
+use Rattle.std.proofs.Common.{◌≡◌, ℕ, zero, suc, ◌+◌, ◌<◌, ◌≤◌, Bool, true, false, ◌||◌, not, cond, List, [], ◌∷◌, ◌++◌, map, length, drop, Some, None, Result, Ok, refl, ap, sym, ◌∙◌, subst, bytes_eq, get_or, drop-cons, add-one, arith}
 use Rattle.std.specs.Prelude.{find, option_map, slice_get, reverse, unwrap_or, nat_le}
 use Rattle.std.specs.Borrow.{Bor}
 use Rattle.std.specs.Map.{lookup}
@@ -28,19 +28,17 @@ use Rattle.pddl_faults.proofs.SeenItems.{any_more}
 -- none is in scope
 pub none_found : (n : Name) (es : List (TypedValue × ℕ)) → depth_of n es ≡ 0 → find (λ (e : TypedValue × ℕ). is_named n e.0) es ≡ None
 none_found n [] is = refl
-none_found n (e ∷ es) is =
-    elim (is_named n e.0) as (λ b. cond b (suc (length es)) (depth_of n es) ≡ 0 → cond b (Some e) (find (λ (d : TypedValue × ℕ). is_named n d.0) es) ≡ None) [ true ↦ λ h. absurd (omega (arith, h)) | false ↦ none_found n es ] is
+none_found n (e ∷ es) is = grind (arith, none_found n es, is)
 
-value_put : (b : Bool) (v : ℕ) (o : Option ℕ) → unwrap_or (cond b (Some v) o) 0 ≡ cond b v (unwrap_or o 0)
-value_put true v o = refl
-value_put false v o = refl
+-- what a table has of a name where a depth is put into it
+depth_put : (table : List (Bor Name × ℕ)) (k : Bor Name) (depth : ℕ) (n : Name)
+    → unwrap_or (lookup (λ j. bytes_eq n j.now) (insert_entry (λ a c. bytes_eq a.now c.now) table k depth)) 0 ≡ cond (bytes_eq n k.now) depth (unwrap_or (lookup (λ j. bytes_eq n j.now) table) 0)
+depth_put table k depth n = rw (lookup_put table k depth n) (grind arith)
 
 -- no depth is above all that is in scope
 pub depth_low : (n : Name) (es : List (TypedValue × ℕ)) → depth_of n es ≤ length es
 depth_low n [] = omega arith
-depth_low n (e ∷ es) =
-    let less = depth_low n es in
-    elim (is_named n e.0) as (λ b. cond b (suc (length es)) (depth_of n es) ≤ suc (length es)) [ true ↦ omega arith | false ↦ omega (arith, less) ]
+depth_low n (e ∷ es) = grind (arith, depth_low n es)
 
 module _ {A : Type 0} where
   abbrev pub entries : List (Bound A) → List (TypedValue × ℕ)
@@ -68,10 +66,7 @@ module _ {A : Type 0} where
       → IsScope bs table → IsScope (b ∷ bs) (insert_entry (λ a c. bytes_eq a.now c.now) table k depth)
   scope_more bs table b k depth named hides deep is = record {
     hidden = (subst (λ n. b.hidden ≡ depth_of n (entries bs)) named hides, is.hidden);
-    depths = λ n.
-        ap (λ o. unwrap_or o 0) (lookup_put table k depth n) ∙ value_put (bytes_eq n k.now) depth (lookup (λ j. bytes_eq n j.now) table)
-        ∙ ap (λ d. cond (bytes_eq n k.now) depth d) (is.depths n) ∙ ap (λ m. cond (bytes_eq n m) depth (depth_of n (entries bs))) named
-        ∙ ap (λ d. cond (bytes_eq n b.variable.now.name) d (depth_of n (entries bs))) (omega (arith, deep, length-map bs entry_of));
+    depths = λ n. rw (depth_put table k depth n, is.depths n, named) (ap (λ d. cond (bytes_eq n b.variable.now.name) d (depth_of n (entries bs))) (omega (arith, deep, length-map bs entry_of)));
   }
 
   -- the innermost is gone, and what it hid is seen
@@ -79,10 +74,7 @@ module _ {A : Type 0} where
       → IsScope bs (insert_entry (λ a c. bytes_eq a.now c.now) table k b.hidden)
   scope_less bs table b k named is = record {
     hidden = is.hidden.1;
-    depths = λ n.
-        ap (λ o. unwrap_or o 0) (lookup_put table k b.hidden n) ∙ value_put (bytes_eq n k.now) b.hidden (lookup (λ j. bytes_eq n j.now) table)
-        ∙ ap (λ d. cond (bytes_eq n k.now) b.hidden d) (is.depths n) ∙ ap (λ m. cond (bytes_eq n m) b.hidden (cond (bytes_eq n b.variable.now.name) (suc (length (entries bs))) (depth_of n (entries bs)))) named
-        ∙ seen n (bytes_eq n b.variable.now.name) refl;
+    depths = λ n. rw (depth_put table k b.hidden n, is.depths n, named) (seen n (bytes_eq n b.variable.now.name) refl);
   }
     where
       seen : (n : Name) (c : Bool) → bytes_eq n b.variable.now.name ≡ c → cond c b.hidden (cond c (suc (length (entries bs))) (depth_of n (entries bs))) ≡ depth_of n (entries bs)

@@ -148,19 +148,6 @@ fn add_claims<'d, 'a, A: Allocator, B: Allocator>(
     Ok(())
 }
 
-/// No item claims another number than one before it, and none a total cost above 0: a table of its own is filled and let go.
-fn claims_agree<'d, 'a, A: Allocator, B: Allocator>(
-    alloc: &'a B,
-    hashed: Hashed,
-    init: &'d [InitItem<A>],
-    kind: Claimed,
-) -> Result<(), LinkFault<'d>>
-    ensures { Passes (fault_number kind) (wrong_words (wrong_in kind) init_name [] (map init_view init.now)) result }
-{
-    let mut claims = IndexSet::with_hasher(alloc, hashed);
-    add_claims(&mut claims, init, kind)
-}
-
 /// Whether an item says of an atom that it fails.
 fn is_failure<A: Allocator>(item: &InitItem<A>) -> bool
     ensures { result ≡ is_failure (init_view item.now) }
@@ -176,10 +163,11 @@ pub fn contradictions<'d, 'a, A: Allocator, B: Allocator>(
 ) -> Result<(), LinkFault<'d>>
     ensures { Passes 29 (clashing contradicts [] (map init_view init.now)) result }
 {
-    if !init.iter().any(is_failure) {
-        return Ok(());
+    if init.iter().any(is_failure) {
+        let mut claims = IndexSet::with_hasher(alloc, hashed);
+        return add_claims(&mut claims, init, Claimed::Literals);
     }
-    claims_agree(alloc, hashed, init, Claimed::Literals)
+    Ok(())
 }
 
 /// No function of objects has two values, and `total-cost` starts at none but 0.
@@ -190,5 +178,6 @@ pub fn cost_values<'d, 'a, A: Allocator, B: Allocator>(
 ) -> Result<(), LinkFault<'d>>
     ensures { Passes 31 (wrong_values [] (map init_view init.now)) result }
 {
-    claims_agree(alloc, hashed, init, Claimed::Values)
+    let mut claims = IndexSet::with_hasher(alloc, hashed);
+    add_claims(&mut claims, init, Claimed::Values)
 }

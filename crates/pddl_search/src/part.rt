@@ -109,10 +109,7 @@ impl<'d, A: Allocator> Terms<'d, A> {
                 let terms = *terms;
                 LentTerm::of(&terms[number])
             }
-            Terms::Objects(objects) => {
-                let objects = *objects;
-                LentTerm::Object(objects.at(number))
-            }
+            Terms::Objects(objects) => LentTerm::Object(objects.at(number)),
         }
     }
 }

@@ -47,10 +47,7 @@ pub fn object_types<'d, A: Allocator>(objects: &'d [Typed<A>]) -> Result<(), Lin
 fn is_number<A: Allocator>(types: &TypeNames<A>) -> bool
     ensures { result ≡ same_names types.now number }
 {
-    match types.as_slice() {
-        [only] => only.as_bytes() == b"number".as_slice(),
-        _ => false,
-    }
+    types.as_slice().len() == 1 && types.as_slice()[0].as_bytes() == b"number".as_slice()
 }
 
 /// Each declared function gives a number.
@@ -69,13 +66,9 @@ pub fn object_fluents<'d, A: Allocator>(domain: &'d Domain<A>) -> Result<(), Lin
 pub fn is_taken<A: Allocator>(metric: &Metric<A>) -> bool
     ensures { result ≡ is_taken (metric_view metric.now) }
 {
-    match metric.direction {
-        Direction::Minimize => {
-            metric.function.function.as_bytes() == b"total-cost".as_slice()
-                && metric.function.objects.len() == 0
-        }
-        Direction::Maximize => false,
-    }
+    matches!(metric.direction, Direction::Minimize)
+        && metric.function.function.as_bytes() == b"total-cost".as_slice()
+        && metric.function.objects.len() == 0
 }
 
 /// The metric, where there is one, is taken.

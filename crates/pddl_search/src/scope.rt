@@ -64,11 +64,8 @@ impl<'d, 'a, A: Allocator, B: Allocator> Scope<'d, 'a, A, B> {
     pub fn number_of(&self, name: &[u8]) -> Option<usize>
         ensures { result ≡ option_map (λ e. e.1) (find (λ e. is_named name.now e.0) self.now) }
     {
-        let depth = self.depth_of(name);
-        if depth == 0 {
-            return None;
-        }
-        Some(self.bound[depth - 1].number)
+        let place = self.depth_of(name).checked_sub(1)?;
+        Some(self.bound[place].number)
     }
 
     /// Adds a variable whose type has a number. Answers the depth of the one of its name that it hides, or 0.
@@ -91,26 +88,21 @@ impl<'d, 'a, A: Allocator, B: Allocator> Scope<'d, 'a, A, B> {
         Ok(hidden)
     }
 
-    /// Takes the innermost variable away, where there is one.
-    fn pop(&mut self)
-        ensures { self.new ≡ drop 1 self.old }
-    {
-        if let Some(last) = self.bound.pop() {
-            let name = last.variable.name.as_bytes();
-            match self.depths.insert(name, last.hidden) {
-                Ok(_) => {}
-                // the name stands in the table, so no memory is asked for
-                Err(_) => unreachable!(),
-            }
-        }
-    }
-
     /// Takes so many of the innermost variables away.
     pub fn leave(&mut self, many: usize)
         ensures { self.new ≡ drop many self.old }
     {
         for _ in 0..many {
-            self.pop();
+            if let Some(last) = self.bound.pop() {
+                match self
+                    .depths
+                    .insert(last.variable.name.as_bytes(), last.hidden)
+                {
+                    Ok(_) => {}
+                    // the name stands in the table, so no memory is asked for
+                    Err(_) => unreachable!(),
+                }
+            }
         }
     }
 

@@ -1,5 +1,5 @@
 -- Sums over what passes a test, and lists that rise.
-use Rattle.std.proofs.Common.{◌≡◌, ℕ, suc, ◌+◌, ◌<◌, ◌≤◌, Bool, true, false, not, cond, ◌||◌, leb, List, [], ◌∷◌, filter, length, refl, sym, ap, ◌∙◌, subst, arith, inl, inr, slice_index_or}
+use Rattle.std.proofs.Common.{◌≡◌, ℕ, suc, ◌+◌, ◌<◌, ◌≤◌, Bool, true, not, cond, ◌||◌, leb, List, [], ◌∷◌, filter, length, refl, sym, ap, ◌∙◌, subst, arith, inl, inr, slice_index_or}
 use Rattle.std.specs.List.{sum_by, range_with_len}
 use Rattle.std.specs.List.Sorted.{IsNonDecreasingBy}
 use Rattle.std.proofs.lemmas.Bool.{cases_lt, le-leb, lt-leb}
@@ -18,19 +18,11 @@ if_passes b n = cond b n 0
 
 -- if one of two tests is passed, but not both
 pub if_either : (a b : Bool) (n : ℕ) → (a ≡ true → b ≡ true → ⊥) → if_passes (a || b) n ≡ if_passes a n + if_passes b n
-if_either true true n apart = absurd (apart refl refl)
-if_either true false n apart = omega arith
-if_either false b n apart = omega arith
+if_either a b n apart = grind (arith, apart)
 
 pub sum_filter : {X : Type 0} (test : X → Bool) (f : X → ℕ) (xs : List X) → sum_by f (filter test xs) ≡ sum_by (λ x. if_passes (test x) (f x)) xs
 sum_filter test f [] = refl
-sum_filter test f (x ∷ xs) =
-    let rest = sum_filter test f xs in
-    let whole = sum_by-cons (λ y. if_passes (test y) (f y)) x xs in
-    elim (test x) as (λ b. if_passes (test x) (f x) ≡ if_passes b (f x) → sum_by f (cond b (x ∷ filter test xs) (filter test xs)) ≡ sum_by (λ y. if_passes (test y) (f y)) (x ∷ xs)) [
-      | true ↦ λ is. omega (arith, rest, whole, sum_by-cons f x (filter test xs), is)
-      | false ↦ λ is. omega (arith, rest, whole, is)
-    ] refl
+sum_filter test f (x ∷ xs) = grind (arith, sum_filter test f xs, sum_by-cons f x (filter test xs), sum_by-cons (λ y. if_passes (test y) (f y)) x xs)
 
 pub sum_two : {X : Type 0} (f g h : X → ℕ) → ((x : X) → h x ≡ f x + g x) → (xs : List X) → sum_by h xs ≡ sum_by f xs + sum_by g xs
 sum_two f g h is [] = refl
@@ -92,6 +84,4 @@ module _ {X : Type 0} (test : X → Bool) (xs : List X) (d : X) where
 
 pub places_many : {X : Type 0} (test : X → Bool) (k : ℕ) (xs : List X) → length (places_from k test xs) ≡ length (filter test xs)
 places_many test k [] = refl
-places_many test k (x ∷ xs) =
-    let rest = places_many test (k + 1) xs in
-    elim (test x) as (λ b. length (cond b (k ∷ places_from (k + 1) test xs) (places_from (k + 1) test xs)) ≡ length (cond b (x ∷ filter test xs) (filter test xs))) [ true ↦ ap suc rest | false ↦ rest ]
+places_many test k (x ∷ xs) = grind (arith, places_many test (k + 1) xs)

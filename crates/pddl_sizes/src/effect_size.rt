@@ -1,9 +1,9 @@
 //! Ground sizes of effects and of an action's steps.
 
-ghost use Rattle.std.specs.Prelude.{◌≡◌, map};
-ghost use Rattle.pddl_effect.specs.Effects.{effect_view, effects_of};
+ghost use Rattle.std.specs.Prelude.{◌≡◌};
+ghost use Rattle.pddl_effect.specs.Effects.{effect_view};
 ghost use Rattle.pddl_domain.specs.Actions.{action_view};
-ghost use Rattle.pddl_task.specs.GroundSize.{capped, effect_size, effects_size, action_size};
+ghost use Rattle.pddl_task.specs.GroundSize.{capped, effect_size, action_size};
 
 use crate::size::{FittingCount, ground_size, quantifier_size, sum};
 use pddl_domain::Action;
@@ -11,13 +11,18 @@ use pddl_effect::Effect;
 use std::alloc::Allocator;
 
 /// The ground size of an effect, or 1,000,001 where it is more than 1,000,000.
-#[cycle(sizes)]
 #[tactic(auto, using(pddl_effect::specs::declared::effect::Effect::TheFolds::the_lemmas))]
 pub fn effect_ground_size<A: Allocator, C: FittingCount<A>>(counts: &C, effect: &Effect<A>) -> u32
     ensures { result ≡ capped (effect_size (C.count counts.now) (effect_view effect.now)) }
 {
     match effect {
-        Effect::And(parts) => sum(1, effect_ground_sizes(counts, parts)),
+        Effect::And(parts) => {
+            let mut size = 1;
+            for part in parts {
+                size = sum(size, effect_ground_size(counts, part));
+            }
+            size
+        }
         Effect::Forall(variables, inner) => {
             quantifier_size(counts, variables, effect_ground_size(counts, inner))
         }
@@ -28,19 +33,6 @@ pub fn effect_ground_size<A: Allocator, C: FittingCount<A>>(counts: &C, effect: 
         }
         Effect::Add(_) | Effect::Del(_) | Effect::Increase(_) => 1,
     }
-}
-
-/// The ground sizes of effects, added up, or 1,000,001 where that is more than 1,000,000.
-#[cycle(sizes)]
-#[tactic(auto, using(pddl_effect::specs::declared::effect::Effect::TheFolds::the_lemmas))]
-fn effect_ground_sizes<A: Allocator, C: FittingCount<A>>(counts: &C, effects: &[Effect<A>]) -> u32
-    ensures { result ≡ capped (effects_size (C.count counts.now) (effects_of (map effect_view effects.now))) }
-{
-    let mut total = 0;
-    for effect in effects {
-        total = sum(total, effect_ground_size(counts, effect));
-    }
-    total
 }
 
 /// The ground size of an action's step, that of its precondition and its effect, or 1,000,001 where it is more than 1,000,000.

@@ -1,9 +1,9 @@
 //! Ground sizes, without writing any quantifier out.
 
-ghost use Rattle.std.specs.Prelude.{◌≡◌, ◌+◌, ◌*◌, List, ℕ, map};
+ghost use Rattle.std.specs.Prelude.{◌≡◌, ◌+◌, map};
 ghost use Rattle.pddl_formula.specs.TypedLists.{typed_view};
-ghost use Rattle.pddl_formula.specs.Formulas.{formula_view, formulas_of};
-ghost use Rattle.pddl_task.specs.GroundSize.{capped, quantifier_size, formula_size, formulas_size};
+ghost use Rattle.pddl_formula.specs.Formulas.{formula_view};
+ghost use Rattle.pddl_task.specs.GroundSize.{capped, quantifier_size, formula_size};
 
 use pddl_formula::{Formula, TypeNames, TypedList};
 use std::alloc::Allocator;
@@ -26,14 +26,6 @@ pub fn sum(a: u32, b: u32) -> u32
     a.saturating_add(b).min(1_000_001)
 }
 
-/// A size, so many times.
-fn product(n: usize, size: u32) -> u32
-    ensures { result ≡ capped (n * size) }
-{
-    let n = n.min(1_000_001) as u64;
-    (n * size as u64).min(1_000_001) as u32
-}
-
 /// The size of a quantifier over variables, where what is quantified has a size. How many objects fit is counted once for each group of variables.
 pub fn quantifier_size<A: Allocator, C: FittingCount<A>>(
     counts: &C,
@@ -48,13 +40,13 @@ pub fn quantifier_size<A: Allocator, C: FittingCount<A>>(
         if !variables.shares(i + 1) {
             count = counts.fitting_count(&variables[i].types);
         }
-        size = sum(1, product(count, size));
+        size = sum(1, count.saturating_mul(size as usize).min(1_000_001) as u32);
     }
     size
 }
 
 /// The ground size of a formula, or 1,000,001 where it is more than 1,000,000.
-#[cycle(sizes)]
+#[tactic(auto, using(pddl_formula::specs::declared::formula::Formula::TheFolds::the_lemmas))]
 pub fn ground_size<A: Allocator, C: FittingCount<A>>(counts: &C, formula: &Formula<A>) -> u32
     ensures { result ≡ capped (formula_size (C.count counts.now) (formula_view formula.now)) }
 {
@@ -66,21 +58,15 @@ pub fn ground_size<A: Allocator, C: FittingCount<A>>(counts: &C, formula: &Formu
             let second = ground_size(counts, second);
             sum(1, sum(first, second))
         }
-        Formula::And(parts) | Formula::Or(parts) => sum(1, ground_sizes(counts, parts)),
+        Formula::And(parts) | Formula::Or(parts) => {
+            let mut size = 1;
+            for part in parts {
+                size = sum(size, ground_size(counts, part));
+            }
+            size
+        }
         Formula::Exists(variables, inner) | Formula::Forall(variables, inner) => {
             quantifier_size(counts, variables, ground_size(counts, inner))
         }
     }
-}
-
-/// The ground sizes of formulas, added up, or 1,000,001 where that is more than 1,000,000.
-#[cycle(sizes)]
-fn ground_sizes<A: Allocator, C: FittingCount<A>>(counts: &C, formulas: &[Formula<A>]) -> u32
-    ensures { result ≡ capped (formulas_size (C.count counts.now) (formulas_of (map formula_view formulas.now))) }
-{
-    let mut total = 0;
-    for formula in formulas {
-        total = sum(total, ground_size(counts, formula));
-    }
-    total
 }

@@ -39,5 +39,5 @@ loop-i-preserved g c =
     let inside : l.i - 1 < length all = omega (arith, length-map items typed_view, low) in
     let front : drop (l.i - 1) all ≡ x ∷ drop l.i all = drop-cons all (l.i - 1) none inside ∙ ap (λ n. x ∷ drop n all) next in
     let part = capped_product (count x.of) l.size (quantifier_size count (drop l.i all) c.args.body) (omega (arith, l.invariant.so_far)) in
-    let product = rw (told x (slice_get-get_or all (l.i - 1) _ inside)) at c.product.ensures in
-    record { so_far = rw front (omega (arith, part, product, c.sum-size-in-loop-i.ensures)); last = told }
+    let product = rw (told x (slice_get-get_or all (l.i - 1) _ inside)) at c.saturating_mul.ensures in
+    record { so_far = rw front (omega (arith, part, product, c.min.ensures, c.sum-size-in-loop-i.ensures)); last = told }

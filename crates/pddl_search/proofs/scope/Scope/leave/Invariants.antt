@@ -1,5 +1,10 @@
-use Rattle.std.proofs.Common.{◌≡◌, drop}
+use Rattle.std.proofs.Common.{◌≡◌, drop, map}
+use Rattle.std.specs.Prelude.{reverse}
+use Rattle.pddl_search.specs.Scopes.{entry_of, IsScope}
 use Rattle.pddl_search.proofs.scope.Scope.leave.Given as goal
 
 abbrev pub invariant-loop : goal.invariant-loop
-invariant-loop g l = l.self ≡ drop l.counter l.fn.self
+invariant-loop g l = record {
+  left : map entry_of (reverse l.self-inside.bound.items) ≡ drop l.counter l.fn.self;
+  is_scope : IsScope (reverse l.self-inside.bound.items) l.self-inside.depths.entries;
+}
