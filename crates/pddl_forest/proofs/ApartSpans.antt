@@ -1,6 +1,7 @@
 -- Spans that are apart, what they hold, and tops of spans.
-use Rattle.std.proofs.Common.{◌≡◌, ℕ, zero, suc, ◌+◌, ◌-◌, ◌<◌, ◌≤◌, ◌==◌, ◌&&◌, leb, Bool, true, false, List, [], ◌∷◌, length, take, drop, sym, ap, ◌∙◌, subst, arith, inl, inr}
-use Rattle.std.proofs.lemmas.Bool.{leb-true, leb-false, le-leb, eq-eqb, and_parts, and_from, cases_eq, cases_lt, cond_both, or_left, or_right, and_left, and_right, lt-leb}
+use Rattle.std.proofs.Common.{◌≡◌, ℕ, zero, suc, ◌+◌, ◌-◌, ◌<◌, ◌≤◌, ◌==◌, ◌&&◌, leb, Bool, true, false, List, [], ◌∷◌, length, take, drop, sym, ap, ◌∙◌, subst, arith}
+use Rattle.std.proofs.lemmas.Bool.{leb-true, leb-false, le-leb, eq-eqb, and_parts, and_from, cond_both, or_left, or_right}
+use Rattle.std.proofs.lemmas.Bool.Decides.{nat_tests}
 use Rattle.std.proofs.lemmas.List.{get_or_default, get_or-drop, get_or-take, length-drop, length-take-le}
 use Rattle.std.proofs.lemmas.List.Elements.{Contains-get_or}
 use Rattle.std.proofs.lemmas.List.Filters.{All-dedup}
@@ -31,10 +32,7 @@ module _ {spans : List Span} (h : AreApart spans) where
   behind i j less low = rw (read i (omega (arith, less, low)), read j low) at (h.behind i j less low)
 
   pub rising : (i j : ℕ) → i ≤ j → j < length spans → (at spans i).first ≤ (at spans j).first
-  rising i j le low = elim (cases_eq i j) as (λ _. (at spans i).first ≤ (at spans j).first) [
-    | inl is ↦ rw is (omega arith)
-    | inr other ↦ omega (arith, own i (omega (arith, le, low)), behind i j (omega (arith, le, other)) low)
-  ]
+  rising i j le low = grind (arith, own i (omega (arith, le, low)), behind i j, le, low)
 
 -- of a part of them, those that begin at or before a number stand in front of the others
 pub parted : (spans : List Span) (n start many : ℕ) → AreApart spans → IsPartitionedBy (λ s. leb s.first n) (take many (drop start spans))
@@ -47,16 +45,8 @@ pub parted_at : {spans : List Span} (n start end many : ℕ) → AreApart spans 
     → (end < length spans → n < (at spans end).first) → IsPartitionPoint (λ s. leb s.first n ≡ true) (λ s. leb s.first n ≡ false) (take (end - start) (drop start spans)) many
     → ((i : ℕ) → i < start + many → (at spans i).first ≤ n) × ((i : ℕ) → start + many ≤ i → i < length spans → n < (at spans i).first)
 parted_at {spans} n start end many apart few within before after point = (
-  λ i low. elim (cases_lt i start) as (λ _. (at spans i).first ≤ n) [
-    | inl in_front ↦ before i in_front
-    | inr from ↦ leb-true (at spans i).first n (rw (one i from (omega (arith, low, few))) at (point.0 (i - start) none (omega arith) (omega (arith, low, from))))
-  ],
-  λ i past low. elim (cases_lt i end) as (λ _. n < (at spans i).first) [
-    | inl inside ↦
-        let long = length-take-le (end - start) (drop start spans) (omega (arith, within, length-drop start spans)) in
-        leb-false (at spans i).first n (rw (one i (omega (arith, past)) inside) at (point.1 (i - start) none (omega (arith, past)) (omega (arith, past, inside, long))))
-    | inr from ↦ omega (arith, after (omega (arith, from, low)), rising apart end i from low)
-  ],
+  λ i low. grind (arith, nat_tests, before i, one i, point.0 (i - start) none, low, few),
+  λ i past low. grind (arith, nat_tests, one i, point.1 (i - start) none, after, rising apart end i, length-take-le (end - start) (drop start spans), length-drop start spans, within, past, low),
 )
   where
     none : Span
@@ -72,11 +62,8 @@ last_holds {spans} n point apart within before past some =
     let (k, s, low, is, on) = Any-from_list_any (λ s. holds s n) spans some in
     let on : holds (at spans k) n ≡ true = rw (get_or_default spans k (record { first = 0; last = 0 }) s low ∙ is) on in
     let (from, to) = and_parts (leb (at spans k).first n) (leb n (at spans k).last) on in
-    let begun : k < point = elim (cases_lt k point) as (λ _. k < point) [ inl less ↦ less | inr not ↦ absurd (omega (arith, past k not low, leb-true (at spans k).first n from)) ] in
-    let last : point - 1 ≡ k = elim (cases_lt (k + 1) point) as (λ _. point - 1 ≡ k) [
-      | inl less ↦ absurd (omega (arith, leb-true n (at spans k).last to, before (k + 1) less, behind apart k (k + 1) (omega arith) (omega (arith, less, within))))
-      | inr not ↦ omega (arith, begun, not)
-    ] in
+    let begun : k < point = grind (arith, past k, low, leb-true (at spans k).first n from) in
+    let last : point - 1 ≡ k = grind (arith, begun, leb-true n (at spans k).last to, before (k + 1), behind apart k (k + 1), within) in
     (omega (arith, begun), rw last on)
 
 -- ---- the first numbers of others in runs: those that one span holds stand side by side
@@ -93,10 +80,7 @@ module _ {outer inner : List Span} {k next : ℕ} (runs : AreRuns outer inner k 
   one_missed low later =
       let n = (at inner next).first in
       list_all_at (λ s. some_holds outer s.first) inner next (record { first = 0; last = 0 }) low (list_any_none (λ s. holds s n) outer (λ j d inside. rw (get_or_default outer j d (record { first = 0; last = 0 }) inside)
-      (elim (cases_lt j k) as (λ _. holds (at outer j) n ≡ false) [
-        | inl before ↦ and_right (leb (at outer j).first n) (leb n (at outer j).last) (lt-leb n (at outer j).last (runs.left next j (omega arith) low before))
-        | inr from ↦ and_left (leb (at outer j).first n) (leb n (at outer j).last) (lt-leb (at outer j).first n (later j from inside))
-      ])))
+      (grind (arith, nat_tests, runs.left next j, low, later j, inside))))
 
   -- all are held where none is left
   pub all_past : next ≡ length inner → hold_all outer inner ≡ true
@@ -107,15 +91,8 @@ module _ {outer inner : List Span} {k next : ℕ} (runs : AreRuns outer inner k 
       → ((i : ℕ) → i < new → (at inner i).first ≤ (at outer k).last) → ((i : ℕ) → new ≤ i → i < length inner → (at outer k).last < (at inner i).first) → AreRuns outer inner (k + 1) new
   one_run apart sorted here begins new within before past = record {
     within = within;
-    past = λ i low. elim (cases_lt i next) as (λ _. some_holds outer (at inner i).first ≡ true) [
-      | inl held_before ↦ runs.past i held_before
-      | inr from ↦ list_any_at (λ s. holds s (at inner i).first) outer k (record { first = 0; last = 0 }) here
-          (held (at outer k) (at inner i).first (omega (arith, begins (omega (arith, from, low, within)), rising sorted next i from (omega (arith, low, within)))) (before i low))
-    ];
-    left = λ i j from low earlier. elim (cases_eq j k) as (λ _. (at outer j).last < (at inner i).first) [
-      | inl is ↦ rw is (past i from low)
-      | inr other ↦ omega (arith, behind apart j k (omega (arith, earlier, other)) here, own apart k here, past i from low)
-    ];
+    past = λ i low. grind (arith, nat_tests, runs.past i, list_any_at (λ s. holds s (at inner i).first) outer k (record { first = 0; last = 0 }) here, begins, rising sorted next i, before i low, within, low);
+    left = λ i j from low earlier. grind (arith, behind apart j k, here, own apart k here, past i from low, earlier);
   }
 
 -- ---- tops

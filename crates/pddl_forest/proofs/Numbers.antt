@@ -1,6 +1,7 @@
 -- Places of a forest are numbered from the top: each takes the last numbers of those that its parent has for what is under it.
 use Rattle.std.proofs.Common.{◌≡◌, ◌≢◌, ◌↔◌, ℕ, zero, suc, ◌+◌, ◌-◌, ◌<◌, ◌≤◌, cond, leb, true, List, [], ◌∷◌, ◌++◌, length, replicate, slice_set, refl, sym, ap, ◌∙◌, subst, add-one, arith, inl, inr}
 use Rattle.std.proofs.lemmas.Bool.{and_from, and_parts, cases_Bool, cases_eq, cond_both, true≢false, eq-eqb, ne_eqb, le-leb, leb-true}
+use Rattle.std.proofs.lemmas.Bool.Decides.{nat_tests}
 use Rattle.std.proofs.lemmas.List.{get_or_append_left, get_or_default, get_or-replicate, get_or-set_same, get_or-set_other, length-replicate, length-set}
 use Rattle.std.proofs.lemmas.List.Folds.{sum_by-replicate}
 use Rattle.std.proofs.lemmas.List.Sums.{get_or-le-sum_by, sum_by-set}
@@ -108,10 +109,7 @@ module _ {ps order : List ℕ} (w : IsUpward ps order) where
         slice_set (slice_set ns (q low) more) (p low) 0,
         length-set (slice_set ns (q low) more) (p low) 0 ∙ length-set ns (q low) more ∙ long,
         omega (arith, first, second, get_or-set_other ns (q low) (p low) more 0 (apart low), is),
-        λ i i_low after. rw (get_or-set_other (slice_set ns (q low) more) (p low) i 0 0 (λ e. omega (arith, after, ap (turn_of order) e, w.once t low))) (elim (cases_eq i (q low)) as (λ _. number_at (slice_set ns (q low) more) i ≡ under ps order (suc t) i) [
-          | inl e ↦ rw (e, get_or-set_same ns (q low) more 0 (omega (arith, q_low low, long)), eq-eqb (q low) (q low) refl) (omega (arith, each (q low) (q_low low) (omega (arith, later low)), each (p low) (p_low low) (omega (arith, w.once t low))))
-          | inr other ↦ rw (get_or-set_other ns (q low) i more 0 other, ne_eqb (q low) i (λ e. other (sym e))) (each i i_low (omega (arith, after)))
-        ]),
+        λ i i_low after. grind (arith, nat_tests, get_or-set_other (slice_set ns (q low) more) (p low) i 0 0, get_or-set_same ns (q low) more 0, get_or-set_other ns (q low) i more 0, q_low low, long, each i i_low, each (p low) (p_low low), w.once t low, later low, after),
       )
 
   under_few : (turn i : ℕ) → turn ≤ length order → i < length ps → turn ≤ turn_of order i → under ps order turn i ≤ turn
@@ -152,21 +150,8 @@ module _ {ps order : List ℕ} (w : IsUpward ps order) where
     one_added : AreUnder ps order (turn + 1) (put_under spans (p low) (q low))
     one_added = record {
       long = length-set (slice_set spans (q low) put_over) (p low) _ ∙ length-set spans (q low) put_over ∙ h.long;
-      last = λ i i_low. elim (cases_eq i (p low)) as (λ _. (at put_next i).last ≡ under ps order (turn + 1) i) [
-        | inl is ↦ rw (is, put_here, under_other low (p low) (apart low)) (h.last (p low) (p_low low))
-        | inr other ↦ rw (get_or-set_other (slice_set spans (q low) put_over) (p low) i put_span (record { first = 0; last = 0 }) other) (elim (cases_eq i (q low)) as (λ _. (at (slice_set spans (q low) put_over) i).last ≡ under ps order (turn + 1) i) [
-          | inl is ↦ rw (is, above) added_is
-          | inr other' ↦ rw (get_or-set_other spans (q low) i put_over (record { first = 0; last = 0 }) other', under_other low i other') (h.last i i_low)
-        ])
-      ];
-      first = λ i i_low before. elim (cases_eq i (p low)) as (λ _. (at put_next i).first ≡ under ps order (turn_of order i) (number_at ps i) + 1) [
-        | inl is ↦ rw (is, put_here, w.once turn low) (omega (arith, h.last (q low) (q_low low)))
-        | inr other ↦
-            let earlier : turn_of order i ≢ turn = λ e. other (sym (at_turn order i (omega (arith, e, low))) ∙ ap (number_at order) e) in
-            let other' : i ≢ q low = λ e. omega (arith, later low, ap (turn_of order) e, before) in
-            rw (get_or-set_other (slice_set spans (q low) put_over) (p low) i put_span (record { first = 0; last = 0 }) other, get_or-set_other spans (q low) i put_over (record { first = 0; last = 0 }) other')
-            (h.first i i_low (omega (arith, before, earlier)))
-      ];
+      last = λ i i_low. grind (arith, put_here, above, get_or-set_other (slice_set spans (q low) put_over) (p low) i put_span (record { first = 0; last = 0 }), get_or-set_other spans (q low) i put_over (record { first = 0; last = 0 }), under_other low i, h.last i i_low, added_is, apart low);
+      first = λ i i_low before. grind (arith, put_here, get_or-set_other (slice_set spans (q low) put_over) (p low) i put_span (record { first = 0; last = 0 }), get_or-set_other spans (q low) i put_over (record { first = 0; last = 0 }), h.last (q low) (q_low low), h.first i i_low, before, w.once turn low, at_turn order i, later low, low);
     }
 
     -- as the place is read
@@ -205,10 +190,7 @@ module _ {ps order : List ℕ} (w : IsUpward ps order) where
     -- what is over a place comes no earlier
     climbs : (n i : ℕ) → i < length ps → turn_of order i ≤ turn_of order (up ps n i)
     climbs zero i low = omega arith
-    climbs (suc n) i low = elim (cases_eq i 0) as (λ _. turn_of order i ≤ turn_of order (up ps (suc n) i)) [
-      | inl is ↦ rw (is, o.top) (climbs n 0 (omega (arith, o.few)))
-      | inr other ↦ omega (arith, climbs n (parent_of ps i) (rw (get_or_default ps i i 0 low) (w.within i low)), o.ahead i low other)
-    ]
+    climbs (suc n) i low = grind (arith, o.top, o.few, climbs n 0, climbs n (parent_of ps i), get_or_default ps i i 0 low, w.within i low, o.ahead i low)
 
     -- one more has one
     module _ {spans : List Span} {turn : ℕ} (low : turn < length order) (h : AreNumbered ps order spans (turn + 1)) where

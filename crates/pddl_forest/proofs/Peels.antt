@@ -1,6 +1,7 @@
 -- Places that are peeled off in turn, each once no child of it is left, and at which turn a place stands in their order.
 use Rattle.std.proofs.Common.{◌≡◌, ◌≢◌, ℕ, ◌<◌, ◌≤◌, eqb, not, List, [], ◌∷◌, ◌++◌, ◌↔◌, ◌∙◌, map, length, refl, sym, ap, subst, arith, inl, inr, ◌+◌, ◌-◌, cond, take, slice_set}
-use Rattle.std.proofs.lemmas.Bool.{cases_eq, cases_lt, eq-eqb, eqb-true, ne_eqb}
+use Rattle.std.proofs.lemmas.Bool.{cases_eq, eq-eqb, eqb-true, ne_eqb}
+use Rattle.std.proofs.lemmas.Bool.Decides.{nat_tests}
 use Rattle.std.proofs.lemmas.List.{get_or_append_left, get_or_push, length_push, get_or_default, get_or-set_same, get_or-set_other, length-set}
 use Rattle.std.proofs.lemmas.List.Folds.{position_or_len_push, Any-from_list_any}
 use Rattle.std.proofs.lemmas.List.FromFn.{get_or-map-range_with_len, length-map-range_with_len}
@@ -35,10 +36,7 @@ module _ (order : List ℕ) (x : ℕ) where
   turn_new past = rw (position_or_len_push (eqb x) order x, eq-eqb (turn_of order x) (length order) (omega (arith, turn_few order x, past)), eq-eqb x x refl) (omega arith)
 
   pub turn_other : (i : ℕ) → i ≢ x → turn_of next i < length next → turn_of order i < length order
-  turn_other i other = elim (cases_lt (turn_of order i) (length order)) as (λ _. turn_of next i < length next → turn_of order i < length order) [
-    | inl before ↦ λ _. before
-    | inr past ↦ rw (position_or_len_push (eqb i) order x, eq-eqb (turn_of order i) (length order) (omega (arith, turn_few order i, past)), ne_eqb i x other) (λ inside. absurd (omega (arith, inside, length_push order x)))
-  ]
+  turn_other i other inside = grind (arith, turn_past i, turn_few order i, rw (position_or_len_push (eqb i) order x, ne_eqb i x other) at inside, length_push order x)
 
   -- of which no child is left now, where there are no fewer places and the others are as they were
   module _ {left : List ℕ} (now : List ℕ) {many more : ℕ} (h : AreListed left order many) (wider : many ≤ more) (low : x < more) (new : length order ≤ turn_of order x) (none : number_at now x ≡ 0)
@@ -95,10 +93,7 @@ in_place xs rest n is = ap (λ k. take k (xs ++ rest)) is ∙ take-append_seam x
 pub counted_more : {left : List ℕ} (numbers : List ℕ) {many : ℕ} (k q : ℕ) → AreCounted left (take k numbers) many → k < length numbers → number_at numbers k ≡ q → q < many → AreCounted (slice_set left q (number_at left q + 1)) (take (k + 1) numbers) many
 counted_more {left} numbers {many} k q h low is q_low = record {
   long = length-set left q _ ∙ h.long;
-  each = λ i i_low. elim (cases_eq i q) as (λ _. number_at (slice_set left q (number_at left q + 1)) i ≡ count_by (eqb i) (take (k + 1) numbers)) [
-    | inl here ↦ rw (here, get_or-set_same left q (number_at left q + 1) 0 (omega (arith, q_low, h.long)), count_by_more_yes (eqb q) numbers k 0 low (eq-eqb q _ (sym is))) (omega (arith, h.each q q_low))
-    | inr other ↦ rw (get_or-set_other left q i (number_at left q + 1) 0 other, count_by_more_no (eqb i) numbers k 0 low (ne_eqb i _ (λ e. other (e ∙ is)))) (h.each i i_low)
-  ];
+  each = λ i i_low. grind (arith, nat_tests, get_or-set_same left q (number_at left q + 1) 0, q_low, h.long, get_or-set_other left q i (number_at left q + 1) 0, count_by_more_yes (eqb i) numbers k 0 low, count_by_more_no (eqb i) numbers k 0 low, h.each i i_low, is);
 }
 
 -- ---- what is peeled off first
@@ -166,22 +161,17 @@ module _ {ps left order : List ℕ} {turn place : ℕ} (h : ArePeeled ps left or
   counted : AreCounted less_left fewer (length ps)
   counted = record {
     long = length-set left parent _ ∙ h.counted.long;
-    each = λ i i_low. elim (cases_eq i parent) as (λ _. number_at less_left i ≡ count_by (eqb i) fewer) [
-      | inl is ↦ rw (is, now) (omega (arith, rw (eq-eqb parent parent refl) at (counts parent (within place place_low))))
-      | inr other ↦ omega (arith, others i other, rw (ne_eqb i parent other) at (counts i i_low))
-    ];
+    each = λ i i_low. grind (arith, nat_tests, now, others i, counts i i_low);
   }
 
   long : length fewer ≡ length ps
   long = length-set h.kept place _ ∙ h.long
 
   each : (i : ℕ) → i < length ps → (turn_of order i < turn + 1 → number_at fewer i ≡ length ps) × (turn + 1 ≤ turn_of order i → number_at fewer i ≡ parent_of ps i)
-  each i i_low = elim (cases_eq i place) as (λ _. (turn_of order i < turn + 1 → number_at fewer i ≡ length ps) × (turn + 1 ≤ turn_of order i → number_at fewer i ≡ parent_of ps i)) [
-    | inl is ↦ (λ _. rw is (get_or-set_same h.kept place (length ps) 0 (omega (arith, place_low, h.long))), λ after. absurd (omega (arith, after, ap (turn_of order) is, turn_is)))
-    | inr other ↦
-        let earlier : turn_of order i ≢ turn = λ e. other (sym (at_turn order i (omega (arith, e, low))) ∙ ap (number_at order) e ∙ at) in
-        rw (get_or-set_other h.kept place i (length ps) 0 other) (λ before. (h.each i i_low).0 (omega (arith, before, earlier)), λ after. (h.each i i_low).1 (omega (arith, after)))
-  ]
+  each i i_low = (
+    λ before. grind (arith, get_or-set_same h.kept place (length ps) 0, place_low, h.long, get_or-set_other h.kept place i (length ps) 0, (h.each i i_low).0, at_turn order i, at, before, low),
+    λ after. grind (arith, get_or-set_other h.kept place i (length ps) 0, (h.each i i_low).1, turn_is, after),
+  )
 
   pub peeled : number_at left (number_at ps place) - 1 ≢ 0 → ArePeeled ps (slice_set left (number_at ps place) (number_at left (number_at ps place) - 1)) order (turn + 1)
   peeled more = record {
@@ -212,12 +202,8 @@ module _ {ps left order : List ℕ} {turn place : ℕ} (h : ArePeeled ps left or
     );
     behind = λ i i_low inside. elim (cases_eq (parent_of ps i) parent) as (λ _. turn_of (order ++ parent ∷ []) i < turn_of (order ++ parent ∷ []) (parent_of ps i)) [
       | inl is ↦
-          let gone : turn_of order i < turn + 1 = elim (cases_lt (turn_of order i) (turn + 1)) as (λ _. turn_of order i < turn + 1) [
-            | inl before ↦ before
-            | inr after ↦
-                let one = get_or-le-sum_by (λ q. cond (eqb parent q) 1 0) fewer i 0 (omega (arith, i_low, long)) in
-                absurd (omega (arith, rw (eq-eqb parent _ (sym ((each i i_low).1 after ∙ is))) at one, counted.each parent (within place place_low), now, none))
-          ] in
+          let one = get_or-le-sum_by (λ q. cond (eqb parent q) 1 0) fewer i 0 (omega (arith, i_low, long)) in
+          let gone : turn_of order i < turn + 1 = grind (arith, one, (each i i_low).1, is, counted.each parent (within place place_low), now, none) in
           omega (arith, gone, low, turn_before order parent i, turn_new order parent new, ap (turn_of (order ++ parent ∷ [])) is)
       | inr other ↦ let before = turn_other order parent (parent_of ps i) other inside in omega (arith, h.behind i i_low before, before, turn_before order parent i, turn_before order parent (parent_of ps i))
     ];

@@ -1,6 +1,6 @@
 -- Places on ways that go round: those of which children are left where no more can be peeled off. Where there are none, the others are in order.
 use Rattle.std.proofs.Common.{◌≡◌, ◌≢◌, ◌↔◌, ℕ, zero, suc, ◌+◌, ◌-◌, ◌<◌, ◌≤◌, cond, eqb, Bool, true, false, true≢false, List, [], ◌∷◌, length, slice_set, refl, sym, ap, subst, ◌∙◌, arith, inl, inr}
-use Rattle.std.proofs.lemmas.Bool.{cases_Bool, cases_eq, cases_lt, eq-eqb, eqb-true, ne_eqb}
+use Rattle.std.proofs.lemmas.Bool.{cases_Bool, cases_eq, eq-eqb, eqb-true, ne_eqb}
 use Rattle.std.proofs.lemmas.List.Folds.{list_any_at, Any-from_list_any}
 use Rattle.std.proofs.lemmas.List.{get_or_default, get_or-set_same, get_or-set_other, length-set}
 use Rattle.std.proofs.lemmas.List.FromFn.{get_or-range_with_len, length-range_with_len}
@@ -16,10 +16,6 @@ use Rattle.pddl_forest.proofs.Peels.{turn_few, few_apart, upward}
 up_more : (ps : List ℕ) (m n i : ℕ) → up ps m (up ps n i) ≡ up ps (n + m) i
 up_more ps m zero i = let e : m ≡ zero + m = omega arith in ap (λ k. up ps k i) e
 up_more ps m (suc n) i = let e : suc (n + m) ≡ suc n + m = omega arith in up_more ps m n (parent_of ps i) ∙ ap (λ k. up ps k i) e
-
-pub up_last : (ps : List ℕ) (n i : ℕ) → up ps (suc n) i ≡ parent_of ps (up ps n i)
-up_last ps zero i = refl
-up_last ps (suc n) i = up_last ps n (parent_of ps i)
 
 -- a number that is counted stands somewhere
 counted_some : (numbers : List ℕ) (i : ℕ) → count_by (eqb i) numbers ≢ 0 → (k : ℕ) × (k < length numbers) × (number_at numbers k ≡ i)
@@ -40,7 +36,7 @@ module _ {ps left order : List ℕ} (h : ArePeeled ps left order (length order))
   child i low some =
       let (k, inside, is) = counted_some h.kept i (λ none. some (h.counted.each i low ∙ none)) in
       let k_low : k < length ps = omega (arith, inside, h.long) in
-      let out : length order ≤ turn_of order k = elim (cases_lt (turn_of order k) (length order)) as (λ _. length order ≤ turn_of order k) [ inl before ↦ absurd (omega (arith, (h.each k k_low).0 before, is, low)) | inr past ↦ past ] in
+      let out : length order ≤ turn_of order k = grind (arith, (h.each k k_low).0, is, low) in
       (k, k_low, λ none. omega (arith, (h.listed.each k k_low).0 none, out), sym ((h.each k k_low).1 out) ∙ is)
 
   down : (i : ℕ) → i < length ps → number_at left i ≢ 0 → (n : ℕ) → (k : ℕ) × (k < length ps) × (number_at left k ≢ 0) × (up ps n k ≡ i)

@@ -6,7 +6,7 @@ ghost use Rattle.pddl_forest.specs.Spans.{AreSpans};
 ghost use Rattle.pddl_forest.specs.Rounds.{HasRound, AreRounds};
 ghost use Rattle.pddl_forest.specs.Inner.{IsOrder, AreUnder};
 
-use crate::peeling::{children_left, has_round};
+use crate::peeling::{has_round, peel_off};
 use crate::spans::Span;
 use std::alloc::{AllocError, Allocator};
 
@@ -50,7 +50,8 @@ pub fn forest_spans<'a, B: Allocator>(
     }
     let mut spans = vec![in alloc; Span { first: 0, last: 0 }; parents.len()]?;
     let mut order = Vec::with_capacity(alloc, parents.len())?;
-    let mut left = children_left(alloc, parents, &mut order, &mut spans)?;
+    let mut left = vec![in alloc; 0; parents.len()]?;
+    peel_off(parents, &mut left, &mut order, &mut spans)?;
     if has_round(parents, &mut left) {
         return Ok(Err(left));
     }

@@ -1,24 +1,12 @@
 //! Places that are peeled off in turn, each once no child of it is left. What is left lies on ways from parent to parent that go round.
 
-ghost use Rattle.std.specs.Prelude.{◌≡◌, ◌+◌, ◌^◌, ◌<◌, ◌≤◌, ◌↔◌, ℕ, IsTrue, List, [], length, replicate, IfOk, OnOk};
+ghost use Rattle.std.specs.Prelude.{◌≡◌, ◌+◌, ◌^◌, ◌<◌, ◌≤◌, ◌↔◌, ℕ, IsTrue, List, [], length, replicate, OnOk};
 ghost use Rattle.pddl_forest.specs.Forests.{number_at};
 ghost use Rattle.pddl_forest.specs.Rounds.{HasRound, AreRounds};
 ghost use Rattle.pddl_forest.specs.Inner.{AreCounted, AreListed, ArePeeled, GoRound, AreUnder, at, put_under};
 
 use crate::spans::Span;
 use std::alloc::{AllocError, Allocator};
-
-/// Counts the children of each place.
-fn count_children(parents: &[usize], left: &mut [usize])
-    requires within { (i : ℕ) → i < length parents.now → number_at parents.now i < length parents.now }
-    requires none { left.old ≡ replicate (length parents.now) 0 }
-    ensures { AreCounted left.new parents.now (length parents.now) }
-{
-    for parent in parents {
-        let more = &mut left[*parent];
-        *more += 1;
-    }
-}
 
 /// Puts the places without children into an empty list.
 ///
@@ -84,27 +72,29 @@ fn peel<'a, B: Allocator>(
     Ok(())
 }
 
-/// Peels off places, which are put into an empty list in turn, while there are any. Answers how many children of each are left.
+/// Peels off places, which are put into an empty list in turn, while there are any. How many children of each are left, of which none is counted yet, is put beside.
 ///
 /// Fails where memory for the work is refused.
-pub fn children_left<'a, B: Allocator>(
-    alloc: &'a B,
+pub fn peel_off<'a, B: Allocator>(
     parents: &[usize],
+    left: &mut [usize],
     order: &mut Vec<usize, &'a B>,
     spans: &mut [Span],
-) -> Result<Vec<usize, &'a B>, AllocError>
+) -> Result<(), AllocError>
     requires short { length parents.now < 2 ^ 32 }
     requires within { (i : ℕ) → i < length parents.now → number_at parents.now i < length parents.now }
+    requires none { left.old ≡ replicate (length parents.now) 0 }
     requires clear { order.old.items ≡ [] }
-    requires none { (places : List ℕ) → AreUnder parents.now places 0 spans.old }
-    ensures left { IfOk result (λ left. ArePeeled parents.now left.items order.new.items (length order.new.items)) }
+    requires under { (places : List ℕ) → AreUnder parents.now places 0 spans.old }
+    ensures peeled { OnOk result (ArePeeled parents.now left.new order.new.items (length order.new.items)) }
     ensures under { OnOk result (AreUnder parents.now order.new.items (length order.new.items) spans.new) }
 {
-    let mut left = vec![in alloc; 0; parents.len()]?;
-    count_children(parents, &mut left);
-    list_leaves(&left, order)?;
-    peel(parents, &mut left, order, spans)?;
-    Ok(left)
+    for parent in parents {
+        let more = &mut left[*parent];
+        *more += 1;
+    }
+    list_leaves(left, order)?;
+    peel(parents, left, order, spans)
 }
 
 /// Whether some way goes round, other than that of place 0 to itself, for which the number of place 0 is set to 0.

@@ -1,7 +1,7 @@
 //! Spans of numbers, and what they hold.
 
-ghost use Rattle.std.specs.Prelude.{◌≡◌, ◌==◌, ◌+◌, ◌<◌, ◌≤◌, ℕ, length, not};
-ghost use Rattle.pddl_forest.specs.Spans.{holds, some_holds, hold_all, AreApart};
+ghost use Rattle.std.specs.Prelude.{◌≡◌, ◌+◌, ◌<◌, ◌≤◌, ℕ, length};
+ghost use Rattle.pddl_forest.specs.Spans.{holds, hold_all, AreApart};
 ghost use Rattle.pddl_forest.specs.Inner.{at};
 
 /// The numbers from a first to a last, in four bytes each.
@@ -39,20 +39,6 @@ fn begun_by(spans: &[Span], number: u32, near: usize) -> usize
     start + spans[start..end].partition_point(|span| span.first <= number)
 }
 
-/// The place behind that of the one which holds a number, of some spans, each behind the one before; 0 where none does. It is looked for near a place.
-fn behind_holder(spans: &[Span], number: u32, near: usize) -> usize
-    requires { AreApart spans.now }
-    ensures within { result ≤ length spans.now }
-    ensures holds { some_holds spans.now number ≡ not (result == 0) }
-{
-    let behind = begun_by(spans, number, near);
-    if behind > 0 && spans[behind - 1].holds(number) {
-        behind
-    } else {
-        0
-    }
-}
-
 /// How many of the four spans from a place on end before a number, which is found without a jump; 0 where fewer than four stand there.
 fn passed(spans: &[Span], number: u32, place: usize) -> usize
     requires { place ≤ length spans.now }
@@ -70,7 +56,7 @@ fn passed(spans: &[Span], number: u32, place: usize) -> usize
 }
 
 /// Whether spans, each behind the one before, hold the first number of each of others. What holds one is looked for first among the four from what held the
-/// one before.
+/// one before, then near these.
 fn hold_each(outer: &[Span], inner: &[Span]) -> bool
     requires { AreApart outer.now }
     ensures { result ≡ hold_all outer.now inner.now }
@@ -79,8 +65,8 @@ fn hold_each(outer: &[Span], inner: &[Span]) -> bool
     for span in inner {
         place += passed(outer, span.first, place);
         if place == outer.len() || !outer[place].holds(span.first) {
-            let behind = behind_holder(outer, span.first, place);
-            if behind == 0 {
+            let behind = begun_by(outer, span.first, place);
+            if behind == 0 || !outer[behind - 1].holds(span.first) {
                 return false;
             }
             place = behind - 1;

@@ -7,23 +7,29 @@ use Rattle.pddl_forest.proofs.Numbers.{none_under}
 use Rattle.pddl_forest.proofs.RoundWays.{go_round, in_order}
 use Rattle.pddl_forest.proofs.numbering.forest_spans.Goals as goal
 
-pub children_left-requires-clause-within : goal.children_left-requires-clause-within
-children_left-requires-clause-within g c = λ i low. rw (get_or_default c.args.parents.now i 0 i low) (c.requires.within i low)
-
-pub children_left-requires-clause-none : goal.children_left-requires-clause-none
-children_left-requires-clause-none g c = λ places. rw (c.deref_mut.ensures.value, c.in_ok-spans.ensures.items_if_clones_equal (λ _ same. same)) (none_under c.args.parents.now places)
+pub peel_off-requires : goal.peel_off-requires
+peel_off-requires g c = record {
+  short = omega (arith, c.if-parents.false);
+  within = λ i low. rw (get_or_default c.args.parents.now i 0 i low) (c.requires.within i low);
+  none = c.deref_mut.ensures.value ∙ c.in_ok-left.ensures.items_if_clones_equal (λ _ same. same);
+  clear = c.in_ok-order.ensures.items;
+  under = λ places. rw (c.deref_mut-2.ensures.value, c.in_ok-spans.ensures.items_if_clones_equal (λ _ same. same)) (none_under c.args.parents.now places);
+}
 
 pub has_round-requires-clause-round : goal.has_round-requires-clause-round
-has_round-requires-clause-round g c = rw c.deref_mut-2.ensures.value (go_round c.in_ok-left.ensures.left c.requires.within)
+has_round-requires-clause-round g c =
+    let left = c.peel_off.new.left in
+    let peeled = c.in_ok-peel_off.ensures.peeled in
+    rw (c.deref_mut-3.ensures.value, in_place left _ c.in_ok-left.left.len (omega (arith, c.in_ok-left.ensures.len, peeled.counted.long))) (go_round peeled c.requires.within)
 
 pub number_from_top-requires : goal.number_from_top-requires
 number_from_top-requires g c =
-    let spans = c.children_left.new.spans in
-    let long : c.in_ok-spans.spans.len ≡ length spans = omega (arith, c.in_ok-spans.ensures.len, c.in_ok-left.ensures.under.long) in
-    rw (c.deref.ensures.value, c.deref_mut-3.ensures.value, in_place spans _ c.in_ok-spans.spans.len long) record {
+    let spans = c.peel_off.new.spans in
+    let long : c.in_ok-spans.spans.len ≡ length spans = omega (arith, c.in_ok-spans.ensures.len, c.in_ok-peel_off.ensures.under.long) in
+    rw (c.deref.ensures.value, c.deref_mut-4.ensures.value, in_place spans _ c.in_ok-spans.spans.len long) record {
       short = omega (arith, c.if-parents.false);
-      order = in_order c.in_ok-left.ensures.left c.requires.within c.requires.some (λ round. true≢false (sym (c.has_round.ensures.round.1 round) ∙ c.if-has_round.false));
-      under = c.in_ok-left.ensures.under;
+      order = in_order c.in_ok-peel_off.ensures.peeled c.requires.within c.requires.some (λ round. true≢false (sym (c.has_round.ensures.round.1 round) ∙ c.if-has_round.false));
+      under = c.in_ok-peel_off.ensures.under;
     }
 
 pub returns : goal.returns
@@ -40,5 +46,5 @@ returns g c =
 pub returns-then-has_round : goal.returns-then-has_round
 returns-then-has_round g c =
     let h = c.has_round.ensures in
-    let long : c.in_ok-left.left.len ≡ length c.has_round.new.numbers = omega (arith, c.in_ok-left.ensures.left.counted.long, h.numbers.many) in
+    let long : c.in_ok-left.left.len ≡ length c.has_round.new.numbers = omega (arith, c.in_ok-left.ensures.len, h.numbers.many) in
     record { short = tt; spans = tt; none = tt; round = (h.round.0 c.if-has_round.true, subst (AreRounds c.args.parents.now) (sym (in_place c.has_round.new.numbers _ c.in_ok-left.left.len long)) h.numbers) }

@@ -1,5 +1,5 @@
-use Rattle.std.proofs.Common.{◌≡◌, ◌≤◌, eqb, length, sym, ◌∙◌, arith, inl, inr}
-use Rattle.std.proofs.lemmas.Bool.{cases_eq, eq-eqb, ne_eqb}
+use Rattle.std.proofs.Common.{◌≡◌, ◌≤◌, ◌<◌, false, length, sym, arith}
+use Rattle.std.proofs.lemmas.Bool.Decides.{nat_tests}
 use Rattle.pddl_forest.specs.Spans.{hold_all}
 use Rattle.pddl_forest.specs.Inner.{at}
 use Rattle.pddl_forest.proofs.ApartSpans.{rising, one_missed, all_past, one_run}
@@ -26,8 +26,5 @@ loop-span-preserved c =
 pub returns : goal.returns
 returns c =
     let h = c.loop-span.invariant in
-    let many = length c.args.inner.now in
-    elim (cases_eq c.loop-span.next many) as (λ _. eqb c.loop-span.next many ≡ hold_all c.args.outer.now c.args.inner.now) [
-      | inl all ↦ eq-eqb c.loop-span.next many all ∙ sym (all_past h all)
-      | inr some ↦ ne_eqb c.loop-span.next many some ∙ sym (one_missed h (omega (arith, some, h.within)) (λ j from low. absurd (omega (arith, from, low, c.loop-span-test.false))))
-    ]
+    let missed : c.loop-span.next < length c.args.inner.now → hold_all c.args.outer.now c.args.inner.now ≡ false = λ some. one_missed h some (λ j from low. absurd (omega (arith, from, low, c.loop-span-test.false))) in
+    grind (arith, nat_tests, all_past h, missed, h.within)

@@ -1,6 +1,0 @@
-use Rattle.std.proofs.Common.{take, length}
-use Rattle.pddl_forest.specs.Inner.{AreCounted}
-use Rattle.pddl_forest.proofs.peeling.count_children.Given as goal
-
-abbrev pub invariant-loop-parent : goal.invariant-loop-parent
-invariant-loop-parent l = AreCounted l.left (take l.parent-index l.parents) (length l.parents)
