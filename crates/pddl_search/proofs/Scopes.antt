@@ -1,5 +1,5 @@
 -- Variables in scope and their depths by name.
-use Rattle.std.proofs.Common.{◌≡◌, ℕ, zero, suc, ◌+◌, ◌<◌, ◌≤◌, Bool, true, false, ◌||◌, not, cond, List, [], ◌∷◌, ◌++◌, map, length, drop, Some, None, Result, Ok, refl, ap, sym, ◌∙◌, subst, bytes_eq, get_or, drop-cons, add-one, arith}
+use Rattle.std.proofs.Common.{◌≡◌, ℕ, zero, suc, ◌+◌, ◌<◌, ◌≤◌, Bool, true, false, ◌||◌, not, cond, List, [], ◌∷◌, ◌++◌, map, length, drop, None, Result, Ok, refl, ap, sym, ◌∙◌, subst, bytes_eq, get_or, drop-cons, add-one, arith}
 use Rattle.std.specs.Prelude.{find, option_map, slice_get, reverse, unwrap_or, nat_le}
 use Rattle.std.specs.Borrow.{Bor}
 use Rattle.std.specs.Map.{lookup}
@@ -48,18 +48,7 @@ module _ {A : Type 0} where
   pub found_there : (n : Name) (bs : List (Bound A)) (k : ℕ) → depth_of n (entries bs) ≡ suc k
       → option_map (λ (b : Bound A). b.number) (slice_get (reverse bs) k) ≡ option_map (λ (e : TypedValue × ℕ). e.1) (find (λ (e : TypedValue × ℕ). is_named n e.0) (entries bs))
   found_there n [] k is = absurd (omega (arith, is))
-  found_there n (b ∷ bs) k is =
-      let past : reverse (b ∷ bs) ≡ reverse bs ++ b ∷ [] = reverse-append (b ∷ []) bs in
-      let rest = find (λ (e : TypedValue × ℕ). is_named n e.0) (entries bs) in
-      let many = length-map bs entry_of in
-      let turned = length-reverse bs in
-      let low = depth_low n (entries bs) in
-      ap (λ (cs : List (Bound A)). option_map (λ (c : Bound A). c.number) (slice_get cs k)) past
-      ∙ (elim (is_named n (typed_view b.variable.now)) as (λ c. cond c (suc (length (entries bs))) (depth_of n (entries bs)) ≡ suc k
-      → option_map (λ (d : Bound A). d.number) (slice_get (reverse bs ++ b ∷ []) k) ≡ option_map (λ (e : TypedValue × ℕ). e.1) (cond c (Some (entry_of b)) rest)) [
-        | true ↦ λ h. ap (λ i. option_map (λ (d : Bound A). d.number) (slice_get (reverse bs ++ b ∷ []) i)) (omega (arith, h, many, turned)) ∙ ap (option_map (λ (d : Bound A). d.number)) (nth_right (reverse bs) (b ∷ []) 0)
-        | false ↦ λ h. ap (option_map (λ (d : Bound A). d.number)) (nth_left (reverse bs) (b ∷ []) k (omega (arith, h, low, many, turned))) ∙ found_there n bs k h
-      ] is)
+  found_there n (b ∷ bs) k is = grind (arith, reverse-append (b ∷ []) bs, length-map bs entry_of, length-reverse bs, depth_low n (entries bs), nth_left (reverse bs) (b ∷ []) k, nth_right (reverse bs) (b ∷ []) 0, found_there n bs k, is)
 
   -- one more, at this depth
   pub scope_more : (bs : List (Bound A)) (table : List (Bor Name × ℕ)) (b : Bound A) (k : Bor Name) (depth : ℕ) → k.now ≡ b.variable.now.name → b.hidden ≡ depth_of k.now (entries bs) → depth ≡ length bs + 1
@@ -74,19 +63,12 @@ module _ {A : Type 0} where
       → IsScope bs (insert_entry (λ a c. bytes_eq a.now c.now) table k b.hidden)
   scope_less bs table b k named is = record {
     hidden = is.hidden.1;
-    depths = λ n. rw (depth_put table k b.hidden n, is.depths n, named) (seen n (bytes_eq n b.variable.now.name) refl);
+    depths = λ n. rw (depth_put table k b.hidden n, is.depths n, named) (grind (arith, bytes_same n b.variable.now.name, is.hidden.0));
   }
-    where
-      seen : (n : Name) (c : Bool) → bytes_eq n b.variable.now.name ≡ c → cond c b.hidden (cond c (suc (length (entries bs))) (depth_of n (entries bs))) ≡ depth_of n (entries bs)
-      seen n false off = refl
-      seen n true same = is.hidden.0 ∙ ap (λ m. depth_of m (entries bs)) (sym (bytes_same n b.variable.now.name same))
 
   -- its name has a depth
   pub scope_there : (bs : List (Bound A)) (table : List (Bor Name × ℕ)) (b : Bound A) (n : Name) → n ≡ b.variable.now.name → IsScope (b ∷ bs) table → lookup (λ j. bytes_eq n j.now) table ≡ None → ⊥
-  scope_there bs table b n named is none =
-      let own : cond (bytes_eq n b.variable.now.name) (suc (length (entries bs))) (depth_of n (entries bs)) ≡ suc (length (entries bs)) = ap (λ c. cond c (suc (length (entries bs))) (depth_of n (entries bs))) (same_bytes n b.variable.now.name named) in
-      let deep : 0 ≡ suc (length (entries bs)) = ap (λ o. unwrap_or o 0) (sym none) ∙ is.depths n ∙ own in
-      omega (arith, deep)
+  scope_there bs table b n named is none = grind (arith, is.depths n, same_bytes n b.variable.now.name named, none)
 
 -- ---- what a list binds
 

@@ -4,7 +4,7 @@ use Rattle.std.proofs.Math.Nat.{ℕ_set}
 use Rattle.std.specs.Coded.{le_prop}
 use Rattle.std.specs.List.{sum_by, range_with_len}
 use Rattle.std.proofs.lemmas.Bool.{leb-true, lt-leb, ltb-true, ltb-false, and_parts}
-use Rattle.std.proofs.lemmas.List.{get_or_default, get_or-take, length-take-le, take_rest}
+use Rattle.std.proofs.lemmas.List.{get_or_default, get_or-take, length-drop, length-take-le, nil_from_length, take_rest}
 use Rattle.std.proofs.lemmas.List.Folds.{list_any_more, Any-from_list_any}
 use Rattle.std.proofs.lemmas.List.Sorted.{sum_by-IsPermutation}
 use Rattle.std.specs.List.Sorted.{IsNonDecreasingBy, IsPartitionPoint}
@@ -87,10 +87,7 @@ module _ {X : Type 0} (n : X → ℕ) (top : Span) where
   IsEnd = IsPartitionPoint (λ x. leb (n x) top.last ≡ true) (λ x. leb (n x) top.last ≡ false)
 
   part_holds : (xs : List X) (start many : ℕ) → many ≤ length (drop start xs) → IsStart xs start → IsEnd (drop start xs) many → take many (drop start xs) ≡ filter (λ x. holds top (n x)) xs
-  part_holds [] zero zero few from to = refl
-  part_holds [] zero (suc many) few from to = absurd (omega (arith, few))
-  part_holds [] (suc start) zero few from to = refl
-  part_holds [] (suc start) (suc many) few from to = absurd (omega (arith, few))
+  part_holds [] start many few from to = nil_from_length (take many (drop start [])) (omega (arith, few, length-take-le many (drop start []) few, length-drop {A = X} start []))
   part_holds (x ∷ xs) (suc start) many few from to =
       part_holds xs start many few (λ k d _ low. from.0 (suc k) d (omega arith) (omega (arith, low)), λ k d past low. from.1 (suc k) d (omega (arith, past)) (omega (arith, low))) to
       ∙ ap (λ b. one x (b && leb (n x) top.last) xs) (sym (lt-leb top.first (n x) (ltb-true (n x) top.first (from.0 0 x (omega arith) (omega arith)))))
