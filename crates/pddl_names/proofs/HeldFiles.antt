@@ -15,7 +15,7 @@ use Rattle.pddl_types.specs.Told.{ToldValue, IsAt, AreAt, AreDistinct, AreTold, 
 use Rattle.pddl_types.specs.Signatures.{AreSlotsAt, AreFirst, HaveSymbols}
 use Rattle.pddl_types.specs.declared.declared.Declared.{Declared}
 use Rattle.pddl_types.specs.KnownNames.{object_in}
-use Rattle.pddl_names.specs.declared.known.Known.{Known}
+use Rattle.pddl_names.specs.declared.uses.Known.{Known}
 use Rattle.pddl_names.specs.Uses.{place_faults, AreAllTold}
 use Rattle.pddl_types.proofs.SignatureTables.{have_still}
 use Rattle.pddl_names.proofs.SameSettings.{faults_alike}

@@ -13,7 +13,7 @@ use Rattle.pddl_faults.specs.Found.{IsFound, numbered}
 use Rattle.pddl_faults.proofs.FoundFaults.{IsFoundUpTo, up_to_more, up_to_all, found_rest, found_same}
 use Rattle.pddl_faults.proofs.ListTurns.{rest_is}
 use Rattle.pddl_types.specs.Told.{unknown_among}
-use Rattle.pddl_names.specs.declared.known.Known.{Known}
+use Rattle.pddl_names.specs.declared.uses.Known.{Known}
 use Rattle.pddl_names.specs.Uses.{faults_by}
 use Rattle.pddl_names.proofs.FoundParts.{from_parts, passed_first}
 

@@ -18,7 +18,7 @@ ghost use Rattle.pddl_names.specs.Uses.{place_faults};
 ghost use Rattle.pddl_names.specs.FaultParts.{problem_in, joined, declared_typed, action_faults, domain_parts, problem_parts};
 ghost use Rattle.pddl_names.specs.Held.{HoldDomain, HoldAll};
 
-use crate::known::Known;
+use crate::uses::Known;
 use crate::walk::{search_actions, search_problem};
 use indexmap::IndexSet;
 use pddl_domain::Domain;

@@ -18,12 +18,21 @@ ghost use Rattle.pddl_types.specs.Objects.{IsAtOf};
 ghost use Rattle.pddl_types.specs.Signatures.{IsSlotsAt, AreSlotsAt};
 ghost use Rattle.pddl_names.specs.Uses.{setting_of, faults_by, faults_of_use, AreAllTold};
 
-use crate::known::Known;
 use pddl_faults::{LinkFault, lower};
 use pddl_formula::{Term, TypedList};
 use pddl_search::{LentTerm, Part, Scope, Terms};
-use pddl_types::{Signatures, Slots, Told};
+use pddl_types::{Listed, Signatures, Slots, Told, Types};
 use std::alloc::Allocator;
+
+/// What may be named: types, predicates, functions, and the objects that are listed so far.
+#[derive(Drop)]
+pub(crate) struct Known<'k, 'm, 'a, A: Allocator, B: Allocator> {
+    pub(crate) alloc: &'a B,
+    pub(crate) types: &'k Types<'m, 'a, A, B>,
+    pub(crate) predicates: &'k Signatures<'m, 'a, A, B>,
+    pub(crate) functions: &'k Signatures<'m, 'a, A, B>,
+    pub(crate) listed: &'k Listed<'m, 'a, A, B>,
+}
 
 /// The number at which the type of a term is told; `None` where the term is not known.
 fn type_of<'k, 'm, 'a, A: Allocator, B: Allocator>(

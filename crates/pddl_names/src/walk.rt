@@ -15,8 +15,7 @@ ghost use Rattle.pddl_search.specs.Scopes.{bound_in};
 ghost use Rattle.pddl_names.specs.Uses.{faults_by, AreAllTold};
 ghost use Rattle.pddl_names.specs.FaultParts.{action_faults};
 
-use crate::known::Known;
-use crate::uses::{enter, look};
+use crate::uses::{Known, enter, look};
 use indexmap::IndexSet;
 use pddl_domain::Action;
 use pddl_effect::Effect;
