@@ -53,12 +53,12 @@ no_slots s b [] = refl
 no_slots s b (t ∷ ts) = refl
 
 -- none is left
-module _ (s : Setting) (b : List TypedValue) (ts : List TermValue) (xs : List TypedValue) (i : ℕ) (past : length ts ≤ i) where
+module _ (s : Setting) (b : List TypedValue) (ts : List TermValue) (i : ℕ) (past : length ts ≤ i) where
   pub all_known : flat_map (unknown_term s b) (drop i ts) ≡ flat_map (unknown_term s b) ts → flat_map (unknown_term s b) ts ≡ []
   all_known left = sym left ∙ ap (flat_map (unknown_term s b)) (drop_all i ts past)
 
-  pub all_fit : (all : Bool) → (not all || some_misfit s b (drop i ts) (drop i xs)) ≡ some_misfit s b ts xs → some_misfit s b ts xs ≡ not all
-  all_fit all left = sym left ∙ ap (λ us. not all || some_misfit s b us (drop i xs)) (drop_all i ts past) ∙ or-false (not all)
+  pub all_fit : (xs : List TypedValue) (all : Bool) → (not all || some_misfit s b (drop i ts) (drop i xs)) ≡ some_misfit s b ts xs → some_misfit s b ts xs ≡ not all
+  all_fit xs all left = sym left ∙ ap (λ us. not all || some_misfit s b us (drop i xs)) (drop_all i ts past) ∙ or-false (not all)
 
 -- a term that is in turn
 module _ (s : Setting) (b : List TypedValue) (ts : List TermValue) (xs : List TypedValue) (i : ℕ) (t : TermValue) (low : i < length ts) (at : t ≡ get_or ts i t) where

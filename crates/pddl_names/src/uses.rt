@@ -73,8 +73,7 @@ fn look_at_use<'k, 'm, 'a, 'd, A: Allocator, B: Allocator>(
             return Err(LinkFault::UnknownName(term.name()));
         };
         if let Some(slot) = slots.numbers.get(i) {
-            let fits = told.fits(known.types, number, *slot)?;
-            all_fit = all_fit && fits;
+            all_fit &= told.fits(known.types, number, *slot)?;
         }
     }
     if terms.len() != slots.parameters.len() {

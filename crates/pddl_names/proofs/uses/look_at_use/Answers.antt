@@ -10,7 +10,7 @@ use Rattle.pddl_names.proofs.UseFaults.{undeclared_found, declared_slots, unknow
 use Rattle.pddl_names.proofs.TermSlots.{known_term, unknown_here, known_here, fits_slot, fits_here, past_here, all_known, all_fit}
 use Rattle.pddl_names.proofs.ToldUses.{slot_there, no_slot}
 use Rattle.pddl_names.proofs.uses.look_at_use.Goals as goal
-use Rattle.pddl_names.proofs.uses.look_at_use.Goals.{in-Some-get+in_ok-fits+then-all_fit, in-Some-get+in_ok-fits+else-all_fit, in_default-get}
+use Rattle.pddl_names.proofs.uses.look_at_use.Goals.{in-Some-get+in_ok-all_fit, in_default-get}
 
 pub returns-in_default-clause-found : goal.returns-in_default-clause-found
 returns-in_default-clause-found g c =
@@ -45,21 +45,13 @@ loop-i-preserved g c =
     let known = known_here s b all xs i _ low c.at-term.ensures _ before.unknown (known_term s b _ told _ typed) in
     let item = rw c.deref.ensures.value at c.get-in-loop-i.ensures.lookup in
     elim c.match-get-2.branch [
-      | in-Some-get+in_ok-fits+then-all_fit w ↦
+      | in-Some-get+in_ok-all_fit w ↦
           let slot = slot_there told slots at_slots i w.in-Some-get.slot (rw w.in-Some-get.is at item) in
-          let fit = fits_slot told s.pairs _ slot.0 c.in-Some-type_of.number _ w.in_ok-fits.fits (rw before.kept at w.in_ok-fits.ensures.fits) typed slot.2 in
+          let fit = fits_slot told s.pairs _ slot.0 c.in-Some-type_of.number _ w.in_ok-all_fit.field-0 (rw before.kept at w.in_ok-all_fit.ensures.fits) typed slot.2 in
           record {
-            kept = w.told-is ∙ w.in_ok-fits.ensures.kept ∙ before.kept;
+            kept = w.told-is ∙ w.in_ok-all_fit.ensures.kept ∙ before.kept;
             unknown = known;
-            misfit = fits_here s b all xs i _ low c.at-term.ensures slot.0 w.in_ok-fits.fits c.loop-i.all_fit _ _ slot.1 fit (w.all_fit-is ∙ ap (λ a. a && w.in_ok-fits.fits) (sym w.if-all_fit.true)) before.misfit;
-          }
-      | in-Some-get+in_ok-fits+else-all_fit w ↦
-          let slot = slot_there told slots at_slots i w.in-Some-get.slot (rw w.in-Some-get.is at item) in
-          let fit = fits_slot told s.pairs _ slot.0 c.in-Some-type_of.number _ w.in_ok-fits.fits (rw before.kept at w.in_ok-fits.ensures.fits) typed slot.2 in
-          record {
-            kept = w.told-is ∙ w.in_ok-fits.ensures.kept ∙ before.kept;
-            unknown = known;
-            misfit = fits_here s b all xs i _ low c.at-term.ensures slot.0 w.in_ok-fits.fits c.loop-i.all_fit _ _ slot.1 fit (w.all_fit-is ∙ w.if-all_fit.false ∙ ap (λ a. a && w.in_ok-fits.fits) (sym w.if-all_fit.false)) before.misfit;
+            misfit = fits_here s b all xs i _ low c.at-term.ensures slot.0 w.in_ok-all_fit.field-0 c.loop-i.all_fit _ _ slot.1 fit w.all_fit-is before.misfit;
           }
       | in_default-get w ↦ record {
         kept = w.told-is ∙ before.kept;
@@ -74,35 +66,26 @@ returns-then-len-slots-clause-found g c =
     let b = bound_in c.args.scope.now in
     let ts = terms_in c.args.terms.now in
     let slots = c.in-Some.slots.now in
-    let xs = map typed_view slots.parameters.now in
-    let i = c.loop-i.i in
-    let past : length ts ≤ i = omega (arith, c.len-i-end.ensures) in
-    let known = all_known s b ts xs i past c.loop-i.invariant.unknown in
+    let known = all_known s b ts c.loop-i.i (omega (arith, c.len-i-end.ensures)) c.loop-i.invariant.unknown in
     others_found s b ts c.args.declared.now.entries c.args.symbol.now slots c.in-Some.ensures.value (link.Arity c.args.symbol) known
     (λ is. omega (arith, is, c.len.ensures, length-map slots.parameters.now typed_view, c.if-len-slots.true)) (λ words k. (refl, k))
 
-pub returns-else-all_fit-2-clause-found : goal.returns-else-all_fit-2-clause-found
-returns-else-all_fit-2-clause-found g c =
+pub returns-else-all_fit-clause-found : goal.returns-else-all_fit-clause-found
+returns-else-all_fit-clause-found g c =
     let s = setting_of c.args.known.now in
     let b = bound_in c.args.scope.now in
     let ts = terms_in c.args.terms.now in
     let slots = c.in-Some.slots.now in
-    let xs = map typed_view slots.parameters.now in
-    let i = c.loop-i.i in
-    let past : length ts ≤ i = omega (arith, c.len-i-end.ensures) in
-    let known = all_known s b ts xs i past c.loop-i.invariant.unknown in
+    let known = all_known s b ts c.loop-i.i (omega (arith, c.len-i-end.ensures)) c.loop-i.invariant.unknown in
     misfit_found s b ts c.args.declared.now.entries c.args.symbol.now slots c.in-Some.ensures.value (Err (link.ArgumentType c.args.symbol)) known
-    (omega (arith, c.len.ensures, length-map slots.parameters.now typed_view, c.if-len-slots.false)) (refl, has_word _ c.args.symbol.now (all_fit s b ts xs i past _ c.loop-i.invariant.misfit ∙ ap not c.if-all_fit-2.false))
+    (omega (arith, c.len.ensures, length-map slots.parameters.now typed_view, c.if-len-slots.false)) (refl, has_word _ c.args.symbol.now (all_fit s b ts c.loop-i.i (omega (arith, c.len-i-end.ensures)) (map typed_view slots.parameters.now) _ c.loop-i.invariant.misfit ∙ ap not c.if-all_fit.false))
 
-pub returns-then-all_fit-2-clause-found : goal.returns-then-all_fit-2-clause-found
-returns-then-all_fit-2-clause-found g c =
+pub returns-then-all_fit-clause-found : goal.returns-then-all_fit-clause-found
+returns-then-all_fit-clause-found g c =
     let s = setting_of c.args.known.now in
     let b = bound_in c.args.scope.now in
     let ts = terms_in c.args.terms.now in
     let slots = c.in-Some.slots.now in
-    let xs = map typed_view slots.parameters.now in
-    let i = c.loop-i.i in
-    let past : length ts ≤ i = omega (arith, c.len-i-end.ensures) in
-    let known = all_known s b ts xs i past c.loop-i.invariant.unknown in
+    let known = all_known s b ts c.loop-i.i (omega (arith, c.len-i-end.ensures)) c.loop-i.invariant.unknown in
     misfit_found s b ts c.args.declared.now.entries c.args.symbol.now slots c.in-Some.ensures.value (Ok tt) known
-    (omega (arith, c.len.ensures, length-map slots.parameters.now typed_view, c.if-len-slots.false)) (ap (λ misfit. word_if misfit c.args.symbol.now) (all_fit s b ts xs i past _ c.loop-i.invariant.misfit ∙ ap not c.if-all_fit-2.true))
+    (omega (arith, c.len.ensures, length-map slots.parameters.now typed_view, c.if-len-slots.false)) (ap (λ misfit. word_if misfit c.args.symbol.now) (all_fit s b ts c.loop-i.i (omega (arith, c.len-i-end.ensures)) (map typed_view slots.parameters.now) _ c.loop-i.invariant.misfit ∙ ap not c.if-all_fit.true))
