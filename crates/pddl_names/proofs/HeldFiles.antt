@@ -11,13 +11,12 @@ use Rattle.pddl_task.specs.GroundSize.{capped}
 use Rattle.pddl_task.specs.Types.{pairs}
 use Rattle.pddl_task.specs.Settings.{function_signatures, setting}
 use Rattle.pddl_types.specs.TypeSpans.{TypesValue, IsTold, are_types}
-use Rattle.pddl_types.specs.Told.{ToldValue, IsAt, AreAt, AreDistinct, AreTold, AreKept}
+use Rattle.pddl_types.specs.Told.{ToldValue, IsAt, AreAt, AreDistinct, AreTold}
 use Rattle.pddl_types.specs.Signatures.{AreSlotsAt, AreFirst, HaveSymbols}
 use Rattle.pddl_types.specs.declared.declared.Declared.{Declared}
 use Rattle.pddl_types.specs.KnownNames.{object_in}
 use Rattle.pddl_names.specs.declared.uses.Known.{Known}
 use Rattle.pddl_names.specs.Uses.{place_faults, AreAllTold}
-use Rattle.pddl_types.proofs.SignatureTables.{have_still}
 use Rattle.pddl_names.proofs.SameSettings.{faults_alike}
 
 -- predicates and functions are held still while more is told, where their slots are

@@ -1,5 +1,5 @@
 -- Settings in which each name is declared alike have the same faults.
-use Rattle.std.proofs.Common.{◌≡◌, Bool, true, false, ◌||◌, not, cond, List, [], ◌∷◌, ◌++◌, map, Option, Some, None, refl, ap, sym, ◌∙◌, bytes_eq}
+use Rattle.std.proofs.Common.{◌≡◌, true, false, ◌||◌, not, cond, List, [], ◌∷◌, ◌++◌, map, Option, Some, None, refl, ap, sym, ◌∙◌, bytes_eq}
 use Rattle.std.specs.Prelude.{find, is_some}
 use Rattle.std.specs.List.{flat_map}
 use Rattle.pddl_formula.specs.Terms.{TermValue, name, variable}

@@ -97,7 +97,12 @@ pub search_effect-requires : goal.search_effect-requires
 search_effect-requires g t c κs lives =
     let depth = the_size g.row.A g.A.Allocator g.A.laws in
     let same = ap (most depth) c.deref-part-items.ensures.value in (
-      omega (arith, among depth c.deref-part-items.result.now c.loop-part.part-index c.part-item.result c.loop-part-test.true c.part-item.is, same,
-      under_all g.row.A g.A.Allocator g.A.laws c.args.effect.now c.in-And.parts c.in-And.is, c.decreases),
+      omega (
+        arith,
+        among depth c.deref-part-items.result.now c.loop-part.part-index c.part-item.result c.loop-part-test.true c.part-item.is,
+        same,
+        under_all g.row.A g.A.Allocator g.A.laws c.args.effect.now c.in-And.parts c.in-And.is,
+        c.decreases,
+      ),
       (lives.0, (lives.1, c.loop-part.invariant.told)),
     )

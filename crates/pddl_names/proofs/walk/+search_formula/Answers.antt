@@ -1,4 +1,4 @@
-use Rattle.std.proofs.Common.{◌<◌, ◌∙◌, map, refl, ap, inl, inr, arith}
+use Rattle.std.proofs.Common.{◌<◌, ◌∙◌, map, refl, inl, inr, arith}
 use denote.Param.Weighed.{most}
 use Rattle.std.proofs.lemmas.Result.{err_from_is_err_and}
 use Rattle.pddl_formula.specs.TypedLists.{typed_view}

@@ -1,9 +1,7 @@
 use Rattle.std.proofs.Common.{[], map, subst}
 use Rattle.pddl_domain.specs.Actions.{action_view}
 use Rattle.pddl_domain.specs.Domains.{domain_view}
-use Rattle.pddl_task.specs.Settings.{in_domain}
 use Rattle.pddl_faults.specs.Found.{IsFound}
-use Rattle.pddl_names.specs.Uses.{place_faults}
 use Rattle.pddl_names.specs.FaultParts.{action_faults}
 use Rattle.pddl_names.proofs.HeldFiles.{symbols_still, nothing_bound, known_faults}
 use Rattle.pddl_names.proofs.files.Files.look_at_actions.Goals as goal
