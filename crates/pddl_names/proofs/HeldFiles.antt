@@ -11,19 +11,19 @@ use Rattle.pddl_task.specs.GroundSize.{capped}
 use Rattle.pddl_task.specs.Types.{pairs}
 use Rattle.pddl_task.specs.Settings.{function_signatures, setting}
 use Rattle.pddl_types.specs.TypeSpans.{TypesValue, IsTold, are_types}
-use Rattle.pddl_types.specs.Told.{ToldValue, IsAt, AreAt, AreDistinct, AreTold, AreKept}
+use Rattle.pddl_types.specs.Told.{ToldValue, IsAt, AreAt, AreDistinct, AreTold}
 use Rattle.pddl_types.specs.Signatures.{AreSlotsAt, AreFirst, HaveSymbols}
 use Rattle.pddl_types.specs.declared.declared.Declared.{Declared}
 use Rattle.pddl_types.specs.KnownNames.{object_in}
-use Rattle.pddl_names.specs.declared.known.Known.{Known}
+use Rattle.pddl_names.specs.declared.uses.Known.{Known}
 use Rattle.pddl_names.specs.Uses.{place_faults, AreAllTold}
-use Rattle.pddl_types.proofs.SignatureTables.{have_still}
 use Rattle.pddl_names.proofs.SameSettings.{faults_alike}
 
--- predicates and functions are told still where these are the same and more is told
-pub symbols_still : {A B : Type 0} {t : TypesValue} {d : DomainValue} {declared : Declared A B} {after : ToldValue} → AreKept declared.told after → AreTold t after → HaveSymbols t d declared
-    → HaveSymbols t d (record { predicates = declared.predicates; functions = declared.functions; actions = declared.actions; told = after })
-symbols_still kept told have = record { told = told; predicates = have_still kept refl have.predicates; functions = have_still kept refl have.functions; actions = have.actions }
+-- predicates and functions are held still while more is told, where their slots are
+pub symbols_still : {A B : Type 0} {t : TypesValue} {d : DomainValue} {declared : Declared A B} {after : ToldValue} → AreTold t after → AreSlotsAt after declared.predicates.entries
+    → AreSlotsAt after declared.functions.entries → HaveSymbols t d declared → HaveSymbols t d (record { predicates = declared.predicates; functions = declared.functions; actions = declared.actions; told = after })
+symbols_still told predicates functions have =
+    record { told = told; predicates = record { first = have.predicates.first; slots = predicates }; functions = record { first = have.functions.first; slots = functions }; actions = have.actions }
 
 none_twice : AreDistinct []
 unfolding IsDistinct
@@ -41,13 +41,8 @@ known_faults t d typed predicates functions same =
 -- in an empty scope all is told that may be named
 pub nothing_bound : {A B : Type 0} (k : Known A B) (told : ToldValue) (scope : List (TypedValue × ℕ)) → scope ≡ [] → AreTold k.types.now told → AreSlotsAt told k.predicates.now.entries
     → AreSlotsAt told k.functions.now.entries → AreAt told (map object_in k.listed.now.objects.entries) k.listed.now.types.items → AreAllTold k told scope
-nothing_bound k told scope none types predicates functions objects = record {
-  types = types;
-  predicates = predicates;
-  functions = functions;
-  objects = objects;
-  variables = rw none (All-nil (λ e. IsAt told e.0.of e.1));
-}
+nothing_bound k told scope none types predicates functions objects =
+    record { types = types; predicates = predicates; functions = functions; objects = objects; variables = rw none (All-nil (λ e. IsAt told e.0.of e.1)) }
 
 -- ---- goals
 

@@ -18,11 +18,7 @@ use Rattle.pddl_types.specs.Objects.{is_off, off_types}
 words-append : {X : Type 0} (wrong : List X → X → Bool) (word : X → Name) (before xs ys : List X)
     → wrong_words wrong word before (xs ++ ys) ≡ wrong_words wrong word before xs ++ wrong_words wrong word (before ++ xs) ys
 words-append wrong word before [] ys = ap (λ seen. wrong_words wrong word seen ys) (sym (append-none before))
-words-append wrong word before (x ∷ xs) ys =
-    let here = word_if (wrong before x) (word x) in
-    let seen = before ++ x ∷ [] in
-    ap (λ ws. here ++ ws) (words-append wrong word seen xs ys) ∙ sym (append_assoc here (wrong_words wrong word seen xs) (wrong_words wrong word (seen ++ xs) ys))
-    ∙ ap (λ zs. (here ++ wrong_words wrong word seen xs) ++ wrong_words wrong word zs ys) (append_assoc before (x ∷ []) xs)
+words-append wrong word before (x ∷ xs) ys = simp (append_assoc, words-append wrong word (before ++ x ∷ []) xs ys)
 
 -- where the first of the name has another type, one before it has
 off_is : (seen : List TypedValue) (x : TypedValue) → is_off seen x ≡ true → has_other_type seen x ≡ true

@@ -53,14 +53,14 @@ words-flat n f (x ∷ xs) = words-append n (f x) (flat_map f xs) ∙ ap (λ ws. 
 has_word : (n : ℕ) (w : Name) (fs : List (ℕ × Name)) → Contains fs (n, w) → Contains (words_of n fs) w
 has_word n w fs c = is_mapped (λ (f : ℕ × Name). f.1) (filter (λ (f : ℕ × Name). f.0 == n) fs) (n, w) (is_kept (λ (f : ℕ × Name). f.0 == n) fs (n, w) c (grind (arith, nat_tests)))
 
+same_number : (m n : ℕ) → (m == n) ≡ true → m ≡ n
+same_number m n h = grind (arith, nat_tests, h)
+
 word_has : (n : ℕ) (w : Name) (fs : List (ℕ × Name)) → Contains (words_of n fs) w → (f : ℕ × Name) × Contains fs f × (f.0 ≡ n)
 word_has n w fs c =
     let m = mapped_is (λ (f : ℕ × Name). f.1) (filter (λ (f : ℕ × Name). f.0 == n) fs) w c in
     let k = kept_is (λ (f : ℕ × Name). f.0 == n) fs m.0 m.1 in
-    (m.0, k.0, same m.0.0 k.1)
-  where
-    same : (m : ℕ) → (m == n) ≡ true → m ≡ n
-    same m h = grind (arith, nat_tests, h)
+    (m.0, k.0, same_number m.0.0 n k.1)
 
 -- ---- what is found, number by number, and rules
 
@@ -86,7 +86,7 @@ module _ (all : List (ℕ × Name)) (fs : List Fault) (tell : AllByRecursion (Te
   lowest None h = tt
   lowest (Some g) h =
       let rule = any_found (λ (f : Fault). f.number == g.0) fs (all_found (λ (f : ℕ × Name). list_any (λ h. h.number == f.0) fs) all ruled g h.stands) in
-      let same = number rule.0.number g.0 rule.2 in
+      let same = same_number rule.0.number g.0 rule.2 in
       record {
         stands = (rule.0, rule.1, same, (tells all fs tell rule.0 rule.1).stands g.1 (subst (λ n. Contains (words_of n all) g.1) (sym same) (has_word g.0 g.1 all h.stands)));
         lowest = λ m w s.
@@ -95,9 +95,6 @@ module _ (all : List (ℕ × Name)) (fs : List Fault) (tell : AllByRecursion (Te
             subst (λ k. g.0 ≤ k) (f.2 ∙ s.2) (h.lowest f.0 f.1);
       }
     where
-      number : (m n : ℕ) → (m == n) ≡ true → m ≡ n
-      number m n h = grind (arith, nat_tests, h)
-
       some : (words : List Name) → (words ≡ [] → ⊥) → (w : Name) × Contains words w
       some [] h = absurd (h refl)
       some (w ∷ words) h = (w, has_first w words)

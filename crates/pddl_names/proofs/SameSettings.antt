@@ -1,5 +1,5 @@
 -- Settings in which each name is declared alike have the same faults.
-use Rattle.std.proofs.Common.{◌≡◌, Bool, true, false, ◌||◌, not, cond, List, [], ◌∷◌, ◌++◌, map, Option, Some, None, refl, ap, sym, ◌∙◌, bytes_eq}
+use Rattle.std.proofs.Common.{◌≡◌, true, false, ◌||◌, not, cond, List, [], ◌∷◌, ◌++◌, map, Option, Some, None, refl, ap, sym, ◌∙◌, bytes_eq}
 use Rattle.std.specs.Prelude.{find, is_some}
 use Rattle.std.specs.List.{flat_map}
 use Rattle.pddl_formula.specs.Terms.{TermValue, name, variable}
@@ -38,14 +38,12 @@ module _ (s u : Setting) (alike : AreAlike s u) where
 
     unknown_all : (ts : List TermValue) → flat_map (unknown_term s b) ts ≡ flat_map (unknown_term u b) ts
     unknown_all [] = refl
-    unknown_all (t ∷ ts) = ap (λ ws. ws ++ flat_map (unknown_term s b) ts) (unknown_alike t) ∙ ap (λ ws. unknown_term u b t ++ ws) (unknown_all ts)
+    unknown_all (t ∷ ts) = λ i. unknown_alike t i ++ unknown_all ts i
 
     misfits_alike : (ts : List TermValue) (xs : List TypedValue) → some_misfit s b ts xs ≡ some_misfit u b ts xs
     misfits_alike [] xs = refl
     misfits_alike (t ∷ ts) [] = refl
-    misfits_alike (t ∷ ts) (x ∷ xs) =
-        ap (λ ps. is_misfit ps (typed_term s b t) x || some_misfit s b ts xs) alike.pairs ∙ ap (λ o. is_misfit u.pairs o x || some_misfit s b ts xs) (typed_alike t)
-        ∙ ap (λ c. is_misfit u.pairs (typed_term u b t) x || c) (misfits_alike ts xs)
+    misfits_alike (t ∷ ts) (x ∷ xs) = λ i. is_misfit (alike.pairs i) (typed_alike t i) x || misfits_alike ts xs i
 
     has_alike : (ts : List TermValue) (g : Option Signature) → has_misfit s b ts g ≡ has_misfit u b ts g
     has_alike ts None = refl
@@ -55,13 +53,9 @@ module _ (s u : Setting) (alike : AreAlike s u) where
     uses_alike : (n : Name) (ts : List TermValue) (ps qs : List Signature) → signature_among ps n ≡ signature_among qs n
         → faults_of_use s b (record { name = n; terms = ts; declared = ps }) ≡ faults_of_use u b (record { name = n; terms = ts; declared = qs })
     uses_alike n ts ps qs same =
-        let faults = λ (c : Bool) (ws : List Name) (g : Option Signature) (m : Bool). numbered 26 (word_if (not c) n ++ ws) ++ (numbered 27 (word_if (takes_others g ts) n)
-        ++ numbered 28 (word_if m n)) in
         let there = is_among ps n ∙ ap is_some same ∙ sym (is_among qs n) in
-        ap (λ c. faults c (flat_map (unknown_term s b) ts) (signature_among ps n) (has_misfit s b ts (signature_among ps n))) there
-        ∙ ap (λ ws. faults (is_in (map symbol_of qs) n) ws (signature_among ps n) (has_misfit s b ts (signature_among ps n))) (unknown_all ts)
-        ∙ ap (λ g. faults (is_in (map symbol_of qs) n) (flat_map (unknown_term u b) ts) g (has_misfit s b ts g)) same
-        ∙ ap (faults (is_in (map symbol_of qs) n) (flat_map (unknown_term u b) ts) (signature_among qs n)) (has_alike ts (signature_among qs n))
+        let misfit = ap (has_misfit s b ts) same ∙ has_alike ts (signature_among qs n) in
+        λ i. numbered 26 (word_if (not (there i)) n ++ unknown_all ts i) ++ (numbered 27 (word_if (takes_others (same i) ts) n) ++ numbered 28 (word_if (misfit i) n))
 
     part_alike : (part : Part) → use_faults s (at b part) ≡ use_faults u (at b part)
     part_alike (says a) = uses_alike a.predicate a.terms s.predicates u.predicates (alike.predicates a.predicate)

@@ -3,6 +3,7 @@ use Rattle.std.proofs.Common.{◌≡◌, ℕ, ◌+◌, ◌<◌, ◌≤◌, Bool,
 use Rattle.std.specs.Prelude.{Contains, is_some, slice_get}
 use Rattle.std.specs.List.{flat_map}
 use Rattle.std.proofs.lemmas.List.{drop_all}
+use Rattle.std.proofs.Math.Bool.{or-false}
 use Rattle.std.proofs.lemmas.Option.{slice_get_within, get_or_from_slice_get}
 use Rattle.pddl_formula.specs.Terms.{TermValue, name, variable}
 use Rattle.pddl_formula.specs.TypedLists.{TypedValue}
@@ -50,6 +51,14 @@ fits_slot told ps (Some y) x n m fit found is slot = ap not (sym (found y.of x.o
 no_slots : (s : Setting) (b : List TypedValue) (ts : List TermValue) → some_misfit s b ts [] ≡ false
 no_slots s b [] = refl
 no_slots s b (t ∷ ts) = refl
+
+-- none is left
+module _ (s : Setting) (b : List TypedValue) (ts : List TermValue) (i : ℕ) (past : length ts ≤ i) where
+  pub all_known : flat_map (unknown_term s b) (drop i ts) ≡ flat_map (unknown_term s b) ts → flat_map (unknown_term s b) ts ≡ []
+  all_known left = sym left ∙ ap (flat_map (unknown_term s b)) (drop_all i ts past)
+
+  pub all_fit : (xs : List TypedValue) (all : Bool) → (not all || some_misfit s b (drop i ts) (drop i xs)) ≡ some_misfit s b ts xs → some_misfit s b ts xs ≡ not all
+  all_fit xs all left = sym left ∙ ap (λ us. not all || some_misfit s b us (drop i xs)) (drop_all i ts past) ∙ or-false (not all)
 
 -- a term that is in turn
 module _ (s : Setting) (b : List TypedValue) (ts : List TermValue) (xs : List TypedValue) (i : ℕ) (t : TermValue) (low : i < length ts) (at : t ≡ get_or ts i t) where

@@ -16,7 +16,7 @@ use Rattle.pddl_types.specs.Objects.{IsAtOf}
 use Rattle.pddl_types.specs.Signatures.{IsSlotsAt}
 use Rattle.pddl_types.specs.declared.signatures.Slots.{Slots}
 use Rattle.pddl_types.proofs.ToldTypes.{still_at, still_all, slots_still}
-use Rattle.pddl_names.specs.declared.known.Known.{Known}
+use Rattle.pddl_names.specs.declared.uses.Known.{Known}
 use Rattle.pddl_names.specs.Uses.{AreAllTold}
 
 -- ---- variables

@@ -79,8 +79,7 @@ module _ {A B : Type 0} (s : Setting) (b : List TypedValue) (ts : List TermValue
         let on : is_declared used ≡ true = sym (is_symbol es n) ∙ ap is_some (sym at) in
         let shape = shape_is s b ts (signature_of used) (map typed_view slots.parameters.now)
         (signature_found es n ∙ ap (option_map (λ (v : Slots A B). map typed_view v.parameters.now)) (sym at)) in
-        ap (λ c. in_turn (word_if (not c) n ++ words) (word_if (takes_others (signature_of used) ts) n) (word_if (has_misfit s b ts (signature_of used)) n)) on
-        ∙ ap (λ c. in_turn words (word_if c n) (word_if (has_misfit s b ts (signature_of used)) n)) shape.0 ∙ ap (λ c. in_turn words (word_if others n) (word_if c n)) shape.1
+        λ i. in_turn (word_if (not (on i)) n ++ words) (word_if (shape.0 i) n) (word_if (shape.1 i) n)
 
     -- a term is not known
     pub unknown_found : (e : LinkFault) → Passes {T = Unit {0}} 26 words (Err e) → IsFound {T = Unit {0}} (faults_of_use s b used) (Err e)

@@ -13,7 +13,7 @@ use Rattle.pddl_faults.specs.Found.{IsFound, numbered}
 use Rattle.pddl_faults.proofs.FoundFaults.{IsFoundUpTo, up_to_more, up_to_all, found_rest, found_same}
 use Rattle.pddl_faults.proofs.ListTurns.{rest_is}
 use Rattle.pddl_types.specs.Told.{unknown_among}
-use Rattle.pddl_names.specs.declared.known.Known.{Known}
+use Rattle.pddl_names.specs.declared.uses.Known.{Known}
 use Rattle.pddl_names.specs.Uses.{faults_by}
 use Rattle.pddl_names.proofs.FoundParts.{from_parts, passed_first}
 
@@ -50,16 +50,15 @@ module _ {A B : Type 0} (k : Known A B) (xs b : List TypedValue) (ps : List Plac
 
 -- ---- items in turn
 
-module _ {X : Type 0} (sought : Place → List (ℕ × Name)) (places : List X → List Place) (items : List X) {xs : List X} (same : items ≡ xs) {i : ℕ} {r : Result (Unit {0}) LinkFault} where
+module _ {X : Type 0} (sought : Place → List (ℕ × Name)) (places : List X → List Place) (xs : List X) {i : ℕ} {r : Result (Unit {0}) LinkFault} where
   -- the next item
-  pub one_more : {both : Result (Unit {0}) LinkFault} (one : Result (Unit {0}) LinkFault) (own : List Place) (x : X) → i < length items → x ≡ get_or items i x → ((rest : List X) → places (x ∷ rest) ≡ own ++ places rest)
+  pub one_more : {both : Result (Unit {0}) LinkFault} (one : Result (Unit {0}) LinkFault) (own : List Place) (x : X) → i < length xs → x ≡ get_or xs i x → ((rest : List X) → places (x ∷ rest) ≡ own ++ places rest)
       → Lowers r one both → IsFound (flat_map sought own) one → FoundBefore sought places xs i r → FoundBefore sought places xs (i + 1) both
   one_more one own x low is front lower here so_far =
-      let inside : i < length xs = subst (λ (ys : List X). i < length ys) same low in
-      let at : x ≡ get_or xs i x = is ∙ ap (λ (ys : List X). get_or ys i x) same in
       let rest = drop (i + 1) xs in
-      up_to_more (flat_map sought own) one (ap (λ ys. flat_map sought (places ys)) (rest_is xs i x inside at) ∙ ap (flat_map sought) (front rest) ∙ flat_map-append sought own (places rest)) lower here so_far
+      up_to_more (flat_map sought own) one (ap (λ ys. flat_map sought (places ys)) (rest_is xs i x low is) ∙ ap (flat_map sought) (front rest) ∙ flat_map-append sought own (places rest)) lower here so_far
 
   -- no item is left
-  pub at_end : length items ≤ i → places [] ≡ [] → FoundBefore sought places xs i r → IsFound (flat_map sought (places xs)) r
-  at_end past none so_far = up_to_all (ap (λ ys. flat_map sought (places ys)) (drop_all i xs (subst (λ (ys : List X). length ys ≤ i) same past)) ∙ ap (flat_map sought) none) so_far
+  pub at_end : {all : List X} → length xs ≤ i → places [] ≡ [] → xs ≡ all → FoundBefore sought places xs i r → IsFound (flat_map sought (places all)) r
+  at_end past none same so_far =
+      subst (λ (ys : List X). IsFound (flat_map sought (places ys)) r) same (up_to_all (ap (λ ys. flat_map sought (places ys)) (drop_all i xs past) ∙ ap (flat_map sought) none) so_far)

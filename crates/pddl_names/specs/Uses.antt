@@ -12,7 +12,7 @@ use Rattle.pddl_faults.specs.Found.{numbered}
 use Rattle.pddl_types.specs.KnownNames.{signature_in, object_in}
 use Rattle.pddl_types.specs.Told.{ToldValue, IsAt, AreAt, AreTold, unknown_among}
 use Rattle.pddl_types.specs.Signatures.{AreSlotsAt}
-use Rattle.pddl_names.specs.declared.known.Known.{Known}
+use Rattle.pddl_names.specs.declared.uses.Known.{Known}
 
 -- ---- faults at a place
 

@@ -1,6 +1,6 @@
 //! The files that are looked at, in the order of the canonical text: what they declare, and what they use.
 
-ghost use Rattle.std.specs.Prelude.{◌≡◌, [], map, drop, IfOk, OnOk};
+ghost use Rattle.std.specs.Prelude.{◌≡◌, [], map, IfOk, OnOk};
 ghost use Rattle.std.specs.List.{flat_map};
 ghost use Rattle.pddl_domain.specs.Domains.{domain_view};
 ghost use Rattle.pddl_problem.specs.Problems.{problem_view};
@@ -18,7 +18,7 @@ ghost use Rattle.pddl_names.specs.Uses.{place_faults};
 ghost use Rattle.pddl_names.specs.FaultParts.{problem_in, joined, declared_typed, action_faults, domain_parts, problem_parts};
 ghost use Rattle.pddl_names.specs.Held.{HoldDomain, HoldAll};
 
-use crate::known::Known;
+use crate::uses::Known;
 use crate::walk::{search_actions, search_problem};
 use indexmap::IndexSet;
 use pddl_domain::Domain;
@@ -118,17 +118,6 @@ impl<'t, 'm, 'a, A: Allocator, B: Allocator> Files<'t, 'm, 'a, A, B> {
         search_problem(&known, &mut declared.told, &mut scope, problem)
     }
 
-    /// The lowest fault of a problem's initial state, objects and metric, each looked at alone.
-    fn look_at_parts(&self, problem: &'m Problem<A>) -> Result<(), LinkFault<'m>>
-        ensures { IsFound (joined (drop 3 (problem_parts self.now.types.now.declared (domain_view self.now.domain.now) (problem_view problem.now)))) result }
-    {
-        let hashed = self.types.hashed();
-        let literals = contradictions(self.alloc, hashed, &problem.init);
-        let init = lower(literals, cost_values(self.alloc, hashed, &problem.init));
-        let others = lower(object_types(&problem.objects), metric(&problem.metric));
-        lower(init, others)
-    }
-
     /// The lowest fault of the problem from 23 on but for the size of the goal. Its objects are added behind the domain's constants.
     pub fn look_at_problem(
         &self,
@@ -141,10 +130,14 @@ impl<'t, 'm, 'a, A: Allocator, B: Allocator> Files<'t, 'm, 'a, A, B> {
     {
         match self.problem {
             Some(problem) => {
-                let parts = self.look_at_parts(problem);
+                let hashed = self.types.hashed();
+                let literals = contradictions(self.alloc, hashed, &problem.init);
+                let init = lower(literals, cost_values(self.alloc, hashed, &problem.init));
+                let others = lower(object_types(&problem.objects), metric(&problem.metric));
+                let alone = lower(init, others);
                 let objects = listed.add(self.types, &mut declared.told, &problem.objects)?;
                 let places = self.look_at_places(&*listed, declared, problem);
-                lower(objects, lower(places, parts))
+                lower(objects, lower(places, alone))
             }
             None => Ok(()),
         }

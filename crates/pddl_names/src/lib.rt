@@ -1,10 +1,9 @@
 //! Looks for the faults of linking from 23 on, in the order of the canonical text: what is declared and bound, and what is used.
 //!
-//! `walk.rt` goes through formulas, effects, actions and `:init`, and `uses.rt` looks at what stands at one place, by what `known.rt` has.
+//! `walk.rt` goes through formulas, effects, actions and `:init`, and `uses.rt` looks at what stands at one place, by what may be named there.
 #![tactic(auto)]
 
 mod files;
-mod known;
 mod repeats;
 mod uses;
 mod walk;

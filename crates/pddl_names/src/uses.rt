@@ -1,13 +1,13 @@
 //! What is looked for at one place: names that are not known, other numbers of terms than declared, terms that do not fit their slots, and numbers that are
 //! not whole, with one look-up of each name; and variables that are bound.
 
-ghost use Rattle.std.specs.Prelude.{◌≡◌, [], ◌∷◌, not, map, drop, length, IfOk, MatchResult};
+ghost use Rattle.std.specs.Prelude.{◌≡◌, [], ◌∷◌, map, drop, length, IfOk, MatchResult};
 ghost use Rattle.std.specs.List.{flat_map};
 ghost use Rattle.pddl_formula.specs.Terms.{term_view};
 ghost use Rattle.pddl_formula.specs.TypedLists.{typed_view};
 ghost use Rattle.pddl_task.specs.Names.{item_of, repeated};
 ghost use Rattle.pddl_task.specs.Places.{at, binding};
-ghost use Rattle.pddl_task.specs.Faults.{typed_term, unknown_term, some_misfit};
+ghost use Rattle.pddl_task.specs.Faults.{typed_term, unknown_term};
 ghost use Rattle.pddl_faults.specs.Passes.{Passes};
 ghost use Rattle.pddl_faults.specs.Found.{IsFound, numbered};
 ghost use Rattle.pddl_search.specs.Parts.{term_in, terms_in, part_in};
@@ -15,15 +15,24 @@ ghost use Rattle.pddl_search.specs.Scopes.{bound_in};
 ghost use Rattle.pddl_types.specs.KnownNames.{signature_in};
 ghost use Rattle.pddl_types.specs.Told.{ToldValue, unknown_among};
 ghost use Rattle.pddl_types.specs.Objects.{IsAtOf};
-ghost use Rattle.pddl_types.specs.Signatures.{IsSlotsAt, AreSlotsAt};
+ghost use Rattle.pddl_types.specs.Signatures.{AreSlotsAt};
 ghost use Rattle.pddl_names.specs.Uses.{setting_of, faults_by, faults_of_use, AreAllTold};
 
-use crate::known::Known;
 use pddl_faults::{LinkFault, lower};
 use pddl_formula::{Term, TypedList};
 use pddl_search::{LentTerm, Part, Scope, Terms};
-use pddl_types::{Signatures, Slots, Told};
+use pddl_types::{Listed, Signatures, Told, Types};
 use std::alloc::Allocator;
+
+/// What may be named: types, predicates, functions, and the objects that are listed so far.
+#[derive(Drop)]
+pub(crate) struct Known<'k, 'm, 'a, A: Allocator, B: Allocator> {
+    pub(crate) alloc: &'a B,
+    pub(crate) types: &'k Types<'m, 'a, A, B>,
+    pub(crate) predicates: &'k Signatures<'m, 'a, A, B>,
+    pub(crate) functions: &'k Signatures<'m, 'a, A, B>,
+    pub(crate) listed: &'k Listed<'m, 'a, A, B>,
+}
 
 /// The number at which the type of a term is told; `None` where the term is not known.
 fn type_of<'k, 'm, 'a, A: Allocator, B: Allocator>(
@@ -39,37 +48,8 @@ fn type_of<'k, 'm, 'a, A: Allocator, B: Allocator>(
     }
 }
 
-/// Whether each term fits its slot; a term without a slot, or a slot without a term, is another fault.
-///
-/// Fails where a term is not known, or memory is refused.
-fn terms_fit<'k, 'm, 'a, 'd, A: Allocator, B: Allocator>(
-    known: &Known<'k, 'm, 'a, A, B>,
-    told: &mut Told<'m, 'a, A, B>,
-    scope: &Scope<'m, 'a, A, B>,
-    terms: &Terms<'d, A>,
-    slots: &Slots<'m, 'a, A, B>,
-) -> Result<bool, LinkFault<'d>>
-    requires told { AreAllTold known.now told.old scope.now }
-    requires slots { IsSlotsAt told.old slots.now }
-    ensures kept { told.new ≡ told.old }
-    ensures passes { Passes 26 (flat_map (unknown_term (setting_of known.now) (bound_in scope.now)) (terms_in terms.now)) result }
-    ensures fits { IfOk result (λ fits. some_misfit (setting_of known.now) (bound_in scope.now) (terms_in terms.now) (map typed_view slots.now.parameters.now) ≡ not fits) }
-{
-    let mut all_fit = true;
-    for i in 0..terms.len() {
-        let term = terms.at(i);
-        let Some(number) = type_of(known, scope, &term) else {
-            return Err(LinkFault::UnknownName(term.name()));
-        };
-        if let Some(slot) = slots.numbers.get(i) {
-            let fits = told.fits(known.types, number, *slot)?;
-            all_fit = all_fit && fits;
-        }
-    }
-    Ok(all_fit)
-}
-
-/// The lowest of the faults of a predicate or a function with its terms.
+/// The lowest of the faults of a predicate or a function with its terms. A term without a slot, or a slot without a term, is another fault than one that
+/// does not fit.
 fn look_at_use<'k, 'm, 'a, 'd, A: Allocator, B: Allocator>(
     known: &Known<'k, 'm, 'a, A, B>,
     told: &mut Told<'m, 'a, A, B>,
@@ -86,7 +66,16 @@ fn look_at_use<'k, 'm, 'a, 'd, A: Allocator, B: Allocator>(
     let Some(slots) = declared.get(symbol) else {
         return Err(LinkFault::UnknownName(symbol));
     };
-    let all_fit = terms_fit(known, told, scope, terms, slots)?;
+    let mut all_fit = true;
+    for i in 0..terms.len() {
+        let term = terms.at(i);
+        let Some(number) = type_of(known, scope, &term) else {
+            return Err(LinkFault::UnknownName(term.name()));
+        };
+        if let Some(slot) = slots.numbers.get(i) {
+            all_fit &= told.fits(known.types, number, *slot)?;
+        }
+    }
     if terms.len() != slots.parameters.len() {
         Err(LinkFault::Arity(symbol))
     } else if all_fit {

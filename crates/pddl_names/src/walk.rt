@@ -4,22 +4,21 @@
 
 ghost use Rattle.std.specs.Prelude.{◌≡◌, [], map, option_map};
 ghost use Rattle.std.specs.List.{flat_map};
-ghost use Rattle.pddl_formula.specs.Formulas.{formula_view, formulas_of};
-ghost use Rattle.pddl_effect.specs.Effects.{amount_view, effect_view, effects_of, increase};
+ghost use Rattle.pddl_formula.specs.Formulas.{formula_view};
+ghost use Rattle.pddl_effect.specs.Effects.{effect_view};
 ghost use Rattle.pddl_domain.specs.Actions.{action_view};
 ghost use Rattle.pddl_problem.specs.Inits.{init_view, metric_view};
 ghost use Rattle.pddl_problem.specs.Problems.{problem_view};
-ghost use Rattle.pddl_task.specs.Places.{places_in, places_in_all, effect_places, effects_places, action_places, init_places, metric_places, problem_places};
+ghost use Rattle.pddl_task.specs.Places.{places_in, effect_places, action_places, init_places, metric_places, problem_places};
 ghost use Rattle.pddl_faults.specs.Found.{IsFound};
 ghost use Rattle.pddl_search.specs.Scopes.{bound_in};
 ghost use Rattle.pddl_names.specs.Uses.{faults_by, AreAllTold};
 ghost use Rattle.pddl_names.specs.FaultParts.{action_faults};
 
-use crate::known::Known;
-use crate::uses::{enter, look};
+use crate::uses::{Known, enter, look};
 use indexmap::IndexSet;
 use pddl_domain::Action;
-use pddl_effect::{Amount, Effect};
+use pddl_effect::Effect;
 use pddl_faults::{LinkFault, lower, once};
 use pddl_formula::Formula;
 use pddl_hash::Hashed;
@@ -29,7 +28,6 @@ use pddl_types::Told;
 use std::alloc::Allocator;
 
 /// Searches a formula.
-#[cycle(formulas)]
 fn search_formula<'k, 'm, 'a, A: Allocator, B: Allocator>(
     known: &Known<'k, 'm, 'a, A, B>,
     told: &mut Told<'m, 'a, A, B>,
@@ -49,7 +47,13 @@ fn search_formula<'k, 'm, 'a, A: Allocator, B: Allocator>(
             let first = search_formula(known, told, scope, first);
             lower(first, search_formula(known, told, scope, second))
         }
-        Formula::And(parts) | Formula::Or(parts) => search_formulas(known, told, scope, parts),
+        Formula::And(parts) | Formula::Or(parts) => {
+            let mut found = Ok(());
+            for part in parts {
+                found = lower(found, search_formula(known, told, scope, part));
+            }
+            found
+        }
         Formula::Exists(variables, inner) | Formula::Forall(variables, inner) => {
             let repeated = enter(known, told, scope, variables)?;
             let found = search_formula(known, told, scope, inner);
@@ -59,43 +63,7 @@ fn search_formula<'k, 'm, 'a, A: Allocator, B: Allocator>(
     }
 }
 
-/// Searches formulas in turn.
-#[cycle(formulas)]
-fn search_formulas<'k, 'm, 'a, A: Allocator, B: Allocator>(
-    known: &Known<'k, 'm, 'a, A, B>,
-    told: &mut Told<'m, 'a, A, B>,
-    scope: &mut Scope<'m, 'a, A, B>,
-    formulas: &'m Vec<Formula<A>, A>,
-) -> Result<(), LinkFault<'m>>
-    requires { AreAllTold known.now told.old scope.old }
-    ensures told { AreAllTold known.now told.new scope.new }
-    ensures kept { scope.new ≡ scope.old }
-    ensures found { IsFound (flat_map (faults_by known.now) (places_in_all (formulas_of (map formula_view formulas.now.items)) (bound_in scope.old))) result }
-{
-    let mut found = Ok(());
-    for formula in formulas {
-        found = lower(found, search_formula(known, told, scope, formula));
-    }
-    found
-}
-
-/// Searches an increase of the costs.
-fn search_increase<'k, 'm, 'a, 'd, A: Allocator, B: Allocator>(
-    known: &Known<'k, 'm, 'a, A, B>,
-    told: &mut Told<'m, 'a, A, B>,
-    scope: &Scope<'m, 'a, A, B>,
-    amount: &'d Amount<A>,
-) -> Result<(), LinkFault<'d>>
-    requires { AreAllTold known.now told.old scope.now }
-    ensures kept { told.new ≡ told.old }
-    ensures found { IsFound (flat_map (faults_by known.now) (effect_places (increase (amount_view amount.now)) (bound_in scope.now))) result }
-{
-    let cost = look(known, told, scope, &Part::total_cost());
-    lower(cost, look(known, told, scope, &Part::of_amount(amount)))
-}
-
 /// Searches an effect.
-#[cycle(effects)]
 fn search_effect<'k, 'm, 'a, A: Allocator, B: Allocator>(
     known: &Known<'k, 'm, 'a, A, B>,
     told: &mut Told<'m, 'a, A, B>,
@@ -108,7 +76,13 @@ fn search_effect<'k, 'm, 'a, A: Allocator, B: Allocator>(
     ensures found { IsFound (flat_map (faults_by known.now) (effect_places (effect_view effect.now) (bound_in scope.old))) result }
 {
     match effect {
-        Effect::And(parts) => search_effects(known, told, scope, parts),
+        Effect::And(parts) => {
+            let mut found = Ok(());
+            for part in parts {
+                found = lower(found, search_effect(known, told, scope, part));
+            }
+            found
+        }
         Effect::Forall(variables, inner) => {
             let repeated = enter(known, told, scope, variables)?;
             let found = search_effect(known, told, scope, inner);
@@ -120,28 +94,11 @@ fn search_effect<'k, 'm, 'a, A: Allocator, B: Allocator>(
             lower(condition, search_effect(known, told, scope, inner))
         }
         Effect::Add(atom) | Effect::Del(atom) => look(known, told, &*scope, &Part::of_atom(atom)),
-        Effect::Increase(amount) => search_increase(known, told, &*scope, amount),
+        Effect::Increase(amount) => {
+            let cost = look(known, told, &*scope, &Part::total_cost());
+            lower(cost, look(known, told, &*scope, &Part::of_amount(amount)))
+        }
     }
-}
-
-/// Searches effects in turn.
-#[cycle(effects)]
-fn search_effects<'k, 'm, 'a, A: Allocator, B: Allocator>(
-    known: &Known<'k, 'm, 'a, A, B>,
-    told: &mut Told<'m, 'a, A, B>,
-    scope: &mut Scope<'m, 'a, A, B>,
-    effects: &'m Vec<Effect<A>, A>,
-) -> Result<(), LinkFault<'m>>
-    requires { AreAllTold known.now told.old scope.old }
-    ensures told { AreAllTold known.now told.new scope.new }
-    ensures kept { scope.new ≡ scope.old }
-    ensures found { IsFound (flat_map (faults_by known.now) (effects_places (effects_of (map effect_view effects.now.items)) (bound_in scope.old))) result }
-{
-    let mut found = Ok(());
-    for effect in effects {
-        found = lower(found, search_effect(known, told, scope, effect));
-    }
-    found
 }
 
 /// Searches an action: its parameters, its precondition and its effect.

@@ -1,6 +1,5 @@
-use Rattle.std.proofs.Common.{not, Ok, Err, refl, ap, ◌∙◌, arith}
+use Rattle.std.proofs.Common.{◌<◌, length, map, not, Ok, Err, refl, ap, ◌∙◌, arith}
 use Rattle.std.proofs.lemmas.List.{length-map}
-use Rattle.std.proofs.lemmas.Result.{err_from_is_err_and}
 use Rattle.pddl_formula.specs.TypedLists.{typed_view}
 use Rattle.pddl_task.specs.Names.{word_if}
 use Rattle.pddl_faults.specs.declared.fault.LinkFault.TheVariants as link
@@ -8,39 +7,85 @@ use Rattle.pddl_search.specs.Parts.{terms_in}
 use Rattle.pddl_search.specs.Scopes.{bound_in}
 use Rattle.pddl_names.specs.Uses.{setting_of}
 use Rattle.pddl_names.proofs.UseFaults.{undeclared_found, declared_slots, unknown_found, others_found, misfit_found, has_word}
+use Rattle.pddl_names.proofs.TermSlots.{known_term, unknown_here, known_here, fits_slot, fits_here, past_here, all_known, all_fit}
+use Rattle.pddl_names.proofs.ToldUses.{slot_there, no_slot}
 use Rattle.pddl_names.proofs.uses.look_at_use.Goals as goal
+use Rattle.pddl_names.proofs.uses.look_at_use.Goals.{in-Some-get+in_ok-all_fit, in_default-get}
 
 pub returns-in_default-clause-found : goal.returns-in_default-clause-found
 returns-in_default-clause-found g c =
     undeclared_found (setting_of c.args.known.now) (bound_in c.args.scope.now) (terms_in c.args.terms.now) c.args.declared.now.entries c.args.symbol.now (link.UnknownName c.args.symbol)
     c.in_default.ensures.value (λ words k. (refl, k))
 
-pub terms_fit-requires-clause-slots : goal.terms_fit-requires-clause-slots
-terms_fit-requires-clause-slots g c =
-    declared_slots (setting_of c.args.known.now) (bound_in c.args.scope.now) (terms_in c.args.terms.now) c.args.declared.now.entries c.args.symbol.now c.in-Some.slots.now c.in-Some.ensures.value
-    c.args.told.now c.requires.slots
+pub returns-in_default-type_of-clause-found : goal.returns-in_default-type_of-clause-found
+returns-in_default-type_of-clause-found g c =
+    let s = setting_of c.args.known.now in
+    let b = bound_in c.args.scope.now in
+    let ts = terms_in c.args.terms.now in
+    let slots = c.in-Some.slots.now in
+    let typed = rw c.in_default-type_of.is at c.type_of.ensures c.args.told.now c.requires.told in
+    unknown_found s b ts c.args.declared.now.entries c.args.symbol.now slots c.in-Some.ensures.value (link.UnknownName c.name.result) (rw c.name.ensures (
+      refl,
+      unknown_here s b ts (map typed_view slots.parameters.now) c.loop-i.i _ (omega (arith, c.len-i-end.ensures)) c.at-term.ensures _ _ c.loop-i.invariant.unknown (known_term s b _ c.args.told.now _ typed),
+    ))
 
-pub returns-in_err-all_fit-clause-found : goal.returns-in_err-all_fit-clause-found
-returns-in_err-all_fit-clause-found g c =
-    let p = err_from_is_err_and c.from_residual.result c.from_residual.ensures.1 in
-    rw (p.1, p.2)
-    (unknown_found (setting_of c.args.known.now) (bound_in c.args.scope.now) (terms_in c.args.terms.now) c.args.declared.now.entries c.args.symbol.now c.in-Some.slots.now c.in-Some.ensures.value
-    c.in_err-all_fit.field-0.0 c.in_err-all_fit.ensures.passes)
+pub loop-i-preserved : goal.loop-i-preserved
+loop-i-preserved g c =
+    let s = setting_of c.args.known.now in
+    let b = bound_in c.args.scope.now in
+    let told = c.args.told.now in
+    let all = terms_in c.args.terms.now in
+    let slots = c.in-Some.slots.now in
+    let at_slots = declared_slots s b all c.args.declared.now.entries c.args.symbol.now slots c.in-Some.ensures.value told c.requires.slots in
+    let xs = map typed_view slots.parameters.now in
+    let i = c.loop-i.i in
+    let before = c.loop-i.invariant in
+    let low : i < length all = omega (arith, c.len-i-end.ensures) in
+    let typed = c.in-Some-type_of.ensures told c.requires.told in
+    let known = known_here s b all xs i _ low c.at-term.ensures _ before.unknown (known_term s b _ told _ typed) in
+    let item = rw c.deref.ensures.value at c.get-in-loop-i.ensures.lookup in
+    elim c.match-get-2.branch [
+      | in-Some-get+in_ok-all_fit w ↦
+          let slot = slot_there told slots at_slots i w.in-Some-get.slot (rw w.in-Some-get.is at item) in
+          let fit = fits_slot told s.pairs _ slot.0 c.in-Some-type_of.number _ w.in_ok-all_fit.field-0 (rw before.kept at w.in_ok-all_fit.ensures.fits) typed slot.2 in
+          record {
+            kept = w.told-is ∙ w.in_ok-all_fit.ensures.kept ∙ before.kept;
+            unknown = known;
+            misfit = fits_here s b all xs i _ low c.at-term.ensures slot.0 w.in_ok-all_fit.field-0 c.loop-i.all_fit _ _ slot.1 fit w.all_fit-is before.misfit;
+          }
+      | in_default-get w ↦ record {
+        kept = w.told-is ∙ before.kept;
+        unknown = known;
+        misfit = rw w.all_fit-is (past_here s b all xs i _ low c.at-term.ensures c.loop-i.all_fit _ (no_slot told slots at_slots i (rw w.in_default-get.is at item)) before.misfit);
+      }
+    ]
 
 pub returns-then-len-slots-clause-found : goal.returns-then-len-slots-clause-found
 returns-then-len-slots-clause-found g c =
-    others_found (setting_of c.args.known.now) (bound_in c.args.scope.now) (terms_in c.args.terms.now) c.args.declared.now.entries c.args.symbol.now c.in-Some.slots.now c.in-Some.ensures.value
-    (link.Arity c.args.symbol) c.in_ok-all_fit.ensures.passes (λ is. omega (arith, is, c.len.ensures, length-map c.in-Some.slots.now.parameters.now typed_view, c.if-len-slots.true))
-    (λ words k. (refl, k))
+    let s = setting_of c.args.known.now in
+    let b = bound_in c.args.scope.now in
+    let ts = terms_in c.args.terms.now in
+    let slots = c.in-Some.slots.now in
+    let known = all_known s b ts c.loop-i.i (omega (arith, c.len-i-end.ensures)) c.loop-i.invariant.unknown in
+    others_found s b ts c.args.declared.now.entries c.args.symbol.now slots c.in-Some.ensures.value (link.Arity c.args.symbol) known
+    (λ is. omega (arith, is, c.len.ensures, length-map slots.parameters.now typed_view, c.if-len-slots.true)) (λ words k. (refl, k))
 
 pub returns-else-all_fit-clause-found : goal.returns-else-all_fit-clause-found
 returns-else-all_fit-clause-found g c =
-    misfit_found (setting_of c.args.known.now) (bound_in c.args.scope.now) (terms_in c.args.terms.now) c.args.declared.now.entries c.args.symbol.now c.in-Some.slots.now c.in-Some.ensures.value
-    (Err (link.ArgumentType c.args.symbol)) c.in_ok-all_fit.ensures.passes (omega (arith, c.len.ensures, length-map c.in-Some.slots.now.parameters.now typed_view, c.if-len-slots.false))
-    (refl, has_word _ c.args.symbol.now (c.in_ok-all_fit.ensures.fits ∙ ap not c.if-all_fit.false))
+    let s = setting_of c.args.known.now in
+    let b = bound_in c.args.scope.now in
+    let ts = terms_in c.args.terms.now in
+    let slots = c.in-Some.slots.now in
+    let known = all_known s b ts c.loop-i.i (omega (arith, c.len-i-end.ensures)) c.loop-i.invariant.unknown in
+    misfit_found s b ts c.args.declared.now.entries c.args.symbol.now slots c.in-Some.ensures.value (Err (link.ArgumentType c.args.symbol)) known
+    (omega (arith, c.len.ensures, length-map slots.parameters.now typed_view, c.if-len-slots.false)) (refl, has_word _ c.args.symbol.now (all_fit s b ts c.loop-i.i (omega (arith, c.len-i-end.ensures)) (map typed_view slots.parameters.now) _ c.loop-i.invariant.misfit ∙ ap not c.if-all_fit.false))
 
 pub returns-then-all_fit-clause-found : goal.returns-then-all_fit-clause-found
 returns-then-all_fit-clause-found g c =
-    misfit_found (setting_of c.args.known.now) (bound_in c.args.scope.now) (terms_in c.args.terms.now) c.args.declared.now.entries c.args.symbol.now c.in-Some.slots.now c.in-Some.ensures.value
-    (Ok tt) c.in_ok-all_fit.ensures.passes (omega (arith, c.len.ensures, length-map c.in-Some.slots.now.parameters.now typed_view, c.if-len-slots.false))
-    (ap (λ misfit. word_if misfit c.args.symbol.now) (c.in_ok-all_fit.ensures.fits ∙ ap not c.if-all_fit.true))
+    let s = setting_of c.args.known.now in
+    let b = bound_in c.args.scope.now in
+    let ts = terms_in c.args.terms.now in
+    let slots = c.in-Some.slots.now in
+    let known = all_known s b ts c.loop-i.i (omega (arith, c.len-i-end.ensures)) c.loop-i.invariant.unknown in
+    misfit_found s b ts c.args.declared.now.entries c.args.symbol.now slots c.in-Some.ensures.value (Ok tt) known
+    (omega (arith, c.len.ensures, length-map slots.parameters.now typed_view, c.if-len-slots.false)) (ap (λ misfit. word_if misfit c.args.symbol.now) (all_fit s b ts c.loop-i.i (omega (arith, c.len-i-end.ensures)) (map typed_view slots.parameters.now) _ c.loop-i.invariant.misfit ∙ ap not c.if-all_fit.true))

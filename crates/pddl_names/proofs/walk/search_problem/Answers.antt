@@ -19,7 +19,7 @@ search_item-requires-clause-told g c = rw c.loop-item.invariant.kept c.requires.
 pub loop-item-preserved : goal.loop-item-preserved
 loop-item-preserved g c = record {
   kept = c.search_item.ensures.kept ∙ c.loop-item.invariant.kept;
-  so_far = one_more (faults_by c.args.known.now) (λ items. flat_map init_places (map init_view items)) c.deref-item-items.result.now c.deref-item-items.ensures.value c.search_item.result (init_places (init_view c.item-item.result)) c.item-item.result
+  so_far = one_more (faults_by c.args.known.now) (λ items. flat_map init_places (map init_view items)) c.deref-item-items.result.now c.search_item.result (init_places (init_view c.item-item.result)) c.item-item.result
       c.loop-item-test.true c.item-item.is (λ rest. refl) c.lower-init.ensures.found c.search_item.ensures.found c.loop-item.invariant.so_far;
 }
 
@@ -33,7 +33,7 @@ returns-clause-found g c =
     let first = flat_map init_places (map init_view p.init.items) in
     let goal = places_in (formula_view p.goal) [] in
     let last = metric_places (option_map metric_view p.metric) in
-    let init = at_end sought (λ items. flat_map init_places (map init_view items)) c.deref-item-items.result.now c.deref-item-items.ensures.value c.loop-item-test.false refl c.loop-item.invariant.so_far in
+    let init = at_end sought (λ items. flat_map init_places (map init_view items)) c.deref-item-items.result.now c.loop-item-test.false refl c.deref-item-items.ensures.value c.loop-item.invariant.so_far in
     rw append_assoc
     (in_turn sought first (goal ++ last) c.loop-item.init c.lower.result c.lower-2.result c.lower-2.ensures.found init
     (in_turn sought goal last c.search_formula-goal.result c.search_metric-metric.result c.lower.result c.lower.ensures.found (rw c.requires.empty at c.search_formula-goal.ensures.found)

@@ -9,5 +9,5 @@ use Rattle.pddl_names.proofs.walk.search_problem.Given as goal
 abbrev pub invariant-loop-item : goal.invariant-loop-item
 invariant-loop-item g l = record {
   kept : l.told ≡ l.fn.told;
-  so_far : FoundBefore (faults_by l.known) (λ items. flat_map init_places (map init_view items)) l.problem.init.items l.item-index l.init;
+  so_far : FoundBefore (faults_by l.known) (λ items. flat_map init_places (map init_view items)) l.item-items l.item-index l.init;
 }

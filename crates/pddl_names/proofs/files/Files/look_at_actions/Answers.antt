@@ -1,11 +1,9 @@
 use Rattle.std.proofs.Common.{[], map, subst}
 use Rattle.pddl_domain.specs.Actions.{action_view}
 use Rattle.pddl_domain.specs.Domains.{domain_view}
-use Rattle.pddl_task.specs.Settings.{in_domain}
 use Rattle.pddl_faults.specs.Found.{IsFound}
-use Rattle.pddl_names.specs.Uses.{place_faults}
 use Rattle.pddl_names.specs.FaultParts.{action_faults}
-use Rattle.pddl_names.proofs.HeldFiles.{nothing_bound, known_faults}
+use Rattle.pddl_names.proofs.HeldFiles.{symbols_still, nothing_bound, known_faults}
 use Rattle.pddl_names.proofs.files.Files.look_at_actions.Goals as goal
 
 pub search_actions-requires-clause-told : goal.search_actions-requires-clause-told
@@ -18,12 +16,7 @@ returns-clause-held g c =
     let h = c.requires in
     let still = c.search_actions.ensures.told in
     record {
-      symbols = record {
-        told = still.types;
-        predicates = record { first = h.symbols.predicates.first; slots = still.predicates };
-        functions = record { first = h.symbols.functions.first; slots = still.functions };
-        actions = h.symbols.actions;
-      };
+      symbols = symbols_still still.types still.predicates still.functions h.symbols;
       constants_are = record { named = h.constants_are.named; objects = h.constants_are.objects; types = still.objects };
     }
 
@@ -32,6 +25,5 @@ returns-clause-found g c =
     let f = c.args.self.now in
     let d = domain_view f.domain.now in
     let h = c.requires in
-    subst (λ xs. IsFound (action_faults (place_faults f.types.now.declared (in_domain d)) [] (map action_view xs)) c.search_actions.result) c.deref.ensures.value
-    (subst (λ sought. IsFound (action_faults sought [] (map action_view c.deref.result.now)) c.search_actions.result)
-    (known_faults f.types.now d f.typed h.symbols.predicates.first h.symbols.functions.first h.constants_are.objects) c.search_actions.ensures.found)
+    let sought = known_faults f.types.now d f.typed h.symbols.predicates.first h.symbols.functions.first h.constants_are.objects in
+    subst (λ fs. IsFound fs c.search_actions.result) (λ i. action_faults (sought i) [] (map action_view (c.deref.ensures.value i))) c.search_actions.ensures.found

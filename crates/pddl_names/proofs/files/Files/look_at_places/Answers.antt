@@ -4,7 +4,7 @@ use Rattle.pddl_domain.specs.Domains.{domain_view}
 use Rattle.pddl_problem.specs.Problems.{problem_view}
 use Rattle.pddl_task.specs.Places.{problem_places}
 use Rattle.pddl_faults.specs.Found.{IsFound}
-use Rattle.pddl_names.proofs.HeldFiles.{nothing_bound, known_faults}
+use Rattle.pddl_names.proofs.HeldFiles.{symbols_still, nothing_bound, known_faults}
 use Rattle.pddl_names.proofs.files.Files.look_at_places.Goals as goal
 
 pub search_problem-requires-clause-told : goal.search_problem-requires-clause-told
@@ -17,12 +17,7 @@ returns-clause-held g c =
     let h = c.requires in
     let still = c.search_problem.ensures.told in
     record {
-      symbols = record {
-        told = still.types;
-        predicates = record { first = h.symbols.predicates.first; slots = still.predicates };
-        functions = record { first = h.symbols.functions.first; slots = still.functions };
-        actions = h.symbols.actions;
-      };
+      symbols = symbols_still still.types still.predicates still.functions h.symbols;
       objects_are = record { named = h.objects_are.named; objects = h.objects_are.objects; types = still.objects };
     }
 

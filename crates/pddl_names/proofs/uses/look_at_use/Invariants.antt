@@ -5,7 +5,7 @@ use Rattle.pddl_task.specs.Faults.{unknown_term, some_misfit}
 use Rattle.pddl_search.specs.Parts.{terms_in}
 use Rattle.pddl_search.specs.Scopes.{bound_in}
 use Rattle.pddl_names.specs.Uses.{setting_of}
-use Rattle.pddl_names.proofs.uses.terms_fit.Given as goal
+use Rattle.pddl_names.proofs.uses.look_at_use.Given as goal
 
 -- the words of the whole are those of what is left, and some term of the whole does not fit where one did not so far, or one of those
 -- that are left does not

@@ -4,11 +4,11 @@ use Rattle.pddl_task.specs.Places.{effects_places}
 use Rattle.pddl_search.specs.Scopes.{bound_in}
 use Rattle.pddl_names.specs.Uses.{faults_by, AreAllTold}
 use Rattle.pddl_names.proofs.Walks.{FoundBefore}
-use Rattle.pddl_names.proofs.walk.+effects.Given as goal
+use Rattle.pddl_names.proofs.walk.+search_effect.Given as goal
 
-abbrev pub invariant-search_effects-loop-effect : goal.invariant-search_effects-loop-effect
-invariant-search_effects-loop-effect g l = record {
+abbrev pub invariant-loop-part : goal.invariant-loop-part
+invariant-loop-part g l = record {
   told : AreAllTold l.known l.told l.scope;
   kept : l.scope ≡ l.fn.scope;
-  so_far : FoundBefore (faults_by l.known) (λ es. effects_places (effects_of (map effect_view es)) (bound_in l.fn.scope)) l.effects.items l.effect-index l.found;
+  so_far : FoundBefore (faults_by l.known) (λ es. effects_places (effects_of (map effect_view es)) (bound_in l.fn.scope)) l.part-items l.part-index l.found;
 }
