@@ -22,7 +22,7 @@ use Rattle.pddl_types.specs.KnownNames.{action_signature}
 use Rattle.pddl_types.specs.Told.{ToldValue, first_at, AreAt, AreTold, unknown_among}
 use Rattle.pddl_types.specs.TypeSpans.{TypesValue, AreNumbered}
 use Rattle.pddl_names.specs.FaultParts.{part_rules}
-use Rattle.pddl_types.specs.Signatures.{IsDeclaredOnce}
+use Rattle.pddl_types.specs.Known.{IsDeclaredOnce}
 use Rattle.pddl_linked_task.proofs.OnceNamed.{once_declared}
 use Rattle.pddl_types.proofs.ListedObjects.{are_numbered}
 use Rattle.pddl_types.proofs.UnknownTypes.{unknown-append}
@@ -52,12 +52,8 @@ module _ (d : DomainValue) (p : ProblemValue) (named : NoneStands (map (fault_in
       (nil_parts (unknown_types d front) (unknown_types d bound) (sym (unknown-append d.types front bound) ∙ (nil_parts (unknown_types d (domain_typed d)) (unknown_types d (problem_typed p)) named.0).0)).1
 
   -- so no fault is found where actions are put into a table
-  pub actions_right : (ts : List TypeValue) → ts ≡ d.types
-      → numbered 23 (unknown_among ts (flat_map parameters_of (map action_signature d.actions))) ++ numbered 24 (repeated [] (map symbol_of (map action_signature d.actions))) ≡ []
-  actions_right ts same =
-      let parameters = flat_map parameters_of (map action_signature d.actions) in
-      let twice = repeated [] (map symbol_of (map action_signature d.actions)) in
-      ap (λ us. numbered 23 (unknown_among us parameters) ++ numbered 24 twice) same ∙ ap (λ ws. numbered 23 ws ++ numbered 24 twice) parameters_known ∙ ap (numbered 24) declared_once.actions
+  pub actions_right : numbered 23 (unknown_among d.types (flat_map parameters_of (map action_signature d.actions))) ++ numbered 24 (repeated [] (map symbol_of (map action_signature d.actions))) ≡ []
+  actions_right = λ i. numbered 23 (parameters_known i) ++ numbered 24 (declared_once.actions i)
 
   -- objects that are listed have types of one primitive, whose numbers are those of the types that are told
   pub objects_numbered : {t : TypesValue} {told : ToldValue} {objects : List TypedValue} {types : List ℕ} → AreTold t told → AreAt told objects types → objects ≡ objects_of d p

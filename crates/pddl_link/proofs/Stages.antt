@@ -4,7 +4,6 @@ use Rattle.std.specs.Prelude.{nat_le, Contains, Option, Some, None}
 use Rattle.std.specs.List.{list_all, flat_map}
 use Rattle.std.proofs.lemmas.Bool.Decides.{nat_tests}
 use Rattle.std.proofs.lemmas.List.Elements.{Contains-append_left, Contains-append_cases}
-use Rattle.pddl_domain.specs.Declarations.{TypeValue}
 use Rattle.pddl_domain.specs.Domains.{DomainValue}
 use Rattle.pddl_problem.specs.Problems.{ProblemValue}
 use Rattle.pddl_task.specs.Names.{Name}
@@ -19,27 +18,23 @@ use Rattle.pddl_faults.proofs.FoundFaults.{found_rest}
 use Rattle.pddl_faults.proofs.PassedParts.{pass_front}
 use Rattle.pddl_faults.proofs.Verdicts.{found_at}
 use Rattle.pddl_types.specs.Told.{unknown_among}
-use Rattle.pddl_names.specs.FaultParts.{joined, declared_typed, domain_parts, problem_parts, part_rules}
+use Rattle.pddl_types.specs.Known.{declared_typed}
+use Rattle.pddl_names.specs.FaultParts.{joined, domain_parts, problem_parts, part_rules}
 use Rattle.pddl_names.proofs.RuleParts.{unknown-declared, parts_verdict as rules_verdict}
 
 -- what is found in the parts of a domain and a problem
-pub parts_verdict : (d : DomainValue) (p : ProblemValue) (ts : List TypeValue) (r : Result (Unit {0}) LinkFault) → ts ≡ d.types → unknown_among ts (declared_typed d) ≡ []
-    → IsFound (joined (domain_parts ts d) ++ joined (problem_parts ts d p)) r → Verdict (map (fault_in d p) part_rules) r
-parts_verdict d p ts r same none h =
-    let all = λ (us : List TypeValue). numbered 23 (unknown_among us (declared_typed d)) ++ (joined (domain_parts us d) ++ joined (problem_parts us d p)) in
-    rules_verdict d p r
-    (subst (λ us. IsFound (all us) r) same (found_rest (numbered 23 (unknown_among ts (declared_typed d))) (joined (domain_parts ts d) ++ joined (problem_parts ts d p)) r (ap (numbered 23) none) h))
+pub parts_verdict : (d : DomainValue) (p : ProblemValue) (r : Result (Unit {0}) LinkFault) → unknown_among d.types (declared_typed d) ≡ [] → IsFound (joined (domain_parts d) ++ joined (problem_parts d p)) r
+    → Verdict (map (fault_in d p) part_rules) r
+parts_verdict d p r none h = rules_verdict d p r (found_rest (numbered 23 (unknown_among d.types (declared_typed d))) (joined (domain_parts d) ++ joined (problem_parts d p)) r (ap (numbered 23) none) h)
 
 -- a type of what a domain declares that is not known
-pub stopped_verdict : (d : DomainValue) (p : ProblemValue) (ts : List TypeValue) (e : LinkFault) → ts ≡ d.types → Passes {T = Unit {0}} 23 (unknown_among ts (declared_typed d)) (Err e)
-    → Verdict {T = Unit {0}} (map (fault_in d p) part_rules) (Err e)
-stopped_verdict d p ts e same h =
+pub stopped_verdict : (d : DomainValue) (p : ProblemValue) (e : LinkFault) → Passes {T = Unit {0}} 23 (unknown_among d.types (declared_typed d)) (Err e) → Verdict {T = Unit {0}} (map (fault_in d p) part_rules) (Err e)
+stopped_verdict d p e h =
     let own = unknown_among d.types (declared_typed d) in
     let bound = flat_map (λ pl. unknown_among d.types (variables_at pl)) (domain_places d) in
     let others = unknown_types d (problem_typed p) in
     found_at [] 23 (unknown_types d (domain_typed d) ++ others) (map (fault_in d p) (drop 1 part_rules)) e tt refl
-    (pass_front 23 own (bound ++ others) (unknown_types d (domain_typed d) ++ others) e (ap (λ ws. ws ++ others) (unknown-declared d.types d) ∙ append_assoc own bound others)
-    (subst (λ us. Passes {T = Unit {0}} 23 (unknown_among us (declared_typed d)) (Err e)) same h))
+    (pass_front 23 own (bound ++ others) (unknown_types d (domain_typed d) ++ others) e (ap (λ ws. ws ++ others) (unknown-declared d.types d) ∙ append_assoc own bound others) h)
 
 -- a fault that is none of those which are found is no fault
 pub none_left : (P : ℕ × Name → Type 0) (o : Option (ℕ × Name)) (found : List (ℕ × Name)) → found ≡ [] → IfSome o (Contains found) → IfSome o P

@@ -1,70 +1,45 @@
 //! Links a domain with a problem, or looks at a domain alone.
 
-ghost use Rattle.std.specs.Prelude.{◌≡◌, [], map, drop, IfOk, OnOk};
+ghost use Rattle.std.specs.Prelude.{◌≡◌, ◌++◌, [], map, drop, IfOk};
 ghost use Rattle.pddl_domain.specs.Domains.{domain_view};
 ghost use Rattle.pddl_problem.specs.Problems.{problem_view};
 ghost use Rattle.pddl_task.specs.Linked.{fault_in, domain_faults, faults, rules};
 ghost use Rattle.pddl_faults.specs.Passes.{Verdict};
-ghost use Rattle.pddl_types.specs.Objects.{AreSeen};
-ghost use Rattle.pddl_types.specs.Signatures.{IsNothing};
+ghost use Rattle.pddl_types.specs.TypeSpans.{AreNumbered};
+ghost use Rattle.pddl_types.specs.Known.{objects_in, IsNothing, AreAllKnown};
 ghost use Rattle.pddl_names.specs.FaultParts.{problem_in, part_rules};
-ghost use Rattle.pddl_names.specs.Held.{HoldAll};
-ghost use Rattle.pddl_linked_task.specs.TaskTables.{HoldBehindTypes};
+ghost use Rattle.pddl_linked_task.specs.TaskTables.{HaveAll};
 ghost use Rattle.pddl_linked_task.specs.LinkedTasks.{files};
-ghost use Rattle.pddl_link.specs.Stages.{faults_of};
 
 use pddl_domain::Domain;
 use pddl_faults::{LinkFault, lower};
 use pddl_hash::Hashed;
 use pddl_linked_task::Task;
-use pddl_names::{Files, type_twice};
+use pddl_names::{look_at_domain, look_at_goal, look_at_problem, type_twice};
 use pddl_problem::Problem;
 use pddl_search::domain_name;
 use pddl_sizes::ObjectOrder;
-use pddl_types::{Declared, Listed, Types};
+use pddl_types::{Known, Tables, Told, Types};
 use std::alloc::Allocator;
 
-/// What a domain and a problem, or a domain alone, declare.
-#[derive(Drop)]
-struct Linked<'m, 'a, A: Allocator, B: Allocator> {
-    types: Types<'m, 'a, A, B>,
-    listed: Listed<'m, 'a, A, B>,
-    declared: Declared<'m, 'a, A, B>,
-    order: ObjectOrder<'a, B>,
-}
-
-/// The lowest fault from 23 to 33. Objects are added to none, and predicates and functions to no declarations.
-fn look_at_files<'t, 'm, 'a, A: Allocator, B: Allocator>(
-    files: &Files<'t, 'm, 'a, A, B>,
-    listed: &mut Listed<'m, 'a, A, B>,
-    declared: &mut Declared<'m, 'a, A, B>,
-) -> Result<(), LinkFault<'m>>
-    requires listed { AreSeen declared.old.told [] listed.old }
-    requires declared { IsNothing declared.old }
-    requires told { declared.old.told ≡ [] }
-    ensures held { OnOk result (HoldAll (domain_view files.now.domain.now) (problem_in files.now.problem) files.now.types.now listed.new declared.new) }
-    ensures verdict { Verdict (faults_of files.now part_rules) result }
-{
-    let domain = files.look_at_domain(listed, declared)?;
-    lower(domain, files.look_at_problem(listed, declared))
-}
-
-/// The order of the types of objects, where no fault from 23 on stands. Objects are added to none, and what is declared to nothing.
-fn order_behind_types<'t, 'm, 'a, A: Allocator, B: Allocator>(
-    files: &Files<'t, 'm, 'a, A, B>,
-    listed: &mut Listed<'m, 'a, A, B>,
-    declared: &mut Declared<'m, 'a, A, B>,
+/// The order of the types of objects, where no fault from 23 to 33 stands. Nothing is known before but the types of the domain, and none is told.
+fn order_behind_types<'m, 'a, A: Allocator, B: Allocator>(
+    known: &mut Known<'m, 'a, A, B>,
+    told: &mut Told<'m, 'a, A, B>,
+    domain: &'m Domain<A>,
+    problem: Option<&'m Problem<A>>,
 ) -> Result<ObjectOrder<'a, B>, LinkFault<'m>>
-    requires listed { AreSeen declared.old.told [] listed.old }
-    requires declared { IsNothing declared.old }
-    requires told { declared.old.told ≡ [] }
-    ensures held { IfOk result (λ order. HoldBehindTypes (domain_view files.now.domain.now) (problem_in files.now.problem) files.now.types.now listed.new declared.new order.numbers.items) }
-    ensures verdict { Verdict (faults_of files.now (drop 3 rules)) result }
+    requires typed { known.old.types.declared ≡ (domain_view domain.now).types }
+    requires nothing { IsNothing known.old }
+    requires told { told.old ≡ [] }
+    ensures held { IfOk result (λ order. AreAllKnown (domain_view domain.now) ((domain_view domain.now).constants ++ (problem_in problem.entry).objects) known.new told.new
+        × AreNumbered known.new.types (objects_in known.new) order.numbers.items) }
+    ensures verdict { Verdict (map (fault_in (domain_view domain.now) (problem_in problem.entry)) part_rules) result }
 {
-    look_at_files(files, listed, declared)?;
-    let order = listed.order(&declared.told)?;
-    declared.add_actions(files.types, files.domain)?;
-    files.look_at_goal(listed, &order).and(Ok(order))
+    let found = look_at_domain(known, told, domain)?;
+    lower(found, look_at_problem(known, told, domain, problem))?;
+    known.add_actions(told, domain)?;
+    Ok(known.listed.order(&*told)?)
 }
 
 /// What a domain and a problem, or a domain alone, declare, where no fault from 21 on stands.
@@ -73,28 +48,20 @@ fn link_files<'m, 'a, A: Allocator, B: Allocator>(
     domain: &'m Domain<A>,
     problem: Option<&'m Problem<A>>,
     hashed: Hashed,
-) -> Result<Linked<'m, 'a, A, B>, LinkFault<'m>>
-    ensures types { IfOk result (λ l. l.types.declared ≡ (domain_view domain.now).types) }
-    ensures held { IfOk result (λ l. HoldBehindTypes (domain_view domain.now) (problem_in problem.entry) l.types l.listed l.declared l.order.numbers.items) }
+) -> Result<Tables<'m, 'a, A, B>, LinkFault<'m>>
+    ensures known { IfOk result (HaveAll (domain_view domain.now) (problem_in problem.entry)) }
     ensures verdict { Verdict (map (fault_in (domain_view domain.now) (problem_in problem.entry)) (drop 1 rules)) result }
 {
     type_twice(alloc, domain)?;
     let types = Types::of(alloc, hashed, &domain.types)?;
-    let mut listed = Listed::new(alloc, hashed);
-    let mut declared = Declared::new(alloc, hashed);
-    let files = Files {
-        alloc,
-        types: &types,
-        domain,
-        problem,
-    };
-    match order_behind_types(&files, &mut listed, &mut declared) {
-        Ok(order) => Ok(Linked {
-            types,
-            listed,
-            declared,
-            order,
-        }),
+    let mut known = Known::of(types);
+    let mut told = Told::new(alloc, hashed);
+    match order_behind_types(&mut known, &mut told, domain, problem) {
+        Ok(order) => {
+            let tables = Tables { known, told, order };
+            let goal = look_at_goal(&tables, domain, problem);
+            goal.and(Ok(tables))
+        }
         Err(fault) => Err(fault),
     }
 }
@@ -135,12 +102,5 @@ pub fn link<'m, 'a, A: Allocator, B: Allocator>(
     domain_name(domain, problem)?;
     let hashed = domain.hashed.with(problem.hashed);
     let both = link_files(alloc, domain, Some(problem), hashed)?;
-    Ok(Task::of(
-        domain,
-        problem,
-        both.types,
-        both.listed,
-        both.declared,
-        both.order,
-    ))
+    Ok(Task::of(domain, problem, both))
 }

@@ -9,7 +9,7 @@ use Rattle.pddl_task.specs.Settings.{symbol_of, function_signatures}
 use Rattle.pddl_task.specs.Faults.{retyped, repeated_at, repeated_in_actions, domain_repeats}
 use Rattle.pddl_task.proofs.Lists.{nil_parts}
 use Rattle.pddl_types.specs.KnownNames.{action_signature}
-use Rattle.pddl_types.specs.Signatures.{IsDeclaredOnce}
+use Rattle.pddl_types.specs.Known.{IsDeclaredOnce}
 
 none_twice : (seen : List Name) (rest : List ActionValue) → repeated_in_actions seen rest ≡ [] → repeated seen (map symbol_of (map action_signature rest)) ≡ []
 none_twice seen [] none = refl

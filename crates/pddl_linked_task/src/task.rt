@@ -14,7 +14,6 @@ ghost use Rattle.pddl_task.specs.Types.{pairs, fits, is_subtype};
 ghost use Rattle.pddl_task.specs.GroundSize.{capped, formula_size, action_size};
 ghost use Rattle.pddl_task.specs.Linked.{IsLinked};
 ghost use Rattle.pddl_task.specs.Tasks.{task_count, predicate_names, function_names, object_names, fitting_numbers, cost_of};
-ghost use Rattle.pddl_types.specs.KnownNames.{object_in};
 ghost use Rattle.pddl_linked_task.specs.LinkedTasks.{files, task_of_files};
 ghost use Rattle.pddl_linked_task.specs.TaskTables.{AreTablesOf};
 
@@ -22,9 +21,9 @@ use pddl_domain::{Action, Domain};
 use pddl_formula::{Formula, TypeNames};
 use pddl_hash::Hashed;
 use pddl_problem::{GroundFunction, InitItem, ObjectNames, Problem};
-use pddl_sizes::{ObjectOrder, action_ground_size, ground_size};
+use pddl_sizes::{action_ground_size, ground_size};
 use pddl_token::{LentName, Name};
-use pddl_types::{Declared, Fitting, Listed, Types};
+use pddl_types::Tables;
 use std::alloc::{AllocError, Allocator};
 use std::marker::Model;
 
@@ -36,10 +35,7 @@ use std::marker::Model;
 pub struct Task<'m, 'a, A: Allocator, B: Allocator> {
     domain: &'m Domain<A>,
     problem: &'m Problem<A>,
-    types: Types<'m, 'a, A, B>,
-    listed: Listed<'m, 'a, A, B>,
-    declared: Declared<'m, 'a, A, B>,
-    order: ObjectOrder<'a, B>,
+    tables: Tables<'m, 'a, A, B>,
 }
 
 impl<'m, 'a, A: Allocator, B: Allocator> Model for Task<'m, 'a, A, B> {
@@ -56,7 +52,7 @@ impl<'m, 'a, A: Allocator, B: Allocator> Model for Task<'m, 'a, A, B> {
 
     ghost view = { λ t. files (domain_view t.domain.now) (problem_view t.problem.now) };
 
-    ghost invariant = { λ t. AreTablesOf (domain_view t.domain.now) (problem_view t.problem.now) t.types t.listed t.declared t.order.numbers.items };
+    ghost invariant = { λ t. AreTablesOf (domain_view t.domain.now) (problem_view t.problem.now) t.tables };
 }
 
 /// Whether objects that are asked for have these names, in their order.
@@ -86,21 +82,15 @@ impl<'m, 'a, A: Allocator, B: Allocator> Task<'m, 'a, A, B> {
     pub fn of(
         domain: &'m Domain<A>,
         problem: &'m Problem<A>,
-        types: Types<'m, 'a, A, B>,
-        listed: Listed<'m, 'a, A, B>,
-        declared: Declared<'m, 'a, A, B>,
-        order: ObjectOrder<'a, B>,
+        tables: Tables<'m, 'a, A, B>,
     ) -> Task<'m, 'a, A, B>
-        requires { AreTablesOf (domain_view domain.now) (problem_view problem.now) types listed declared order.numbers.items }
+        requires { AreTablesOf (domain_view domain.now) (problem_view problem.now) tables }
         ensures { result ≡ files (domain_view domain.now) (problem_view problem.now) }
     {
         Task {
             domain,
             problem,
-            types,
-            listed,
-            declared,
-            order,
+            tables,
         }
     }
 
@@ -129,7 +119,7 @@ impl<'m, 'a, A: Allocator, B: Allocator> Task<'m, 'a, A, B> {
 
     /// How tables of what the task says hash.
     pub fn hashed(&self) -> Hashed {
-        self.types.hashed()
+        self.tables.known.types.hashed()
     }
 
     /// The action of a number, in the domain's order.
@@ -153,28 +143,28 @@ impl<'m, 'a, A: Allocator, B: Allocator> Task<'m, 'a, A, B> {
     pub fn object_count(&self) -> usize
         ensures { result ≡ length (task_of_files self.now).objects }
     {
-        self.listed.objects.len()
+        self.tables.known.listed.objects.len()
     }
 
     /// How many predicates there are.
     pub fn predicate_count(&self) -> usize
         ensures { result ≡ length (task_of_files self.now).predicates }
     {
-        self.declared.predicates.len()
+        self.tables.known.predicates.len()
     }
 
     /// How many functions there are.
     pub fn function_count(&self) -> usize
         ensures { result ≡ length (task_of_files self.now).functions }
     {
-        self.declared.functions.len()
+        self.tables.known.functions.len()
     }
 
     /// Whether a type is a subtype of another, or that type itself; a name that is no type of the task is neither.
     pub fn is_a<N: Allocator>(&self, sub: &Name<N>, over: &Name<N>) -> bool
         ensures { result ≡ is_subtype (task_of_files self.now).types sub.now over.now }
     {
-        self.types.is_a(sub.as_bytes(), over.as_bytes())
+        self.tables.known.types.is_a(sub.as_bytes(), over.as_bytes())
     }
 
     /// Whether the object of a number fits a parameter of an action, both by their numbers; past the last object there is none that does.
@@ -184,9 +174,9 @@ impl<'m, 'a, A: Allocator, B: Allocator> Task<'m, 'a, A, B> {
         ensures { (a : ActionValue) (x : TypedValue) → slice_get (task_of_files self.now).actions action ≡ Some a → slice_get a.parameters parameter ≡ Some x
             → result ≡ option_map_or (λ o. fits (pairs (task_of_files self.now).types) o.of x.of) (slice_get (task_of_files self.now).objects object) false }
     {
-        let tops = self.declared.parameter_tops(action, parameter);
-        match self.order.number(object) {
-            Some(number) => self.types.is_under_tops(number, tops),
+        let tops = self.tables.parameter_tops(action, parameter);
+        match self.tables.order.number(object) {
+            Some(number) => self.tables.known.types.is_under_tops(number, tops),
             None => false,
         }
     }
@@ -196,19 +186,7 @@ impl<'m, 'a, A: Allocator, B: Allocator> Task<'m, 'a, A, B> {
         ensures { result ≡ option_map_or (λ o. fits (pairs (task_of_files self.now).types) o.of types.now)
             (slice_get (task_of_files self.now).objects object) false }
     {
-        self.fitting_by().fits(object, types)
-    }
-
-    /// What finds the objects that fit a type.
-    fn fitting_by<'t>(&'t self) -> Fitting<'t, 'm, 'a, A, B>
-        ensures types { result.types.now.declared ≡ (task_of_files self.now).types }
-        ensures objects { map object_in result.listed.now.objects.entries ≡ (task_of_files self.now).objects }
-    {
-        Fitting {
-            types: &self.types,
-            listed: &self.listed,
-            order: &self.order,
-        }
+        self.tables.fits(object, types)
     }
 
     /// The numbers of the objects that fit a type, rising.
@@ -221,21 +199,21 @@ impl<'m, 'a, A: Allocator, B: Allocator> Task<'m, 'a, A, B> {
     ) -> Result<Vec<usize, &'b C>, AllocError>
         ensures { IfOk result (λ numbers. numbers.items ≡ fitting_numbers (task_of_files self.now) types.now) }
     {
-        self.fitting_by().objects(alloc, types)
+        self.tables.objects(alloc, types)
     }
 
     /// The ground size of a formula over the task's objects, or 1,000,001 where it is over 1,000,000.
     pub fn ground_size<N: Allocator>(&self, formula: &Formula<N>) -> u32
         ensures { result ≡ capped (formula_size (task_count (task_of_files self.now)) (formula_view formula.now)) }
     {
-        ground_size(&self.fitting_by(), formula)
+        ground_size(&self.tables, formula)
     }
 
     /// The ground size of a step of an action over the task's objects, or 1,000,001 where it is over 1,000,000.
     pub fn action_ground_size<N: Allocator>(&self, action: &Action<N>) -> u32
         ensures { result ≡ capped (action_size (task_count (task_of_files self.now)) (action_view action.now)) }
     {
-        action_ground_size(&self.fitting_by(), action)
+        action_ground_size(&self.tables, action)
     }
 
     /// The cost that `:init` gives a function of these objects, or `None` where it gives none.
@@ -268,7 +246,7 @@ impl<'m, 'a, A: Allocator, B: Allocator> Task<'m, 'a, A, B> {
     pub fn object_name(&self, number: usize) -> Option<&Name<A>>
         ensures { option_map (λ name. name.now) result ≡ slice_get (object_names (task_of_files self.now)) number }
     {
-        match self.listed.objects.get_index(number) {
+        match self.tables.known.listed.objects.get_index(number) {
             Some((_, listed)) => Some(&listed.name),
             None => None,
         }
@@ -278,21 +256,21 @@ impl<'m, 'a, A: Allocator, B: Allocator> Task<'m, 'a, A, B> {
     pub fn object_number(&self, name: &[u8]) -> Option<usize>
         ensures { result ≡ position (bytes_eq name.now) (object_names (task_of_files self.now)) }
     {
-        self.listed.objects.get_index_of(&LentName::of(name))
+        self.tables.known.listed.objects.get_index_of(&LentName::of(name))
     }
 
     /// The number of the predicate of a name, or `None` where there is none.
     pub fn predicate_number(&self, name: &[u8]) -> Option<usize>
         ensures { result ≡ position (bytes_eq name.now) (predicate_names (task_of_files self.now)) }
     {
-        self.declared.predicates.get_index_of(name)
+        self.tables.known.predicates.get_index_of(name)
     }
 
     /// The number of the function of a name, or `None` where there is none.
     pub fn function_number(&self, name: &[u8]) -> Option<usize>
         ensures { result ≡ position (bytes_eq name.now) (function_names (task_of_files self.now)) }
     {
-        self.declared.functions.get_index_of(name)
+        self.tables.known.functions.get_index_of(name)
     }
 }
 

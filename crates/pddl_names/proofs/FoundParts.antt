@@ -5,7 +5,6 @@ use Rattle.std.specs.List.{flat_map, list_all}
 use Rattle.std.proofs.lemmas.Bool.Decides.{nat_tests}
 use Rattle.std.proofs.lemmas.List.Concat.{flat_map-append}
 use Rattle.std.proofs.lemmas.List.Folds.{list_all-append, list_all-map}
-use Rattle.pddl_domain.specs.Declarations.{TypeValue}
 use Rattle.pddl_domain.specs.Domains.{DomainValue}
 use Rattle.pddl_problem.specs.Problems.{ProblemValue}
 use Rattle.pddl_task.specs.Names.{Name}
@@ -51,9 +50,8 @@ passed_first n words rest e h from =
     below k m is low = grind (arith, nat_tests, low)
 
 -- an unknown type of an object is the lowest fault of a problem
-pub stopped_at : (types : List TypeValue) (d : DomainValue) (p : ProblemValue) (e : LinkFault) → Passes {T = Unit {0}} 23 (unknown_among types p.objects) (Err e)
-    → IsFound {T = Unit {0}} (joined (problem_parts types d p)) (Err e)
-stopped_at types d p e h = passed_first 23 (unknown_among types p.objects) (joined (drop 1 (problem_parts types d p))) e h (simp from_parts)
+pub stopped_at : (d : DomainValue) (p : ProblemValue) (e : LinkFault) → Passes {T = Unit {0}} 23 (unknown_among d.types p.objects) (Err e) → IsFound {T = Unit {0}} (joined (problem_parts d p)) (Err e)
+stopped_at d p e h = passed_first 23 (unknown_among d.types p.objects) (joined (drop 1 (problem_parts d p))) e h (simp from_parts)
 
 -- ---- values
 

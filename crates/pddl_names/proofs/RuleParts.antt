@@ -21,10 +21,11 @@ use Rattle.pddl_faults.specs.Passes.{fault_of, Verdict}
 use Rattle.pddl_faults.specs.Found.{IsLowestOf, IsFound, numbered}
 use Rattle.pddl_types.specs.Told.{unknown_among}
 use Rattle.pddl_types.specs.Objects.{off_types}
+use Rattle.pddl_types.specs.Known.{declared_typed}
 use Rattle.std.proofs.lemmas.List.Folds.{list_all-append}
 use Rattle.pddl_types.proofs.UnknownTypes.{unknown-append}
 use Rattle.pddl_names.specs.Uses.{place_faults}
-use Rattle.pddl_names.specs.FaultParts.{joined, declared_typed, action_faults, domain_parts, problem_parts, part_rules}
+use Rattle.pddl_names.specs.FaultParts.{joined, action_faults, domain_parts, problem_parts, part_rules}
 use Rattle.pddl_names.proofs.FoundParts.{from_parts}
 use Rattle.pddl_names.proofs.OffTypes.{off_within, none_retyped}
 
@@ -185,7 +186,7 @@ within_both xs ys vs zs w h k c =
 module _ (d : DomainValue) (p : ProblemValue) where
   -- all that is found in a domain and a problem
   abbrev pub all_parts : List (ℕ × Name)
-  all_parts = numbered 23 (unknown_among d.types (declared_typed d)) ++ (joined (domain_parts d.types d) ++ joined (problem_parts d.types d p))
+  all_parts = numbered 23 (unknown_among d.types (declared_typed d)) ++ (joined (domain_parts d) ++ joined (problem_parts d p))
 
   -- what is found where objects are told by the first of each name, and by all
   abbrev repeats : List Name → List Name → List Name

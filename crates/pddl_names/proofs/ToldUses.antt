@@ -10,13 +10,13 @@ use Rattle.pddl_formula.specs.TypedLists.{TypedValue, typed_view}
 use Rattle.pddl_task.specs.Names.{Name, is_named}
 use Rattle.pddl_task.proofs.Lists.{some_at}
 use Rattle.pddl_search.specs.Scopes.{bound_in, entered}
-use Rattle.pddl_types.specs.KnownNames.{object_in}
+use Rattle.pddl_types.specs.Known.{objects_in}
+use Rattle.pddl_types.specs.declared.known.Known.{Known}
 use Rattle.pddl_types.specs.Told.{ToldValue, IsAt, AreAt, AreTold, AreKept}
 use Rattle.pddl_types.specs.Objects.{IsAtOf}
 use Rattle.pddl_types.specs.Signatures.{IsSlotsAt}
 use Rattle.pddl_types.specs.declared.signatures.Slots.{Slots}
 use Rattle.pddl_types.proofs.ToldTypes.{still_at, still_all, slots_still}
-use Rattle.pddl_names.specs.declared.uses.Known.{Known}
 use Rattle.pddl_names.specs.Uses.{AreAllTold}
 
 -- ---- variables
@@ -42,12 +42,12 @@ told_entered told (x ∷ xs) (n ∷ numbers) scope are all =
 
 module _ {A B : Type 0} {k : Known A B} {told : ToldValue} {scope : List (TypedValue × ℕ)} where
   -- all is told still while more is told
-  pub told_still : {new : ToldValue} → AreTold k.types.now new → AreKept told new → AreAllTold k told scope → AreAllTold k new scope
+  pub told_still : {new : ToldValue} → AreTold k.types new → AreKept told new → AreAllTold k told scope → AreAllTold k new scope
   told_still {new} types kept are = record {
     types = types;
-    predicates = slots_still told new k.predicates.now.entries kept are.predicates;
-    functions = slots_still told new k.functions.now.entries kept are.functions;
-    objects = still_all told new (map object_in k.listed.now.objects.entries) k.listed.now.types.items kept are.objects;
+    predicates = slots_still told new k.predicates.entries kept are.predicates;
+    functions = slots_still told new k.functions.entries kept are.functions;
+    objects = still_all told new (objects_in k) k.listed.types.items kept are.objects;
     variables = All-weaker (λ e. IsAt told e.0.of e.1) (λ e. IsAt new e.0.of e.1) (λ e. still_at told new e.0.of e.1 kept) scope are.variables;
   }
 

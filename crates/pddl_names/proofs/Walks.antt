@@ -13,7 +13,7 @@ use Rattle.pddl_faults.specs.Found.{IsFound, numbered}
 use Rattle.pddl_faults.proofs.FoundFaults.{IsFoundUpTo, up_to_more, up_to_all, found_rest, found_same}
 use Rattle.pddl_faults.proofs.ListTurns.{rest_is}
 use Rattle.pddl_types.specs.Told.{unknown_among}
-use Rattle.pddl_names.specs.declared.uses.Known.{Known}
+use Rattle.pddl_types.specs.declared.known.Known.{Known}
 use Rattle.pddl_names.specs.Uses.{faults_by}
 use Rattle.pddl_names.proofs.FoundParts.{from_parts, passed_first}
 
@@ -34,7 +34,7 @@ in_turn sought ps qs r s both lower h k = found_same (flat_map sought ps ++ flat
 
 module _ {A B : Type 0} (k : Known A B) (xs b : List TypedValue) (ps : List Place) where
   abbrev unknown : List Name
-  unknown = unknown_among k.types.now.declared xs
+  unknown = unknown_among k.types.declared xs
 
   abbrev twice : List (ℕ × Name)
   twice = numbered 24 (repeated [] (map item_of xs))

@@ -9,10 +9,11 @@ use Rattle.pddl_task.specs.Places.{Place}
 use Rattle.pddl_task.specs.Settings.{Setting}
 use Rattle.pddl_task.specs.Faults.{Use, variables_at, repeated_at, is_declared, signature_of, unknown_term, takes_others, has_misfit, unknown_at, arity_at, misfit_at, fraction_at}
 use Rattle.pddl_faults.specs.Found.{numbered}
-use Rattle.pddl_types.specs.KnownNames.{signature_in, object_in}
+use Rattle.pddl_types.specs.KnownNames.{signature_in}
 use Rattle.pddl_types.specs.Told.{ToldValue, IsAt, AreAt, AreTold, unknown_among}
 use Rattle.pddl_types.specs.Signatures.{AreSlotsAt}
-use Rattle.pddl_names.specs.declared.uses.Known.{Known}
+use Rattle.pddl_types.specs.Known.{objects_in}
+use Rattle.pddl_types.specs.declared.known.Known.{Known}
 
 -- ---- faults at a place
 
@@ -35,20 +36,20 @@ faults_of_use s bound u =
 -- without where it is held
 abbrev pub setting_of : {A B : _} → Known A B → Setting
 setting_of k = record {
-  pairs = pairs k.types.now.declared;
-  predicates = map signature_in k.predicates.now.entries;
-  functions = map signature_in k.functions.now.entries;
-  objects = map object_in k.listed.now.objects.entries;
+  pairs = pairs k.types.declared;
+  predicates = map signature_in k.predicates.entries;
+  functions = map signature_in k.functions.entries;
+  objects = objects_in k;
 }
 
 -- the faults at a place by what is known
 abbrev pub faults_by : {A B : _} → Known A B → Place → List (ℕ × Name)
-faults_by k = place_faults k.types.now.declared (setting_of k)
+faults_by k = place_faults k.types.declared (setting_of k)
 
 -- the types of all that may be named are told, and those of the variables in scope
 pub record AreAllTold {A B : Type 0} (k : Known A B) (told : ToldValue) (scope : List (TypedValue × ℕ)) : Type 0 where
-  pub types : AreTold k.types.now told
-  pub predicates : AreSlotsAt told k.predicates.now.entries
-  pub functions : AreSlotsAt told k.functions.now.entries
-  pub objects : AreAt told (map object_in k.listed.now.objects.entries) k.listed.now.types.items
+  pub types : AreTold k.types told
+  pub predicates : AreSlotsAt told k.predicates.entries
+  pub functions : AreSlotsAt told k.functions.entries
+  pub objects : AreAt told (objects_in k) k.listed.types.items
   pub variables : All (λ e. IsAt told e.0.of e.1) scope

@@ -8,5 +8,5 @@ mod repeats;
 mod uses;
 mod walk;
 
-pub use files::Files;
+pub use files::{look_at_domain, look_at_goal, look_at_problem};
 pub use repeats::type_twice;

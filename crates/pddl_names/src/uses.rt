@@ -21,22 +21,12 @@ ghost use Rattle.pddl_names.specs.Uses.{setting_of, faults_by, faults_of_use, Ar
 use pddl_faults::{LinkFault, lower};
 use pddl_formula::{Term, TypedList};
 use pddl_search::{LentTerm, Part, Scope, Terms};
-use pddl_types::{Listed, Signatures, Told, Types};
+use pddl_types::{Known, Signatures, Told};
 use std::alloc::Allocator;
 
-/// What may be named: types, predicates, functions, and the objects that are listed so far.
-#[derive(Drop)]
-pub(crate) struct Known<'k, 'm, 'a, A: Allocator, B: Allocator> {
-    pub(crate) alloc: &'a B,
-    pub(crate) types: &'k Types<'m, 'a, A, B>,
-    pub(crate) predicates: &'k Signatures<'m, 'a, A, B>,
-    pub(crate) functions: &'k Signatures<'m, 'a, A, B>,
-    pub(crate) listed: &'k Listed<'m, 'a, A, B>,
-}
-
 /// The number at which the type of a term is told; `None` where the term is not known.
-fn type_of<'k, 'm, 'a, A: Allocator, B: Allocator>(
-    known: &Known<'k, 'm, 'a, A, B>,
+fn type_of<'m, 'a, A: Allocator, B: Allocator>(
+    known: &Known<'m, 'a, A, B>,
     scope: &Scope<'m, 'a, A, B>,
     term: &LentTerm<'_, A>,
 ) -> Option<usize>
@@ -50,8 +40,8 @@ fn type_of<'k, 'm, 'a, A: Allocator, B: Allocator>(
 
 /// The lowest of the faults of a predicate or a function with its terms. A term without a slot, or a slot without a term, is another fault than one that
 /// does not fit.
-fn look_at_use<'k, 'm, 'a, 'd, A: Allocator, B: Allocator>(
-    known: &Known<'k, 'm, 'a, A, B>,
+fn look_at_use<'m, 'a, 'd, A: Allocator, B: Allocator>(
+    known: &Known<'m, 'a, A, B>,
     told: &mut Told<'m, 'a, A, B>,
     scope: &Scope<'m, 'a, A, B>,
     declared: &Signatures<'m, 'a, A, B>,
@@ -73,7 +63,7 @@ fn look_at_use<'k, 'm, 'a, 'd, A: Allocator, B: Allocator>(
             return Err(LinkFault::UnknownName(term.name()));
         };
         if let Some(slot) = slots.numbers.get(i) {
-            all_fit &= told.fits(known.types, number, *slot)?;
+            all_fit &= told.fits(&known.types, number, *slot)?;
         }
     }
     if terms.len() != slots.parameters.len() {
@@ -86,8 +76,8 @@ fn look_at_use<'k, 'm, 'a, 'd, A: Allocator, B: Allocator>(
 }
 
 /// A term is known.
-fn look_at_term<'k, 'm, 'a, 'd, A: Allocator, B: Allocator>(
-    known: &Known<'k, 'm, 'a, A, B>,
+fn look_at_term<'m, 'a, 'd, A: Allocator, B: Allocator>(
+    known: &Known<'m, 'a, A, B>,
     scope: &Scope<'m, 'a, A, B>,
     term: &'d Term<A>,
 ) -> Result<(), LinkFault<'d>>
@@ -101,8 +91,8 @@ fn look_at_term<'k, 'm, 'a, 'd, A: Allocator, B: Allocator>(
 }
 
 /// The lowest of the faults that stand at a place.
-pub(crate) fn look<'k, 'm, 'a, 'd, A: Allocator, B: Allocator>(
-    known: &Known<'k, 'm, 'a, A, B>,
+pub(crate) fn look<'m, 'a, 'd, A: Allocator, B: Allocator>(
+    known: &Known<'m, 'a, A, B>,
     told: &mut Told<'m, 'a, A, B>,
     scope: &Scope<'m, 'a, A, B>,
     part: &Part<'d, A>,
@@ -113,10 +103,10 @@ pub(crate) fn look<'k, 'm, 'a, 'd, A: Allocator, B: Allocator>(
 {
     match part {
         Part::Says(predicate, terms) => {
-            look_at_use(known, told, scope, known.predicates, *predicate, terms)
+            look_at_use(known, told, scope, &known.predicates, *predicate, terms)
         }
         Part::Calls(function, terms) => {
-            look_at_use(known, told, scope, known.functions, *function, terms)
+            look_at_use(known, told, scope, &known.functions, *function, terms)
         }
         Part::Equates(first, second) => {
             let first = look_at_term(known, scope, *first);
@@ -135,20 +125,20 @@ pub(crate) fn look<'k, 'm, 'a, 'd, A: Allocator, B: Allocator>(
 /// # Errors
 ///
 /// `LinkFault::UnknownType`; `Memory` where memory is refused. Then none of them is bound.
-pub(crate) fn enter<'k, 'm, 'a, A: Allocator, B: Allocator>(
-    known: &Known<'k, 'm, 'a, A, B>,
+pub(crate) fn enter<'m, 'a, A: Allocator, B: Allocator>(
+    known: &Known<'m, 'a, A, B>,
     told: &mut Told<'m, 'a, A, B>,
     scope: &mut Scope<'m, 'a, A, B>,
     variables: &'m TypedList<A>,
 ) -> Result<Result<(), LinkFault<'m>>, LinkFault<'m>>
     requires { AreAllTold known.now told.old scope.old }
     ensures told { AreAllTold known.now told.new scope.new }
-    ensures passes { Passes 23 (unknown_among known.now.types.now.declared (map typed_view variables.now.items)) result }
+    ensures passes { Passes 23 (unknown_among known.now.types.declared (map typed_view variables.now.items)) result }
     ensures found { IfOk result (IsFound (numbered 24 (repeated [] (map item_of (map typed_view variables.now.items))))) }
     ensures bound { MatchResult result (λ _. bound_in scope.new ≡ binding (map typed_view variables.now.items) (bound_in scope.old)) (λ _. scope.new ≡ scope.old) }
     ensures left { IfOk result (λ _. drop (length variables.now.items) scope.new ≡ scope.old) }
 {
-    let numbers = told.tell_all(known.alloc, known.types, variables)?;
+    let numbers = told.tell_all(known.types.allocator(), &known.types, variables)?;
     let repeated = scope.enter(variables, &numbers)?;
     Ok(repeated)
 }

@@ -15,7 +15,7 @@ ghost use Rattle.pddl_search.specs.Scopes.{bound_in};
 ghost use Rattle.pddl_names.specs.Uses.{faults_by, AreAllTold};
 ghost use Rattle.pddl_names.specs.FaultParts.{action_faults};
 
-use crate::uses::{Known, enter, look};
+use crate::uses::{enter, look};
 use indexmap::IndexSet;
 use pddl_domain::Action;
 use pddl_effect::Effect;
@@ -24,12 +24,12 @@ use pddl_formula::Formula;
 use pddl_hash::Hashed;
 use pddl_problem::{InitItem, Metric, Problem};
 use pddl_search::{Part, Scope, Terms, is_taken};
-use pddl_types::Told;
+use pddl_types::{Known, Told};
 use std::alloc::Allocator;
 
 /// Searches a formula.
-fn search_formula<'k, 'm, 'a, A: Allocator, B: Allocator>(
-    known: &Known<'k, 'm, 'a, A, B>,
+fn search_formula<'m, 'a, A: Allocator, B: Allocator>(
+    known: &Known<'m, 'a, A, B>,
     told: &mut Told<'m, 'a, A, B>,
     scope: &mut Scope<'m, 'a, A, B>,
     formula: &'m Formula<A>,
@@ -64,8 +64,8 @@ fn search_formula<'k, 'm, 'a, A: Allocator, B: Allocator>(
 }
 
 /// Searches an effect.
-fn search_effect<'k, 'm, 'a, A: Allocator, B: Allocator>(
-    known: &Known<'k, 'm, 'a, A, B>,
+fn search_effect<'m, 'a, A: Allocator, B: Allocator>(
+    known: &Known<'m, 'a, A, B>,
     told: &mut Told<'m, 'a, A, B>,
     scope: &mut Scope<'m, 'a, A, B>,
     effect: &'m Effect<A>,
@@ -102,8 +102,8 @@ fn search_effect<'k, 'm, 'a, A: Allocator, B: Allocator>(
 }
 
 /// Searches an action: its parameters, its precondition and its effect.
-fn search_action<'k, 'm, 'a, A: Allocator, B: Allocator>(
-    known: &Known<'k, 'm, 'a, A, B>,
+fn search_action<'m, 'a, A: Allocator, B: Allocator>(
+    known: &Known<'m, 'a, A, B>,
     told: &mut Told<'m, 'a, A, B>,
     scope: &mut Scope<'m, 'a, A, B>,
     action: &'m Action<A>,
@@ -122,8 +122,8 @@ fn search_action<'k, 'm, 'a, A: Allocator, B: Allocator>(
 }
 
 /// Searches actions in turn, and looks for names that stand twice, for which they are put into an empty set.
-pub(crate) fn search_actions<'k, 'm, 'a, A: Allocator, B: Allocator>(
-    known: &Known<'k, 'm, 'a, A, B>,
+pub(crate) fn search_actions<'m, 'a, A: Allocator, B: Allocator>(
+    known: &Known<'m, 'a, A, B>,
     told: &mut Told<'m, 'a, A, B>,
     scope: &mut Scope<'m, 'a, A, B>,
     seen: &mut IndexSet<&'m [u8], Hashed, &'a B>,
@@ -146,8 +146,8 @@ pub(crate) fn search_actions<'k, 'm, 'a, A: Allocator, B: Allocator>(
 }
 
 /// Searches an item of `:init`; a literal that fails is looked at like one that holds.
-fn search_item<'k, 'm, 'a, 'd, A: Allocator, B: Allocator>(
-    known: &Known<'k, 'm, 'a, A, B>,
+fn search_item<'m, 'a, 'd, A: Allocator, B: Allocator>(
+    known: &Known<'m, 'a, A, B>,
     told: &mut Told<'m, 'a, A, B>,
     scope: &Scope<'m, 'a, A, B>,
     item: &'d InitItem<A>,
@@ -175,8 +175,8 @@ fn search_item<'k, 'm, 'a, 'd, A: Allocator, B: Allocator>(
 }
 
 /// Searches a metric; nothing is looked for in one that is not taken.
-fn search_metric<'k, 'm, 'a, 'd, A: Allocator, B: Allocator>(
-    known: &Known<'k, 'm, 'a, A, B>,
+fn search_metric<'m, 'a, 'd, A: Allocator, B: Allocator>(
+    known: &Known<'m, 'a, A, B>,
     told: &mut Told<'m, 'a, A, B>,
     scope: &Scope<'m, 'a, A, B>,
     metric: &'d Option<Metric<A>>,
@@ -193,22 +193,21 @@ fn search_metric<'k, 'm, 'a, 'd, A: Allocator, B: Allocator>(
 }
 
 /// Searches a problem: its initial state, its goal and its metric.
-pub(crate) fn search_problem<'k, 'm, 'a, A: Allocator, B: Allocator>(
-    known: &Known<'k, 'm, 'a, A, B>,
+pub(crate) fn search_problem<'m, 'a, A: Allocator, B: Allocator>(
+    known: &Known<'m, 'a, A, B>,
     told: &mut Told<'m, 'a, A, B>,
-    scope: &mut Scope<'m, 'a, A, B>,
     problem: &'m Problem<A>,
 ) -> Result<(), LinkFault<'m>>
-    requires told { AreAllTold known.now told.old scope.old }
-    requires empty { scope.old ≡ [] }
-    ensures told { AreAllTold known.now told.new scope.new }
+    requires { AreAllTold known.now told.old [] }
+    ensures told { AreAllTold known.now told.new [] }
     ensures found { IsFound (flat_map (faults_by known.now) (problem_places (problem_view problem.now))) result }
 {
+    let mut scope = Scope::new(known.types.allocator(), known.types.hashed());
     let mut init = Ok(());
     for item in &problem.init {
-        init = lower(init, search_item(known, told, &*scope, item));
+        init = lower(init, search_item(known, told, &scope, item));
     }
-    let goal = search_formula(known, told, scope, &problem.goal);
-    let metric = search_metric(known, told, &*scope, &problem.metric);
+    let goal = search_formula(known, told, &mut scope, &problem.goal);
+    let metric = search_metric(known, told, &scope, &problem.metric);
     lower(init, lower(goal, metric))
 }

@@ -24,7 +24,6 @@ use Rattle.pddl_faults.proofs.PutValues.{found_or}
 use Rattle.pddl_types.specs.KnownNames.{signature_in, action_signature}
 use Rattle.pddl_types.specs.Told.{ToldValue, IsAt, AreAt, AreKept}
 use Rattle.pddl_types.specs.Signatures.{Rows, IsSlotsAt, signature_among, AreFirst, HaveFirst, HaveSignatures}
-use Rattle.pddl_types.specs.declared.declared.Declared.{Declared}
 use Rattle.pddl_types.specs.declared.signatures.Slots.{Slots}
 use Rattle.pddl_types.proofs.Lookups.{seen_entry, entry_seen, is_symbol}
 use Rattle.pddl_types.proofs.ToldTypes.{slots_still, slots_more}
@@ -134,25 +133,25 @@ module _ {A B S : Type 0} (m : IndexMap (Bor (List ℕ)) (Slots A B) S) {before 
 
 -- ---- the types of the parameters of actions
 
-module _ {A B : Type 0} (d : DomainValue) (declared : Declared A B) (are : HaveSignatures declared.told declared.actions.entries (map action_signature d.actions)) (i j : ℕ) (a : ActionValue) (x : TypedValue)
+module _ {A B : Type 0} (d : DomainValue) (told : ToldValue) (rows : Rows A B) (are : HaveSignatures told rows (map action_signature d.actions)) (i j : ℕ) (a : ActionValue) (x : TypedValue)
     (here : slice_get d.actions i ≡ Some a) (there : slice_get a.parameters j ≡ Some x) where
-  listed : slice_get (map signature_in declared.actions.entries) i ≡ Some (action_signature a)
+  listed : slice_get (map signature_in rows) i ≡ Some (action_signature a)
   listed = ap (λ gs. slice_get gs i) are.signatures_are ∙ seen_entry action_signature d.actions i a here
 
-  pub some_entry : slice_get declared.actions.entries i ≡ None → ⊥
-  some_entry none = let (e, at, _) = entry_seen signature_in declared.actions.entries i (action_signature a) listed in cc (none, at)
+  pub some_entry : slice_get rows i ≡ None → ⊥
+  some_entry none = let (e, at, _) = entry_seen signature_in rows i (action_signature a) listed in cc (none, at)
 
   -- the entry of the action has its parameters
-  module _ (e : Bor (List ℕ) × Slots A B) (at : slice_get declared.actions.entries i ≡ Some e) where
-    parameters_told : AreAt declared.told a.parameters e.1.numbers.items
+  module _ (e : Bor (List ℕ) × Slots A B) (at : slice_get rows i ≡ Some e) where
+    parameters_told : AreAt told a.parameters e.1.numbers.items
     parameters_told =
-        let same = same_Some (signature_in e) (action_signature a) (sym (seen_entry signature_in declared.actions.entries i e at) ∙ listed) in
-        subst (λ xs. AreAt declared.told xs e.1.numbers.items) (ap (λ s. s.parameters) same)
-        (All-contains (λ (f : Bor (List ℕ) × Slots A B). IsSlotsAt declared.told f.1) declared.actions.entries e are.slots (at_place declared.actions.entries i e at))
+        let same = same_Some (signature_in e) (action_signature a) (sym (seen_entry signature_in rows i e at) ∙ listed) in
+        subst (λ xs. AreAt told xs e.1.numbers.items) (ap (λ s. s.parameters) same)
+        (All-contains (λ (f : Bor (List ℕ) × Slots A B). IsSlotsAt told f.1) rows e are.slots (at_place rows i e at))
 
     -- the type of each of them has a number
     pub some_number : length e.1.numbers.items ≤ j → ⊥
     some_number past = absurd (omega (arith, past, slice_get_within a.parameters j x there, parameters_told.many))
 
-    pub number_there : (n : ℕ) → slice_get e.1.numbers.items j ≡ Some n → IsAt declared.told x.of n
+    pub number_there : (n : ℕ) → slice_get e.1.numbers.items j ≡ Some n → IsAt told x.of n
     number_there n is = parameters_told.each j n x there is

@@ -8,7 +8,7 @@ use Rattle.std.specs.Map.{keys_of, lookup}
 use Rattle.std.proofs.lemmas.Bool.{eqb-true, eq-eqb}
 use Rattle.std.proofs.lemmas.Cmp.{nat_list_eq_equiv, lists_equiv}
 use Rattle.std.proofs.lemmas.List.{length-append, length-map, map_push, take_more}
-use Rattle.std.proofs.lemmas.List.Elements.{All-weaker, All-push, All-contains}
+use Rattle.std.proofs.lemmas.List.Elements.{All-nil, All-weaker, All-push, All-contains}
 use Rattle.std.proofs.lemmas.Option.{same_Some, get_or_from_slice_get, slice_get_within, slice_get-map}
 use Rattle.std.specs.Option.{option_map_or}
 use Rattle.indexmap.proofs.MapLemmas.{or_len-first}
@@ -54,6 +54,13 @@ module _ {T : Type 0} (Holds : List Name → T → Type 0) where
   }
 
 -- ---- what stays told
+
+none_twice : AreDistinct []
+unfolding IsDistinct
+none_twice = tt
+
+pub told_none : (t : TypesValue) (told : ToldValue) → told ≡ [] → AreTold t told
+told_none t told none = rw none (record { once = none_twice; each = All-nil (λ e. IsTold t e.0 e.1 × IsTrue (are_types t.declared e.0)) })
 
 pub kept_self : (told : ToldValue) → AreKept told told
 kept_self told = ([], sym (append-nil told))

@@ -5,3 +5,4 @@ pub mod TopRows
 pub mod Told
 pub mod Objects
 pub mod Signatures
+pub mod Known

@@ -1,19 +1,14 @@
--- What a domain declares beside types and constants, as it is held for look-ups by name. Own.
+-- Tables of what is declared with parameters, as they are held for look-ups by name. Own.
 use Rattle.std.specs.Prelude.{◌≡◌, ℕ, List, [], Option, map, find, bytes_eq}
 use Rattle.std.specs.Borrow.{Bor}
 use Rattle.std.specs.List.{All}
 use Rattle.pddl_formula.specs.TypedLists.{typed_view}
 use Rattle.pddl_domain.specs.Declarations.{Signature}
-use Rattle.pddl_domain.specs.Domains.{DomainValue}
 use Rattle.pddl_task.specs.Names.{Name, repeated}
-use Rattle.pddl_task.specs.Settings.{symbol_of, function_signatures}
-use Rattle.pddl_types.specs.KnownNames.{signature_in, action_signature}
-use Rattle.pddl_types.specs.TypeSpans.{TypesValue}
-use Rattle.pddl_types.specs.Told.{ToldValue, AreAt, AreTold}
-use Rattle.pddl_types.specs.declared.declared.Declared.{Declared}
+use Rattle.pddl_task.specs.Settings.{symbol_of}
+use Rattle.pddl_types.specs.KnownNames.{signature_in}
+use Rattle.pddl_types.specs.Told.{ToldValue, AreAt}
 use Rattle.pddl_types.specs.declared.signatures.Slots.{Slots}
-
--- ---- a table
 
 -- names that are lent, with their slots
 abbrev pub Rows : Type 0 → Type 0 → Type 0
@@ -45,31 +40,3 @@ pub record HaveFirst {A B : Type 0} (told : ToldValue) (rows : Rows A B) (signat
 pub record HaveSignatures {A B : Type 0} (told : ToldValue) (rows : Rows A B) (signatures : List Signature) : Type 0 where
   pub signatures_are : map signature_in rows ≡ signatures
   pub slots : AreSlotsAt told rows
-
--- ---- a domain
-
--- no predicate, no function and no action is declared twice
-pub record IsDeclaredOnce (d : DomainValue) : Type 0 where
-  pub predicates : repeated [] (map symbol_of d.predicates) ≡ []
-  pub functions : repeated [] (map symbol_of (function_signatures d)) ≡ []
-  pub actions : repeated [] (map symbol_of (map action_signature d.actions)) ≡ []
-
--- nothing is declared
-pub record IsNothing {A B : Type 0} (declared : Declared A B) : Type 0 where
-  pub predicates : declared.predicates.entries ≡ []
-  pub functions : declared.functions.entries ≡ []
-  pub actions : declared.actions.entries ≡ []
-
--- tables have the predicates and functions of a domain, of each name the first; actions are not looked up yet
-pub record HaveSymbols {A B : Type 0} (t : TypesValue) (d : DomainValue) (declared : Declared A B) : Type 0 where
-  pub told : AreTold t declared.told
-  pub predicates : HaveFirst declared.told declared.predicates.entries d.predicates
-  pub functions : HaveFirst declared.told declared.functions.entries (function_signatures d)
-  pub actions : declared.actions.entries ≡ []
-
--- tables have the predicates, functions and actions of a domain
-pub record AreDeclared {A B : Type 0} (t : TypesValue) (d : DomainValue) (declared : Declared A B) : Type 0 where
-  pub told : AreTold t declared.told
-  pub predicates : HaveSignatures declared.told declared.predicates.entries d.predicates
-  pub functions : HaveSignatures declared.told declared.functions.entries (function_signatures d)
-  pub actions : HaveSignatures declared.told declared.actions.entries (map action_signature d.actions)

@@ -75,6 +75,11 @@ impl<'m, 'a, A: Allocator, B: Allocator> Types<'m, 'a, A, B> {
         *self.parents.hasher()
     }
 
+    /// Where tables of what the files say are held.
+    pub fn allocator(&self) -> &'a B {
+        *self.parents.allocator()
+    }
+
     /// Whether a name is a type: `object`, a declared type, or one that stands as a parent.
     pub fn contains(&self, name: &[u8]) -> bool
         ensures { result ≡ is_in (types_of self.now.declared) name.now }

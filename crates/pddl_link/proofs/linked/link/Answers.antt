@@ -20,8 +20,4 @@ returns-in_err-both-clause-verdict g c =
     rw (p.1, p.2) (decided_after {T = Unit {0}} (fault 20 (domain_names d q) ∷ []) (map (fault_in d q) (drop 1 rules)) (Err c.in_err-both.field-0.0) (c.in_ok-domain_name.ensures, tt) c.in_err-both.ensures.verdict)
 
 pub of-requires : goal.of-requires
-of-requires g c = record {
-  linked = (c.in_ok-domain_name.ensures, c.in_ok-both.ensures.verdict);
-  types_are = c.in_ok-both.ensures.types;
-  behind = c.in_ok-both.ensures.held;
-}
+of-requires g c = record { linked = (c.in_ok-domain_name.ensures, c.in_ok-both.ensures.verdict); known = c.in_ok-both.ensures.known }

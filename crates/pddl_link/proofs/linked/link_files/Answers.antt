@@ -1,12 +1,18 @@
-use Rattle.std.proofs.Common.{[], ◌∷◌, ◌++◌, map, drop, Err, refl, ◌∙◌}
+use Rattle.std.proofs.Common.{◌≡◌, List, [], ◌∷◌, ◌++◌, map, drop, Result, Ok, Err, IfOk, refl, ◌∙◌}
+use Rattle.std.specs.Result.{result_and}
 use Rattle.std.proofs.lemmas.Result.{err_from_is_err_and}
-use Rattle.pddl_domain.specs.Domains.{domain_view}
-use Rattle.pddl_task.specs.Faults.{types_twice, type_cycles}
-use Rattle.pddl_task.specs.Linked.{fault, fault_in, rules}
+use Rattle.pddl_domain.specs.Domains.{DomainValue, domain_view}
+use Rattle.pddl_problem.specs.Problems.{ProblemValue}
+use Rattle.pddl_task.specs.Faults.{types_twice, type_cycles, large_goals}
+use Rattle.pddl_task.specs.Linked.{Fault, fault, fault_in, rules}
 use Rattle.pddl_task.proofs.Lists.{append-none}
+use Rattle.pddl_faults.specs.declared.fault.LinkFault.{LinkFault}
+use Rattle.pddl_faults.specs.Passes.{Verdict}
 use Rattle.pddl_faults.proofs.PassedParts.{pass_front}
 use Rattle.pddl_faults.proofs.Verdicts.{found_at, decided_after}
-use Rattle.pddl_names.specs.FaultParts.{problem_in}
+use Rattle.pddl_names.specs.FaultParts.{problem_in, part_rules, goal_rules}
+use Rattle.pddl_linked_task.specs.TaskTables.{HaveAll}
+use Rattle.pddl_link.proofs.Stages.{stage_first, alone_verdict}
 use Rattle.pddl_link.proofs.linked.link_files.Goals as goal
 
 pub returns-in_err-type_twice-clause-verdict : goal.returns-in_err-type_twice-clause-verdict
@@ -23,11 +29,40 @@ returns-in_err-types-clause-verdict g c =
     rw (p.1, p.2) (found_at (fault 21 (twice ++ []) ∷ []) 22 (cyclic ++ []) _ c.in_err-types.field-0.0 (append-none twice ∙ c.in_ok-type_twice.ensures, tt) refl
     (pass_front 22 cyclic [] (cyclic ++ []) _ refl c.in_err-types.ensures.cycle))
 
+-- no fault of types stands in front of the others
+behind_types : {T : Type 0} (d : DomainValue) (p : ProblemValue) (r : Result T LinkFault) → types_twice d ≡ [] → type_cycles d ≡ [] → Verdict (map (fault_in d p) (drop 3 rules)) r
+    → Verdict (map (fault_in d p) (drop 1 rules)) r
+behind_types d p r once none =
+    decided_after (fault 21 (types_twice d ++ []) ∷ fault 22 (type_cycles d ++ []) ∷ []) (map (fault_in d p) (drop 3 rules)) r (append-none (types_twice d) ∙ once, (append-none (type_cycles d) ∙ none, tt))
+
 pub returns-clause-verdict : goal.returns-clause-verdict
 returns-clause-verdict g c =
     let d = domain_view c.args.domain.now in
-    decided_after {T = Unit {0}} (fault 21 (types_twice d ++ []) ∷ fault 22 (type_cycles d ++ []) ∷ []) (map (fault_in d (problem_in c.args.problem)) (drop 3 rules)) (Err c.in-Err.fault)
-    (append-none (types_twice d) ∙ c.in_ok-type_twice.ensures, (append-none (type_cycles d) ∙ c.in_ok-types.ensures.cycle, tt)) c.in-Err.ensures.verdict
+    let p = problem_in c.args.problem in
+    behind_types {T = Unit {0}} d p (Err c.in-Err.fault) c.in_ok-type_twice.ensures c.in_ok-types.ensures.cycle (stage_first 33 (map (fault_in d p) part_rules) (map (fault_in d p) goal_rules) c.in-Err.fault refl refl c.in-Err.ensures.verdict)
 
-pub order_behind_types-requires-clause-listed : goal.order_behind_types-requires-clause-listed
-order_behind_types-requires-clause-listed g c = c.new-listed.ensures c.new-declared.result.told
+pub order_behind_types-requires-clause-typed : goal.order_behind_types-requires-clause-typed
+order_behind_types-requires-clause-typed g c = rw c.of-known.ensures.types c.in_ok-types.ensures.types
+
+-- what holds of what is given on
+held_on : {U T E : Type 0} (r : Result U E) (x : T) (P : T → Type 0) → P x → IfOk (result_and r (Ok x)) P
+held_on (Ok u) x P h = h
+held_on (Err e) x P h = tt
+
+pub returns-in-Ok-clause-known : goal.returns-in-Ok-clause-known
+returns-in-Ok-clause-known g c = rw c.and.ensures (held_on c.look_at_goal-goal.result _ _ c.in-Ok.ensures.held.0)
+
+-- a verdict is that of what is given on
+given_on : {U T : Type 0} (fs : List Fault) (r : Result U LinkFault) (x : T) → Verdict fs r → Verdict fs (result_and r (Ok x))
+given_on fs (Ok u) x verdict = verdict
+given_on fs (Err e) x verdict = verdict
+
+pub returns-in-Ok-clause-verdict : goal.returns-in-Ok-clause-verdict
+returns-in-Ok-clause-verdict g c =
+    let d = domain_view c.args.domain.now in
+    let p = problem_in c.args.problem in
+    let goals = map (fault_in d p) goal_rules in
+    rw c.and.ensures
+    (behind_types d p _ c.in_ok-type_twice.ensures c.in_ok-types.ensures.cycle
+    (decided_after (map (fault_in d p) part_rules) goals _ c.in-Ok.ensures.verdict
+    (given_on goals c.look_at_goal-goal.result _ (alone_verdict 35 (large_goals d p) c.look_at_goal-goal.result c.look_at_goal-goal.ensures))))

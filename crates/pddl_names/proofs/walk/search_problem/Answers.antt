@@ -14,7 +14,7 @@ pub loop-item-init : goal.loop-item-init
 loop-item-init g c = record { kept = refl; so_far = up_to_none }
 
 pub search_item-requires-clause-told : goal.search_item-requires-clause-told
-search_item-requires-clause-told g c = rw c.loop-item.invariant.kept c.requires.told
+search_item-requires-clause-told g c = rw (c.loop-item.invariant.kept, c.new-scope.ensures) c.requires
 
 pub loop-item-preserved : goal.loop-item-preserved
 loop-item-preserved g c = record {
@@ -24,7 +24,7 @@ loop-item-preserved g c = record {
 }
 
 pub search_formula-goal-requires : goal.search_formula-goal-requires
-search_formula-goal-requires g c = rw c.loop-item.invariant.kept c.requires.told
+search_formula-goal-requires g c = rw (c.loop-item.invariant.kept, c.new-scope.ensures) c.requires
 
 pub returns-clause-found : goal.returns-clause-found
 returns-clause-found g c =
@@ -36,5 +36,5 @@ returns-clause-found g c =
     let init = at_end sought (λ items. flat_map init_places (map init_view items)) c.deref-item-items.result.now c.loop-item-test.false refl c.deref-item-items.ensures.value c.loop-item.invariant.so_far in
     rw append_assoc
     (in_turn sought first (goal ++ last) c.loop-item.init c.lower.result c.lower-2.result c.lower-2.ensures.found init
-    (in_turn sought goal last c.search_formula-goal.result c.search_metric-metric.result c.lower.result c.lower.ensures.found (rw c.requires.empty at c.search_formula-goal.ensures.found)
+    (in_turn sought goal last c.search_formula-goal.result c.search_metric-metric.result c.lower.result c.lower.ensures.found (rw c.new-scope.ensures at c.search_formula-goal.ensures.found)
     c.search_metric-metric.ensures.found))

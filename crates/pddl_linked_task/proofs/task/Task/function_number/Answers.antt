@@ -6,4 +6,4 @@ use Rattle.pddl_linked_task.proofs.task.Task.function_number.Goals as goal
 pub returns : goal.returns
 returns g c =
     let t = c.self.inside in
-    rw (← c.self.view_is) (signature_number t.declared.functions.entries (function_signatures (domain_view t.domain.now)) c.args.name.now c.get_index_of.result c.self.invariant.behind.declared_are.functions.signatures_are c.get_index_of.ensures.index)
+    rw (← c.self.view_is) (signature_number t.tables.known.functions.entries (function_signatures (domain_view t.domain.now)) c.args.name.now c.get_index_of.result c.self.invariant.known.functions.signatures_are c.get_index_of.ensures.index)

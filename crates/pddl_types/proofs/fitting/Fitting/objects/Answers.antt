@@ -1,9 +1,0 @@
-use Rattle.std.proofs.Common.{sym, subst}
-use Rattle.pddl_types.specs.TypeSpans.{IsTold}
-use Rattle.pddl_types.proofs.FittingSpans.{fitting_places}
-use Rattle.pddl_types.proofs.fitting.Fitting.objects.Goals as goal
-
-pub returns : goal.returns
-returns g c =
-    let f = c.args.self.now in
-    rw (fitting_places c.args.slot.now f.numbered c.in_ok-tops.ensures.tell (subst (IsTold f.types.now c.args.slot.now) (sym c.deref.ensures.value) c.in_ok-tops.ensures.told)) at c.objects_under.ensures
