@@ -1,6 +1,6 @@
 -- Verdicts in turn: what is found among the parts of a domain and a problem is the verdict on the rules from 23 to 33, and rules follow one another by rising numbers.
 use Rattle.std.proofs.Common.{◌≡◌, ◌≤◌, ℕ, Bool, true, List, [], ◌∷◌, ◌++◌, map, drop, Result, Ok, Err, IfSome, refl, ap, ◌∙◌, subst, arith, append_assoc, inl, inr}
-use Rattle.std.specs.Prelude.{nat_le, Contains, Option, Some, None}
+use Rattle.std.specs.Prelude.{nat_le, Contains, Option, Some, None, IsOk, OnOk}
 use Rattle.std.specs.List.{list_all, flat_map}
 use Rattle.std.proofs.lemmas.Bool.Decides.{nat_tests}
 use Rattle.std.proofs.lemmas.List.Elements.{Contains-append_left, Contains-append_cases}
@@ -9,7 +9,7 @@ use Rattle.pddl_problem.specs.Problems.{ProblemValue}
 use Rattle.pddl_task.specs.Names.{Name}
 use Rattle.pddl_task.specs.Places.{domain_places}
 use Rattle.pddl_task.specs.Faults.{unknown_types, variables_at, domain_typed, problem_typed}
-use Rattle.pddl_task.specs.Linked.{Fault, fault, fault_in, Stands, IsLowest}
+use Rattle.pddl_task.specs.Linked.{Fault, fault, fault_in, Stands, NoneStands, IsLowest}
 use Rattle.pddl_task.proofs.Lists.{all_found, has_none}
 use Rattle.pddl_faults.specs.declared.fault.LinkFault.{LinkFault}
 use Rattle.pddl_faults.specs.Passes.{fault_of, Passes, Verdict}
@@ -40,6 +40,15 @@ stopped_verdict d p e h =
 pub none_left : (P : ℕ × Name → Type 0) (o : Option (ℕ × Name)) (found : List (ℕ × Name)) → found ≡ [] → IfSome o (Contains found) → IfSome o P
 none_left P None found none h = tt
 none_left P (Some f) found none h = absurd (has_none f (subst (λ fs. Contains fs f) none h))
+
+-- what holds where something is made holds, and none of the faults stands, once it is
+pub ok_holds : {T : Type 0} (r : Result T LinkFault) (P : Type 0) → IsOk r → OnOk r P → P
+ok_holds (Ok u) P is h = h
+ok_holds (Err e) P is h = absurd (cc is)
+
+pub ok_none : {T : Type 0} (fs : List Fault) (r : Result T LinkFault) → IsOk r → Verdict fs r → NoneStands fs
+ok_none fs (Ok u) is h = h
+ok_none fs (Err e) is h = absurd (cc is)
 
 -- the verdict on one fault alone
 pub alone_verdict : (n : ℕ) (words : List Name) (r : Result (Unit {0}) LinkFault) → Passes n words r → Verdict (fault n words ∷ []) r

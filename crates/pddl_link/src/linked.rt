@@ -1,6 +1,6 @@
 //! Links a domain with a problem, or looks at a domain alone.
 
-ghost use Rattle.std.specs.Prelude.{◌≡◌, ◌++◌, [], map, drop, IfOk};
+ghost use Rattle.std.specs.Prelude.{◌≡◌, ◌++◌, [], map, drop, IfOk, OnOk};
 ghost use Rattle.pddl_domain.specs.Domains.{domain_view};
 ghost use Rattle.pddl_problem.specs.Problems.{problem_view};
 ghost use Rattle.pddl_task.specs.Linked.{fault_in, domain_faults, faults, rules};
@@ -32,8 +32,8 @@ fn order_behind_types<'m, 'a, A: Allocator, B: Allocator>(
     requires typed { known.old.types.declared ≡ (domain_view domain.now).types }
     requires nothing { IsNothing known.old }
     requires told { told.old ≡ [] }
-    ensures held { IfOk result (λ order. AreAllKnown (domain_view domain.now) ((domain_view domain.now).constants ++ (problem_in problem.entry).objects) known.new told.new
-        × AreNumbered known.new.types (objects_in known.new) order.numbers.items) }
+    ensures known { OnOk result (AreAllKnown (domain_view domain.now) ((domain_view domain.now).constants ++ (problem_in problem.entry).objects) known.new told.new) }
+    ensures numbered { IfOk result (λ order. AreNumbered known.new.types (objects_in known.new) order.numbers.items) }
     ensures verdict { Verdict (map (fault_in (domain_view domain.now) (problem_in problem.entry)) part_rules) result }
 {
     let found = look_at_domain(known, told, domain)?;
@@ -56,14 +56,10 @@ fn link_files<'m, 'a, A: Allocator, B: Allocator>(
     let types = Types::of(alloc, hashed, &domain.types)?;
     let mut known = Known::of(types);
     let mut told = Told::new(alloc, hashed);
-    match order_behind_types(&mut known, &mut told, domain, problem) {
-        Ok(order) => {
-            let tables = Tables { known, told, order };
-            let goal = look_at_goal(&tables, domain, problem);
-            goal.and(Ok(tables))
-        }
-        Err(fault) => Err(fault),
-    }
+    let order = order_behind_types(&mut known, &mut told, domain, problem);
+    let tables = Tables::of(known, told, order)?;
+    let goal = look_at_goal(&tables, domain, problem);
+    goal.and(Ok(tables))
 }
 
 /// Checks a domain: the faults 21 to 32 that it shows by itself.

@@ -12,7 +12,7 @@ use Rattle.pddl_faults.proofs.PassedParts.{pass_front}
 use Rattle.pddl_faults.proofs.Verdicts.{found_at, decided_after}
 use Rattle.pddl_names.specs.FaultParts.{problem_in, part_rules, goal_rules}
 use Rattle.pddl_linked_task.specs.TaskTables.{HaveAll}
-use Rattle.pddl_link.proofs.Stages.{stage_first, alone_verdict}
+use Rattle.pddl_link.proofs.Stages.{ok_holds, ok_none, stage_first, alone_verdict}
 use Rattle.pddl_link.proofs.linked.link_files.Goals as goal
 
 pub returns-in_err-type_twice-clause-verdict : goal.returns-in_err-type_twice-clause-verdict
@@ -35,34 +35,46 @@ behind_types : {T : Type 0} (d : DomainValue) (p : ProblemValue) (r : Result T L
 behind_types d p r once none =
     decided_after (fault 21 (types_twice d ++ []) ∷ fault 22 (type_cycles d ++ []) ∷ []) (map (fault_in d p) (drop 3 rules)) r (append-none (types_twice d) ∙ once, (append-none (type_cycles d) ∙ none, tt))
 
-pub returns-clause-verdict : goal.returns-clause-verdict
-returns-clause-verdict g c =
+pub order_behind_types-order-requires-clause-typed : goal.order_behind_types-order-requires-clause-typed
+order_behind_types-order-requires-clause-typed g c = rw c.of-known.ensures.types c.in_ok-types.ensures.types
+
+pub returns-in_err-tables-clause-verdict : goal.returns-in_err-tables-clause-verdict
+returns-in_err-tables-clause-verdict g c =
     let d = domain_view c.args.domain.now in
     let p = problem_in c.args.problem in
-    behind_types {T = Unit {0}} d p (Err c.in-Err.fault) c.in_ok-type_twice.ensures c.in_ok-types.ensures.cycle (stage_first 33 (map (fault_in d p) part_rules) (map (fault_in d p) goal_rules) c.in-Err.fault refl refl c.in-Err.ensures.verdict)
+    let q = err_from_is_err_and c.from_residual-in_err-tables.result c.from_residual-in_err-tables.ensures.1 in
+    let e = c.in_err-tables.field-0.0 in
+    rw (q.1, q.2) (behind_types {T = Unit {0}} d p (Err e) c.in_ok-type_twice.ensures c.in_ok-types.ensures.cycle
+    (stage_first 33 (map (fault_in d p) part_rules) (map (fault_in d p) goal_rules) e refl refl (rw c.in_err-tables.ensures.failed at c.order_behind_types-order.ensures.verdict)))
 
-pub order_behind_types-requires-clause-typed : goal.order_behind_types-requires-clause-typed
-order_behind_types-requires-clause-typed g c = rw c.of-known.ensures.types c.in_ok-types.ensures.types
+pub look_at_goal-goal-requires : goal.look_at_goal-goal-requires
+look_at_goal-goal-requires g c =
+    rw (c.in_ok-tables.ensures.held.0, c.in_ok-tables.ensures.held.1)
+    (ok_holds c.order_behind_types-order.result _ c.in_ok-tables.ensures.made c.order_behind_types-order.ensures.known)
 
 -- what holds of what is given on
 held_on : {U T E : Type 0} (r : Result U E) (x : T) (P : T → Type 0) → P x → IfOk (result_and r (Ok x)) P
 held_on (Ok u) x P h = h
 held_on (Err e) x P h = tt
 
-pub returns-in-Ok-clause-known : goal.returns-in-Ok-clause-known
-returns-in-Ok-clause-known g c = rw c.and.ensures (held_on c.look_at_goal-goal.result _ _ c.in-Ok.ensures.held.0)
+pub returns-clause-known : goal.returns-clause-known
+returns-clause-known g c =
+    rw c.and.ensures
+    (held_on c.look_at_goal-goal.result _ _ (rw (c.in_ok-tables.ensures.held.0, c.in_ok-tables.ensures.held.1)
+    (ok_holds c.order_behind_types-order.result _ c.in_ok-tables.ensures.made c.order_behind_types-order.ensures.known)))
 
 -- a verdict is that of what is given on
 given_on : {U T : Type 0} (fs : List Fault) (r : Result U LinkFault) (x : T) → Verdict fs r → Verdict fs (result_and r (Ok x))
 given_on fs (Ok u) x verdict = verdict
 given_on fs (Err e) x verdict = verdict
 
-pub returns-in-Ok-clause-verdict : goal.returns-in-Ok-clause-verdict
-returns-in-Ok-clause-verdict g c =
+pub returns-clause-verdict : goal.returns-clause-verdict
+returns-clause-verdict g c =
     let d = domain_view c.args.domain.now in
     let p = problem_in c.args.problem in
     let goals = map (fault_in d p) goal_rules in
+    let parts = map (fault_in d p) part_rules in
     rw c.and.ensures
     (behind_types d p _ c.in_ok-type_twice.ensures c.in_ok-types.ensures.cycle
-    (decided_after (map (fault_in d p) part_rules) goals _ c.in-Ok.ensures.verdict
+    (decided_after parts goals _ (ok_none parts c.order_behind_types-order.result c.in_ok-tables.ensures.made c.order_behind_types-order.ensures.verdict)
     (given_on goals c.look_at_goal-goal.result _ (alone_verdict 35 (large_goals d p) c.look_at_goal-goal.result c.look_at_goal-goal.ensures))))

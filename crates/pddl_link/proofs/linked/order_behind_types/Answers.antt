@@ -34,13 +34,19 @@ returns-in_err-add_actions-clause-verdict g c =
     let p = err_from_is_err_and c.from_residual-in_err-add_actions.result c.from_residual-in_err-add_actions.ensures.1 in
     rw (p.1, p.2) (none_left _ (fault_of c.in_err-add_actions.field-0.0) _ (actions_right d (problem_in c.args.problem) named) (rw held.typed at c.in_err-add_actions.ensures.passes))
 
-pub returns-clause-held : goal.returns-clause-held
-returns-clause-held g c =
+pub returns-clause-known : goal.returns-clause-known
+returns-clause-known g c =
+    let d = domain_view c.args.domain.now in
+    let named = parts_verdict d (problem_in c.args.problem) (Ok tt) c.in_ok-found.ensures.passes (c.in_ok-lower.ensures.found _ _ c.in_ok-found.ensures.found c.look_at_problem.ensures.found) in
+    c.in_ok-add_actions.ensures.known _ (second_kept _ _ (Ok tt) _ c.in_ok-lower.ensures.both c.look_at_problem.ensures.known) (declared_once d (problem_in c.args.problem) named)
+
+pub returns-clause-numbered : goal.returns-clause-numbered
+returns-clause-numbered g c =
     let d = domain_view c.args.domain.now in
     let p = problem_in c.args.problem in
     let named = parts_verdict d p (Ok tt) c.in_ok-found.ensures.passes (c.in_ok-lower.ensures.found _ _ c.in_ok-found.ensures.found c.look_at_problem.ensures.found) in
     let held = c.in_ok-add_actions.ensures.known _ (second_kept _ _ (Ok tt) _ c.in_ok-lower.ensures.both c.look_at_problem.ensures.known) (declared_once d p named) in
-    (held, rw c.in_ok-order.ensures (objects_numbered d p named held.types held.listed.types held.listed.objects))
+    rw c.in_ok-order.ensures (objects_numbered d p named held.types held.listed.types held.listed.objects)
 
 pub returns-clause-verdict : goal.returns-clause-verdict
 returns-clause-verdict g c =
