@@ -164,7 +164,8 @@ impl<'m, 'a, A: Allocator, B: Allocator> Task<'m, 'a, A, B> {
     pub fn is_a<N: Allocator>(&self, sub: &Name<N>, over: &Name<N>) -> bool
         ensures { result ≡ is_subtype (task_of_files self.now).types sub.now over.now }
     {
-        self.tables.known.types.is_a(sub.as_bytes(), over.as_bytes())
+        let types = &self.tables.known.types;
+        types.is_a(sub.as_bytes(), over.as_bytes())
     }
 
     /// Whether the object of a number fits a parameter of an action, both by their numbers; past the last object there is none that does.
@@ -256,7 +257,8 @@ impl<'m, 'a, A: Allocator, B: Allocator> Task<'m, 'a, A, B> {
     pub fn object_number(&self, name: &[u8]) -> Option<usize>
         ensures { result ≡ position (bytes_eq name.now) (object_names (task_of_files self.now)) }
     {
-        self.tables.known.listed.objects.get_index_of(&LentName::of(name))
+        let listed = &self.tables.known.listed;
+        listed.objects.get_index_of(&LentName::of(name))
     }
 
     /// The number of the predicate of a name, or `None` where there is none.

@@ -11,7 +11,6 @@ use Rattle.pddl_faults.specs.Passes.{Verdict}
 use Rattle.pddl_faults.proofs.PassedParts.{pass_front}
 use Rattle.pddl_faults.proofs.Verdicts.{found_at, decided_after}
 use Rattle.pddl_names.specs.FaultParts.{problem_in, part_rules, goal_rules}
-use Rattle.pddl_linked_task.specs.TaskTables.{HaveAll}
 use Rattle.pddl_link.proofs.Stages.{ok_holds, ok_none, stage_first, alone_verdict}
 use Rattle.pddl_link.proofs.linked.link_files.Goals as goal
 

@@ -1,5 +1,4 @@
-use Rattle.std.proofs.Common.{[], ◌∷◌, ◌++◌, map, refl, sym, ap, subst}
-use Rattle.std.specs.Prelude.{OnOk}
+use Rattle.std.proofs.Common.{[], ◌∷◌, map, refl, sym, ap, subst}
 use Rattle.std.specs.List.{flat_map}
 use Rattle.std.proofs.lemmas.Result.{err_from_is_err_and}
 use Rattle.pddl_formula.specs.TypedLists.{typed_view}
@@ -11,7 +10,6 @@ use Rattle.pddl_task.specs.Faults.{object_types, clashing, contradicts, contradi
 use Rattle.pddl_faults.specs.Found.{IsFound, numbered}
 use Rattle.pddl_faults.proofs.FoundFaults.{found_rest, passed_as}
 use Rattle.pddl_types.specs.Told.{unknown_among}
-use Rattle.pddl_types.specs.Known.{AreKnown}
 use Rattle.pddl_names.specs.FaultParts.{problem_in, joined, problem_parts}
 use Rattle.pddl_names.proofs.FoundParts.{stopped_at, found_parts, passed_part, holds_on}
 use Rattle.pddl_names.proofs.HeldFiles.{known_faults, nothing_bound, known_still, known_more}

@@ -1,4 +1,4 @@
-use Rattle.std.proofs.Common.{ap, ◌∙◌}
+use Rattle.std.proofs.Common.{◌∙◌}
 use Rattle.pddl_formula.specs.Formulas.{formula_view}
 use Rattle.pddl_task.specs.Types.{pairs}
 use Rattle.pddl_task.specs.GroundSize.{capped, fitting_count, formula_size}
