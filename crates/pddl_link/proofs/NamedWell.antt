@@ -51,10 +51,6 @@ module _ (d : DomainValue) (p : ProblemValue) (named : NoneStands (map (fault_in
       action_types d.types d.actions
       (nil_parts (unknown_types d front) (unknown_types d bound) (sym (unknown-append d.types front bound) ∙ (nil_parts (unknown_types d (domain_typed d)) (unknown_types d (problem_typed p)) named.0).0)).1
 
-  -- so no fault is found where actions are put into a table
-  pub actions_right : numbered 23 (unknown_among d.types (flat_map parameters_of (map action_signature d.actions))) ++ numbered 24 (repeated [] (map symbol_of (map action_signature d.actions))) ≡ []
-  actions_right = λ i. numbered 23 (parameters_known i) ++ numbered 24 (declared_once.actions i)
-
   -- objects that are listed have types of one primitive, whose numbers are those of the types that are told
   pub objects_numbered : {t : TypesValue} {told : ToldValue} {objects : List TypedValue} {types : List ℕ} → AreTold t told → AreAt told objects types → objects ≡ objects_of d p
       → AreNumbered t objects (map (first_at told) types)

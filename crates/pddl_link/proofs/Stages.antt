@@ -36,11 +36,6 @@ stopped_verdict d p e h =
     found_at [] 23 (unknown_types d (domain_typed d) ++ others) (map (fault_in d p) (drop 1 part_rules)) e tt refl
     (pass_front 23 own (bound ++ others) (unknown_types d (domain_typed d) ++ others) e (ap (λ ws. ws ++ others) (unknown-declared d.types d) ∙ append_assoc own bound others) h)
 
--- a fault that is none of those which are found is no fault
-pub none_left : (P : ℕ × Name → Type 0) (o : Option (ℕ × Name)) (found : List (ℕ × Name)) → found ≡ [] → IfSome o (Contains found) → IfSome o P
-none_left P None found none h = tt
-none_left P (Some f) found none h = absurd (has_none f (subst (λ fs. Contains fs f) none h))
-
 -- what holds where something is made holds, and none of the faults stands, once it is
 pub ok_holds : {T : Type 0} (r : Result T LinkFault) (P : Type 0) → IsOk r → OnOk r P → P
 ok_holds (Ok u) P is h = h

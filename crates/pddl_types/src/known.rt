@@ -1,13 +1,12 @@
 //! What a domain and a problem declare, by name.
 
-ghost use Rattle.std.specs.Prelude.{◌≡◌, ◌++◌, [], List, map, Contains, IfOk, IfErr, IfSome, OnOk};
+ghost use Rattle.std.specs.Prelude.{◌≡◌, [], None, List, map, IfOk, MatchResult};
 ghost use Rattle.std.specs.List.{flat_map};
 ghost use Rattle.pddl_formula.specs.TypedLists.{TypedValue};
 ghost use Rattle.pddl_domain.specs.Domains.{domain_view};
-ghost use Rattle.pddl_task.specs.Names.{repeated};
-ghost use Rattle.pddl_task.specs.Settings.{symbol_of, parameters_of};
+ghost use Rattle.pddl_task.specs.Settings.{parameters_of};
 ghost use Rattle.pddl_faults.specs.Passes.{fault_of, Passes};
-ghost use Rattle.pddl_faults.specs.Found.{IsFound, numbered};
+ghost use Rattle.pddl_faults.specs.Found.{IsFound};
 ghost use Rattle.pddl_types.specs.KnownNames.{action_signature};
 ghost use Rattle.pddl_types.specs.Told.{AreTold, unknown_among};
 ghost use Rattle.pddl_types.specs.Known.{declared_typed, repeated_names, IsDeclaredOnce, IsNothing, AreKnown, AreAllKnown};
@@ -72,11 +71,11 @@ impl<'m, 'a, A: Allocator, B: Allocator> Known<'m, 'a, A, B> {
         Ok(lower(constants, lower(predicates, functions)))
     }
 
-    /// Adds a domain's actions, where those are none.
+    /// Adds a domain's actions, where there are none, to the rest of what it declares, none of which is declared twice or of an unknown type.
     ///
     /// # Errors
     ///
-    /// `LinkFault::UnknownType` and `LinkFault::NameTwice`; `Memory` where memory for them is refused.
+    /// `LinkFault::Memory` where memory for them is refused.
     pub fn add_actions(
         &mut self,
         told: &mut Told<'m, 'a, A, B>,
@@ -84,10 +83,9 @@ impl<'m, 'a, A: Allocator, B: Allocator> Known<'m, 'a, A, B> {
     ) -> Result<(), LinkFault<'m>>
         requires told { AreTold self.old.types told.old }
         requires none { self.old.actions.entries ≡ [] }
-        ensures passes { IfErr result (λ e. IfSome (fault_of e) (λ f. Contains (numbered 23 (unknown_among self.old.types.declared (flat_map parameters_of (map action_signature (domain_view domain.now).actions)))
-            ++ numbered 24 (repeated [] (map symbol_of (map action_signature (domain_view domain.now).actions)))) f)) }
-        ensures known { (objects : List TypedValue) → AreKnown (domain_view domain.now) objects self.old told.old → IsDeclaredOnce (domain_view domain.now)
-            → OnOk result (AreAllKnown (domain_view domain.now) objects self.new told.new) }
+        ensures { (objects : List TypedValue) → AreKnown (domain_view domain.now) objects self.old told.old → IsDeclaredOnce (domain_view domain.now)
+            → unknown_among (domain_view domain.now).types (flat_map parameters_of (map action_signature (domain_view domain.now).actions)) ≡ []
+            → MatchResult result (λ _. AreAllKnown (domain_view domain.now) objects self.new told.new) (λ fault. fault_of fault ≡ None) }
     {
         put(&self.types, told, &mut self.actions, &domain.actions)?
     }

@@ -1,11 +1,10 @@
 use Rattle.std.proofs.Common.{Ok, Err}
 use Rattle.std.proofs.lemmas.Result.{err_from_is_err_and}
 use Rattle.pddl_domain.specs.Domains.{domain_view}
-use Rattle.pddl_faults.specs.Passes.{fault_of}
 use Rattle.pddl_names.specs.FaultParts.{problem_in}
 use Rattle.pddl_names.proofs.FoundParts.{second_kept}
-use Rattle.pddl_link.proofs.NamedWell.{declared_once, actions_right, objects_numbered}
-use Rattle.pddl_link.proofs.Stages.{parts_verdict, stopped_verdict, none_left}
+use Rattle.pddl_link.proofs.NamedWell.{declared_once, parameters_known, objects_numbered}
+use Rattle.pddl_link.proofs.Stages.{parts_verdict, stopped_verdict}
 use Rattle.pddl_link.proofs.linked.order_behind_types.Goals as goal
 
 pub returns-in_err-found-clause-verdict : goal.returns-in_err-found-clause-verdict
@@ -29,23 +28,25 @@ add_actions-requires-clause-none g c = (second_kept _ _ (Ok tt) _ c.in_ok-lower.
 pub returns-in_err-add_actions-clause-verdict : goal.returns-in_err-add_actions-clause-verdict
 returns-in_err-add_actions-clause-verdict g c =
     let d = domain_view c.args.domain.now in
-    let named = parts_verdict d (problem_in c.args.problem) (Ok tt) c.in_ok-found.ensures.passes (c.in_ok-lower.ensures.found _ _ c.in_ok-found.ensures.found c.look_at_problem.ensures.found) in
+    let p = problem_in c.args.problem in
+    let named = parts_verdict d p (Ok tt) c.in_ok-found.ensures.passes (c.in_ok-lower.ensures.found _ _ c.in_ok-found.ensures.found c.look_at_problem.ensures.found) in
     let held = second_kept _ _ (Ok tt) _ c.in_ok-lower.ensures.both c.look_at_problem.ensures.known in
-    let p = err_from_is_err_and c.from_residual-in_err-add_actions.result c.from_residual-in_err-add_actions.ensures.1 in
-    rw (p.1, p.2) (none_left _ (fault_of c.in_err-add_actions.field-0.0) _ (actions_right d (problem_in c.args.problem) named) (rw held.typed at c.in_err-add_actions.ensures.passes))
+    let q = err_from_is_err_and c.from_residual-in_err-add_actions.result c.from_residual-in_err-add_actions.ensures.1 in
+    rw (q.1, q.2, c.in_err-add_actions.ensures _ held (declared_once d p named) (parameters_known d p named)) tt
 
 pub returns-clause-known : goal.returns-clause-known
 returns-clause-known g c =
     let d = domain_view c.args.domain.now in
-    let named = parts_verdict d (problem_in c.args.problem) (Ok tt) c.in_ok-found.ensures.passes (c.in_ok-lower.ensures.found _ _ c.in_ok-found.ensures.found c.look_at_problem.ensures.found) in
-    c.in_ok-add_actions.ensures.known _ (second_kept _ _ (Ok tt) _ c.in_ok-lower.ensures.both c.look_at_problem.ensures.known) (declared_once d (problem_in c.args.problem) named)
+    let p = problem_in c.args.problem in
+    let named = parts_verdict d p (Ok tt) c.in_ok-found.ensures.passes (c.in_ok-lower.ensures.found _ _ c.in_ok-found.ensures.found c.look_at_problem.ensures.found) in
+    c.in_ok-add_actions.ensures _ (second_kept _ _ (Ok tt) _ c.in_ok-lower.ensures.both c.look_at_problem.ensures.known) (declared_once d p named) (parameters_known d p named)
 
 pub returns-clause-numbered : goal.returns-clause-numbered
 returns-clause-numbered g c =
     let d = domain_view c.args.domain.now in
     let p = problem_in c.args.problem in
     let named = parts_verdict d p (Ok tt) c.in_ok-found.ensures.passes (c.in_ok-lower.ensures.found _ _ c.in_ok-found.ensures.found c.look_at_problem.ensures.found) in
-    let held = c.in_ok-add_actions.ensures.known _ (second_kept _ _ (Ok tt) _ c.in_ok-lower.ensures.both c.look_at_problem.ensures.known) (declared_once d p named) in
+    let held = c.in_ok-add_actions.ensures _ (second_kept _ _ (Ok tt) _ c.in_ok-lower.ensures.both c.look_at_problem.ensures.known) (declared_once d p named) (parameters_known d p named) in
     rw c.in_ok-order.ensures (objects_numbered d p named held.types held.listed.types held.listed.objects)
 
 pub returns-clause-verdict : goal.returns-clause-verdict

@@ -1,46 +1,48 @@
-use Rattle.std.proofs.Common.{[], map, Result, Ok, Err, refl, ap, subst}
-use Rattle.std.specs.Prelude.{OnOk}
+use Rattle.std.proofs.Common.{◌≡◌, ℕ, [], map, Option, Some, None, Result, Ok, Err, IfSome, refl, ap, sym, ◌∙◌}
+use Rattle.std.specs.Prelude.{MatchResult}
 use Rattle.std.specs.List.{flat_map}
 use Rattle.std.proofs.lemmas.Result.{err_from_is_err_and}
 use Rattle.pddl_domain.specs.Actions.{action_view}
-use Rattle.pddl_domain.specs.Domains.{domain_view}
-use Rattle.pddl_task.specs.Names.{repeated}
+use Rattle.pddl_task.specs.Names.{Name, repeated}
 use Rattle.pddl_task.specs.Settings.{symbol_of, parameters_of}
-use Rattle.pddl_faults.specs.Found.{IsFound, numbered}
+use Rattle.pddl_task.proofs.Lists.{has_none}
+use Rattle.pddl_faults.specs.declared.fault.LinkFault.{LinkFault}
+use Rattle.pddl_faults.specs.Passes.{fault_of}
+use Rattle.pddl_faults.specs.Found.{IsLowestOf, IsFound, numbered}
+use Rattle.pddl_faults.proofs.FoundFaults.{passed_as, found_same}
 use Rattle.pddl_types.specs.KnownNames.{action_signature}
 use Rattle.pddl_types.specs.Told.{unknown_among}
-use Rattle.pddl_faults.proofs.FoundFaults.{passed_as, stands_front, stands_back}
 use Rattle.pddl_types.proofs.ObjectTables.{seen_still}
 use Rattle.pddl_types.proofs.ToldTypes.{kept_self}
 use Rattle.pddl_types.proofs.SignatureTables.{have_still, have_all}
 use Rattle.pddl_types.proofs.Lookups.{seen_of}
 use Rattle.pddl_types.proofs.known.Known.add_actions.Goals as goal
 
-on_ok : {U E : Type 0} (r : Result U E) (P : Type 0) → P → OnOk r P
-on_ok (Ok _) P h = h
-on_ok (Err _) P h = tt
+-- what is answered is no fault where there is none to be found
+no_fault : (o : Option (ℕ × Name)) → IfSome o (IsLowestOf []) → o ≡ None
+no_fault None h = refl
+no_fault (Some f) h = absurd (has_none f h.stands)
 
-pub returns-in_err-put-clause-passes : goal.returns-in_err-put-clause-passes
-returns-in_err-put-clause-passes g c =
-    let ts = c.args.self.now.types.declared in
-    let actions = seen_of action_signature action_view c.args.domain.now.actions.items in
+made : (r : Result (Unit {0}) LinkFault) (P : Type 0) → IsFound [] r → P → MatchResult r (λ _. P) (λ e. fault_of e ≡ None)
+made (Ok u) P none h = h
+made (Err e) P none h = no_fault (fault_of e) none
+
+pub returns-in_err-put : goal.returns-in_err-put
+returns-in_err-put g c = λ objects are once none.
+    let signatures = seen_of action_signature action_view c.args.domain.now.actions.items in
     let p = err_from_is_err_and c.from_residual.result c.from_residual.ensures.1 in
-    rw (p.1, p.2)
-    (stands_front {T = Unit {0}} (numbered 23 (unknown_among ts (flat_map parameters_of (map action_signature (domain_view c.args.domain.now).actions)))) _ (Err c.in_err-put.field-0.0)
-    (passed_as {T = Unit {0}} 23 (Err c.in_err-put.field-0.0) (ap (λ gs. unknown_among ts (flat_map parameters_of gs)) actions) c.in_err-put.ensures.passes))
+    let e = c.in_err-put.field-0.0 in
+    rw (p.1, p.2) (no_fault (fault_of e) (passed_as {T = Unit {0}} 23 (Err e) ((λ i. unknown_among (are.typed i) (flat_map parameters_of (signatures i))) ∙ none) c.in_err-put.ensures.passes))
 
-pub returns-clause-passes : goal.returns-clause-passes
-returns-clause-passes g c =
-    stands_back _ (numbered 24 (repeated [] (map symbol_of (map action_signature (domain_view c.args.domain.now).actions)))) c.in_ok-put.field-0
-    (subst (λ gs. IsFound (numbered 24 (repeated [] (map symbol_of gs))) c.in_ok-put.field-0) (seen_of action_signature action_view c.args.domain.now.actions.items) c.in_ok-put.ensures.found)
-
-pub returns-clause-known : goal.returns-clause-known
-returns-clause-known g c = λ objects are once.
-    on_ok c.in_ok-put.field-0 _ (record {
+pub returns : goal.returns
+returns g c = λ objects are once none.
+    let signatures = seen_of action_signature action_view c.args.domain.now.actions.items in
+    let twice = (λ i. numbered 24 (repeated [] (map symbol_of (signatures i)))) ∙ ap (numbered 24) once.actions in
+    made c.in_ok-put.field-0 _ (found_same _ [] c.in_ok-put.field-0 (sym twice) c.in_ok-put.ensures.found) (record {
       typed = are.typed;
       types = c.put.ensures.told;
       predicates = have_all once.predicates (have_still c.put.ensures.kept refl are.predicates);
       functions = have_all once.functions (have_still c.put.ensures.kept refl are.functions);
-      actions = have_all once.actions (have_still (kept_self c.put.new.told) (seen_of action_signature action_view c.args.domain.now.actions.items) c.in_ok-put.ensures.held);
+      actions = have_all once.actions (have_still (kept_self c.put.new.told) signatures c.in_ok-put.ensures.held);
       listed = seen_still c.put.ensures.kept are.listed;
     })
