@@ -1,10 +1,9 @@
 -- Variables in scope and their depths by name.
-use Rattle.std.proofs.Common.{◌≡◌, ℕ, suc, ◌+◌, ◌<◌, ◌≤◌, Bool, true, false, ◌||◌, not, cond, List, [], ◌∷◌, ◌++◌, map, length, drop, Some, None, Result, Ok, refl, ap, sym, ◌∙◌, subst, bytes_eq, get_or, drop-cons, add-one, arith}
+use Rattle.std.proofs.Common.{◌≡◌, ℕ, suc, ◌+◌, ◌<◌, ◌≤◌, not, cond, List, [], ◌∷◌, ◌++◌, map, length, drop, Some, None, Result, Ok, refl, ap, sym, ◌∙◌, subst, bytes_eq, get_or, drop-cons, add-one, arith}
 use Rattle.std.specs.Prelude.{find, option_map, slice_get, reverse, unwrap_or, nat_le}
 use Rattle.std.specs.Borrow.{Bor}
 use Rattle.std.specs.Map.{lookup}
 use Rattle.std.proofs.iter.runs.Lists.{nth_left, nth_right}
-use Rattle.std.proofs.Math.Bool.{or-false}
 use Rattle.std.proofs.lemmas.Bool.Decides.{nat_tests}
 use Rattle.std.proofs.lemmas.List.{reverse-append, reverse-reverse, length-reverse, length-map, length-drop, map-append}
 use Rattle.std.proofs.lemmas.Option.{slice_get_read}
@@ -57,9 +56,7 @@ module _ {A : Type 0} where
 
   pub number_at : (n : Name) (items : List (Bound A)) (k : ℕ) (b : Bound A) → depth_of n (entries (reverse items)) ≡ suc k → b ≡ get_or items k b
       → Some b.number ≡ option_map (λ (e : TypedValue × ℕ). e.1) (find (λ (e : TypedValue × ℕ). is_named n e.0) (entries (reverse items)))
-  number_at n items k b is at =
-      ap (option_map (λ (c : Bound A). c.number)) (sym (slice_get_read items (length items) k b refl (depth_within n items k is) at))
-      ∙ ap (λ bs. option_map (λ (c : Bound A). c.number) (slice_get bs k)) (sym (reverse-reverse items)) ∙ found_there n (reverse items) k is
+  number_at n items k b is at = rw (← found_there n (reverse items) k is, reverse-reverse items, slice_get_read items (length items) k b refl (depth_within n items k is) at) refl
 
   -- one more, at this depth
   pub scope_more : (bs : List (Bound A)) (table : List (Bor Name × ℕ)) (b : Bound A) (k : Bor Name) (depth : ℕ) → k.now ≡ b.variable.now.name → b.hidden ≡ depth_of k.now (entries bs) → depth ≡ length bs + 1
@@ -110,14 +107,13 @@ module _ {A : Type 0} {items : List (Typed A)} {numbers : List ℕ} {old : List 
         → hidden ≡ depth_of x.name now → Passes 24 (word_if (not (nat_le hidden (length old))) x.name) own
         → ((xs ys : List (ℕ × Name)) → IsFound xs found → IsFound ys own → IsFound (xs ++ ys) both) → IsEnteredUpTo items numbers old ((typed_view x, get_or numbers i 0) ∷ now) (i + 1) both
     entered_more x hidden own many low is hides once lower = record {
-      left = sym (ap (λ xs. entered (map typed_view xs) (drop i numbers) now) rest ∙ ap (λ ns. entered (map typed_view (x ∷ drop (i + 1) items)) ns now) number) ∙ so.left;
+      left = rw (← so.left, rest, number) refl;
       behind = rw add-one so.behind;
       seen = so.seen ++ x.name ∷ [];
-      above = λ m. any_more (bytes_eq m) so.seen x.name ∙ above_more m (bytes_eq m x.name);
+      above = λ m. rw (any_more (bytes_eq m) so.seen x.name, so.above m) (grind (arith, nat_tests, deep));
       so_far =
           up_to_more (numbered 24 (word_if (is_in so.seen x.name) x.name)) own
-          (ap (λ xs. numbered 24 (repeated so.seen (map item_of (map typed_view xs)))) rest
-          ∙ map-append (λ (w : Name). (24, w)) (word_if (is_in so.seen x.name) x.name) (repeated (so.seen ++ x.name ∷ []) (map item_of (map typed_view (drop (i + 1) items)))))
+          (rw rest (map-append (λ (w : Name). (24, w)) (word_if (is_in so.seen x.name) x.name) (repeated (so.seen ++ x.name ∷ []) (map item_of (map typed_view (drop (i + 1) items))))))
           lower (passed_as 24 own (ap (λ b. word_if b x.name) (ap (λ d. not (nat_le d (length old))) hides ∙ sym (so.above x.name))) once) so.so_far;
     }
       where
@@ -129,7 +125,3 @@ module _ {A : Type 0} {items : List (Typed A)} {numbers : List ℕ} {old : List 
 
         deep : length old ≤ length now
         deep = omega (arith, length-drop i now, ap length so.behind)
-
-        above_more : (m : Name) (b : Bool) → is_in so.seen m || b ≡ not (nat_le (cond b (suc (length now)) (depth_of m now)) (length old))
-        above_more m true = grind (arith, nat_tests, deep)
-        above_more m false = or-false (is_in so.seen m) ∙ so.above m
