@@ -8,9 +8,9 @@ use Rattle.std.proofs.lemmas.Bool.Decides.{nat_tests}
 use Rattle.std.proofs.lemmas.Grind.{common_steps}
 use Rattle.indexmap.specs.IndexSet.{insert_key}
 use Rattle.pddl_problem.specs.Inits.{InitValue}
-use Rattle.pddl_task.specs.Names.{Name, word_if, wrong_words}
+use Rattle.pddl_task.specs.Names.{Name, wrong_words}
 use Rattle.pddl_task.specs.Faults.{same_ground, contradicts, revalues, starts_above_zero, init_name, clashing}
-use Rattle.pddl_task.proofs.Lists.{or_none, none_left, none_right, none_of, any_none}
+use Rattle.pddl_task.proofs.Lists.{or_none, none_of, any_none}
 use Rattle.pddl_search.specs.Claims.{is_value, wrong_in, is_failure}
 use Rattle.pddl_search.specs.Grounds.{ClaimValue, claim_of, same_claimed, claimed_equiv, ground_is}
 use Rattle.pddl_faults.proofs.ListTurns.{seen_more}
@@ -132,7 +132,6 @@ pub no_failures : {X : Type 0} (view : X → InitValue) (seen : List InitValue) 
     → clashing contradicts seen (map view xs) ≡ []
 no_failures view seen [] h k = refl
 no_failures view seen (x ∷ xs) h k =
-    let own = none_left (is_failure (view x)) (list_any (λ y. is_failure (view y)) xs) k in
-    let more = any_more is_failure seen (view x) ∙ or_none (list_any is_failure seen) (is_failure (view x)) h own in
-    ap (λ b. word_if b (init_name (view x)) ++ clashing contradicts (seen ++ view x ∷ []) (map view xs)) (none_of (contradicts (view x)) seen (λ j c. neither_fails (view x) j own (any_none is_failure seen j h c)))
-    ∙ no_failures view (seen ++ view x ∷ []) xs more (none_right (is_failure (view x)) (list_any (λ y. is_failure (view y)) xs) k)
+    let own : is_failure (view x) ≡ false = grind (arith, k) in
+    rw (none_of (contradicts (view x)) seen (λ j c. neither_fails (view x) j own (any_none is_failure seen j h c)))
+    (no_failures view (seen ++ view x ∷ []) xs (rw (any_more, h) own) (grind (arith, k, own)))

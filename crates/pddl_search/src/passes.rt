@@ -45,7 +45,7 @@ pub fn object_types<'d, A: Allocator>(objects: &'d [Typed<A>]) -> Result<(), Lin
 fn is_number<A: Allocator>(types: &TypeNames<A>) -> bool
     ensures { result ≡ same_names types.now number }
 {
-    types.as_slice().len() == 1 && types.as_slice()[0].as_bytes() == b"number".as_slice()
+    matches!(types.as_slice(), [name] if name.as_bytes() == b"number".as_slice())
 }
 
 /// Each declared function gives a number.
