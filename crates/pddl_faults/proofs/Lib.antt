@@ -1,4 +1,3 @@
-pub mod ListPasses
 pub mod ListTurns
 pub mod Verdicts
 pub mod PassedParts

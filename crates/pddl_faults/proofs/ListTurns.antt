@@ -4,11 +4,8 @@ use Rattle.std.specs.Prelude.{Some, option_map, slice_get}
 use Rattle.std.proofs.lemmas.List.{map_more}
 use Rattle.std.proofs.lemmas.Option.{slice_get-map, slice_get_read}
 
-front : {X : Type 0} (xs : List X) (i : ℕ) (d : X) → i < length xs → drop i xs ≡ get_or xs i d ∷ drop (i + 1) xs
-front xs i d h = rw (add-one, drop-cons xs i d) refl
-
 pub rest_is : {X : Type 0} (xs : List X) (i : ℕ) (x : X) → i < length xs → x ≡ get_or xs i x → drop i xs ≡ x ∷ drop (i + 1) xs
-rest_is xs i x h at = front xs i x h ∙ ap (λ y. y ∷ drop (i + 1) xs) (sym at)
+rest_is xs i x h at = rw (add-one, drop-cons xs i x, ← at) refl
 
 -- what is seen of what is left
 pub views_drop : {X Y : Type 0} (view : X → Y) (xs : List X) (i : ℕ) (x : X) → i < length xs → x ≡ get_or xs i x → map view (drop i xs) ≡ view x ∷ map view (drop (i + 1) xs)

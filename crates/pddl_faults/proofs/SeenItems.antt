@@ -1,10 +1,10 @@
 -- A walk over a list that looks back at what it has seen.
-use Rattle.std.proofs.Common.{◌≡◌, ℕ, ◌+◌, ◌<◌, Bool, true, false, ◌||◌, List, [], ◌∷◌, ◌++◌, map, length, get_or, take, drop, refl, ap, sym, ◌∙◌, subst, arith}
+use Rattle.std.proofs.Common.{◌≡◌, ℕ, ◌+◌, ◌<◌, Bool, true, false, ◌||◌, List, [], ◌∷◌, ◌++◌, map, length, get_or, take, drop, refl, ap, ◌∙◌, arith}
 use Rattle.std.specs.Prelude.{Contains}
 use Rattle.std.specs.List.{list_any}
 use Rattle.std.proofs.Math.Bool.{or-false}
 use Rattle.std.proofs.lemmas.List.Folds.{list_any-append}
-use Rattle.pddl_task.specs.Names.{Name, word_if, wrong_words}
+use Rattle.pddl_task.specs.Names.{Name, wrong_words}
 use Rattle.pddl_faults.proofs.ListTurns.{views_drop, seen_more}
 
 pub any_more : {I : Type 0} (f : I → Bool) (xs : List I) (x : I) → list_any f (xs ++ x ∷ []) ≡ list_any f xs || f x
@@ -24,16 +24,10 @@ module _ {X I : Type 0} (view : X → I) (word : I → Name) (bad : List I → I
   AreLeft i = wrong_words bad word (seen_at view before xs i) (map view (drop i xs)) ≡ whole
 
   module _ (i : ℕ) (x : X) (h : i < length xs) (at : x ≡ get_or xs i x) (left : AreLeft i) where
-    here : (b : Bool) → bad (seen_at view before xs i) (view x) ≡ b
-        → word_if b (word (view x)) ++ wrong_words bad word (seen_at view before xs i ++ view x ∷ []) (map view (drop (i + 1) xs)) ≡ whole
-    here b is =
-        ap (λ c. word_if c (word (view x)) ++ wrong_words bad word (seen_at view before xs i ++ view x ∷ []) (map view (drop (i + 1) xs))) (sym is)
-        ∙ ap (wrong_words bad word (seen_at view before xs i)) (sym (views_drop view xs i x h at)) ∙ left
-
     -- an item that is bad beside those seen has its word
     pub seen_bad : bad (seen_at view before xs i) (view x) ≡ true → Contains whole (word (view x))
-    seen_bad is = subst (λ ws. Contains ws (word (view x))) (here true is) (0, omega arith, refl)
+    seen_bad is = rw (← left, views_drop view xs i x h at, is) (0, omega arith, refl)
 
     -- another one is seen, and the walk goes on
     pub seen_good : bad (seen_at view before xs i) (view x) ≡ false → AreLeft (i + 1)
-    seen_good is = ap (λ s. wrong_words bad word s (map view (drop (i + 1) xs))) (seen_more view before xs i x h at) ∙ here false is
+    seen_good is = rw (seen_more view before xs i x h at) (rw (views_drop view xs i x h at, is) at left)

@@ -1,21 +1,18 @@
 -- What is claimed in `:init`, one item after another, beside a table of what was claimed so far.
-use Rattle.std.proofs.Common.{◌≡◌, ℕ, ◌+◌, ◌<◌, Bool, true, false, ◌&&◌, ◌||◌, ◌==◌, not, cond, List, [], ◌∷◌, ◌++◌, map, length, get_or, Option, Some, None, refl, ap, sym, ◌∙◌, subst, arith}
+use Rattle.std.proofs.Common.{◌≡◌, ℕ, ◌+◌, ◌<◌, Bool, true, false, ◌&&◌, ◌||◌, ◌==◌, not, cond, List, [], ◌∷◌, ◌++◌, map, length, get_or, Some, refl, ap, sym, ◌∙◌, subst, arith}
 use Rattle.std.specs.Prelude.{Contains, unwrap_or, slice_get}
 use Rattle.std.specs.List.{list_any, position_or_len}
 use Rattle.std.specs.Map.{lookup}
-use Rattle.std.proofs.Math.Bool.{or-false}
-use Rattle.std.proofs.Math.Path.{fun_ext}
+use Rattle.std.proofs.Math.Bool.{beq, or-false}
 use Rattle.std.proofs.lemmas.Bool.Decides.{nat_tests}
 use Rattle.std.proofs.lemmas.Grind.{common_steps}
 use Rattle.indexmap.specs.IndexSet.{insert_key}
 use Rattle.pddl_problem.specs.Inits.{InitValue}
-use Rattle.pddl_task.specs.Names.{word_if, wrong_words}
+use Rattle.pddl_task.specs.Names.{Name, wrong_words}
 use Rattle.pddl_task.specs.Faults.{same_ground, contradicts, revalues, starts_above_zero, init_name, clashing}
-use Rattle.pddl_task.proofs.Lists.{or_none, none_left, none_right, none_of, any_none}
-use Rattle.pddl_search.specs.declared.init.Claimed.{Claimed}
-use Rattle.pddl_search.specs.declared.init.Claimed.TheVariants.{Literals, Values}
-use Rattle.pddl_search.specs.Claims.{claim_in, wrong_in, is_failure}
-use Rattle.pddl_search.specs.Grounds.{ClaimValue, same_claimed, claimed_equiv, ground_is}
+use Rattle.pddl_task.proofs.Lists.{or_none, none_of, any_none}
+use Rattle.pddl_search.specs.Claims.{is_value, wrong_in, is_failure}
+use Rattle.pddl_search.specs.Grounds.{ClaimValue, claim_of, same_claimed, claimed_equiv, ground_is}
 use Rattle.pddl_faults.proofs.ListTurns.{seen_more}
 use Rattle.pddl_faults.proofs.SeenItems.{any_more, seen_at, AreLeft, seen_bad, seen_good}
 
@@ -31,27 +28,29 @@ unequal_yes m n h = grind (arith, nat_tests, h)
 pub unequal_no : (m n : ℕ) → m ≡ n → unequal m n ≡ false
 unequal_no m n h = grind (arith, nat_tests, h)
 
--- two claims are of the same, with two numbers
-abbrev disagree : Option ClaimValue → Option ClaimValue → Bool
-disagree None d = false
-disagree (Some c) None = false
-disagree (Some c) (Some d) = same_claimed c d && unequal c.1 d.1
+-- which items clash, of functions of objects or of atoms
+abbrev clash_in : Bool → InitValue → InitValue → Bool
+clash_in true = revalues
+clash_in false = contradicts
 
--- which items clash
-abbrev clash_in : Claimed → InitValue → InitValue → Bool
-clash_in Literals = contradicts
-clash_in Values = revalues
+clash_is : (of_values : Bool) (i j : InitValue) → is_value i ≡ of_values → is_value j ≡ of_values → clash_in of_values i j ≡ same_claimed (claim_of i) (claim_of j) && unequal (claim_of i).1 (claim_of j).1
+clash_is of_values i j h k = grind (arith, h, k)
 
-clash_is : (kind : Claimed) (i j : InitValue) → clash_in kind i j ≡ disagree (claim_in kind i) (claim_in kind j)
-clash_is kind i j = grind arith
+-- one of each does not
+clash_none : (of_values : Bool) (i j : InitValue) → is_value i ≡ not (is_value j) → clash_in of_values i j ≡ false
+clash_none of_values i j h = grind (arith, h)
 
--- an item that claims something is wrong alone, or clashes with one before it
-wrong_is : (kind : Claimed) (seen : List InitValue) (x : InitValue) (c : ClaimValue) → claim_in kind x ≡ Some c → wrong_in kind seen x ≡ list_any (clash_in kind x) seen || starts_above_zero x
-wrong_is kind seen x c is = grind (arith, is)
+-- an item of that kind is wrong alone, or clashes with one before it
+wrong_is : (of_values : Bool) (seen : List InitValue) (x : InitValue) → is_value x ≡ of_values → wrong_in of_values seen x ≡ list_any (clash_in of_values x) seen || starts_above_zero x
+wrong_is of_values seen x is = grind (arith, is)
 
--- and one that claims nothing is not
-wrong_none : (kind : Claimed) (seen : List InitValue) (x : InitValue) → claim_in kind x ≡ None → wrong_in kind seen x ≡ list_any (clash_in kind x) seen
-wrong_none kind seen x is = grind (arith, is)
+-- and another one is not wrong
+wrong_none : (of_values : Bool) (seen : List InitValue) (x : InitValue) → is_value x ≡ not of_values → wrong_in of_values seen x ≡ false
+wrong_none of_values [] x other = grind (arith, other)
+wrong_none of_values (y ∷ seen) x other = grind (arith, wrong_none of_values seen x other, other)
+
+name_is : (i : InitValue) → (claim_of i).0.name ≡ init_name i
+name_is i = grind arith
 
 -- ---- a table of claims
 
@@ -69,8 +68,8 @@ told_put [] c d = grind (arith, claimed_equiv.symm d c)
 told_put (e ∷ es) c d = grind (arith, common_steps, told_put es c d, claimed_equiv.symm, claimed_equiv.congr)
 
 -- the table tells of each claim whether it disagrees with one of those seen
-abbrev TellsClaims : Claimed → List ClaimValue → List InitValue → Type 0
-TellsClaims kind es seen = (c : ClaimValue) → list_any (λ j. disagree (Some c) (claim_in kind j)) seen ≡ unequal c.1 (told_of es c)
+abbrev TellsClaims : Bool → List ClaimValue → List InitValue → Type 0
+TellsClaims of_values es seen = (i : InitValue) → is_value i ≡ of_values → list_any (clash_in of_values i) seen ≡ unequal (claim_of i).1 (told_of es (claim_of i))
 
 -- a claim that agrees with all before is put into the table
 told_more : (es : List ClaimValue) (c d : ClaimValue) → unequal c.1 (told_of es c) ≡ false
@@ -78,47 +77,51 @@ told_more : (es : List ClaimValue) (c d : ClaimValue) → unequal c.1 (told_of e
 told_more es c d agrees = grind (arith, nat_tests, told_put es c d, claimed_equiv.symm d c, ground_is c.0 d.0, agrees)
 
 -- In front of item i, a table tells what was claimed so far, and the words of the whole are those of what is left.
-pub record Checked {X : Type 0} (view : X → InitValue) (kind : Claimed) (xs : List X) (i : ℕ) (es : List ClaimValue) : Type 0 where
-  pub told : TellsClaims kind es (seen_at view [] xs i)
-  pub rest : AreLeft view init_name (wrong_in kind) [] xs i
+pub record Checked {X : Type 0} (view : X → InitValue) (of_values : Bool) (xs : List X) (i : ℕ) (es : List ClaimValue) : Type 0 where
+  pub told : TellsClaims of_values es (seen_at view [] xs i)
+  pub rest : AreLeft view init_name (wrong_in of_values) [] xs i
 
-pub checked_start : {X : Type 0} {view : X → InitValue} {kind : Claimed} {xs : List X} (es : List ClaimValue) → es ≡ [] → Checked view kind xs 0 es
-checked_start es empty = record { told = λ c. rw empty (grind (arith, nat_tests)); rest = refl }
+pub checked_start : {X : Type 0} {view : X → InitValue} {of_values : Bool} {xs : List X} (es : List ClaimValue) → es ≡ [] → Checked view of_values xs 0 es
+checked_start es empty = record { told = λ i is. rw empty (grind (arith, nat_tests)); rest = refl }
 
-module _ {X : Type 0} {view : X → InitValue} {kind : Claimed} {xs : List X} {i : ℕ} {x : X} {es : List ClaimValue} (h : i < length xs) (at : x ≡ get_or xs i x) (l : Checked view kind xs i es) where
+module _ {X : Type 0} {view : X → InitValue} {of_values : Bool} {xs : List X} {i : ℕ} {x : X} {es : List ClaimValue} (h : i < length xs) (at : x ≡ get_or xs i x) (l : Checked view of_values xs i es) where
   abbrev so_far : List InitValue
   so_far = seen_at view [] xs i
 
+  abbrev c : ClaimValue
+  c = claim_of (view x)
+
   -- one more item that is right
-  pass : (next : List ClaimValue) → TellsClaims kind next (so_far ++ view x ∷ []) → wrong_in kind so_far (view x) ≡ false → Checked view kind xs (i + 1) next
-  pass next tells fine = record { told = subst (TellsClaims kind next) (sym (seen_more view [] xs i x h at)) tells; rest = seen_good view init_name (wrong_in kind) [] xs i x h at l.rest fine }
+  pass : (next : List ClaimValue) → TellsClaims of_values next (so_far ++ view x ∷ []) → wrong_in of_values so_far (view x) ≡ false → Checked view of_values xs (i + 1) next
+  pass next tells fine = record { told = subst (TellsClaims of_values next) (sym (seen_more view [] xs i x h at)) tells; rest = seen_good view init_name (wrong_in of_values) [] xs i x h at l.rest fine }
 
-  -- an item that claims nothing
-  pub checked_none : claim_in kind (view x) ≡ None → Checked view kind xs (i + 1) es
-  checked_none none =
-      pass es (λ c. rw (any_more, none, or-false) (l.told c))
-      (wrong_none kind so_far (view x) none ∙ none_of (clash_in kind (view x)) so_far (λ j c. clash_is kind (view x) j ∙ ap (λ d. disagree d (claim_in kind j)) none))
+  -- an item of the other kind
+  pub checked_other : (own : Bool) → own ≡ is_value (view x) → beq own of_values ≡ false → Checked view of_values xs (i + 1) es
+  checked_other own own_is apart =
+      let other : is_value (view x) ≡ not of_values = grind (arith, own_is, apart) in
+      pass es (λ q is. rw (any_more, clash_none of_values q (view x) (grind (arith, is, other)), or-false) (l.told q is)) (wrong_none of_values so_far (view x) other)
 
-  -- one that claims something, where the table says the same of that or something else
-  module _ {c d : ClaimValue} {next : List ClaimValue} {place : ℕ} (claims : claim_in kind (view x) ≡ Some c)
+  -- one of this kind, where the table says the same of what it claims or something else
+  module _ {own : Bool} {number before : ℕ} {d : ClaimValue} {next : List ClaimValue} {place : ℕ} (own_is : own ≡ is_value (view x)) (alike : beq own of_values ≡ true)
+      (number_is : number ≡ c.1) (before_is : before ≡ d.1)
       (put : next ≡ insert_key same_claimed es c) (put_at : place ≡ position_or_len (same_claimed c) es) (stands : slice_get next place ≡ Some d) where
-    before_is : d.1 ≡ told_of es c
-    before_is = told_at es c d ((λ j. slice_get (sym put j) (sym put_at j)) ∙ stands)
+    is : is_value (view x) ≡ of_values
+    is = grind (arith, own_is, alike)
 
-    wrong_here : wrong_in kind so_far (view x) ≡ unequal c.1 d.1 || starts_above_zero (view x)
-    wrong_here =
-        wrong_is kind so_far (view x) c claims
-        ∙ ap (λ b. b || starts_above_zero (view x))
-        (ap (λ f. list_any f so_far) (fun_ext (λ j. clash_is kind (view x) j ∙ ap (λ o. disagree o (claim_in kind j)) claims)) ∙ l.told c ∙ ap (unequal c.1) (sym before_is))
+    told_is : unequal c.1 (told_of es c) ≡ unequal number before
+    told_is = let told = told_at es c d ((λ j. slice_get (sym put j) (sym put_at j)) ∙ stands) in cc
 
-    pub checked_wrong : unequal c.1 d.1 || starts_above_zero (view x) ≡ true → Contains (wrong_words (wrong_in kind) init_name [] (map view xs)) (init_name (view x))
-    checked_wrong is = seen_bad view init_name (wrong_in kind) [] xs i x h at l.rest (wrong_here ∙ is)
+    wrong_here : wrong_in of_values so_far (view x) ≡ unequal number before || starts_above_zero (view x)
+    wrong_here = wrong_is of_values so_far (view x) is ∙ ap (λ b. b || starts_above_zero (view x)) (l.told (view x) is ∙ told_is)
 
-    pub checked_more : unequal c.1 d.1 || starts_above_zero (view x) ≡ false → Checked view kind xs (i + 1) next
-    checked_more fine =
-        pass next
-        (λ q. rw (any_more, claims, l.told q, put) (told_more es c q (ap (unequal c.1) (sym before_is) ∙ none_left (unequal c.1 d.1) (starts_above_zero (view x)) fine)))
-        (wrong_here ∙ fine)
+    pub checked_wrong : (w : Name) → w ≡ c.0.name → unequal number before || starts_above_zero (view x) ≡ true → Contains (wrong_words (wrong_in of_values) init_name [] (map view xs)) w
+    checked_wrong w named bad = rw (named ∙ name_is (view x)) (seen_bad view init_name (wrong_in of_values) [] xs i x h at l.rest (wrong_here ∙ bad))
+
+    pub checked_more : number ≡ before → starts_above_zero (view x) ≡ false → Checked view of_values xs (i + 1) next
+    checked_more same fine =
+        let agrees = unequal_no number before same in
+        pass next (λ q of_q. rw (any_more, clash_is of_values q (view x) of_q is, l.told q of_q, put) (told_more es c (claim_of q) (told_is ∙ agrees)))
+        (wrong_here ∙ or_none (unequal number before) (starts_above_zero (view x)) agrees fine)
 
 -- ---- where no atom fails, none holds and fails
 
@@ -129,7 +132,6 @@ pub no_failures : {X : Type 0} (view : X → InitValue) (seen : List InitValue) 
     → clashing contradicts seen (map view xs) ≡ []
 no_failures view seen [] h k = refl
 no_failures view seen (x ∷ xs) h k =
-    let own = none_left (is_failure (view x)) (list_any (λ y. is_failure (view y)) xs) k in
-    let more = any_more is_failure seen (view x) ∙ or_none (list_any is_failure seen) (is_failure (view x)) h own in
-    ap (λ b. word_if b (init_name (view x)) ++ clashing contradicts (seen ++ view x ∷ []) (map view xs)) (none_of (contradicts (view x)) seen (λ j c. neither_fails (view x) j own (any_none is_failure seen j h c)))
-    ∙ no_failures view (seen ++ view x ∷ []) xs more (none_right (is_failure (view x)) (list_any (λ y. is_failure (view y)) xs) k)
+    let own : is_failure (view x) ≡ false = grind (arith, k) in
+    rw (none_of (contradicts (view x)) seen (λ j c. neither_fails (view x) j own (any_none is_failure seen j h c)))
+    (no_failures view (seen ++ view x ∷ []) xs (rw (any_more, h) own) (grind (arith, k, own)))

@@ -1,12 +1,12 @@
 -- Variables in scope and their depths by name.
-use Rattle.std.proofs.Common.{◌≡◌, ℕ, zero, suc, ◌+◌, ◌<◌, ◌≤◌, Bool, true, false, ◌||◌, not, cond, List, [], ◌∷◌, ◌++◌, map, length, drop, None, Result, Ok, refl, ap, sym, ◌∙◌, subst, bytes_eq, get_or, drop-cons, add-one, arith}
+use Rattle.std.proofs.Common.{◌≡◌, ℕ, suc, ◌+◌, ◌<◌, ◌≤◌, not, cond, List, [], ◌∷◌, ◌++◌, map, length, drop, Some, None, Result, Ok, refl, ap, sym, ◌∙◌, subst, bytes_eq, get_or, drop-cons, add-one, arith}
 use Rattle.std.specs.Prelude.{find, option_map, slice_get, reverse, unwrap_or, nat_le}
 use Rattle.std.specs.Borrow.{Bor}
 use Rattle.std.specs.Map.{lookup}
 use Rattle.std.proofs.iter.runs.Lists.{nth_left, nth_right}
-use Rattle.std.proofs.Math.Bool.{or-false}
 use Rattle.std.proofs.lemmas.Bool.Decides.{nat_tests}
-use Rattle.std.proofs.lemmas.List.{reverse-append, length-reverse, length-map, length-drop, map-append}
+use Rattle.std.proofs.lemmas.List.{reverse-append, reverse-reverse, length-reverse, length-map, length-drop, map-append}
+use Rattle.std.proofs.lemmas.Option.{slice_get_read}
 use Rattle.pddl_formula.specs.TypedLists.{TypedValue, typed_view}
 use Rattle.pddl_formula.specs.declared.type_names.Typed.{Typed}
 use Rattle.pddl_task.specs.Names.{Name, is_in, is_named, item_of, repeated, word_if}
@@ -50,6 +50,14 @@ module _ {A : Type 0} where
   found_there n [] k is = absurd (omega (arith, is))
   found_there n (b ∷ bs) k is = grind (arith, reverse-append (b ∷ []) bs, length-map bs entry_of, length-reverse bs, depth_low n (entries bs), nth_left (reverse bs) (b ∷ []) k, nth_right (reverse bs) (b ∷ []) 0, found_there n bs k, is)
 
+  -- the innermost of the last items lies in the list
+  pub depth_within : (n : Name) (items : List (Bound A)) (k : ℕ) → depth_of n (entries (reverse items)) ≡ suc k → k < length items
+  depth_within n items k is = omega (arith, depth_low n (entries (reverse items)), length-map (reverse items) entry_of, length-reverse items)
+
+  pub number_at : (n : Name) (items : List (Bound A)) (k : ℕ) (b : Bound A) → depth_of n (entries (reverse items)) ≡ suc k → b ≡ get_or items k b
+      → Some b.number ≡ option_map (λ (e : TypedValue × ℕ). e.1) (find (λ (e : TypedValue × ℕ). is_named n e.0) (entries (reverse items)))
+  number_at n items k b is at = rw (← found_there n (reverse items) k is, reverse-reverse items, slice_get_read items (length items) k b refl (depth_within n items k is) at) refl
+
   -- one more, at this depth
   pub scope_more : (bs : List (Bound A)) (table : List (Bor Name × ℕ)) (b : Bound A) (k : Bor Name) (depth : ℕ) → k.now ≡ b.variable.now.name → b.hidden ≡ depth_of k.now (entries bs) → depth ≡ length bs + 1
       → IsScope bs table → IsScope (b ∷ bs) (insert_entry (λ a c. bytes_eq a.now c.now) table k depth)
@@ -78,15 +86,7 @@ entered_bound [] numbers es same = refl
 entered_bound (x ∷ xs) [] es same = absurd (omega (arith, same))
 entered_bound (x ∷ xs) (n ∷ numbers) es same = entered_bound xs numbers ((x, n) ∷ es) (omega (arith, same))
 
-pub one_less : {X : Type 0} (k : ℕ) (xs : List X) → drop (suc k) xs ≡ drop 1 (drop k xs)
-one_less zero xs = refl
-one_less (suc k) [] = refl
-one_less (suc k) (x ∷ xs) = one_less k xs
-
 -- ---- the variables of a list one after another
-
-above_all : (depth all : ℕ) (b : Bool) → all ≤ depth → b || true ≡ not (nat_le (suc depth) all)
-above_all depth all b low = grind (arith, nat_tests)
 
 -- what was entered of a list: the rest is entered behind it, the names that were seen are those whose innermost variable lies above what was in scope, and
 -- of the variables that stand twice those of the rest are still to be found
@@ -107,14 +107,13 @@ module _ {A : Type 0} {items : List (Typed A)} {numbers : List ℕ} {old : List 
         → hidden ≡ depth_of x.name now → Passes 24 (word_if (not (nat_le hidden (length old))) x.name) own
         → ((xs ys : List (ℕ × Name)) → IsFound xs found → IsFound ys own → IsFound (xs ++ ys) both) → IsEnteredUpTo items numbers old ((typed_view x, get_or numbers i 0) ∷ now) (i + 1) both
     entered_more x hidden own many low is hides once lower = record {
-      left = sym (ap (λ xs. entered (map typed_view xs) (drop i numbers) now) rest ∙ ap (λ ns. entered (map typed_view (x ∷ drop (i + 1) items)) ns now) number) ∙ so.left;
+      left = rw (← so.left, rest, number) refl;
       behind = rw add-one so.behind;
       seen = so.seen ++ x.name ∷ [];
-      above = λ m. any_more (bytes_eq m) so.seen x.name ∙ above_more m (bytes_eq m x.name);
+      above = λ m. rw (any_more (bytes_eq m) so.seen x.name, so.above m) (grind (arith, nat_tests, deep));
       so_far =
           up_to_more (numbered 24 (word_if (is_in so.seen x.name) x.name)) own
-          (ap (λ xs. numbered 24 (repeated so.seen (map item_of (map typed_view xs)))) rest
-          ∙ map-append (λ (w : Name). (24, w)) (word_if (is_in so.seen x.name) x.name) (repeated (so.seen ++ x.name ∷ []) (map item_of (map typed_view (drop (i + 1) items)))))
+          (rw rest (map-append (λ (w : Name). (24, w)) (word_if (is_in so.seen x.name) x.name) (repeated (so.seen ++ x.name ∷ []) (map item_of (map typed_view (drop (i + 1) items))))))
           lower (passed_as 24 own (ap (λ b. word_if b x.name) (ap (λ d. not (nat_le d (length old))) hides ∙ sym (so.above x.name))) once) so.so_far;
     }
       where
@@ -126,7 +125,3 @@ module _ {A : Type 0} {items : List (Typed A)} {numbers : List ℕ} {old : List 
 
         deep : length old ≤ length now
         deep = omega (arith, length-drop i now, ap length so.behind)
-
-        above_more : (m : Name) (b : Bool) → is_in so.seen m || b ≡ not (nat_le (cond b (suc (length now)) (depth_of m now)) (length old))
-        above_more m true = above_all (length now) (length old) (is_in so.seen m) deep
-        above_more m false = or-false (is_in so.seen m) ∙ so.above m

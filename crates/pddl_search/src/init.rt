@@ -1,15 +1,15 @@
 //! Atoms that hold and fail in `:init`, and functions of objects that have two values there.
 
-ghost use Rattle.std.specs.Prelude.{◌≡◌, [], ◌++◌, map, Some};
+ghost use Rattle.std.specs.Prelude.{◌≡◌, [], ◌++◌, map};
 ghost use Rattle.std.specs.Cmp.{partial_equiv_from_equiv};
 ghost use Rattle.std.proofs.Common.{ap};
 ghost use Rattle.pddl_token.specs.Names.{fed_name};
 ghost use Rattle.pddl_problem.specs.Inits.{init_view};
 ghost use Rattle.pddl_task.specs.Names.{wrong_words};
 ghost use Rattle.pddl_task.specs.Faults.{contradicts, init_name, clashing, wrong_values, starts_above_zero};
-ghost use Rattle.pddl_faults.specs.Passes.{fault_of, Passes};
-ghost use Rattle.pddl_search.specs.Claims.{claim_in, wrong_in, fault_number, is_failure};
-ghost use Rattle.pddl_search.specs.Grounds.{claim_of, same_claimed, claimed_equiv, ground_is};
+ghost use Rattle.pddl_faults.specs.Passes.{Passes};
+ghost use Rattle.pddl_search.specs.Claims.{is_value, wrong_in, fault_number, is_failure};
+ghost use Rattle.pddl_search.specs.Grounds.{same_claimed, claimed_equiv, ground_is};
 
 use indexmap::IndexSet;
 use pddl_faults::LinkFault;
@@ -18,33 +18,6 @@ use pddl_problem::{InitItem, ObjectNames};
 use std::alloc::Allocator;
 use std::hash::{Hash, Hasher};
 use std::marker::Model;
-
-/// The name of an item's predicate or function.
-fn name_of<'d, A: Allocator>(item: &'d InitItem<A>) -> &'d [u8]
-    ensures { result.now ≡ init_name (init_view item.now) }
-{
-    match item {
-        InitItem::Holds(fact) | InitItem::Fails(fact) => fact.predicate.as_bytes(),
-        InitItem::Value(call, _) => call.function.as_bytes(),
-    }
-}
-
-/// The names of its objects.
-fn objects_of<'d, A: Allocator>(item: &'d InitItem<A>) -> &'d ObjectNames<A>
-    ensures { result.now ≡ (claim_of (init_view item.now)).0.objects }
-{
-    match item {
-        InitItem::Holds(fact) | InitItem::Fails(fact) => &fact.objects,
-        InitItem::Value(call, _) => &call.objects,
-    }
-}
-
-/// What is looked at: which atoms hold, or the values of functions of objects.
-#[derive(Clone, Copy)]
-enum Claimed {
-    Literals,
-    Values,
-}
 
 /// What an item claims, as a key of a table, which is no more than the item lent. Two are equal where the names of their predicates or functions and of their
 /// objects are, whatever is claimed.
@@ -68,7 +41,9 @@ impl<'d, A: Allocator> PartialEq for Claim<'d, A> {
     ghost laws = { partial_equiv_from_equiv claimed_equiv };
 
     fn eq(&self, other: &Claim<'d, A>) -> bool {
-        name_of(self.item) == name_of(other.item) && objects_of(self.item) == objects_of(other.item)
+        let (name, objects, _) = self.parts();
+        let (other_name, other_objects, _) = other.parts();
+        name == other_name && objects == other_objects
     }
 }
 
@@ -82,40 +57,27 @@ impl<'d, A: Allocator> Hash for Claim<'d, A> {
     ghost respects_eq = { λ c d same. ap (λ g. fed_name g.name ++ g.objects) (ground_is c.0 d.0 same) };
 
     fn hash<H: Hasher>(&self, state: &mut H) {
-        state.write(name_of(self.item));
-        objects_of(self.item).hash(state);
+        let (name, objects, _) = self.parts();
+        state.write(name);
+        objects.hash(state);
     }
 }
 
 impl<'d, A: Allocator> Claim<'d, A> {
-    /// What an item claims, where that is what is looked at.
-    fn of(item: &'d InitItem<A>, kind: Claimed) -> Option<Claim<'d, A>>
-        ensures { result ≡ claim_in kind (init_view item.now) }
-    {
-        let is_claimed = matches!(item, InitItem::Value(..)) == matches!(kind, Claimed::Values);
-        is_claimed.then_some(Claim { item })
-    }
-
-    /// 1 of an atom that holds, 0 of one that fails, or the value of a function of objects in billionths.
-    fn number(&self) -> u64
-        ensures { result ≡ self.now.1 }
+    /// The name of its predicate or function, its objects, and its number: 1 of an atom that holds, 0 of one that fails, or the value of a function of objects
+    /// in billionths.
+    fn parts(&self) -> (&'d [u8], &'d ObjectNames<A>, u64)
+        ensures name { result.0.now ≡ self.now.0.name }
+        ensures objects { result.1.now ≡ self.now.0.objects }
+        ensures number { result.2 ≡ self.now.1 }
     {
         match self.item {
-            InitItem::Holds(_) => 1,
-            InitItem::Fails(_) => 0,
-            InitItem::Value(_, amount) => amount.billionths(),
+            InitItem::Holds(fact) => (fact.predicate.as_bytes(), &fact.objects, 1),
+            InitItem::Fails(fact) => (fact.predicate.as_bytes(), &fact.objects, 0),
+            InitItem::Value(call, amount) => {
+                (call.function.as_bytes(), &call.objects, amount.billionths())
+            }
         }
-    }
-}
-
-/// The fault of an item that is wrong.
-fn wrong_item<'d, A: Allocator>(item: &'d InitItem<A>, kind: Claimed) -> LinkFault<'d>
-    ensures { fault_of result ≡ Some (fault_number kind, init_name (init_view item.now)) }
-{
-    let name = name_of(item);
-    match kind {
-        Claimed::Literals => LinkFault::InitContradiction(name),
-        Claimed::Values => LinkFault::CostValue(name),
     }
 }
 
@@ -127,25 +89,11 @@ fn starts_above_zero<A: Allocator>(item: &InitItem<A>) -> bool
         if call.function.as_bytes() == b"total-cost".as_slice() && amount.billionths() != 0)
 }
 
-/// Adds what is claimed. No item claims another number than one before it, and none a total cost above 0.
-fn add_claims<'d, 'a, A: Allocator, B: Allocator>(
-    claims: &mut IndexSet<Claim<'d, A>, Hashed, &'a B>,
-    init: &'d [InitItem<A>],
-    kind: Claimed,
-) -> Result<(), LinkFault<'d>>
-    requires { claims.old.keys ≡ [] }
-    ensures { Passes (fault_number kind) (wrong_words (wrong_in kind) init_name [] (map init_view init.now)) result }
+/// Whether an item gives a function of objects a value.
+fn is_value<A: Allocator>(item: &InitItem<A>) -> bool
+    ensures { result ≡ is_value (init_view item.now) }
 {
-    for item in init {
-        if let Some(claim) = Claim::of(item, kind) {
-            let number = claim.number();
-            let (place, _) = claims.insert_full(claim)?;
-            if number != claims[place].number() || starts_above_zero(item) {
-                return Err(wrong_item(item, kind));
-            }
-        }
-    }
-    Ok(())
+    matches!(item, InitItem::Value(..))
 }
 
 /// Whether an item says of an atom that it fails.
@@ -153,6 +101,34 @@ fn is_failure<A: Allocator>(item: &InitItem<A>) -> bool
     ensures { result ≡ is_failure (init_view item.now) }
 {
     matches!(item, InitItem::Fails(_))
+}
+
+/// Of functions of objects, or of atoms: no item claims another number than one before it, and none a total cost above 0.
+fn claims_agree<'d, 'a, A: Allocator, B: Allocator>(
+    alloc: &'a B,
+    hashed: Hashed,
+    init: &'d [InitItem<A>],
+    of_values: bool,
+) -> Result<(), LinkFault<'d>>
+    ensures { Passes (fault_number of_values) (wrong_words (wrong_in of_values) init_name [] (map init_view init.now)) result }
+{
+    let mut claims: IndexSet<Claim<'d, A>, Hashed, &'a B> = IndexSet::with_hasher(alloc, hashed);
+    for item in init {
+        if is_value(item) == of_values {
+            let claim = Claim { item };
+            let (name, _, number) = claim.parts();
+            let (place, _) = claims.insert_full(claim)?;
+            let (_, _, before) = claims[place].parts();
+            if number != before || starts_above_zero(item) {
+                return Err(if of_values {
+                    LinkFault::CostValue(name)
+                } else {
+                    LinkFault::InitContradiction(name)
+                });
+            }
+        }
+    }
+    Ok(())
 }
 
 /// No atom holds and fails. Where no atom fails, nothing is looked up.
@@ -164,8 +140,7 @@ pub fn contradictions<'d, 'a, A: Allocator, B: Allocator>(
     ensures { Passes 29 (clashing contradicts [] (map init_view init.now)) result }
 {
     if init.iter().any(is_failure) {
-        let mut claims = IndexSet::with_hasher(alloc, hashed);
-        return add_claims(&mut claims, init, Claimed::Literals);
+        return claims_agree(alloc, hashed, init, false);
     }
     Ok(())
 }
@@ -178,6 +153,5 @@ pub fn cost_values<'d, 'a, A: Allocator, B: Allocator>(
 ) -> Result<(), LinkFault<'d>>
     ensures { Passes 31 (wrong_values [] (map init_view init.now)) result }
 {
-    let mut claims = IndexSet::with_hasher(alloc, hashed);
-    add_claims(&mut claims, init, Claimed::Values)
+    claims_agree(alloc, hashed, init, true)
 }

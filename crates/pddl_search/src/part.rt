@@ -104,11 +104,8 @@ impl<'d, A: Allocator> Terms<'d, A> {
         requires { number < length (terms_in self.now) }
         ensures { term_in result ≡ get_or (terms_in self.now) number (term_in result) }
     {
-        match self {
-            Terms::Any(terms) => {
-                let terms = *terms;
-                LentTerm::of(&terms[number])
-            }
+        match *self {
+            Terms::Any(terms) => LentTerm::of(&terms[number]),
             Terms::Objects(objects) => LentTerm::Object(objects.at(number)),
         }
     }

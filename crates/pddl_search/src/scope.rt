@@ -94,10 +94,8 @@ impl<'d, 'a, A: Allocator, B: Allocator> Scope<'d, 'a, A, B> {
     {
         for _ in 0..many {
             if let Some(last) = self.bound.pop() {
-                match self
-                    .depths
-                    .insert(last.variable.name.as_bytes(), last.hidden)
-                {
+                let name = last.variable.name.as_bytes();
+                match self.depths.insert(name, last.hidden) {
                     Ok(_) => {}
                     // the name stands in the table, so no memory is asked for
                     Err(_) => unreachable!(),

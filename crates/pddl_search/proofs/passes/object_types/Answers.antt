@@ -1,15 +1,14 @@
-use Rattle.std.proofs.Common.{length, refl, ap}
+use Rattle.std.proofs.Common.{length, Some, None, refl, rules, tests}
 use Rattle.std.specs.Prelude.{nat_lt}
+use Rattle.std.proofs.lemmas.Iterator.{YieldsList-from_slice}
 use Rattle.pddl_formula.specs.TypedLists.{typed_view}
-use Rattle.pddl_faults.proofs.ListPasses.{found_at, none_left, lt_holds}
+use Rattle.pddl_search.proofs.FirstFound.{found_tells}
 use Rattle.pddl_search.proofs.passes.object_types.Goals as goal
 
-pub returns-then-as_slice-gt1 : goal.returns-then-as_slice-gt1
-returns-then-as_slice-gt1 g c = (
-  refl,
-  found_at typed_view (λ x. nat_lt 1 (length x.of)) (λ x. x.item) c.args.objects.now c.args.objects.now c.loop-object.object-index c.object-item.result c.as_bytes.result.now _
-      refl c.loop-object-test.true c.object-item.is c.as_bytes.ensures.value (lt_holds _ _ 1 (ap length c.as_slice.ensures.value) c.if-as_slice-gt1.true) c.loop-object.invariant,
-)
+pub returns-in-Some : goal.returns-in-Some
+returns-in-Some g c =
+    (refl, rw c.as_bytes.ensures.value
+    (found_tells typed_view (λ x. nat_lt 1 (length x.of)) (λ x. x.item) c.find.new.self _ (Some c.in-Some.object) c.in-Some.ensures.ran (YieldsList-from_slice c.args.objects.now cc) (λ x b q k. search (rules, tests))))
 
-pub returns : goal.returns
-returns g c = none_left typed_view (λ x. nat_lt 1 (length x.of)) (λ x. x.item) c.args.objects.now c.args.objects.now c.loop-object.object-index _ refl c.loop-object-test.false c.loop-object.invariant
+pub returns-in-None : goal.returns-in-None
+returns-in-None g c = found_tells typed_view (λ x. nat_lt 1 (length x.of)) (λ x. x.item) _ _ None c.in-None.ensures.ran (YieldsList-from_slice c.args.objects.now cc) (λ x b q k. search (rules, tests))
