@@ -1,16 +1,17 @@
 -- Places that are peeled off in turn, each once no child of it is left, and at which turn a place stands in their order.
-use Rattle.std.proofs.Common.{◌≡◌, ◌≢◌, ℕ, ◌<◌, ◌≤◌, eqb, not, List, [], ◌∷◌, ◌++◌, ◌↔◌, ◌∙◌, map, length, refl, sym, ap, subst, arith, inl, inr, ◌+◌, ◌-◌, cond, take, slice_set}
+use Rattle.std.proofs.Common.{◌≡◌, ◌≢◌, ℕ, ◌<◌, ◌≤◌, eqb, not, List, [], ◌∷◌, ◌++◌, ◌↔◌, ◌∙◌, map, length, replicate, refl, sym, ap, subst, arith, inl, inr, ◌+◌, ◌-◌, cond, take, slice_set}
 use Rattle.std.proofs.lemmas.Bool.{cases_eq, eq-eqb, eqb-true, ne_eqb}
 use Rattle.std.proofs.lemmas.Bool.Decides.{nat_tests}
-use Rattle.std.proofs.lemmas.List.{get_or_append_left, get_or_push, length_push, get_or_default, get_or-set_same, get_or-set_other, length-set}
-use Rattle.std.proofs.lemmas.List.Folds.{position_or_len_push, Any-from_list_any}
+use Rattle.std.proofs.lemmas.List.{get_or_append_left, get_or_push, length_push, get_or_default, get_or-replicate, length-replicate, get_or-set_same, get_or-set_other, length-set}
+use Rattle.std.proofs.lemmas.List.Folds.{sum_by-replicate, position_or_len_push, Any-from_list_any}
 use Rattle.std.proofs.lemmas.List.FromFn.{get_or-map-range_with_len, length-map-range_with_len}
 use Rattle.std.proofs.lemmas.List.Sums.{passes_at_first, prefix_len-le-length, count_by_more_no, count_by_more_yes, get_or-le-sum_by, sum_by-set}
 use Rattle.std.proofs.lemmas.Map.Keys.{IsDistinct-from_apart}
 use Rattle.std.proofs.lemmas.Map.Steps.{length-le_from_distinct_below}
-use Rattle.std.specs.List.{range_with_len, count_by, slice_index_or}
+use Rattle.std.specs.List.{range_with_len, count_by, slice_index_or, sum}
 use Rattle.pddl_forest.specs.Forests.{number_at, parent_of}
-use Rattle.pddl_forest.specs.Inner.{turn_of, AreListed, AreCounted, ArePeeled, IsUpward}
+use Rattle.pddl_forest.specs.declared.spans.Span.{Span}
+use Rattle.pddl_forest.specs.Inner.{turn_of, AreListed, AreCounted, ArePeeled, AreUnder, at, put_under}
 use borrow.Author.Count.{below_more}
 use Rattle.std.proofs.Math.Seq.{take-append_seam}
 
@@ -19,6 +20,9 @@ turn_few order i = prefix_len-le-length (λ x. not (eqb i x)) order
 
 pub at_turn : (order : List ℕ) (i : ℕ) → turn_of order i < length order → number_at order (turn_of order i) ≡ i
 at_turn order i low = sym (eqb-true i _ (passes_at_first (eqb i) order 0 low))
+
+abbrev nothing : Span
+nothing = record { first = 0; last = 0 }
 
 -- ---- with one more place at the end
 
@@ -111,24 +115,51 @@ first_peeled {ps} {left} {order} counted listed within = record {
       absurd (omega (arith, one, counted.each q (within i low), (listed.each q (within i low)).1 (rw (get_or_default ps i i 0 low) at inside)));
 }
 
+-- ---- what is put under places: nothing at first, and the same with one more place at the end of the order
+
+pub none_under : (ps order : List ℕ) → AreUnder ps order 0 (replicate (length ps) nothing)
+none_under ps order = record {
+  long = length-replicate (length ps) _;
+  sizes = replicate (length ps) 0;
+  many = length-replicate (length ps) 0;
+  total = omega (arith, sum_by-replicate (λ n. n) (length ps) 0);
+  left = λ i low _. rw (get_or-replicate (length ps) i nothing nothing low, get_or-replicate {A = ℕ} (length ps) i 0 0 low) (refl, refl);
+  within = λ i low before. absurd (omega (arith, before));
+  apart = λ i j i_low j_low less before. absurd (omega (arith, before));
+}
+
+pub one_listed : {ps order : List ℕ} {spans : List Span} {turn : ℕ} (x : ℕ) → turn ≤ length order → AreUnder ps order turn spans → AreUnder ps (order ++ x ∷ []) turn spans
+one_listed {ps} {order} {spans} {turn} x few h = record {
+  long = h.long;
+  sizes = h.sizes;
+  many = h.many;
+  total = h.total;
+  left = λ i low after. h.left i low (grind (arith, after, few, turn_before order x i));
+  within = λ i low before. h.within i low (was i before);
+  apart = λ i j i_low j_low less before. h.apart i j i_low j_low (grind (arith, less, was i, was j before, turn_before order x i, turn_before order x j, few)) (was j before);
+}
+  where
+    was : (i : ℕ) → turn_of (order ++ x ∷ []) i < turn → turn_of order i < turn
+    was i before = grind (arith, before, few, turn_before order x i, turn_past order x i)
+
 -- ---- one place is peeled off
 
 module _ {ps left order : List ℕ} {turn place : ℕ} (h : ArePeeled ps left order turn) (low : turn < length order) (read : place ≡ slice_index_or order turn place)
     (within : (i : ℕ) → i < length ps → number_at ps i < length ps) where
-  at : number_at order turn ≡ place
-  at = sym (read ∙ get_or_default order turn place 0 low)
+  here : number_at order turn ≡ place
+  here = sym (read ∙ get_or_default order turn place 0 low)
 
   abbrev parent : ℕ
   parent = number_at ps place
 
   pub place_low : place < length ps
-  place_low = subst (λ i. i < length ps) at (h.listed.in_range turn low)
+  place_low = subst (λ i. i < length ps) here (h.listed.in_range turn low)
 
   pub parent_low : number_at ps place < length left
   parent_low = omega (arith, within place place_low, h.counted.long)
 
   turn_is : turn_of order place ≡ turn
-  turn_is = ap (turn_of order) (sym at) ∙ h.listed.once turn low
+  turn_is = ap (turn_of order) (sym here) ∙ h.listed.once turn low
 
   abbrev fewer : List ℕ
   fewer = slice_set h.kept place (length ps)
@@ -169,7 +200,7 @@ module _ {ps left order : List ℕ} {turn place : ℕ} (h : ArePeeled ps left or
 
   each : (i : ℕ) → i < length ps → (turn_of order i < turn + 1 → number_at fewer i ≡ length ps) × (turn + 1 ≤ turn_of order i → number_at fewer i ≡ parent_of ps i)
   each i i_low = (
-    λ before. grind (arith, get_or-set_same h.kept place (length ps) 0, place_low, h.long, get_or-set_other h.kept place i (length ps) 0, (h.each i i_low).0, at_turn order i, at, before, low),
+    λ before. grind (arith, get_or-set_same h.kept place (length ps) 0, place_low, h.long, get_or-set_other h.kept place i (length ps) 0, (h.each i i_low).0, at_turn order i, here, before, low),
     λ after. grind (arith, get_or-set_other h.kept place i (length ps) 0, (h.each i i_low).1, turn_is, after),
   )
 
@@ -209,16 +240,72 @@ module _ {ps left order : List ℕ} {turn place : ℕ} (h : ArePeeled ps left or
     ];
   }
 
--- the places that are listed stand before their parents
-pub upward : {ps left order : List ℕ} {turn : ℕ} → ArePeeled ps left order turn → ((i : ℕ) → i < length ps → number_at ps i < length ps) → IsUpward ps order
-upward {ps} {left} {order} h within = record {
-  within = within;
-  few = few_listed h.listed;
-  in_range = h.listed.in_range;
-  once = h.listed.once;
-  later = λ u low.
-      let i = number_at order u in
-      let i_low = h.listed.in_range u low in
-      let behind = rw (get_or_default ps i i 0 i_low) at (h.behind i i_low) in
-      grind (arith, behind, h.listed.once u low, low, turn_few order (number_at ps i));
-}
+  -- what is under it is put behind what is under its parent
+  module _ {spans : List Span} (under : AreUnder ps order turn spans) where
+    parent_in : parent < length ps
+    parent_in = within place place_low
+
+    apart : place ≢ parent
+    apart is = omega (arith, turn_is, new, low, ap (turn_of order) is)
+
+    abbrev both : ℕ
+    both = number_at under.sizes parent + number_at under.sizes place + 1
+
+    abbrev sizes : List ℕ
+    sizes = slice_set (slice_set under.sizes parent both) place 0
+
+    size : number_at sizes parent ≡ both
+    size = get_or-set_other (slice_set under.sizes parent both) place parent 0 0 (λ e. apart (sym e)) ∙ get_or-set_same under.sizes parent both 0 (omega (arith, parent_in, under.many))
+
+    others_size : (i : ℕ) → i ≢ place → i ≢ parent → number_at sizes i ≡ number_at under.sizes i
+    others_size i one two = get_or-set_other (slice_set under.sizes parent both) place i 0 0 one ∙ get_or-set_other under.sizes parent i both 0 two
+
+    total : sum sizes ≡ turn + 1
+    total = omega (
+      arith,
+      sum_by-set (λ n. n) under.sizes parent both 0 (omega (arith, parent_in, under.many)),
+      sum_by-set (λ n. n) (slice_set under.sizes parent both) place 0 0 (omega (arith, place_low, under.many, length-set under.sizes parent both)),
+      get_or-set_other under.sizes parent place both 0 apart,
+      under.total,
+    )
+
+    pub put_fits : (at spans (number_at ps place)).last + 1 + (at spans place).last ≤ length ps
+    put_fits = omega (
+      arith,
+      (under.left parent parent_in (omega (arith, new, low))).1,
+      (under.left place place_low (omega (arith, turn_is))).1,
+      get_or-le-sum_by (λ n. n) sizes parent 0 (omega (arith, parent_in, under.many, length-set (slice_set under.sizes parent both) place 0, length-set under.sizes parent both)),
+      size,
+      total,
+      few_listed h.listed,
+      low,
+    )
+
+    abbrev next_spans : List Span
+    next_spans = put_under spans place parent
+
+    abbrev over : Span
+    over = record { first = (at spans parent).first; last = (at spans parent).last + 1 + (at spans place).last }
+
+    abbrev span : Span
+    span = record { first = (at spans parent).last + 1; last = (at spans place).last }
+
+    at_place : at next_spans place ≡ span
+    at_place = get_or-set_same (slice_set spans parent over) place span nothing (omega (arith, place_low, under.long, length-set spans parent over))
+
+    at_parent : at next_spans parent ≡ over
+    at_parent = get_or-set_other (slice_set spans parent over) place parent span nothing (λ e. apart (sym e)) ∙ get_or-set_same spans parent over nothing (omega (arith, parent_in, under.long))
+
+    at_other : (i : ℕ) → i ≢ place → i ≢ parent → at next_spans i ≡ at spans i
+    at_other i one two = get_or-set_other (slice_set spans parent over) place i span nothing one ∙ get_or-set_other spans parent i over nothing two
+
+    pub put : AreUnder ps order (turn + 1) (put_under spans place (number_at ps place))
+    put = record {
+      long = length-set (slice_set spans parent over) place _ ∙ length-set spans parent over ∙ under.long;
+      sizes = sizes;
+      many = length-set (slice_set under.sizes parent both) place 0 ∙ length-set under.sizes parent both ∙ under.many;
+      total = total;
+      left = λ i i_low after. let was = under.left i i_low (omega (arith, after)) in grind (arith, was.0, was.1, at_parent, at_other i, turn_is, after, size, others_size i, (under.left parent parent_in (omega (arith, new, low))).1, (under.left place place_low (omega (arith, turn_is))).1, (under.left parent parent_in (omega (arith, new, low))).0);
+      within = λ i i_low before. grind (arith, at_place, at_parent, at_other i, at_other (number_at ps i), under.within i i_low, turn_is, before, new, low, at_turn order i, here);
+      apart = λ i j i_low j_low less before same. grind (arith, at_place, at_other i, at_other j, under.within i i_low, under.apart i j i_low j_low less, turn_is, before, less, same, new, low, at_turn order i, at_turn order j, here);
+    }

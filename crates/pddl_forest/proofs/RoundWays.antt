@@ -10,10 +10,10 @@ use Rattle.std.specs.List.{count_by, list_any, range_with_len, AllWithin, HoldsA
 use Rattle.pddl_forest.specs.Forests.{parent_of, up, number_at}
 use Rattle.pddl_forest.specs.Rounds.{GoesRound, IsOnRound, HasRound, AreRounds}
 use Rattle.pddl_forest.specs.Inner.{turn_of, ArePeeled, GoRound, IsOrder}
-use Rattle.pddl_forest.proofs.Peels.{turn_few, few_apart, upward}
+use Rattle.pddl_forest.proofs.Peels.{turn_few, few_apart}
 
 -- so many steps, and so many more
-up_more : (ps : List ℕ) (m n i : ℕ) → up ps m (up ps n i) ≡ up ps (n + m) i
+pub up_more : (ps : List ℕ) (m n i : ℕ) → up ps m (up ps n i) ≡ up ps (n + m) i
 up_more ps m zero i = let e : m ≡ zero + m = omega arith in ap (λ k. up ps k i) e
 up_more ps m (suc n) i = let e : suc (n + m) ≡ suc n + m = omega arith in up_more ps m n (parent_of ps i) ∙ ap (λ k. up ps k i) e
 
@@ -107,7 +107,9 @@ module _ {ps left order : List ℕ} (h : ArePeeled ps left order (length order))
 
     pub in_order : IsOrder ps order
     in_order = record {
-      upward = upward h (λ i low. rw (get_or_default ps i 0 i low) (within i low));
+      within = λ i low. rw (get_or_default ps i 0 i low) (within i low);
+      in_range = h.listed.in_range;
+      once = h.listed.once;
       top = top;
       few =
           let few = few_apart (length ps - 1) (length order) (λ u. number_at order u - 1) (λ u low. omega (arith, h.listed.in_range u low, not_top u low)) (λ a b less low same.
@@ -116,7 +118,7 @@ module _ {ps left order : List ℕ} (h : ArePeeled ps left order (length order))
           omega (arith, h.listed.once a a_low, ap (turn_of order) is, h.listed.once b low, less)) in
           omega (arith, few, some);
       above = above;
-      ahead = λ i low other. grind (arith, h.behind i low, listed i low (λ is. absurd (other is)));
+      ahead = λ i low other. rw (get_or_default ps i 0 i low) (grind (arith, h.behind i low, listed i low (λ is. absurd (other is)), turn_few order (parent_of ps i)));
     }
 
 -- with the number 0 for place 0 where it is its own parent

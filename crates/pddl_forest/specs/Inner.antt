@@ -1,7 +1,7 @@
 -- What the code and the proofs go by: the places of a forest in an order in which each comes before its parent, how they are found and what is numbered in it.
 -- No public contract names these.
-use Rattle.std.specs.Prelude.{◌≡◌, ◌≢◌, ◌+◌, ◌≤◌, ◌<◌, ◌↔◌, cond, eqb, ℕ, zero, suc, List, length, slice_set}
-use Rattle.std.specs.List.{count_by, position_or_len, slice_index_or}
+use Rattle.std.specs.Prelude.{◌≡◌, ◌≢◌, ◌+◌, ◌≤◌, ◌<◌, ◌↔◌, eqb, ℕ, List, length, slice_set}
+use Rattle.std.specs.List.{count_by, position_or_len, slice_index_or, sum}
 use Rattle.pddl_forest.specs.Forests.{parent_of, number_at}
 use Rattle.pddl_forest.specs.Rounds.{GoesRound}
 use Rattle.pddl_forest.specs.declared.spans.Span.{Span}
@@ -35,26 +35,15 @@ pub record GoRound (ps numbers : List ℕ) : Type 0 where
   pub many : length numbers ≡ length ps
   pub each : (i : ℕ) → i < length ps → (number_at numbers i ≢ 0) ↔ GoesRound ps i
 
--- Places, each once and before its parent.
-pub record IsUpward (ps order : List ℕ) : Type 0 where
+-- Places, each once and before its parent: all but 0, which is its own parent.
+pub record IsOrder (ps order : List ℕ) : Type 0 where
   pub within : (i : ℕ) → i < length ps → number_at ps i < length ps
-  pub few : length order ≤ length ps
   pub in_range : (u : ℕ) → u < length order → number_at order u < length ps
   pub once : (u : ℕ) → u < length order → turn_of order (number_at order u) ≡ u
-  pub later : (u : ℕ) → u < length order → u < turn_of order (number_at ps (number_at order u))
-
--- All places but 0, which is its own parent, so.
-pub record IsOrder (ps order : List ℕ) : Type 0 where
-  pub upward : IsUpward ps order
   pub top : parent_of ps 0 ≡ 0
   pub few : length order < length ps
   pub above : turn_of order 0 ≡ length order
-  pub ahead : (i : ℕ) → i < length ps → i ≢ 0 → turn_of order i < turn_of order (parent_of ps i)
-
--- how many places are under a place by those that stand in an order before a turn
-abbrev pub under : List ℕ → List ℕ → ℕ → ℕ → ℕ
-under ps order zero i = 0
-under ps order (suc t) i = cond (eqb (number_at ps (number_at order t)) i) (under ps order t i + under ps order t (number_at order t) + 1) (under ps order t i)
+  pub ahead : (i : ℕ) → i < length ps → i ≢ 0 → turn_of order i < turn_of order (number_at ps i)
 
 -- the span at a place
 abbrev pub at : List Span → ℕ → Span
@@ -65,8 +54,14 @@ abbrev pub put_under : List Span → ℕ → ℕ → List Span
 put_under spans i over =
     slice_set (slice_set spans over (record { first = (at spans over).first; last = (at spans over).last + 1 + (at spans i).last })) i (record { first = (at spans over).last + 1; last = (at spans i).last })
 
--- Each span's last number is how many places are under its place by then. Those of the places before the turn begin behind the number of their parent and of what was under it.
+-- Each span's last number is how many places are under its place by then, and for the places that no turn before this was for their sum is the turn. The spans of the
+-- others begin behind the number of their parent, one behind the other, and end in what is under it.
 pub record AreUnder (ps order : List ℕ) (turn : ℕ) (spans : List Span) : Type 0 where
   pub long : length spans ≡ length ps
-  pub last : (i : ℕ) → i < length ps → (at spans i).last ≡ under ps order turn i
-  pub first : (i : ℕ) → i < length ps → turn_of order i < turn → (at spans i).first ≡ under ps order (turn_of order i) (number_at ps i) + 1
+  pub sizes : List ℕ
+  pub many : length sizes ≡ length ps
+  pub total : sum sizes ≡ turn
+  pub left : (i : ℕ) → i < length ps → turn ≤ turn_of order i → ((at spans i).first ≡ 0) × ((at spans i).last ≡ number_at sizes i)
+  pub within : (i : ℕ) → i < length ps → turn_of order i < turn → (0 < (at spans i).first) × ((at spans i).first + (at spans i).last ≤ (at spans (number_at ps i)).last)
+  pub apart : (i j : ℕ) → i < length ps → j < length ps → turn_of order i < turn_of order j → turn_of order j < turn → number_at ps i ≡ number_at ps j
+      → (at spans i).first + (at spans i).last < (at spans j).first

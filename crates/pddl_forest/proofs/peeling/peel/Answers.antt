@@ -1,8 +1,7 @@
 use Rattle.std.proofs.Common.{◌≡◌, ◌<◌, length, arith}
 use Rattle.std.proofs.lemmas.List.{length_push}
 use Rattle.pddl_forest.specs.Forests.{number_at}
-use Rattle.pddl_forest.proofs.Peels.{few_listed, place_low, parent_low, some, peeled, peeled_more, upward}
-use Rattle.pddl_forest.proofs.Numbers.{one_listed, one_put, put_fits}
+use Rattle.pddl_forest.proofs.Peels.{few_listed, place_low, parent_low, some, peeled, peeled_more, put, put_fits, one_listed}
 use Rattle.pddl_forest.proofs.peeling.peel.Goals.{then-fewer-eq0+in_ok-push, else-fewer-eq0}
 use Rattle.pddl_forest.proofs.peeling.peel.Goals as goal
 
@@ -17,7 +16,7 @@ put_under-requires g c =
       place = omega (arith, place_low h.peeled low c.index-place.ensures c.requires.within, h.under.long);
       parent = omega (arith, parent_low h.peeled low c.index-place.ensures c.requires.within, h.peeled.counted.long, h.under.long);
       short = omega (arith, c.requires.short, h.under.long);
-      fits = omega (arith, put_fits (upward h.peeled c.requires.within) low h.under c.index-place.ensures, h.under.long);
+      fits = omega (arith, put_fits h.peeled low c.index-place.ensures c.requires.within h.under, h.under.long);
     }
 
 pub offset_bounds-left-parent : goal.offset_bounds-left-parent
@@ -33,14 +32,14 @@ pub loop-turn-preserved : goal.loop-turn-preserved
 loop-turn-preserved g c =
     let h = c.loop-turn.invariant in
     let low : c.loop-turn.turn < length c.loop-turn.order.items = omega (arith, c.if-turn-len.false, c.len.ensures, h.listed) in
-    let put = one_put (upward h.peeled c.requires.within) low h.under c.index-place.ensures in
+    let under = put h.peeled low c.index-place.ensures c.requires.within h.under in
     elim c.if-fewer-eq0.branch [
       | then-fewer-eq0+in_ok-push w ↦ rw (w.order-is, w.in_ok-push.ensures.items, c.put_under.ensures) record {
         peeled = peeled_more h.peeled low c.index-place.ensures c.requires.within w.if-fewer-eq0.true;
-        under = one_listed (number_at c.args.parents.now c.index-place.result.now) (omega (arith, low)) put;
+        under = one_listed (number_at c.args.parents.now c.index-place.result.now) (omega (arith, low)) under;
         listed = omega (arith, length_push c.loop-turn.order.items (number_at c.args.parents.now c.index-place.result.now), h.listed);
       }
-      | else-fewer-eq0 w ↦ rw (w.order-is, c.put_under.ensures) record { peeled = peeled h.peeled low c.index-place.ensures c.requires.within w.if-fewer-eq0.false; under = put; listed = omega (arith, low) }
+      | else-fewer-eq0 w ↦ rw (w.order-is, c.put_under.ensures) record { peeled = peeled h.peeled low c.index-place.ensures c.requires.within w.if-fewer-eq0.false; under = under; listed = omega (arith, low) }
     ]
 
 pub returns-then-turn-len : goal.returns-then-turn-len
