@@ -28,8 +28,11 @@ module _ {ps order : List ℕ} (o : IsOrder ps order) {old : List Span} (u : Are
   some = omega (arith, o.few)
 
   -- only place 0 stands behind all
+  listed : (i : ℕ) → i < length ps → i ≢ 0 → turn_of order i < length order
+  listed i low other = omega (arith, o.ahead i low other, turn_few order (number_at ps i))
+
   is_top : (i : ℕ) → i < length ps → length order ≤ turn_of order i → i ≡ 0
-  is_top i low past = grind (arith, o.ahead i low, turn_few order (number_at ps i), past)
+  is_top i low past = grind (arith, listed i low, past)
 
   pub top_numbered : AreNumbered ps order old old (length order)
   top_numbered = record {
@@ -104,7 +107,7 @@ module _ {ps order : List ℕ} (o : IsOrder ps order) {old : List Span} (u : Are
 
     nested : (i : ℕ) → i < length ps → i ≢ 0 → ((at spans (number_at ps i)).first < (at spans i).first) × ((at spans i).last ≤ (at spans (number_at ps i)).last)
     nested i low other =
-        let within = u.within i low (omega (arith, o.ahead i low other, turn_few order (number_at ps i))) in
+        let within = u.within i low (listed i low other) in
         let e = (numbered i low).first other in
         (omega (arith, within, e), omega (arith, within, e, numbered i low, numbered (number_at ps i) (o.within i low)))
 
@@ -112,10 +115,7 @@ module _ {ps order : List ℕ} (o : IsOrder ps order) {old : List Span} (u : Are
     below zero i low = (omega arith, omega arith)
     below (suc n) i low =
         let over = below n (number_at ps i) (o.within i low) in
-        elim (cases_eq i 0) as (λ _. ((at spans (up ps (suc n) i)).first ≤ (at spans i).first) × ((at spans i).last ≤ (at spans (up ps (suc n) i)).last)) [
-          | inl is ↦ rw (is, o.top) (below n 0 some)
-          | inr other ↦ rw (get_or_default ps i i 0 low) (omega (arith, over, nested i low other), omega (arith, over, nested i low other))
-        ]
+        rw (get_or_default ps i i 0 low) (grind (arith, over.0, nested i low, o.top), grind (arith, over.1, nested i low, o.top))
 
     to_top : (f i : ℕ) → i < length ps → length order ≤ turn_of order i + f → IsUnder ps i 0
     to_top zero i low far = (0, is_top i low (omega (arith, far)))
@@ -126,15 +126,13 @@ module _ {ps order : List ℕ} (o : IsOrder ps order) {old : List Span} (u : Are
     up_low (suc n) i low = up_low n (parent_of ps i) (rw (get_or_default ps i i 0 low) (o.within i low))
 
     -- two that have one parent hold no number together
-    behind : (i j : ℕ) → i < length ps → j < length ps → j ≢ 0 → number_at ps i ≡ number_at ps j → turn_of order i < turn_of order j → (at spans i).last < (at spans j).first
-    behind i j low also other same less =
-        let j_turn : turn_of order j < length order = omega (arith, o.ahead j also other, turn_few order (number_at ps j)) in
-        omega (arith, u.apart i j low also less j_turn same, (numbered i low).first (λ is. omega (arith, ap (turn_of order) is, o.above, less, j_turn)), numbered i low, (numbered j also).first other, ap (λ k. (at spans k).first) same)
+    behind : (i j : ℕ) → i < length ps → j < length ps → i ≢ 0 → j ≢ 0 → number_at ps i ≡ number_at ps j → turn_of order i < turn_of order j → (at spans i).last < (at spans j).first
+    behind i j low also some other same less =
+        omega (arith, u.apart i j low also less (listed j also other) same, (numbered i low).first some, numbered i low, (numbered j also).first other, ap (λ k. (at spans k).first) same)
 
     clear : (i j m : ℕ) → i < length ps → j < length ps → i ≢ 0 → j ≢ 0 → i ≢ j → number_at ps i ≡ number_at ps j → (at spans i).first ≤ m → m ≤ (at spans i).last → (at spans j).first ≤ m → (at spans j).last < m
     clear i j m low also some other differ same from to begun =
-        let apart : turn_of order i ≢ turn_of order j = λ e. differ (sym (at_turn order i (omega (arith, o.ahead i low some, turn_few order (number_at ps i)))) ∙ ap (number_at order) e ∙ at_turn order j (omega (arith, o.ahead j also other, turn_few order (number_at ps j)))) in
-        grind (arith, behind i j low also other same, behind j i also low some (sym same), apart, from, to, begun)
+        grind (arith, behind i j low also some other same, behind j i also low other some (sym same), at_turn order i (listed i low some), at_turn order j (listed j also other), differ, from, to, begun)
 
     -- a place under whose parent another is has it under it where its span holds the other's number
     among : (n i g : ℕ) → i < length ps → g < length ps → g ≢ 0 → up ps n i ≡ number_at ps g → (at spans g).first ≤ (at spans i).first → (at spans i).first ≤ (at spans g).last → IsUnder ps i g

@@ -56,10 +56,8 @@ fn peel<'a, B: Allocator>(
     ensures peeled { OnOk result (ArePeeled parents.now left.new order.new.items (length order.new.items)) }
     ensures under { OnOk result (AreUnder parents.now order.new.items (length order.new.items) spans.new) }
 {
-    for turn in 0..parents.len() {
-        if turn == order.len() {
-            return Ok(());
-        }
+    let mut turn = 0;
+    while turn < order.len() {
         let place = order[turn];
         let parent = parents[place];
         put_under(spans, place, parent);
@@ -68,6 +66,7 @@ fn peel<'a, B: Allocator>(
         if *fewer == 0 {
             order.push(parent)?;
         }
+        turn += 1;
     }
     Ok(())
 }

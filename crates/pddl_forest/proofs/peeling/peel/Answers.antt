@@ -6,12 +6,12 @@ use Rattle.pddl_forest.proofs.peeling.peel.Goals.{then-fewer-eq0+in_ok-push, els
 use Rattle.pddl_forest.proofs.peeling.peel.Goals as goal
 
 pub bounds-parents-place : goal.bounds-parents-place
-bounds-parents-place g c = let h = c.loop-turn.invariant in place_low h.peeled (omega (arith, c.if-turn-len.false, c.len.ensures, h.listed)) c.index-place.ensures c.requires.within
+bounds-parents-place g c = place_low c.loop-turn.invariant.peeled (omega arith) c.index-place.ensures c.requires.within
 
 pub put_under-requires : goal.put_under-requires
 put_under-requires g c =
     let h = c.loop-turn.invariant in
-    let low : c.loop-turn.turn < length c.loop-turn.order.items = omega (arith, c.if-turn-len.false, c.len.ensures, h.listed) in
+    let low : c.loop-turn.turn < length c.loop-turn.order.items = omega arith in
     record {
       place = omega (arith, place_low h.peeled low c.index-place.ensures c.requires.within, h.under.long);
       parent = omega (arith, parent_low h.peeled low c.index-place.ensures c.requires.within, h.peeled.counted.long, h.under.long);
@@ -20,18 +20,18 @@ put_under-requires g c =
     }
 
 pub offset_bounds-left-parent : goal.offset_bounds-left-parent
-offset_bounds-left-parent g c = let h = c.loop-turn.invariant in omega (arith, parent_low h.peeled (omega (arith, c.if-turn-len.false, c.len.ensures, h.listed)) c.index-place.ensures c.requires.within)
+offset_bounds-left-parent g c = omega (arith, parent_low c.loop-turn.invariant.peeled (omega arith) c.index-place.ensures c.requires.within)
 
 pub bounds-left-parent : goal.bounds-left-parent
-bounds-left-parent g c = let h = c.loop-turn.invariant in parent_low h.peeled (omega (arith, c.if-turn-len.false, c.len.ensures, h.listed)) c.index-place.ensures c.requires.within
+bounds-left-parent g c = parent_low c.loop-turn.invariant.peeled (omega arith) c.index-place.ensures c.requires.within
 
 pub overflow_sub-fewer : goal.overflow_sub-fewer
-overflow_sub-fewer g c = let h = c.loop-turn.invariant in some h.peeled (omega (arith, c.if-turn-len.false, c.len.ensures, h.listed)) c.index-place.ensures c.requires.within
+overflow_sub-fewer g c = some c.loop-turn.invariant.peeled (omega arith) c.index-place.ensures c.requires.within
 
 pub loop-turn-preserved : goal.loop-turn-preserved
 loop-turn-preserved g c =
     let h = c.loop-turn.invariant in
-    let low : c.loop-turn.turn < length c.loop-turn.order.items = omega (arith, c.if-turn-len.false, c.len.ensures, h.listed) in
+    let low : c.loop-turn.turn < length c.loop-turn.order.items = omega arith in
     let under = put h.peeled low c.index-place.ensures c.requires.within h.under in
     elim c.if-fewer-eq0.branch [
       | then-fewer-eq0+in_ok-push w ↦ rw (w.order-is, w.in_ok-push.ensures.items, c.put_under.ensures) record {
@@ -42,14 +42,11 @@ loop-turn-preserved g c =
       | else-fewer-eq0 w ↦ rw (w.order-is, c.put_under.ensures) record { peeled = peeled h.peeled low c.index-place.ensures c.requires.within w.if-fewer-eq0.false; under = under; listed = omega (arith, low) }
     ]
 
-pub returns-then-turn-len : goal.returns-then-turn-len
-returns-then-turn-len g c =
-    let h = c.loop-turn.invariant in
-    let all : c.loop-turn.turn ≡ length c.loop-turn.order.items = omega (arith, c.if-turn-len.true, c.len.ensures) in
-    record { peeled = rw all at h.peeled; under = rw all at h.under }
+pub loop-turn-smaller : goal.loop-turn-smaller
+loop-turn-smaller g c = omega (arith, few_listed c.loop-turn.invariant.peeled.listed)
 
 pub returns : goal.returns
 returns g c =
     let h = c.loop-turn.invariant in
-    let all : c.loop-turn.turn ≡ length c.loop-turn.order.items = omega (arith, few_listed h.peeled.listed, c.loop-turn-test.false, h.listed) in
+    let all : c.loop-turn.turn ≡ length c.loop-turn.order.items = omega arith in
     record { peeled = rw all at h.peeled; under = rw all at h.under }

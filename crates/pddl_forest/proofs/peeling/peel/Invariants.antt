@@ -1,4 +1,4 @@
-use Rattle.std.proofs.Common.{◌≤◌, length}
+use Rattle.std.proofs.Common.{◌≤◌, ◌-◌, length}
 use Rattle.pddl_forest.specs.Inner.{ArePeeled, AreUnder}
 use Rattle.pddl_forest.proofs.peeling.peel.Given as goal
 
@@ -8,3 +8,6 @@ invariant-loop-turn g l = record {
   under : AreUnder l.parents l.order.items l.turn l.spans;
   listed : l.turn ≤ length l.order.items;
 }
+
+abbrev pub decreases-loop-turn : goal.decreases-loop-turn
+decreases-loop-turn g l = length l.parents - l.turn
