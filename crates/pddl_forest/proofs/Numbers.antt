@@ -1,12 +1,13 @@
 -- Places of a forest are numbered from the top: each as far behind the number of its parent as it was put there.
 use Rattle.std.proofs.Common.{◌≡◌, ◌≢◌, ℕ, zero, suc, ◌+◌, ◌-◌, ◌<◌, ◌≤◌, leb, List, length, slice_set, refl, sym, ap, add-one, ◌∙◌, arith, inl, inr}
 use Rattle.std.proofs.lemmas.Bool.{and_parts, cases_eq, leb-true}
+use Rattle.std.proofs.lemmas.Bool.Decides.{nat_tests}
 use Rattle.std.proofs.lemmas.List.{get_or_default, get_or-set_same, get_or-set_other, length-set}
 use Rattle.std.proofs.lemmas.List.Sums.{get_or-le-sum_by}
 use Rattle.pddl_forest.specs.Forests.{parent_of, up, IsUnder, number_at}
 use Rattle.pddl_forest.specs.Spans.{span_at, AreSpans}
 use Rattle.pddl_forest.specs.declared.spans.Span.{Span}
-use Rattle.pddl_forest.specs.Inner.{turn_of, IsOrder, AreUnder, at}
+use Rattle.pddl_forest.specs.Inner.{turn_of, IsOrder, AreUnder, at, left_under}
 use Rattle.pddl_forest.proofs.ApartSpans.{held}
 use Rattle.pddl_forest.proofs.Peels.{turn_few, at_turn}
 use Rattle.pddl_forest.proofs.RoundWays.{up_more}
@@ -40,8 +41,8 @@ module _ {ps order : List ℕ} (o : IsOrder ps order) {old : List Span} (u : Are
     rest = λ i before. refl;
     each = λ i low past. rw (is_top i low past) (let top = u.left 0 some (omega (arith, o.above)) in record {
       first = λ other. absurd (other refl);
-      last = omega (arith, top.0);
-      low = omega (arith, top.1, get_or-le-sum_by (λ n. n) u.sizes 0 0 (omega (arith, some, u.many)), u.total, o.few);
+      last = omega (arith, top);
+      low = grind (arith, nat_tests, top, get_or-le-sum_by left_under old 0 (record { first = 0; last = 0 }) (omega (arith, some, u.long)), u.total, o.few);
     });
   }
 

@@ -8,10 +8,10 @@ use Rattle.std.proofs.lemmas.List.FromFn.{get_or-map-range_with_len, length-map-
 use Rattle.std.proofs.lemmas.List.Sums.{passes_at_first, prefix_len-le-length, count_by_more_no, count_by_more_yes, get_or-le-sum_by, sum_by-set}
 use Rattle.std.proofs.lemmas.Map.Keys.{IsDistinct-from_apart}
 use Rattle.std.proofs.lemmas.Map.Steps.{length-le_from_distinct_below}
-use Rattle.std.specs.List.{range_with_len, count_by, slice_index_or, sum}
+use Rattle.std.specs.List.{range_with_len, count_by, slice_index_or, sum_by}
 use Rattle.pddl_forest.specs.Forests.{number_at, parent_of}
 use Rattle.pddl_forest.specs.declared.spans.Span.{Span}
-use Rattle.pddl_forest.specs.Inner.{turn_of, AreListed, AreCounted, ArePeeled, AreUnder, at, put_under}
+use Rattle.pddl_forest.specs.Inner.{turn_of, AreListed, AreCounted, ArePeeled, AreUnder, at, left_under, put_under}
 use borrow.Author.Count.{below_more}
 use Rattle.std.proofs.Math.Seq.{take-append_seam}
 
@@ -120,10 +120,8 @@ first_peeled {ps} {left} {order} counted listed within = record {
 pub none_under : (ps order : List ℕ) → AreUnder ps order 0 (replicate (length ps) nothing)
 none_under ps order = record {
   long = length-replicate (length ps) _;
-  sizes = replicate (length ps) 0;
-  many = length-replicate (length ps) 0;
-  total = omega (arith, sum_by-replicate (λ n. n) (length ps) 0);
-  left = λ i low _. rw (get_or-replicate (length ps) i nothing nothing low, get_or-replicate {A = ℕ} (length ps) i 0 0 low) (refl, refl);
+  total = omega (arith, sum_by-replicate left_under (length ps) nothing);
+  left = λ i low _. ap (λ (s : Span). s.first) (get_or-replicate (length ps) i nothing nothing low);
   within = λ i low before. absurd (omega (arith, before));
   apart = λ i j i_low j_low less before. absurd (omega (arith, before));
 }
@@ -131,8 +129,6 @@ none_under ps order = record {
 pub one_listed : {ps order : List ℕ} {spans : List Span} {turn : ℕ} (x : ℕ) → turn ≤ length order → AreUnder ps order turn spans → AreUnder ps (order ++ x ∷ []) turn spans
 one_listed {ps} {order} {spans} {turn} x few h = record {
   long = h.long;
-  sizes = h.sizes;
-  many = h.many;
   total = h.total;
   left = λ i low after. h.left i low (grind (arith, after, few, turn_before order x i));
   within = λ i low before. h.within i low (was i before);
@@ -248,39 +244,6 @@ module _ {ps left order : List ℕ} {turn place : ℕ} (h : ArePeeled ps left or
     apart : place ≢ parent
     apart is = omega (arith, turn_is, new, low, ap (turn_of order) is)
 
-    abbrev both : ℕ
-    both = number_at under.sizes parent + number_at under.sizes place + 1
-
-    abbrev sizes : List ℕ
-    sizes = slice_set (slice_set under.sizes parent both) place 0
-
-    size : number_at sizes parent ≡ both
-    size = get_or-set_other (slice_set under.sizes parent both) place parent 0 0 (λ e. apart (sym e)) ∙ get_or-set_same under.sizes parent both 0 (omega (arith, parent_in, under.many))
-
-    others_size : (i : ℕ) → i ≢ place → i ≢ parent → number_at sizes i ≡ number_at under.sizes i
-    others_size i one two = get_or-set_other (slice_set under.sizes parent both) place i 0 0 one ∙ get_or-set_other under.sizes parent i both 0 two
-
-    total : sum sizes ≡ turn + 1
-    total = omega (
-      arith,
-      sum_by-set (λ n. n) under.sizes parent both 0 (omega (arith, parent_in, under.many)),
-      sum_by-set (λ n. n) (slice_set under.sizes parent both) place 0 0 (omega (arith, place_low, under.many, length-set under.sizes parent both)),
-      get_or-set_other under.sizes parent place both 0 apart,
-      under.total,
-    )
-
-    pub put_fits : (at spans (number_at ps place)).last + 1 + (at spans place).last ≤ length ps
-    put_fits = omega (
-      arith,
-      (under.left parent parent_in (omega (arith, new, low))).1,
-      (under.left place place_low (omega (arith, turn_is))).1,
-      get_or-le-sum_by (λ n. n) sizes parent 0 (omega (arith, parent_in, under.many, length-set (slice_set under.sizes parent both) place 0, length-set under.sizes parent both)),
-      size,
-      total,
-      few_listed h.listed,
-      low,
-    )
-
     abbrev next_spans : List Span
     next_spans = put_under spans place parent
 
@@ -299,13 +262,29 @@ module _ {ps left order : List ℕ} {turn place : ℕ} (h : ArePeeled ps left or
     at_other : (i : ℕ) → i ≢ place → i ≢ parent → at next_spans i ≡ at spans i
     at_other i one two = get_or-set_other (slice_set spans parent over) place i span nothing one ∙ get_or-set_other spans parent i over nothing two
 
+    total : sum_by left_under next_spans ≡ turn + 1
+    total = grind (
+      arith,
+      nat_tests,
+      sum_by-set left_under spans parent over nothing (omega (arith, parent_in, under.long)),
+      sum_by-set left_under (slice_set spans parent over) place span nothing (omega (arith, place_low, under.long, length-set spans parent over)),
+      get_or-set_other spans parent place over nothing apart,
+      under.left parent parent_in (omega (arith, new, low)),
+      under.left place place_low (omega (arith, turn_is)),
+      under.total,
+    )
+
+    long_spans : length next_spans ≡ length ps
+    long_spans = length-set (slice_set spans parent over) place _ ∙ length-set spans parent over ∙ under.long
+
+    pub put_fits : (at spans (number_at ps place)).last + 1 + (at spans place).last ≤ length ps
+    put_fits = grind (arith, nat_tests, under.left parent parent_in (omega (arith, new, low)), get_or-le-sum_by left_under next_spans parent nothing (omega (arith, parent_in, long_spans)), at_parent, total, few_listed h.listed, low)
+
     pub put : AreUnder ps order (turn + 1) (put_under spans place (number_at ps place))
     put = record {
-      long = length-set (slice_set spans parent over) place _ ∙ length-set spans parent over ∙ under.long;
-      sizes = sizes;
-      many = length-set (slice_set under.sizes parent both) place 0 ∙ length-set under.sizes parent both ∙ under.many;
+      long = long_spans;
       total = total;
-      left = λ i i_low after. let was = under.left i i_low (omega (arith, after)) in grind (arith, was.0, was.1, at_parent, at_other i, turn_is, after, size, others_size i, (under.left parent parent_in (omega (arith, new, low))).1, (under.left place place_low (omega (arith, turn_is))).1, (under.left parent parent_in (omega (arith, new, low))).0);
+      left = λ i i_low after. grind (arith, at_parent, at_other i, turn_is, after, under.left i i_low, under.left parent parent_in, new, low);
       within = λ i i_low before. grind (arith, at_place, at_parent, at_other i, at_other (number_at ps i), under.within i i_low, turn_is, before, new, low, at_turn order i, here);
       apart = λ i j i_low j_low less before same. grind (arith, at_place, at_other i, at_other j, under.within i i_low, under.apart i j i_low j_low less, turn_is, before, less, same, new, low, at_turn order i, at_turn order j, here);
     }

@@ -1,7 +1,7 @@
 -- What the code and the proofs go by: the places of a forest in an order in which each comes before its parent, how they are found and what is numbered in it.
 -- No public contract names these.
-use Rattle.std.specs.Prelude.{◌≡◌, ◌≢◌, ◌+◌, ◌≤◌, ◌<◌, ◌↔◌, eqb, ℕ, List, length, slice_set}
-use Rattle.std.specs.List.{count_by, position_or_len, slice_index_or, sum}
+use Rattle.std.specs.Prelude.{◌≡◌, ◌≢◌, ◌+◌, ◌≤◌, ◌<◌, ◌↔◌, cond, eqb, ℕ, List, length, slice_set}
+use Rattle.std.specs.List.{count_by, position_or_len, slice_index_or, sum_by}
 use Rattle.pddl_forest.specs.Forests.{parent_of, number_at}
 use Rattle.pddl_forest.specs.Rounds.{GoesRound}
 use Rattle.pddl_forest.specs.declared.spans.Span.{Span}
@@ -54,14 +54,16 @@ abbrev pub put_under : List Span → ℕ → ℕ → List Span
 put_under spans i over =
     slice_set (slice_set spans over (record { first = (at spans over).first; last = (at spans over).last + 1 + (at spans i).last })) i (record { first = (at spans over).last + 1; last = (at spans i).last })
 
+-- how many places are under that of a span which is not put behind another yet
+abbrev pub left_under : Span → ℕ
+left_under s = cond (eqb s.first 0) s.last 0
+
 -- Each span's last number is how many places are under its place by then, and for the places that no turn before this was for their sum is the turn. The spans of the
 -- others begin behind the number of their parent, one behind the other, and end in what is under it.
 pub record AreUnder (ps order : List ℕ) (turn : ℕ) (spans : List Span) : Type 0 where
   pub long : length spans ≡ length ps
-  pub sizes : List ℕ
-  pub many : length sizes ≡ length ps
-  pub total : sum sizes ≡ turn
-  pub left : (i : ℕ) → i < length ps → turn ≤ turn_of order i → ((at spans i).first ≡ 0) × ((at spans i).last ≡ number_at sizes i)
+  pub total : sum_by left_under spans ≡ turn
+  pub left : (i : ℕ) → i < length ps → turn ≤ turn_of order i → (at spans i).first ≡ 0
   pub within : (i : ℕ) → i < length ps → turn_of order i < turn → (0 < (at spans i).first) × ((at spans i).first + (at spans i).last ≤ (at spans (number_at ps i)).last)
   pub apart : (i j : ℕ) → i < length ps → j < length ps → turn_of order i < turn_of order j → turn_of order j < turn → number_at ps i ≡ number_at ps j
       → (at spans i).first + (at spans i).last < (at spans j).first
