@@ -4,13 +4,13 @@ use Rattle.std.proofs.lemmas.Bool.{and_parts, cases_eq, leb-true}
 use Rattle.std.proofs.lemmas.Bool.Decides.{nat_tests}
 use Rattle.std.proofs.lemmas.List.{get_or_default, get_or-set_same, get_or-set_other, length-set}
 use Rattle.std.proofs.lemmas.List.Sums.{get_or-le-sum_by}
-use Rattle.pddl_forest.specs.Forests.{parent_of, up, IsUnder, number_at}
+use Rattle.pddl_forest.specs.Forests.{up, IsUnder, number_at}
 use Rattle.pddl_forest.specs.Spans.{span_at, AreSpans}
 use Rattle.pddl_forest.specs.declared.spans.Span.{Span}
 use Rattle.pddl_forest.specs.Inner.{turn_of, IsOrder, AreUnder, at, left_under}
 use Rattle.pddl_forest.proofs.ApartSpans.{held}
 use Rattle.pddl_forest.proofs.Peels.{turn_few, at_turn}
-use Rattle.pddl_forest.proofs.RoundWays.{up_more}
+use Rattle.pddl_forest.proofs.RoundWays.{up_more, up_low}
 
 -- A span begins as far behind that of the parent as it did behind 0, and is as long as it was.
 pub record IsNumbered (ps : List ℕ) (old spans : List Span) (i : ℕ) : Type 0 where
@@ -122,10 +122,6 @@ module _ {ps order : List ℕ} (o : IsOrder ps order) {old : List Span} (u : Are
     to_top zero i low far = (0, is_top i low (omega (arith, far)))
     to_top (suc f) i low far = let (n, is) = to_top f (number_at ps i) (o.within i low) (grind (arith, o.ahead i low, o.top, o.above, far)) in (suc n, rw (get_or_default ps i i 0 low) is)
 
-    up_low : (n i : ℕ) → i < length ps → up ps n i < length ps
-    up_low zero i low = low
-    up_low (suc n) i low = up_low n (parent_of ps i) (rw (get_or_default ps i i 0 low) (o.within i low))
-
     -- two that have one parent hold no number together
     behind : (i j : ℕ) → i < length ps → j < length ps → i ≢ 0 → j ≢ 0 → number_at ps i ≡ number_at ps j → turn_of order i < turn_of order j → (at spans i).last < (at spans j).first
     behind i j low also some other same less =
@@ -140,7 +136,7 @@ module _ {ps order : List ℕ} (o : IsOrder ps order) {old : List Span} (u : Are
     among zero i g low also other is from to = absurd (omega (arith, nested g also other, ap (λ k. (at spans k).first) is, from))
     among (suc n) i g low also other is from to =
         let c : ℕ = up ps n i in
-        let c_low : c < length ps = up_low n i low in
+        let c_low : c < length ps = up_low ps (λ k inside. rw (get_or_default ps k k 0 inside) (o.within k inside)) n i low in
         let over : number_at ps c ≡ number_at ps g = sym (get_or_default ps c c 0 c_low) ∙ (rw add-one at (up_more ps 1 n i)) ∙ is in
         elim (cases_eq c g) as (λ _. IsUnder ps i g) [
           | inl at_g ↦ (n, at_g)
