@@ -55,10 +55,10 @@ module _ {ps order : List ℕ} (o : IsOrder ps order) {old : List Span} (u : Are
     p = number_at order (turns - 1)
 
     p_low : p < length ps
-    p_low = o.in_range (turns - 1) low
+    p_low = (o.once (turns - 1) low).0
 
     turn_is : turn_of order p ≡ turns - 1
-    turn_is = o.once (turns - 1) low
+    turn_is = (o.once (turns - 1) low).1
 
     later : turns - 1 < turn_of order (number_at ps p)
     later = grind (arith, o.ahead p p_low, o.above, turn_is, low)

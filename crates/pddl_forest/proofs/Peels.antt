@@ -45,15 +45,11 @@ module _ (order : List ℕ) (x : ℕ) where
   -- of which no child is left now, where there are no fewer places and the others are as they were
   module _ {left : List ℕ} (now : List ℕ) {many more : ℕ} (h : AreListed left order many) (wider : many ≤ more) (low : x < more) (new : length order ≤ turn_of order x) (none : number_at now x ≡ 0)
       (others : (i : ℕ) → i < more → i ≢ x → (number_at now i ≡ 0) ↔ (turn_of order i < length order)) where
-    each_turn : (u : ℕ) → u < length next → (number_at next u < more) × (turn_of next (number_at next u) ≡ u)
-    each_turn u inside = below_more (λ v. (number_at next v < more) × (turn_of next (number_at next v) ≡ v)) (length order)
-        (λ v before. let once = h.once v before in rw (get_or_append_left order (x ∷ []) 0 v before) (omega (arith, h.in_range v before, wider), turn_before _ (omega (arith, once, before)) ∙ once))
-        (rw (get_or_push order x 0 (length order) refl) (low, turn_new new)) u (omega (arith, inside, length_push order x))
-
     pub listed_more : AreListed now next more
     listed_more = record {
-      in_range = λ u inside. (each_turn u inside).0;
-      once = λ u inside. (each_turn u inside).1;
+      once = λ u inside. below_more (λ v. (number_at next v < more) × (turn_of next (number_at next v) ≡ v)) (length order)
+          (λ v before. let (in_range, once) = h.once v before in rw (get_or_append_left order (x ∷ []) 0 v before) (omega (arith, in_range, wider), turn_before _ (omega (arith, once, before)) ∙ once))
+          (rw (get_or_push order x 0 (length order) refl) (low, turn_new new)) u (omega (arith, inside, length_push order x));
       each = λ i i_low. elim (cases_eq i x) as (λ _. (number_at now i ≡ 0) ↔ (turn_of next i < length next)) [
         | inl is ↦ (λ _. omega (arith, length_push order x, turn_new new, ap (turn_of next) is), λ _. ap (number_at now) is ∙ none)
         | inr other ↦ let was = others i i_low other in (λ zeroth. omega (arith, length_push order x, was.0 zeroth, turn_before i), λ inside. was.1 (turn_other i other inside))
@@ -83,11 +79,11 @@ few_apart n m f below apart =
 
 module _ {left order : List ℕ} {many : ℕ} (h : AreListed left order many) where
   pub few_listed : length order ≤ many
-  few_listed = few_apart many (length order) (number_at order) h.in_range (λ a b less low same. omega (arith, h.once a (omega (arith, less, low)), ap (turn_of order) same, h.once b low, less))
+  few_listed = few_apart many (length order) (number_at order) (λ u low. (h.once u low).0) (λ a b less low same. omega (arith, (h.once a (omega (arith, less, low))).1, ap (turn_of order) same, (h.once b low).1, less))
 
   -- those from there on are not listed
   pub unlisted : (i : ℕ) → many ≤ i → length order ≤ turn_of order i
-  unlisted i past = grind (arith, h.in_range (turn_of order i), at_turn order i, past)
+  unlisted i past = grind (arith, h.once (turn_of order i), at_turn order i, past)
 
 -- a list of the same length in place of another's items
 pub in_place : {X : Type 0} (xs rest : List X) (n : ℕ) → n ≡ length xs → take n (xs ++ rest) ≡ xs
@@ -149,13 +145,13 @@ module _ {ps left order : List ℕ} {turn place : ℕ} (h : ArePeeled ps left or
   parent = number_at ps place
 
   pub place_low : place < length ps
-  place_low = subst (λ i. i < length ps) here (h.listed.in_range turn low)
+  place_low = subst (λ i. i < length ps) here (h.listed.once turn low).0
 
   pub parent_low : number_at ps place < length left
   parent_low = omega (arith, within place place_low, h.counted.long)
 
   turn_is : turn_of order place ≡ turn
-  turn_is = ap (turn_of order) (sym here) ∙ h.listed.once turn low
+  turn_is = ap (turn_of order) (sym here) ∙ (h.listed.once turn low).1
 
   abbrev fewer : List ℕ
   fewer = slice_set h.kept place (length ps)
@@ -206,7 +202,6 @@ module _ {ps left order : List ℕ} {turn place : ℕ} (h : ArePeeled ps left or
     long = long;
     counted = counted;
     listed = record {
-      in_range = h.listed.in_range;
       once = h.listed.once;
       each = λ i i_low. elim (cases_eq i parent) as (λ _. (number_at less_left i ≡ 0) ↔ (turn_of order i < length order)) [
         | inl is ↦ rw is (λ none. absurd (more (sym now ∙ none)), λ before. absurd (omega (arith, before, new)))

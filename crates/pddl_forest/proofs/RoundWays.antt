@@ -109,12 +109,11 @@ module _ {ps left order : List ℕ} (h : ArePeeled ps left order (length order))
     pub in_order : IsOrder ps order
     in_order = record {
       within = λ i low. rw (get_or_default ps i 0 i low) (within i low);
-      in_range = h.listed.in_range;
       once = h.listed.once;
       top = top;
       few = omega (
         arith,
-        few_apart (length ps) (suc (length order)) (number_at order) (λ u low. grind (arith, h.listed.in_range u, last, some, low)) (λ a b less low same.
+        few_apart (length ps) (suc (length order)) (number_at order) (λ u low. grind (arith, h.listed.once u, last, some, low)) (λ a b less low same.
         omega (arith, turn_is a (omega (arith, less, low)), turn_is b (omega (arith, low)), ap (turn_of order) same, less)),
       );
       above = above;

@@ -17,8 +17,7 @@ pub record AreCounted (left numbers : List ℕ) (many : ℕ) : Type 0 where
 
 -- the places of which no child is left, of so many, each once
 pub record AreListed (left order : List ℕ) (many : ℕ) : Type 0 where
-  pub in_range : (u : ℕ) → u < length order → number_at order u < many
-  pub once : (u : ℕ) → u < length order → turn_of order (number_at order u) ≡ u
+  pub once : (u : ℕ) → u < length order → (number_at order u < many) × (turn_of order (number_at order u) ≡ u)
   pub each : (i : ℕ) → i < many → (number_at left i ≡ 0) ↔ (turn_of order i < length order)
 
 -- The places of which no child is left where those before a turn are peeled off: these have no place for a parent any more. Each comes behind its children.
@@ -38,8 +37,7 @@ pub record GoRound (ps numbers : List ℕ) : Type 0 where
 -- Places, each once and before its parent: all but 0, which is its own parent.
 pub record IsOrder (ps order : List ℕ) : Type 0 where
   pub within : (i : ℕ) → i < length ps → number_at ps i < length ps
-  pub in_range : (u : ℕ) → u < length order → number_at order u < length ps
-  pub once : (u : ℕ) → u < length order → turn_of order (number_at order u) ≡ u
+  pub once : (u : ℕ) → u < length order → (number_at order u < length ps) × (turn_of order (number_at order u) ≡ u)
   pub top : parent_of ps 0 ≡ 0
   pub few : length order < length ps
   pub above : turn_of order 0 ≡ length order

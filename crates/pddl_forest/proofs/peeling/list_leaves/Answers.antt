@@ -17,8 +17,7 @@ loop-place-preserved g c =
       | then-left-place-eq0+in_ok-push w ↦ rw (w.order-is, w.in_ok-push.ensures.items)
           (listed_more order place left h (omega arith) (omega arith) new w.if-left-place-eq0.true (λ i low other. h.each i (omega (arith, low, other))))
       | else-left-place-eq0 w ↦ rw w.order-is record {
-        in_range = λ u low. omega (arith, h.in_range u low);
-        once = h.once;
+        once = λ u low. (omega (arith, (h.once u low).0), (h.once u low).1);
         each = below_more (λ i. (number_at left i ≡ 0) ↔ (turn_of order i < length order)) place h.each (λ none. absurd (w.if-left-place-eq0.false none), λ inside. absurd (omega (arith, new, inside)));
       }
     ]
