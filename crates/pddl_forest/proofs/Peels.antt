@@ -1,5 +1,5 @@
 -- Places that are peeled off in turn, each once no child of it is left, and at which turn a place stands in their order.
-use Rattle.std.proofs.Common.{◌≡◌, ◌≢◌, ℕ, ◌<◌, ◌≤◌, eqb, not, List, [], ◌∷◌, ◌++◌, ◌↔◌, ◌∙◌, map, length, replicate, refl, sym, ap, subst, arith, inl, inr, ◌+◌, ◌-◌, cond, take, slice_set}
+use Rattle.std.proofs.Common.{◌≡◌, ◌≢◌, ℕ, ◌<◌, ◌≤◌, eqb, ltb, not, List, [], ◌∷◌, ◌++◌, ◌↔◌, ◌∙◌, map, length, replicate, refl, sym, ap, subst, arith, inl, inr, ◌+◌, ◌-◌, cond, take, slice_set}
 use Rattle.std.proofs.lemmas.Bool.{cases_eq, eq-eqb, eqb-true, ne_eqb}
 use Rattle.std.proofs.lemmas.Bool.Decides.{nat_tests}
 use Rattle.std.proofs.lemmas.List.{get_or_append_left, get_or_push, length_push, get_or_default, get_or-replicate, length-replicate, get_or-set_same, get_or-set_other, length-set}
@@ -104,7 +104,7 @@ first_peeled {ps} {left} {order} counted listed within = record {
   long = refl;
   counted = counted;
   listed = listed;
-  each = λ i low. (λ none. absurd (omega (arith, none)), λ _. get_or_default ps i 0 i low);
+  each = λ i low. grind (arith, nat_tests, get_or_default ps i 0 i low);
   behind = λ i low inside.
       let q = number_at ps i in
       let one = rw (eq-eqb q q refl) at (get_or-le-sum_by (λ p. cond (eqb q p) 1 0) ps i 0 low) in
@@ -160,7 +160,8 @@ module _ {ps left order : List ℕ} {turn place : ℕ} (h : ArePeeled ps left or
   counts : (i : ℕ) → i < length ps → count_by (eqb i) fewer + cond (eqb i parent) 1 0 ≡ number_at left i
   counts i i_low =
       let changed = sum_by-set (λ q. cond (eqb i q) 1 0) h.kept place (length ps) 0 (omega (arith, place_low, h.long)) in
-      let now = rw ((h.each place place_low).1 (omega (arith, turn_is)) ∙ get_or_default ps place place 0 place_low, ne_eqb i (length ps) (λ e. omega (arith, e, i_low))) at changed in
+      let was : number_at h.kept place ≡ parent = grind (arith, nat_tests, h.each place place_low, turn_is, get_or_default ps place place 0 place_low) in
+      let now = rw (was, ne_eqb i (length ps) (λ e. omega (arith, e, i_low))) at changed in
       omega (arith, now, h.counted.each i i_low)
 
   pub some : 1 ≤ number_at left (number_at ps place)
@@ -190,11 +191,8 @@ module _ {ps left order : List ℕ} {turn place : ℕ} (h : ArePeeled ps left or
   long : length fewer ≡ length ps
   long = length-set h.kept place _ ∙ h.long
 
-  each : (i : ℕ) → i < length ps → (turn_of order i < turn + 1 → number_at fewer i ≡ length ps) × (turn + 1 ≤ turn_of order i → number_at fewer i ≡ parent_of ps i)
-  each i i_low = (
-    λ before. grind (arith, get_or-set_same h.kept place (length ps) 0, place_low, h.long, get_or-set_other h.kept place i (length ps) 0, (h.each i i_low).0, at_turn order i, here, before, low),
-    λ after. grind (arith, get_or-set_other h.kept place i (length ps) 0, (h.each i i_low).1, turn_is, after),
-  )
+  each : (i : ℕ) → i < length ps → number_at fewer i ≡ cond (ltb (turn_of order i) (turn + 1)) (length ps) (parent_of ps i)
+  each i i_low = grind (arith, nat_tests, get_or-set_same h.kept place (length ps) 0, place_low, h.long, get_or-set_other h.kept place i (length ps) 0, h.each i i_low, at_turn order i, here, turn_is, low)
 
   pub peeled : number_at left (number_at ps place) - 1 ≢ 0 → ArePeeled ps (slice_set left (number_at ps place) (number_at left (number_at ps place) - 1)) order (turn + 1)
   peeled more = record {
@@ -218,14 +216,11 @@ module _ {ps left order : List ℕ} {turn place : ℕ} (h : ArePeeled ps left or
     long = long;
     counted = counted;
     listed = listed_more order parent less_left h.listed (omega arith) (within place place_low) new (now ∙ none) listed;
-    each = λ i i_low. (
-      λ before. (each i i_low).0 (grind (arith, before, low, turn_before order parent i, turn_past order parent i)),
-      λ after. (each i i_low).1 (grind (arith, after, low, turn_before order parent i, turn_past order parent i)),
-    );
+    each = λ i i_low. grind (arith, nat_tests, each i i_low, low, turn_before order parent i, turn_past order parent i);
     behind = λ i i_low inside. elim (cases_eq (parent_of ps i) parent) as (λ _. turn_of (order ++ parent ∷ []) i < turn_of (order ++ parent ∷ []) (parent_of ps i)) [
       | inl is ↦
           let one = get_or-le-sum_by (λ q. cond (eqb parent q) 1 0) fewer i 0 (omega (arith, i_low, long)) in
-          let gone : turn_of order i < turn + 1 = grind (arith, one, (each i i_low).1, is, counted.each parent (within place place_low), now, none) in
+          let gone : turn_of order i < turn + 1 = grind (arith, nat_tests, one, each i i_low, is, counted.each parent (within place place_low), now, none) in
           omega (arith, gone, low, turn_before order parent i, turn_new order parent new, ap (turn_of (order ++ parent ∷ [])) is)
       | inr other ↦ let before = turn_other order parent (parent_of ps i) other inside in omega (arith, h.behind i i_low before, before, turn_before order parent i, turn_before order parent (parent_of ps i))
     ];

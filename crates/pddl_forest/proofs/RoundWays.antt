@@ -1,6 +1,7 @@
 -- Places on ways that go round: those of which children are left where no more can be peeled off. Where there are none, the others are in order.
 use Rattle.std.proofs.Common.{◌≡◌, ◌≢◌, ◌↔◌, ℕ, zero, suc, ◌+◌, ◌-◌, ◌<◌, ◌≤◌, cond, eqb, Bool, true, false, true≢false, List, [], ◌∷◌, length, slice_set, refl, sym, ap, subst, ◌∙◌, arith, inl, inr}
 use Rattle.std.proofs.lemmas.Bool.{cases_Bool, cases_eq, eq-eqb, eqb-true, ne_eqb}
+use Rattle.std.proofs.lemmas.Bool.Decides.{nat_tests}
 use Rattle.std.proofs.lemmas.List.Folds.{list_any_at, Any-from_list_any}
 use Rattle.std.proofs.lemmas.List.{get_or_past, get_or_default, get_or-set_same, get_or-set_other, length-set}
 use Rattle.std.proofs.lemmas.List.FromFn.{get_or-range_with_len, length-range_with_len}
@@ -40,8 +41,8 @@ module _ {ps left order : List ℕ} (h : ArePeeled ps left order (length order))
   child i low some =
       let (k, inside, is) = counted_some h.kept i (λ none. some (h.counted.each i low ∙ none)) in
       let k_low : k < length ps = omega (arith, inside, h.long) in
-      let out : length order ≤ turn_of order k = grind (arith, (h.each k k_low).0, is, low) in
-      (k, k_low, λ none. omega (arith, (h.listed.each k k_low).0 none, out), sym ((h.each k k_low).1 out) ∙ is)
+      let out : length order ≤ turn_of order k = grind (arith, nat_tests, h.each k k_low, is, low) in
+      (k, k_low, λ none. omega (arith, (h.listed.each k k_low).0 none, out), grind (arith, nat_tests, h.each k k_low, is, low))
 
   down : (i : ℕ) → i < length ps → number_at left i ≢ 0 → (n : ℕ) → (k : ℕ) × (k < length ps) × (number_at left k ≢ 0) × (up ps n k ≡ i)
   down i low some zero = (i, low, some, refl)

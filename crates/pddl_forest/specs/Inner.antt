@@ -1,6 +1,6 @@
 -- What the code and the proofs go by: the places of a forest in an order in which each comes before its parent, how they are found and what is numbered in it.
 -- No public contract names these.
-use Rattle.std.specs.Prelude.{◌≡◌, ◌≢◌, ◌+◌, ◌≤◌, ◌<◌, ◌↔◌, cond, eqb, ℕ, List, length, slice_set}
+use Rattle.std.specs.Prelude.{◌≡◌, ◌≢◌, ◌+◌, ◌≤◌, ◌<◌, ◌↔◌, cond, eqb, ltb, ℕ, List, length, slice_set}
 use Rattle.std.specs.List.{count_by, position_or_len, slice_index_or, sum_by}
 use Rattle.pddl_forest.specs.Forests.{parent_of, number_at}
 use Rattle.pddl_forest.specs.Rounds.{GoesRound}
@@ -26,7 +26,7 @@ pub record ArePeeled (ps left order : List ℕ) (turn : ℕ) : Type 0 where
   pub long : length kept ≡ length ps
   pub counted : AreCounted left kept (length ps)
   pub listed : AreListed left order (length ps)
-  pub each : (i : ℕ) → i < length ps → (turn_of order i < turn → number_at kept i ≡ length ps) × (turn ≤ turn_of order i → number_at kept i ≡ parent_of ps i)
+  pub each : (i : ℕ) → i < length ps → number_at kept i ≡ cond (ltb (turn_of order i) turn) (length ps) (parent_of ps i)
   pub behind : (i : ℕ) → i < length ps → turn_of order (parent_of ps i) < length order → turn_of order i < turn_of order (parent_of ps i)
 
 -- numbers are other than 0 for the places that are come to again from their parents, and only for these
