@@ -98,8 +98,8 @@ counted_more {left} numbers {many} k q h low is q_low = record {
 
 -- ---- what is peeled off first
 
-pub first_peeled : {ps left order : List ℕ} → AreCounted left ps (length ps) → AreListed left order (length ps) → ((i : ℕ) → i < length ps → number_at ps i < length ps) → ArePeeled ps left order 0
-first_peeled {ps} {left} {order} counted listed within = record {
+pub first_peeled : {ps left order : List ℕ} → AreCounted left ps (length ps) → AreListed left order (length ps) → ((i : ℕ) → i < length ps → number_at ps i < length ps) → {spans : List Span} → AreUnder ps order 0 spans → ArePeeled ps left order spans 0
+first_peeled {ps} {left} {order} counted listed within under = record {
   kept = ps;
   long = refl;
   counted = counted;
@@ -109,6 +109,7 @@ first_peeled {ps} {left} {order} counted listed within = record {
       let q = number_at ps i in
       let one = rw (eq-eqb q q refl) at (get_or-le-sum_by (λ p. cond (eqb q p) 1 0) ps i 0 low) in
       absurd (omega (arith, one, counted.each q (within i low), (listed.each q (within i low)).1 (rw (get_or_default ps i i 0 low) at inside)));
+  under = under;
 }
 
 -- ---- what is put under places: nothing at first, and the same with one more place at the end of the order
@@ -136,7 +137,7 @@ one_listed {ps} {order} {spans} {turn} x few h = record {
 
 -- ---- one place is peeled off
 
-module _ {ps left order : List ℕ} {turn place : ℕ} (h : ArePeeled ps left order turn) (low : turn < length order) (read : place ≡ slice_index_or order turn place)
+module _ {ps left order : List ℕ} {spans : List Span} {turn place : ℕ} (h : ArePeeled ps left order spans turn) (low : turn < length order) (read : place ≡ slice_index_or order turn place)
     (within : (i : ℕ) → i < length ps → number_at ps i < length ps) where
   here : number_at order turn ≡ place
   here = sym (read ∙ get_or_default order turn place 0 low)
@@ -179,9 +180,6 @@ module _ {ps left order : List ℕ} {turn place : ℕ} (h : ArePeeled ps left or
   others : (i : ℕ) → i ≢ parent → number_at less_left i ≡ number_at left i
   others i other = get_or-set_other left parent i (number_at left parent - 1) 0 other
 
-  listed : (i : ℕ) → i < length ps → i ≢ parent → (number_at less_left i ≡ 0) ↔ (turn_of order i < length order)
-  listed i i_low other = rw (others i other) (h.listed.each i i_low)
-
   counted : AreCounted less_left fewer (length ps)
   counted = record {
     long = length-set left parent _ ∙ h.counted.long;
@@ -194,28 +192,78 @@ module _ {ps left order : List ℕ} {turn place : ℕ} (h : ArePeeled ps left or
   each : (i : ℕ) → i < length ps → number_at fewer i ≡ cond (ltb (turn_of order i) (turn + 1)) (length ps) (parent_of ps i)
   each i i_low = grind (arith, nat_tests, get_or-set_same h.kept place (length ps) 0, place_low, h.long, get_or-set_other h.kept place i (length ps) 0, h.each i i_low, at_turn order i, here, turn_is, low)
 
-  pub peeled : number_at left (number_at ps place) - 1 ≢ 0 → ArePeeled ps (slice_set left (number_at ps place) (number_at left (number_at ps place) - 1)) order (turn + 1)
+  -- what is under it is put behind what is under its parent
+  parent_in : parent < length ps
+  parent_in = within place place_low
+
+  apart : place ≢ parent
+  apart is = omega (arith, turn_is, new, low, ap (turn_of order) is)
+
+  abbrev next_spans : List Span
+  next_spans = put_under spans place parent
+
+  abbrev over : Span
+  over = record { first = (at spans parent).first; last = (at spans parent).last + 1 + (at spans place).last }
+
+  abbrev span : Span
+  span = record { first = (at spans parent).last + 1; last = (at spans place).last }
+
+  at_place : at next_spans place ≡ span
+  at_place = get_or-set_same (slice_set spans parent over) place span nothing (omega (arith, place_low, h.under.long, length-set spans parent over))
+
+  at_parent : at next_spans parent ≡ over
+  at_parent = get_or-set_other (slice_set spans parent over) place parent span nothing (λ e. apart (sym e)) ∙ get_or-set_same spans parent over nothing (omega (arith, parent_in, h.under.long))
+
+  at_other : (i : ℕ) → i ≢ place → i ≢ parent → at next_spans i ≡ at spans i
+  at_other i one two = get_or-set_other (slice_set spans parent over) place i span nothing one ∙ get_or-set_other spans parent i over nothing two
+
+  total : sum_by left_under next_spans ≡ turn + 1
+  total = grind (
+    arith,
+    nat_tests,
+    sum_by-set left_under spans parent over nothing (omega (arith, parent_in, h.under.long)),
+    sum_by-set left_under (slice_set spans parent over) place span nothing (omega (arith, place_low, h.under.long, length-set spans parent over)),
+    get_or-set_other spans parent place over nothing apart,
+    h.under.left parent parent_in (omega (arith, new, low)),
+    h.under.left place place_low (omega (arith, turn_is)),
+    h.under.total,
+  )
+
+  long_spans : length next_spans ≡ length ps
+  long_spans = length-set (slice_set spans parent over) place _ ∙ length-set spans parent over ∙ h.under.long
+
+  pub put_fits : (at spans (number_at ps place)).last + 1 + (at spans place).last ≤ length ps
+  put_fits = grind (arith, nat_tests, h.under.left parent parent_in (omega (arith, new, low)), get_or-le-sum_by left_under next_spans parent nothing (omega (arith, parent_in, long_spans)), at_parent, total, few_listed h.listed, low)
+
+  put : AreUnder ps order (turn + 1) (put_under spans place (number_at ps place))
+  put = record {
+    long = long_spans;
+    total = total;
+    left = λ i i_low after. grind (arith, at_parent, at_other i, turn_is, after, h.under.left i i_low, h.under.left parent parent_in, new, low);
+    within = λ i i_low before. grind (arith, at_place, at_parent, at_other i, at_other (number_at ps i), h.under.within i i_low, turn_is, before, new, low, at_turn order i, here);
+    apart = λ i j i_low j_low less before same. grind (arith, at_place, at_other i, at_other j, h.under.within i i_low, h.under.apart i j i_low j_low less, turn_is, before, less, same, new, low, at_turn order i, at_turn order j, here);
+  }
+
+  pub peeled : number_at left (number_at ps place) - 1 ≢ 0 → ArePeeled ps (slice_set left (number_at ps place) (number_at left (number_at ps place) - 1)) order (put_under spans place (number_at ps place)) (turn + 1)
   peeled more = record {
     kept = fewer;
     long = long;
     counted = counted;
     listed = record {
       once = h.listed.once;
-      each = λ i i_low. elim (cases_eq i parent) as (λ _. (number_at less_left i ≡ 0) ↔ (turn_of order i < length order)) [
-        | inl is ↦ rw is (λ none. absurd (more (sym now ∙ none)), λ before. absurd (omega (arith, before, new)))
-        | inr other ↦ listed i i_low other
-      ];
+      each = λ i i_low. (λ none. grind (arith, now, others i, (h.listed.each i i_low).0, more, none), λ before. grind (arith, others i, (h.listed.each i i_low).1, new, before));
     };
     each = each;
     behind = h.behind;
+    under = put;
   }
 
-  pub peeled_more : number_at left (number_at ps place) - 1 ≡ 0 → ArePeeled ps (slice_set left (number_at ps place) (number_at left (number_at ps place) - 1)) (order ++ number_at ps place ∷ []) (turn + 1)
+  pub peeled_more : number_at left (number_at ps place) - 1 ≡ 0 → ArePeeled ps (slice_set left (number_at ps place) (number_at left (number_at ps place) - 1)) (order ++ number_at ps place ∷ []) (put_under spans place (number_at ps place)) (turn + 1)
   peeled_more none = record {
     kept = fewer;
     long = long;
     counted = counted;
-    listed = listed_more order parent less_left h.listed (omega arith) (within place place_low) new (now ∙ none) listed;
+    listed = listed_more order parent less_left h.listed (omega arith) (within place place_low) new (now ∙ none) (λ i i_low other. rw (others i other) (h.listed.each i i_low));
     each = λ i i_low. grind (arith, nat_tests, each i i_low, low, turn_before order parent i, turn_past order parent i);
     behind = λ i i_low inside. elim (cases_eq (parent_of ps i) parent) as (λ _. turn_of (order ++ parent ∷ []) i < turn_of (order ++ parent ∷ []) (parent_of ps i)) [
       | inl is ↦
@@ -224,57 +272,5 @@ module _ {ps left order : List ℕ} {turn place : ℕ} (h : ArePeeled ps left or
           omega (arith, gone, low, turn_before order parent i, turn_new order parent new, ap (turn_of (order ++ parent ∷ [])) is)
       | inr other ↦ let before = turn_other order parent (parent_of ps i) other inside in omega (arith, h.behind i i_low before, before, turn_before order parent i, turn_before order parent (parent_of ps i))
     ];
+    under = one_listed parent (omega (arith, low)) put;
   }
-
-  -- what is under it is put behind what is under its parent
-  module _ {spans : List Span} (under : AreUnder ps order turn spans) where
-    parent_in : parent < length ps
-    parent_in = within place place_low
-
-    apart : place ≢ parent
-    apart is = omega (arith, turn_is, new, low, ap (turn_of order) is)
-
-    abbrev next_spans : List Span
-    next_spans = put_under spans place parent
-
-    abbrev over : Span
-    over = record { first = (at spans parent).first; last = (at spans parent).last + 1 + (at spans place).last }
-
-    abbrev span : Span
-    span = record { first = (at spans parent).last + 1; last = (at spans place).last }
-
-    at_place : at next_spans place ≡ span
-    at_place = get_or-set_same (slice_set spans parent over) place span nothing (omega (arith, place_low, under.long, length-set spans parent over))
-
-    at_parent : at next_spans parent ≡ over
-    at_parent = get_or-set_other (slice_set spans parent over) place parent span nothing (λ e. apart (sym e)) ∙ get_or-set_same spans parent over nothing (omega (arith, parent_in, under.long))
-
-    at_other : (i : ℕ) → i ≢ place → i ≢ parent → at next_spans i ≡ at spans i
-    at_other i one two = get_or-set_other (slice_set spans parent over) place i span nothing one ∙ get_or-set_other spans parent i over nothing two
-
-    total : sum_by left_under next_spans ≡ turn + 1
-    total = grind (
-      arith,
-      nat_tests,
-      sum_by-set left_under spans parent over nothing (omega (arith, parent_in, under.long)),
-      sum_by-set left_under (slice_set spans parent over) place span nothing (omega (arith, place_low, under.long, length-set spans parent over)),
-      get_or-set_other spans parent place over nothing apart,
-      under.left parent parent_in (omega (arith, new, low)),
-      under.left place place_low (omega (arith, turn_is)),
-      under.total,
-    )
-
-    long_spans : length next_spans ≡ length ps
-    long_spans = length-set (slice_set spans parent over) place _ ∙ length-set spans parent over ∙ under.long
-
-    pub put_fits : (at spans (number_at ps place)).last + 1 + (at spans place).last ≤ length ps
-    put_fits = grind (arith, nat_tests, under.left parent parent_in (omega (arith, new, low)), get_or-le-sum_by left_under next_spans parent nothing (omega (arith, parent_in, long_spans)), at_parent, total, few_listed h.listed, low)
-
-    pub put : AreUnder ps order (turn + 1) (put_under spans place (number_at ps place))
-    put = record {
-      long = long_spans;
-      total = total;
-      left = λ i i_low after. grind (arith, at_parent, at_other i, turn_is, after, under.left i i_low, under.left parent parent_in, new, low);
-      within = λ i i_low before. grind (arith, at_place, at_parent, at_other i, at_other (number_at ps i), under.within i i_low, turn_is, before, new, low, at_turn order i, here);
-      apart = λ i j i_low j_low less before same. grind (arith, at_place, at_other i, at_other j, under.within i i_low, under.apart i j i_low j_low less, turn_is, before, less, same, new, low, at_turn order i, at_turn order j, here);
-    }

@@ -10,6 +10,7 @@ use Rattle.std.specs.Prelude.{IsTrue, MatchBool}
 use Rattle.std.specs.List.{count_by, list_any, range_with_len, AllWithin, HoldsAt}
 use Rattle.pddl_forest.specs.Forests.{parent_of, up, number_at}
 use Rattle.pddl_forest.specs.Rounds.{GoesRound, IsOnRound, HasRound, AreRounds}
+use Rattle.pddl_forest.specs.declared.spans.Span.{Span}
 use Rattle.pddl_forest.specs.Inner.{turn_of, ArePeeled, GoRound, IsOrder}
 use Rattle.pddl_forest.proofs.Peels.{turn_few, few_apart}
 
@@ -35,7 +36,7 @@ counted_some (x ∷ xs) i some =
 
 -- ---- what is left where all that was listed is peeled off
 
-module _ {ps left order : List ℕ} (h : ArePeeled ps left order (length order)) (within : (i : ℕ) → i < length ps → parent_of ps i < length ps) where
+module _ {ps left order : List ℕ} {spans : List Span} (h : ArePeeled ps left order spans (length order)) (within : (i : ℕ) → i < length ps → parent_of ps i < length ps) where
   -- a place that is not listed has a child that is not
   child : (i : ℕ) → i < length ps → number_at left i ≢ 0 → (k : ℕ) × (k < length ps) × (number_at left k ≢ 0) × (parent_of ps k ≡ i)
   child i low some =

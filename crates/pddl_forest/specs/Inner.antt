@@ -20,15 +20,6 @@ pub record AreListed (left order : List ℕ) (many : ℕ) : Type 0 where
   pub once : (u : ℕ) → u < length order → (number_at order u < many) × (turn_of order (number_at order u) ≡ u)
   pub each : (i : ℕ) → i < many → (number_at left i ≡ 0) ↔ (turn_of order i < length order)
 
--- The places of which no child is left where those before a turn are peeled off: these have no place for a parent any more. Each comes behind its children.
-pub record ArePeeled (ps left order : List ℕ) (turn : ℕ) : Type 0 where
-  pub kept : List ℕ
-  pub long : length kept ≡ length ps
-  pub counted : AreCounted left kept (length ps)
-  pub listed : AreListed left order (length ps)
-  pub each : (i : ℕ) → i < length ps → number_at kept i ≡ cond (ltb (turn_of order i) turn) (length ps) (parent_of ps i)
-  pub behind : (i : ℕ) → i < length ps → turn_of order (parent_of ps i) < length order → turn_of order i < turn_of order (parent_of ps i)
-
 -- numbers are other than 0 for the places that are come to again from their parents, and only for these
 pub record GoRound (ps numbers : List ℕ) : Type 0 where
   pub many : length numbers ≡ length ps
@@ -65,3 +56,13 @@ pub record AreUnder (ps order : List ℕ) (turn : ℕ) (spans : List Span) : Typ
   pub within : (i : ℕ) → i < length ps → turn_of order i < turn → (0 < (at spans i).first) × ((at spans i).first + (at spans i).last ≤ (at spans (number_at ps i)).last)
   pub apart : (i j : ℕ) → i < length ps → j < length ps → turn_of order i < turn_of order j → turn_of order j < turn → number_at ps i ≡ number_at ps j
       → (at spans i).first + (at spans i).last < (at spans j).first
+
+-- The places of which no child is left where those before a turn are peeled off: these have no place for a parent any more. Each comes behind its children.
+pub record ArePeeled (ps left order : List ℕ) (spans : List Span) (turn : ℕ) : Type 0 where
+  pub kept : List ℕ
+  pub long : length kept ≡ length ps
+  pub counted : AreCounted left kept (length ps)
+  pub listed : AreListed left order (length ps)
+  pub each : (i : ℕ) → i < length ps → number_at kept i ≡ cond (ltb (turn_of order i) turn) (length ps) (parent_of ps i)
+  pub behind : (i : ℕ) → i < length ps → turn_of order (parent_of ps i) < length order → turn_of order i < turn_of order (parent_of ps i)
+  pub under : AreUnder ps order turn spans

@@ -30,8 +30,7 @@ fn list_leaves<'a, B: Allocator>(
 fn put_under(spans: &mut [Span], place: usize, parent: usize)
     requires place { place < length spans.old }
     requires parent { parent < length spans.old }
-    requires short { length spans.old < 2 ^ 32 }
-    requires fits { (at spans.old parent).last + 1 + (at spans.old place).last ≤ length spans.old }
+    requires fits { (at spans.old parent).last + 1 + (at spans.old place).last < 2 ^ 32 }
     ensures { spans.new ≡ put_under spans.old place parent }
 {
     let first = spans[parent].last + 1;
@@ -51,10 +50,8 @@ fn peel<'a, B: Allocator>(
 ) -> Result<(), AllocError>
     requires short { length parents.now < 2 ^ 32 }
     requires within { (i : ℕ) → i < length parents.now → number_at parents.now i < length parents.now }
-    requires leaves { ArePeeled parents.now left.old order.old.items 0 }
-    requires none { AreUnder parents.now order.old.items 0 spans.old }
-    ensures peeled { OnOk result (ArePeeled parents.now left.new order.new.items (length order.new.items)) }
-    ensures under { OnOk result (AreUnder parents.now order.new.items (length order.new.items) spans.new) }
+    requires leaves { ArePeeled parents.now left.old order.old.items spans.old 0 }
+    ensures { OnOk result (ArePeeled parents.now left.new order.new.items spans.new (length order.new.items)) }
 {
     let mut turn = 0;
     while turn < order.len() {
@@ -85,8 +82,7 @@ pub fn peel_off<'a, B: Allocator>(
     requires none { left.old ≡ replicate (length parents.now) 0 }
     requires clear { order.old.items ≡ [] }
     requires under { (places : List ℕ) → AreUnder parents.now places 0 spans.old }
-    ensures peeled { OnOk result (ArePeeled parents.now left.new order.new.items (length order.new.items)) }
-    ensures under { OnOk result (AreUnder parents.now order.new.items (length order.new.items) spans.new) }
+    ensures { OnOk result (ArePeeled parents.now left.new order.new.items spans.new (length order.new.items)) }
 {
     for parent in parents {
         let more = &mut left[*parent];

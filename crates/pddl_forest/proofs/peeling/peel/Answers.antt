@@ -1,7 +1,7 @@
 use Rattle.std.proofs.Common.{◌≡◌, ◌<◌, length, arith}
 use Rattle.std.proofs.lemmas.List.{length_push}
 use Rattle.pddl_forest.specs.Forests.{number_at}
-use Rattle.pddl_forest.proofs.Peels.{few_listed, place_low, parent_low, some, peeled, peeled_more, put, put_fits, one_listed}
+use Rattle.pddl_forest.proofs.Peels.{few_listed, place_low, parent_low, some, peeled, peeled_more, put_fits}
 use Rattle.pddl_forest.proofs.peeling.peel.Goals.{then-fewer-eq0+in_ok-push, else-fewer-eq0}
 use Rattle.pddl_forest.proofs.peeling.peel.Goals as goal
 
@@ -13,10 +13,9 @@ put_under-requires g c =
     let h = c.loop-turn.invariant in
     let low : c.loop-turn.turn < length c.loop-turn.order.items = omega arith in
     record {
-      place = omega (arith, place_low h.peeled low c.index-place.ensures c.requires.within, h.under.long);
-      parent = omega (arith, parent_low h.peeled low c.index-place.ensures c.requires.within, h.peeled.counted.long, h.under.long);
-      short = omega (arith, c.requires.short, h.under.long);
-      fits = omega (arith, put_fits h.peeled low c.index-place.ensures c.requires.within h.under, h.under.long);
+      place = omega (arith, place_low h.peeled low c.index-place.ensures c.requires.within, h.peeled.under.long);
+      parent = omega (arith, parent_low h.peeled low c.index-place.ensures c.requires.within, h.peeled.counted.long, h.peeled.under.long);
+      fits = omega (arith, put_fits h.peeled low c.index-place.ensures c.requires.within, c.requires.short);
     }
 
 pub offset_bounds-left-parent : goal.offset_bounds-left-parent
@@ -32,21 +31,16 @@ pub loop-turn-preserved : goal.loop-turn-preserved
 loop-turn-preserved g c =
     let h = c.loop-turn.invariant in
     let low : c.loop-turn.turn < length c.loop-turn.order.items = omega arith in
-    let under = put h.peeled low c.index-place.ensures c.requires.within h.under in
     elim c.if-fewer-eq0.branch [
       | then-fewer-eq0+in_ok-push w ↦ rw (w.order-is, w.in_ok-push.ensures.items, c.put_under.ensures) record {
         peeled = peeled_more h.peeled low c.index-place.ensures c.requires.within w.if-fewer-eq0.true;
-        under = one_listed (number_at c.args.parents.now c.index-place.result.now) (omega (arith, low)) under;
         listed = omega (arith, length_push c.loop-turn.order.items (number_at c.args.parents.now c.index-place.result.now), h.listed);
       }
-      | else-fewer-eq0 w ↦ rw (w.order-is, c.put_under.ensures) record { peeled = peeled h.peeled low c.index-place.ensures c.requires.within w.if-fewer-eq0.false; under = under; listed = omega (arith, low) }
+      | else-fewer-eq0 w ↦ rw (w.order-is, c.put_under.ensures) record { peeled = peeled h.peeled low c.index-place.ensures c.requires.within w.if-fewer-eq0.false; listed = omega (arith, low) }
     ]
 
 pub loop-turn-smaller : goal.loop-turn-smaller
 loop-turn-smaller g c = omega (arith, few_listed c.loop-turn.invariant.peeled.listed)
 
 pub returns : goal.returns
-returns g c =
-    let h = c.loop-turn.invariant in
-    let all : c.loop-turn.turn ≡ length c.loop-turn.order.items = omega arith in
-    record { peeled = rw all at h.peeled; under = rw all at h.under }
+returns g c = let all : c.loop-turn.turn ≡ length c.loop-turn.order.items = omega arith in rw all at c.loop-turn.invariant.peeled

@@ -1,11 +1,10 @@
 use Rattle.std.proofs.Common.{◌≤◌, ◌-◌, length}
-use Rattle.pddl_forest.specs.Inner.{ArePeeled, AreUnder}
+use Rattle.pddl_forest.specs.Inner.{ArePeeled}
 use Rattle.pddl_forest.proofs.peeling.peel.Given as goal
 
 abbrev pub invariant-loop-turn : goal.invariant-loop-turn
 invariant-loop-turn g l = record {
-  peeled : ArePeeled l.parents l.left l.order.items l.turn;
-  under : AreUnder l.parents l.order.items l.turn l.spans;
+  peeled : ArePeeled l.parents l.left l.order.items l.spans l.turn;
   listed : l.turn ≤ length l.order.items;
 }
 

@@ -11,7 +11,4 @@ loop-parent-preserved g c =
 pub peel-requires-clause-leaves : goal.peel-requires-clause-leaves
 peel-requires-clause-leaves g c =
     let counted = rw (take_all c.loop-parent.parent-index c.args.parents.now c.loop-parent-test.false) at c.loop-parent.invariant in
-    first_peeled counted (rw counted.long at c.in_ok-list_leaves.ensures) c.requires.within
-
-pub peel-requires-clause-none : goal.peel-requires-clause-none
-peel-requires-clause-none g c = c.requires.under _
+    first_peeled counted (rw counted.long at c.in_ok-list_leaves.ensures) c.requires.within (c.requires.under _)
