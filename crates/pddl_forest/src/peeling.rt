@@ -39,35 +39,6 @@ fn put_under(spans: &mut [Span], place: usize, parent: usize)
     spans[place] = Span { first, last };
 }
 
-/// Peels off the places of a list in turn, and adds each parent of which no child is left by that.
-///
-/// Fails where memory for them is refused.
-fn peel<'a, B: Allocator>(
-    parents: &[usize],
-    left: &mut [usize],
-    order: &mut Vec<usize, &'a B>,
-    spans: &mut [Span],
-) -> Result<(), AllocError>
-    requires short { length parents.now < 2 ^ 32 }
-    requires within { (i : ℕ) → i < length parents.now → number_at parents.now i < length parents.now }
-    requires leaves { ArePeeled parents.now left.old order.old.items spans.old 0 }
-    ensures { OnOk result (ArePeeled parents.now left.new order.new.items spans.new (length order.new.items)) }
-{
-    let mut turn = 0;
-    while turn < order.len() {
-        let place = order[turn];
-        let parent = parents[place];
-        put_under(spans, place, parent);
-        let fewer = &mut left[parent];
-        *fewer -= 1;
-        if *fewer == 0 {
-            order.push(parent)?;
-        }
-        turn += 1;
-    }
-    Ok(())
-}
-
 /// Peels off places, which are put into an empty list in turn, while there are any. How many children of each are left, of which none is counted yet, is put beside.
 ///
 /// Fails where memory for the work is refused.
@@ -89,7 +60,19 @@ pub fn peel_off<'a, B: Allocator>(
         *more += 1;
     }
     list_leaves(left, order)?;
-    peel(parents, left, order, spans)
+    let mut turn = 0;
+    while turn < order.len() {
+        let place = order[turn];
+        let parent = parents[place];
+        put_under(spans, place, parent);
+        let fewer = &mut left[parent];
+        *fewer -= 1;
+        if *fewer == 0 {
+            order.push(parent)?;
+        }
+        turn += 1;
+    }
+    Ok(())
 }
 
 /// Whether some way goes round, other than that of place 0 to itself, for which the number of place 0 is set to 0.
