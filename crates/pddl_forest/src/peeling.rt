@@ -8,24 +8,6 @@ ghost use Rattle.pddl_forest.specs.Inner.{AreCounted, AreListed, ArePeeled, GoRo
 use crate::spans::Span;
 use std::alloc::{AllocError, Allocator};
 
-/// Puts the places without children into an empty list.
-///
-/// Fails where memory for them is refused.
-fn list_leaves<'a, B: Allocator>(
-    left: &[usize],
-    order: &mut Vec<usize, &'a B>,
-) -> Result<(), AllocError>
-    requires { order.old.items ≡ [] }
-    ensures { OnOk result (AreListed left.now order.new.items (length left.now)) }
-{
-    for place in 0..left.len() {
-        if left[place] == 0 {
-            order.push(place)?;
-        }
-    }
-    Ok(())
-}
-
 /// Puts what is under a place behind what is under its parent so far: its first number is from the number of the parent on, and its last from its own.
 fn put_under(spans: &mut [Span], place: usize, parent: usize)
     requires place { place < length spans.old }
@@ -39,7 +21,8 @@ fn put_under(spans: &mut [Span], place: usize, parent: usize)
     spans[place] = Span { first, last };
 }
 
-/// Peels off places, which are put into an empty list in turn, while there are any. How many children of each are left, of which none is counted yet, is put beside.
+/// Peels off places, which are put into an empty list in turn: those without children, then each parent of which no child is left by that. How many children
+/// of each are left, of which none is counted yet, is put beside.
 ///
 /// Fails where memory for the work is refused.
 pub fn peel_off<'a, B: Allocator>(
@@ -59,7 +42,11 @@ pub fn peel_off<'a, B: Allocator>(
         let more = &mut left[*parent];
         *more += 1;
     }
-    list_leaves(left, order)?;
+    for place in 0..left.len() {
+        if left[place] == 0 {
+            order.push(place)?;
+        }
+    }
     let mut turn = 0;
     while turn < order.len() {
         let place = order[turn];

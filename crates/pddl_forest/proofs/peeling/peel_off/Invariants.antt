@@ -1,9 +1,12 @@
 use Rattle.std.proofs.Common.{◌≤◌, ◌-◌, take, length}
-use Rattle.pddl_forest.specs.Inner.{AreCounted, ArePeeled}
+use Rattle.pddl_forest.specs.Inner.{AreCounted, AreListed, ArePeeled}
 use Rattle.pddl_forest.proofs.peeling.peel_off.Given as goal
 
 abbrev pub invariant-loop-parent : goal.invariant-loop-parent
 invariant-loop-parent g l = AreCounted l.left (take l.parent-index l.parents) (length l.parents)
+
+abbrev pub invariant-loop-place : goal.invariant-loop-place
+invariant-loop-place g l = AreListed l.left l.order.items l.place
 
 abbrev pub invariant-loop-turn : goal.invariant-loop-turn
 invariant-loop-turn g l = record {
