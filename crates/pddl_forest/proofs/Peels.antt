@@ -100,6 +100,7 @@ counted_more {left} numbers {many} k q h low is q_low = record {
 
 pub first_peeled : {ps left order : List ℕ} → AreCounted left ps (length ps) → AreListed left order (length ps) → ((i : ℕ) → i < length ps → number_at ps i < length ps) → {spans : List Span} → AreUnder ps order 0 spans → ArePeeled ps left order spans 0
 first_peeled {ps} {left} {order} counted listed within under = record {
+  few = omega arith;
   kept = ps;
   long = refl;
   counted = counted;
@@ -246,6 +247,7 @@ module _ {ps left order : List ℕ} {spans : List Span} {turn place : ℕ} (h : 
 
   pub peeled : number_at left (number_at ps place) - 1 ≢ 0 → ArePeeled ps (slice_set left (number_at ps place) (number_at left (number_at ps place) - 1)) order (put_under spans place (number_at ps place)) (turn + 1)
   peeled more = record {
+    few = omega (arith, low);
     kept = fewer;
     long = long;
     counted = counted;
@@ -260,6 +262,7 @@ module _ {ps left order : List ℕ} {spans : List Span} {turn place : ℕ} (h : 
 
   pub peeled_more : number_at left (number_at ps place) - 1 ≡ 0 → ArePeeled ps (slice_set left (number_at ps place) (number_at left (number_at ps place) - 1)) (order ++ number_at ps place ∷ []) (put_under spans place (number_at ps place)) (turn + 1)
   peeled_more none = record {
+    few = omega (arith, low, length_push order parent);
     kept = fewer;
     long = long;
     counted = counted;

@@ -59,6 +59,7 @@ pub record AreUnder (ps order : List ℕ) (turn : ℕ) (spans : List Span) : Typ
 
 -- The places of which no child is left where those before a turn are peeled off: these have no place for a parent any more. Each comes behind its children.
 pub record ArePeeled (ps left order : List ℕ) (spans : List Span) (turn : ℕ) : Type 0 where
+  pub few : turn ≤ length order
   pub kept : List ℕ
   pub long : length kept ≡ length ps
   pub counted : AreCounted left kept (length ps)

@@ -1,5 +1,5 @@
 use Rattle.std.proofs.Common.{◌≡◌, ◌↔◌, ◌<◌, length, refl, arith}
-use Rattle.std.proofs.lemmas.List.{length_push, take_all}
+use Rattle.std.proofs.lemmas.List.{take_all}
 use borrow.Author.Count.{below_more}
 use Rattle.pddl_forest.specs.Forests.{number_at}
 use Rattle.pddl_forest.specs.Inner.{turn_of}
@@ -32,44 +32,41 @@ pub loop-turn-init : goal.loop-turn-init
 loop-turn-init g c =
     let counted = rw (take_all c.loop-parent.parent-index c.args.parents.now c.loop-parent-test.false) at c.loop-parent.invariant in
     let all : c.loop-place.place ≡ length c.args.parents.now = omega (arith, counted.long) in
-    record { peeled = first_peeled counted (rw all at c.loop-place.invariant) c.requires.within (c.requires.under _); listed = omega arith }
+    first_peeled counted (rw all at c.loop-place.invariant) c.requires.within (c.requires.under _)
 
 pub bounds-parents-place : goal.bounds-parents-place
-bounds-parents-place g c = place_low c.loop-turn.invariant.peeled (omega arith) c.index-place.ensures c.requires.within
+bounds-parents-place g c = place_low c.loop-turn.invariant (omega arith) c.index-place.ensures c.requires.within
 
 pub put_under-requires : goal.put_under-requires
 put_under-requires g c =
     let h = c.loop-turn.invariant in
     let low : c.loop-turn.turn < length c.loop-turn.order.items = omega arith in
     record {
-      place = omega (arith, place_low h.peeled low c.index-place.ensures c.requires.within, h.peeled.under.long);
-      parent = omega (arith, parent_low h.peeled low c.index-place.ensures c.requires.within, h.peeled.counted.long, h.peeled.under.long);
-      fits = omega (arith, put_fits h.peeled low c.index-place.ensures c.requires.within, c.requires.short);
+      place = omega (arith, place_low h low c.index-place.ensures c.requires.within, h.under.long);
+      parent = omega (arith, parent_low h low c.index-place.ensures c.requires.within, h.counted.long, h.under.long);
+      fits = omega (arith, put_fits h low c.index-place.ensures c.requires.within, c.requires.short);
     }
 
 pub offset_bounds-left-parent-in-loop-turn : goal.offset_bounds-left-parent-in-loop-turn
-offset_bounds-left-parent-in-loop-turn g c = omega (arith, parent_low c.loop-turn.invariant.peeled (omega arith) c.index-place.ensures c.requires.within)
+offset_bounds-left-parent-in-loop-turn g c = omega (arith, parent_low c.loop-turn.invariant (omega arith) c.index-place.ensures c.requires.within)
 
 pub bounds-left-parent-in-loop-turn : goal.bounds-left-parent-in-loop-turn
-bounds-left-parent-in-loop-turn g c = parent_low c.loop-turn.invariant.peeled (omega arith) c.index-place.ensures c.requires.within
+bounds-left-parent-in-loop-turn g c = parent_low c.loop-turn.invariant (omega arith) c.index-place.ensures c.requires.within
 
 pub overflow_sub-fewer : goal.overflow_sub-fewer
-overflow_sub-fewer g c = some c.loop-turn.invariant.peeled (omega arith) c.index-place.ensures c.requires.within
+overflow_sub-fewer g c = some c.loop-turn.invariant (omega arith) c.index-place.ensures c.requires.within
 
 pub loop-turn-preserved : goal.loop-turn-preserved
 loop-turn-preserved g c =
     let h = c.loop-turn.invariant in
     let low : c.loop-turn.turn < length c.loop-turn.order.items = omega arith in
     elim c.if-fewer-eq0.branch [
-      | then-fewer-eq0+in_ok-push-2 w ↦ rw (w.order-is, w.in_ok-push-2.ensures.items, c.put_under.ensures) record {
-        peeled = peeled_more h.peeled low c.index-place.ensures c.requires.within w.if-fewer-eq0.true;
-        listed = omega (arith, length_push c.loop-turn.order.items (number_at c.args.parents.now c.index-place.result.now), h.listed);
-      }
-      | else-fewer-eq0 w ↦ rw (w.order-is, c.put_under.ensures) record { peeled = peeled h.peeled low c.index-place.ensures c.requires.within w.if-fewer-eq0.false; listed = omega (arith, low) }
+      | then-fewer-eq0+in_ok-push-2 w ↦ rw (w.order-is, w.in_ok-push-2.ensures.items, c.put_under.ensures) (peeled_more h low c.index-place.ensures c.requires.within w.if-fewer-eq0.true)
+      | else-fewer-eq0 w ↦ rw (w.order-is, c.put_under.ensures) (peeled h low c.index-place.ensures c.requires.within w.if-fewer-eq0.false)
     ]
 
 pub loop-turn-smaller : goal.loop-turn-smaller
-loop-turn-smaller g c = omega (arith, few_listed c.loop-turn.invariant.peeled.listed)
+loop-turn-smaller g c = omega (arith, few_listed c.loop-turn.invariant.listed)
 
 pub returns : goal.returns
-returns g c = let all : c.loop-turn.turn ≡ length c.loop-turn.order.items = omega arith in rw all at c.loop-turn.invariant.peeled
+returns g c = let all : c.loop-turn.turn ≡ length c.loop-turn.order.items = omega arith in rw all at c.loop-turn.invariant
