@@ -127,10 +127,6 @@ module _ {ps order : List ℕ} (o : IsOrder ps order) {old : List Span} (u : Are
     behind i j low also some other same less =
         omega (arith, u.apart i j low also less (listed j also other) same, (numbered i low).first some, numbered i low, (numbered j also).first other, ap (λ k. (at spans k).first) same)
 
-    clear : (i j m : ℕ) → i < length ps → j < length ps → i ≢ 0 → j ≢ 0 → i ≢ j → number_at ps i ≡ number_at ps j → (at spans i).first ≤ m → m ≤ (at spans i).last → (at spans j).first ≤ m → (at spans j).last < m
-    clear i j m low also some other differ same from to begun =
-        grind (arith, behind i j low also some other same, behind j i also low other some (sym same), at_turn order i (listed i low some), at_turn order j (listed j also other), differ, from, to, begun)
-
     -- a place under whose parent another is has it under it where its span holds the other's number
     among : (n i g : ℕ) → i < length ps → g < length ps → g ≢ 0 → up ps n i ≡ number_at ps g → (at spans g).first ≤ (at spans i).first → (at spans i).first ≤ (at spans g).last → IsUnder ps i g
     among zero i g low also other is from to = absurd (omega (arith, nested g also other, ap (λ k. (at spans k).first) is, from))
@@ -142,7 +138,7 @@ module _ {ps order : List ℕ} (o : IsOrder ps order) {old : List Span} (u : Are
           | inl at_g ↦ (n, at_g)
           | inr differ ↦ elim (cases_eq c 0) as (λ _. IsUnder ps i g) [
             | inl at_0 ↦ among n i g low also other (at_0 ∙ sym o.top ∙ ap (number_at ps) (sym at_0) ∙ over) from to
-            | inr below_0 ↦ absurd (omega (arith, to, clear c g (at spans i).first c_low also below_0 other differ over (omega (arith, below n i low)) (omega (arith, below n i low, own i low)) from))
+            | inr below_0 ↦ absurd (grind (arith, behind c g c_low also below_0 other over, behind g c also c_low other below_0 (sym over), at_turn order c (listed c c_low below_0), at_turn order g (listed g also other), differ, below n i low, own i low, from, to))
           ]
         ]
 

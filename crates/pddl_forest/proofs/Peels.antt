@@ -50,10 +50,7 @@ module _ (order : List ℕ) (x : ℕ) where
       once = λ u inside. below_more (λ v. (number_at next v < more) × (turn_of next (number_at next v) ≡ v)) (length order)
           (λ v before. let (in_range, once) = h.once v before in rw (get_or_append_left order (x ∷ []) 0 v before) (omega (arith, in_range, wider), turn_before _ (omega (arith, once, before)) ∙ once))
           (rw (get_or_push order x 0 (length order) refl) (low, turn_new new)) u (omega (arith, inside, length_push order x));
-      each = λ i i_low. elim (cases_eq i x) as (λ _. (number_at now i ≡ 0) ↔ (turn_of next i < length next)) [
-        | inl is ↦ (λ _. omega (arith, length_push order x, turn_new new, ap (turn_of next) is), λ _. ap (number_at now) is ∙ none)
-        | inr other ↦ let was = others i i_low other in (λ zeroth. omega (arith, length_push order x, was.0 zeroth, turn_before i), λ inside. was.1 (turn_other i other inside))
-      ];
+      each = λ i i_low. (λ zeroth. grind (arith, length_push order x, turn_new new, turn_before i, others i i_low, zeroth), λ inside. grind (arith, none, turn_other i, others i i_low, inside));
     }
 
 -- numbers below a bound of which no two are equal are no more than there are below it

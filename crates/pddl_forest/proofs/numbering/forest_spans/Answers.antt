@@ -2,8 +2,7 @@ use Rattle.std.proofs.Common.{◌≡◌, length, ap, sym, subst, ◌∙◌, true
 use Rattle.std.proofs.lemmas.List.{get_or_default}
 use Rattle.pddl_forest.specs.Rounds.{AreRounds}
 use Rattle.pddl_forest.specs.Spans.{AreSpans}
-use Rattle.pddl_forest.proofs.Peels.{in_place}
-use Rattle.pddl_forest.proofs.Peels.{none_under}
+use Rattle.pddl_forest.proofs.Peels.{in_place, none_under}
 use Rattle.pddl_forest.proofs.RoundWays.{go_round, in_order}
 use Rattle.pddl_forest.proofs.numbering.forest_spans.Goals as goal
 
