@@ -3,7 +3,8 @@ use Rattle.std.proofs.Common.{◌≡◌, ℕ, zero, suc, ◌+◌, ◌-◌, ◌<�
 use Rattle.std.proofs.Math.Nat.{ℕ_set}
 use Rattle.std.specs.Coded.{le_prop}
 use Rattle.std.specs.List.{sum_by, range_with_len}
-use Rattle.std.proofs.lemmas.Bool.{leb-true, lt-leb, ltb-true, ltb-false, and_parts}
+use Rattle.std.proofs.lemmas.Bool.{leb-true, lt-leb, ltb-true, ltb-false}
+use Rattle.std.proofs.lemmas.Bool.Decides.{nat_tests}
 use Rattle.std.proofs.lemmas.List.{get_or_default, get_or-take, length-drop, length-take-le, nil_from_length, take_rest}
 use Rattle.std.proofs.lemmas.List.Folds.{list_any_more, Any-from_list_any}
 use Rattle.std.proofs.lemmas.List.Sorted.{sum_by-IsPermutation}
@@ -12,9 +13,9 @@ use Rattle.std.proofs.Math.Logic.{∥∥₁_elim}
 use Rattle.std.proofs.Math.Bool.{and-false}
 use Rattle.pddl_task.specs.Tasks.{places_from}
 use Rattle.pddl_forest.specs.Forests.{number_at}
-use Rattle.pddl_forest.specs.Spans.{holds, some_holds, span_at, AreApart}
+use Rattle.pddl_forest.specs.Spans.{holds, some_holds, AreApart}
 use Rattle.pddl_forest.specs.declared.spans.Span.{Span}
-use Rattle.pddl_forest.proofs.ApartSpans.{held}
+use Rattle.pddl_forest.proofs.ApartSpans.{held, behind}
 use Rattle.pddl_sizes.specs.ObjectOrders.{IsOrderOf}
 use Rattle.pddl_sizes.proofs.ListSums.{if_passes, if_either, sum_filter, sum_two, places_are}
 
@@ -48,7 +49,10 @@ module _ (numbers : List ℕ) where
         let g : ℕ → ℕ = λ o. if_passes (some_holds (take 0 tops) (number_at numbers o)) (f o) in
         omega (arith, sum_two g g g (λ o. refl) all, sum_places (some_holds (take 0 tops)) f)
 
-    module _ (apart : AreApart tops) (i : ℕ) (none : Span) (low : i < length tops) where
+    module _ (apart : AreApart tops) (i : ℕ) (low : i < length tops) where
+      abbrev none : Span
+      none = record { first = 0; last = 0 }
+
       abbrev top : Span
       top = slice_index_or tops i none
 
@@ -56,12 +60,9 @@ module _ (numbers : List ℕ) where
       no_other n before here =
           let (k, s, k_low, s_is, on) = Any-from_list_any (λ t. holds t n) (take i tops) before in
           let few = length-take-le i tops (omega (arith, low)) in
-          let past = apart.behind k i (omega (arith, k_low, few)) low in
-          let at : span_at tops k ≡ s = sym (get_or-take i tops k _ (omega (arith, k_low, few))) ∙ get_or_default (take i tops) k _ s k_low ∙ s_is in
-          let also : span_at tops i ≡ top = get_or_default tops i _ none low in
-          let to = leb-true n s.last (and_parts (leb s.first n) (leb n s.last) on).1 in
-          let from = leb-true top.first n (and_parts (leb top.first n) (leb n top.last) here).0 in
-          omega (arith, past, to, from, ap (λ t. t.last) at, ap (λ t. t.first) also)
+          let past = behind apart k i (omega (arith, k_low, few)) low in
+          let at : slice_index_or tops k none ≡ s = sym (get_or-take i tops k none (omega (arith, k_low, few))) ∙ get_or_default (take i tops) k none s k_low ∙ s_is in
+          grind (arith, nat_tests, on, here, past, at)
 
       one_of : (n m : ℕ) → if_passes (some_holds (take (i + 1) tops) n) m ≡ if_passes (some_holds (take i tops) n) m + if_passes (holds top n) m
       one_of n m =
