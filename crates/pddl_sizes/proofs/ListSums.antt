@@ -1,8 +1,8 @@
 -- Sums over what passes a test, and lists that rise.
-use Rattle.std.proofs.Common.{◌≡◌, ℕ, suc, ◌+◌, ◌<◌, ◌≤◌, Bool, true, not, cond, ◌||◌, leb, List, [], ◌∷◌, filter, length, refl, sym, ap, ◌∙◌, subst, arith, inl, inr, slice_index_or}
+use Rattle.std.proofs.Common.{◌≡◌, ℕ, suc, ◌+◌, ◌<◌, ◌≤◌, Bool, true, not, cond, ◌||◌, leb, List, [], ◌∷◌, filter, length, refl, sym, ap, ◌∙◌, subst, arith, slice_index_or}
 use Rattle.std.specs.List.{sum_by, range_with_len}
 use Rattle.std.specs.List.Sorted.{IsNonDecreasingBy}
-use Rattle.std.proofs.lemmas.Bool.{cases_lt, le-leb, lt-leb}
+use Rattle.std.proofs.lemmas.Bool.Decides.{nat_tests}
 use Rattle.std.proofs.lemmas.List.Sorted.{IsNonDecreasingBy-drop}
 use Rattle.std.proofs.lemmas.List.FromFn.{get_or-range_with_len, length-range_with_len}
 use Rattle.std.proofs.lemmas.List.Filters.{length-filter_both}
@@ -40,15 +40,9 @@ few_pass test xs = omega (arith, length-filter_both test (λ x. not (test x)) (�
 -- where all sums are the same, the first number of the one is not past that of the other
 not_past : (x y : ℕ) (xs ys : List ℕ) → IsNonDecreasingBy (λ n. n) (x ∷ xs) → ((f : ℕ → ℕ) → sum_by f (x ∷ xs) ≡ sum_by f (y ∷ ys)) → x ≤ y
 not_past x y xs ys up same =
-    elim (cases_lt y x) as (λ _. x ≤ y) [
-      | inr not ↦ not
-      | inl past ↦
-          let f : ℕ → ℕ = λ n. if_passes (leb n y) 1 in
-          let none = sum_by-le f 0 (x ∷ xs) (λ i d low. let more = up 0 i d (omega arith) low in let is = ap (λ b. if_passes b 1) (lt-leb (slice_index_or (x ∷ xs) i d) y (omega (arith, past, more))) in omega (arith, is)) in
-          let some = get_or-le-sum_by f (y ∷ ys) 0 y (omega arith) in
-          let one : f y ≡ 1 = ap (λ b. if_passes b 1) (le-leb y y (omega arith)) in
-          absurd (omega (arith, none, some, one, same f))
-    ]
+    let f : ℕ → ℕ = λ n. if_passes (leb n y) 1 in
+    let none : y < x → sum_by f (x ∷ xs) ≡ 0 = λ past. omega (arith, sum_by-le f 0 (x ∷ xs) (λ i d low. grind (arith, nat_tests, up 0 i d (omega arith) low, past))) in
+    grind (arith, nat_tests, none, get_or-le-sum_by f (y ∷ ys) 0 y (omega arith), same f)
 
 -- such lists with the same sums are one
 pub same_rising : (xs ys : List ℕ) → IsNonDecreasingBy (λ n. n) xs → IsNonDecreasingBy (λ n. n) ys → ((f : ℕ → ℕ) → sum_by f xs ≡ sum_by f ys) → xs ≡ ys
