@@ -61,8 +61,8 @@ places_from_are : {X : Type 0} (test : X → Bool) (d : X) (k : ℕ) (xs : List 
 places_from_are test d k [] passes same = refl
 places_from_are test d k (x ∷ xs) passes same =
     let rest = places_from_are test d (k + 1) xs passes (λ i low. let e : k + 1 + i ≡ k + suc i = omega arith in ap passes e ∙ same (suc i) (omega (arith, low))) in
-    let e : k ≡ k + 0 = omega arith in
-    ap (λ ns. cond (passes k) (k ∷ ns) ns) rest ∙ ap (λ b. cond b (k ∷ places_from (k + 1) test xs) (places_from (k + 1) test xs)) (ap passes e ∙ same 0 (omega arith))
+    let first : passes k ≡ test x = ap passes (omega arith) ∙ same 0 (omega arith) in
+    grind (arith, rest, first)
 
 module _ {X : Type 0} (test : X → Bool) (xs : List X) (d : X) where
   abbrev passes : ℕ → Bool
