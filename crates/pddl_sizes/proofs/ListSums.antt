@@ -1,5 +1,5 @@
 -- Sums over what passes a test, and lists that rise.
-use Rattle.std.proofs.Common.{◌≡◌, ℕ, suc, ◌+◌, ◌<◌, ◌≤◌, Bool, true, not, cond, ◌||◌, leb, List, [], ◌∷◌, filter, length, refl, sym, ap, ◌∙◌, subst, arith, slice_index_or}
+use Rattle.std.proofs.Common.{◌≡◌, ℕ, suc, ◌+◌, ◌<◌, ◌≤◌, Bool, not, cond, leb, List, [], ◌∷◌, filter, length, refl, sym, ap, ◌∙◌, subst, arith, slice_index_or}
 use Rattle.std.specs.List.{sum_by, range_with_len}
 use Rattle.std.specs.List.Sorted.{IsNonDecreasingBy}
 use Rattle.std.proofs.lemmas.Bool.Decides.{nat_tests}
@@ -15,10 +15,6 @@ use Rattle.pddl_task.specs.Tasks.{places_from}
 -- a number, if a test is passed
 abbrev pub if_passes : Bool → ℕ → ℕ
 if_passes b n = cond b n 0
-
--- if one of two tests is passed, but not both
-pub if_either : (a b : Bool) (n : ℕ) → (a ≡ true → b ≡ true → ⊥) → if_passes (a || b) n ≡ if_passes a n + if_passes b n
-if_either a b n apart = grind (arith, apart)
 
 pub sum_filter : {X : Type 0} (test : X → Bool) (f : X → ℕ) (xs : List X) → sum_by f (filter test xs) ≡ sum_by (λ x. if_passes (test x) (f x)) xs
 sum_filter test f [] = refl

@@ -15,7 +15,7 @@ use Rattle.pddl_forest.specs.Spans.{holds, some_holds, AreApart}
 use Rattle.pddl_forest.specs.declared.spans.Span.{Span}
 use Rattle.pddl_forest.proofs.ApartSpans.{behind}
 use Rattle.pddl_sizes.specs.ObjectOrders.{IsOrderOf}
-use Rattle.pddl_sizes.proofs.ListSums.{if_passes, if_either, sum_filter, sum_two, places_are}
+use Rattle.pddl_sizes.proofs.ListSums.{if_passes, sum_filter, sum_two, places_are}
 
 module _ (numbers : List ℕ) where
   abbrev all : List ℕ
@@ -63,8 +63,7 @@ module _ (numbers : List ℕ) where
           grind (arith, nat_tests, on, here, past, at)
 
       one_of : (n m : ℕ) → if_passes (some_holds (take (i + 1) tops) n) m ≡ if_passes (some_holds (take i tops) n) m + if_passes (holds top n) m
-      one_of n m =
-          ap (λ b. if_passes b m) (list_any_more (λ t. holds t n) tops i none low) ∙ if_either (some_holds (take i tops) n) (holds top n) m (no_other n)
+      one_of n m = grind (arith, list_any_more (λ t. holds t n) tops i none low, no_other n)
 
       pub next_top : (f : ℕ → ℕ) → sum_under f (i + 1) ≡ sum_under f i + sum_by f (places_from 0 (holds top) numbers)
       next_top f =
