@@ -1,16 +1,17 @@
 -- Places that are peeled off in turn, each once no child of it is left, and at which turn a place stands in their order.
-use Rattle.std.proofs.Common.{◌≡◌, ◌≢◌, ℕ, ◌<◌, ◌≤◌, eqb, not, List, [], ◌∷◌, ◌++◌, ◌↔◌, ◌∙◌, map, length, refl, sym, ap, subst, arith, inl, inr, ◌+◌, ◌-◌, cond, take, slice_set}
+use Rattle.std.proofs.Common.{◌≡◌, ◌≢◌, ℕ, ◌<◌, ◌≤◌, eqb, ltb, not, List, [], ◌∷◌, ◌++◌, ◌↔◌, ◌∙◌, map, length, replicate, refl, sym, ap, subst, arith, inl, inr, ◌+◌, ◌-◌, cond, take, slice_set}
 use Rattle.std.proofs.lemmas.Bool.{cases_eq, eq-eqb, eqb-true, ne_eqb}
 use Rattle.std.proofs.lemmas.Bool.Decides.{nat_tests}
-use Rattle.std.proofs.lemmas.List.{get_or_append_left, get_or_push, length_push, get_or_default, get_or-set_same, get_or-set_other, length-set}
-use Rattle.std.proofs.lemmas.List.Folds.{position_or_len_push, Any-from_list_any}
+use Rattle.std.proofs.lemmas.List.{get_or_append_left, get_or_push, length_push, get_or_default, get_or-replicate, length-replicate, get_or-set_same, get_or-set_other, length-set}
+use Rattle.std.proofs.lemmas.List.Folds.{sum_by-replicate, position_or_len_push, Any-from_list_any}
 use Rattle.std.proofs.lemmas.List.FromFn.{get_or-map-range_with_len, length-map-range_with_len}
 use Rattle.std.proofs.lemmas.List.Sums.{passes_at_first, prefix_len-le-length, count_by_more_no, count_by_more_yes, get_or-le-sum_by, sum_by-set}
 use Rattle.std.proofs.lemmas.Map.Keys.{IsDistinct-from_apart}
 use Rattle.std.proofs.lemmas.Map.Steps.{length-le_from_distinct_below}
-use Rattle.std.specs.List.{range_with_len, count_by, slice_index_or}
+use Rattle.std.specs.List.{range_with_len, count_by, slice_index_or, sum_by}
 use Rattle.pddl_forest.specs.Forests.{number_at, parent_of}
-use Rattle.pddl_forest.specs.Inner.{turn_of, AreListed, AreCounted, ArePeeled, IsUpward}
+use Rattle.pddl_forest.specs.declared.spans.Span.{Span}
+use Rattle.pddl_forest.specs.Inner.{turn_of, AreListed, AreCounted, ArePeeled, AreUnder, at, left_under, put_under}
 use borrow.Author.Count.{below_more}
 use Rattle.std.proofs.Math.Seq.{take-append_seam}
 
@@ -19,6 +20,9 @@ turn_few order i = prefix_len-le-length (λ x. not (eqb i x)) order
 
 pub at_turn : (order : List ℕ) (i : ℕ) → turn_of order i < length order → number_at order (turn_of order i) ≡ i
 at_turn order i low = sym (eqb-true i _ (passes_at_first (eqb i) order 0 low))
+
+abbrev nothing : Span
+nothing = record { first = 0; last = 0 }
 
 -- ---- with one more place at the end
 
@@ -41,19 +45,12 @@ module _ (order : List ℕ) (x : ℕ) where
   -- of which no child is left now, where there are no fewer places and the others are as they were
   module _ {left : List ℕ} (now : List ℕ) {many more : ℕ} (h : AreListed left order many) (wider : many ≤ more) (low : x < more) (new : length order ≤ turn_of order x) (none : number_at now x ≡ 0)
       (others : (i : ℕ) → i < more → i ≢ x → (number_at now i ≡ 0) ↔ (turn_of order i < length order)) where
-    each_turn : (u : ℕ) → u < length next → (number_at next u < more) × (turn_of next (number_at next u) ≡ u)
-    each_turn u inside = below_more (λ v. (number_at next v < more) × (turn_of next (number_at next v) ≡ v)) (length order)
-        (λ v before. let once = h.once v before in rw (get_or_append_left order (x ∷ []) 0 v before) (omega (arith, h.in_range v before, wider), turn_before _ (omega (arith, once, before)) ∙ once))
-        (rw (get_or_push order x 0 (length order) refl) (low, turn_new new)) u (omega (arith, inside, length_push order x))
-
     pub listed_more : AreListed now next more
     listed_more = record {
-      in_range = λ u inside. (each_turn u inside).0;
-      once = λ u inside. (each_turn u inside).1;
-      each = λ i i_low. elim (cases_eq i x) as (λ _. (number_at now i ≡ 0) ↔ (turn_of next i < length next)) [
-        | inl is ↦ (λ _. omega (arith, length_push order x, turn_new new, ap (turn_of next) is), λ _. ap (number_at now) is ∙ none)
-        | inr other ↦ let was = others i i_low other in (λ zeroth. omega (arith, length_push order x, was.0 zeroth, turn_before i), λ inside. was.1 (turn_other i other inside))
-      ];
+      once = λ u inside. below_more (λ v. (number_at next v < more) × (turn_of next (number_at next v) ≡ v)) (length order)
+          (λ v before. let (in_range, once) = h.once v before in rw (get_or_append_left order (x ∷ []) 0 v before) (omega (arith, in_range, wider), turn_before _ (omega (arith, once, before)) ∙ once))
+          (rw (get_or_push order x 0 (length order) refl) (low, turn_new new)) u (omega (arith, inside, length_push order x));
+      each = λ i i_low. (λ zeroth. grind (arith, length_push order x, turn_new new, turn_before i, others i i_low, zeroth), λ inside. grind (arith, none, turn_other i, others i i_low, inside));
     }
 
 -- numbers below a bound of which no two are equal are no more than there are below it
@@ -79,11 +76,11 @@ few_apart n m f below apart =
 
 module _ {left order : List ℕ} {many : ℕ} (h : AreListed left order many) where
   pub few_listed : length order ≤ many
-  few_listed = few_apart many (length order) (number_at order) h.in_range (λ a b less low same. omega (arith, h.once a (omega (arith, less, low)), ap (turn_of order) same, h.once b low, less))
+  few_listed = few_apart many (length order) (number_at order) (λ u low. (h.once u low).0) (λ a b less low same. omega (arith, (h.once a (omega (arith, less, low))).1, ap (turn_of order) same, (h.once b low).1, less))
 
   -- those from there on are not listed
   pub unlisted : (i : ℕ) → many ≤ i → length order ≤ turn_of order i
-  unlisted i past = grind (arith, h.in_range (turn_of order i), at_turn order i, past)
+  unlisted i past = grind (arith, h.once (turn_of order i), at_turn order i, past)
 
 -- a list of the same length in place of another's items
 pub in_place : {X : Type 0} (xs rest : List X) (n : ℕ) → n ≡ length xs → take n (xs ++ rest) ≡ xs
@@ -98,37 +95,62 @@ counted_more {left} numbers {many} k q h low is q_low = record {
 
 -- ---- what is peeled off first
 
-pub first_peeled : {ps left order : List ℕ} → AreCounted left ps (length ps) → AreListed left order (length ps) → ((i : ℕ) → i < length ps → number_at ps i < length ps) → ArePeeled ps left order 0
-first_peeled {ps} {left} {order} counted listed within = record {
+pub first_peeled : {ps left order : List ℕ} → AreCounted left ps (length ps) → AreListed left order (length ps) → ((i : ℕ) → i < length ps → number_at ps i < length ps) → {spans : List Span} → AreUnder ps order 0 spans → ArePeeled ps left order spans 0
+first_peeled {ps} {left} {order} counted listed within under = record {
+  few = omega arith;
   kept = ps;
   long = refl;
   counted = counted;
   listed = listed;
-  each = λ i low. (λ none. absurd (omega (arith, none)), λ _. get_or_default ps i 0 i low);
+  each = λ i low. grind (arith, nat_tests, get_or_default ps i 0 i low);
   behind = λ i low inside.
       let q = number_at ps i in
       let one = rw (eq-eqb q q refl) at (get_or-le-sum_by (λ p. cond (eqb q p) 1 0) ps i 0 low) in
       absurd (omega (arith, one, counted.each q (within i low), (listed.each q (within i low)).1 (rw (get_or_default ps i i 0 low) at inside)));
+  under = under;
 }
+
+-- ---- what is put under places: nothing at first, and the same with one more place at the end of the order
+
+pub none_under : (ps order : List ℕ) → AreUnder ps order 0 (replicate (length ps) nothing)
+none_under ps order = record {
+  long = length-replicate (length ps) _;
+  total = omega (arith, sum_by-replicate left_under (length ps) nothing);
+  left = λ i low _. ap (λ (s : Span). s.first) (get_or-replicate (length ps) i nothing nothing low);
+  within = λ i low before. absurd (omega (arith, before));
+  apart = λ i j i_low j_low less before. absurd (omega (arith, before));
+}
+
+pub one_listed : {ps order : List ℕ} {spans : List Span} {turn : ℕ} (x : ℕ) → turn ≤ length order → AreUnder ps order turn spans → AreUnder ps (order ++ x ∷ []) turn spans
+one_listed {ps} {order} {spans} {turn} x few h = record {
+  long = h.long;
+  total = h.total;
+  left = λ i low after. h.left i low (grind (arith, after, few, turn_before order x i));
+  within = λ i low before. h.within i low (was i before);
+  apart = λ i j i_low j_low less before. h.apart i j i_low j_low (grind (arith, less, was i, was j before, turn_before order x i, turn_before order x j, few)) (was j before);
+}
+  where
+    was : (i : ℕ) → turn_of (order ++ x ∷ []) i < turn → turn_of order i < turn
+    was i before = grind (arith, before, few, turn_before order x i, turn_past order x i)
 
 -- ---- one place is peeled off
 
-module _ {ps left order : List ℕ} {turn place : ℕ} (h : ArePeeled ps left order turn) (low : turn < length order) (read : place ≡ slice_index_or order turn place)
+module _ {ps left order : List ℕ} {spans : List Span} {turn place : ℕ} (h : ArePeeled ps left order spans turn) (low : turn < length order) (read : place ≡ slice_index_or order turn place)
     (within : (i : ℕ) → i < length ps → number_at ps i < length ps) where
-  at : number_at order turn ≡ place
-  at = sym (read ∙ get_or_default order turn place 0 low)
+  here : number_at order turn ≡ place
+  here = sym (read ∙ get_or_default order turn place 0 low)
 
   abbrev parent : ℕ
   parent = number_at ps place
 
   pub place_low : place < length ps
-  place_low = subst (λ i. i < length ps) at (h.listed.in_range turn low)
+  place_low = subst (λ i. i < length ps) here (h.listed.once turn low).0
 
   pub parent_low : number_at ps place < length left
   parent_low = omega (arith, within place place_low, h.counted.long)
 
   turn_is : turn_of order place ≡ turn
-  turn_is = ap (turn_of order) (sym at) ∙ h.listed.once turn low
+  turn_is = ap (turn_of order) (sym here) ∙ (h.listed.once turn low).1
 
   abbrev fewer : List ℕ
   fewer = slice_set h.kept place (length ps)
@@ -137,7 +159,8 @@ module _ {ps left order : List ℕ} {turn place : ℕ} (h : ArePeeled ps left or
   counts : (i : ℕ) → i < length ps → count_by (eqb i) fewer + cond (eqb i parent) 1 0 ≡ number_at left i
   counts i i_low =
       let changed = sum_by-set (λ q. cond (eqb i q) 1 0) h.kept place (length ps) 0 (omega (arith, place_low, h.long)) in
-      let now = rw ((h.each place place_low).1 (omega (arith, turn_is)) ∙ get_or_default ps place place 0 place_low, ne_eqb i (length ps) (λ e. omega (arith, e, i_low))) at changed in
+      let was : number_at h.kept place ≡ parent = grind (arith, nat_tests, h.each place place_low, turn_is, get_or_default ps place place 0 place_low) in
+      let now = rw (was, ne_eqb i (length ps) (λ e. omega (arith, e, i_low))) at changed in
       omega (arith, now, h.counted.each i i_low)
 
   pub some : 1 ≤ number_at left (number_at ps place)
@@ -155,9 +178,6 @@ module _ {ps left order : List ℕ} {turn place : ℕ} (h : ArePeeled ps left or
   others : (i : ℕ) → i ≢ parent → number_at less_left i ≡ number_at left i
   others i other = get_or-set_other left parent i (number_at left parent - 1) 0 other
 
-  listed : (i : ℕ) → i < length ps → i ≢ parent → (number_at less_left i ≡ 0) ↔ (turn_of order i < length order)
-  listed i i_low other = rw (others i other) (h.listed.each i i_low)
-
   counted : AreCounted less_left fewer (length ps)
   counted = record {
     long = length-set left parent _ ∙ h.counted.long;
@@ -167,58 +187,90 @@ module _ {ps left order : List ℕ} {turn place : ℕ} (h : ArePeeled ps left or
   long : length fewer ≡ length ps
   long = length-set h.kept place _ ∙ h.long
 
-  each : (i : ℕ) → i < length ps → (turn_of order i < turn + 1 → number_at fewer i ≡ length ps) × (turn + 1 ≤ turn_of order i → number_at fewer i ≡ parent_of ps i)
-  each i i_low = (
-    λ before. grind (arith, get_or-set_same h.kept place (length ps) 0, place_low, h.long, get_or-set_other h.kept place i (length ps) 0, (h.each i i_low).0, at_turn order i, at, before, low),
-    λ after. grind (arith, get_or-set_other h.kept place i (length ps) 0, (h.each i i_low).1, turn_is, after),
+  each : (i : ℕ) → i < length ps → number_at fewer i ≡ cond (ltb (turn_of order i) (turn + 1)) (length ps) (parent_of ps i)
+  each i i_low = grind (arith, nat_tests, get_or-set_same h.kept place (length ps) 0, place_low, h.long, get_or-set_other h.kept place i (length ps) 0, h.each i i_low, at_turn order i, here, turn_is, low)
+
+  -- what is under it is put behind what is under its parent
+  parent_in : parent < length ps
+  parent_in = within place place_low
+
+  apart : place ≢ parent
+  apart is = omega (arith, turn_is, new, low, ap (turn_of order) is)
+
+  abbrev next_spans : List Span
+  next_spans = put_under spans place parent
+
+  abbrev over : Span
+  over = record { first = (at spans parent).first; last = (at spans parent).last + 1 + (at spans place).last }
+
+  abbrev span : Span
+  span = record { first = (at spans parent).last + 1; last = (at spans place).last }
+
+  at_place : at next_spans place ≡ span
+  at_place = get_or-set_same (slice_set spans parent over) place span nothing (omega (arith, place_low, h.under.long, length-set spans parent over))
+
+  at_parent : at next_spans parent ≡ over
+  at_parent = get_or-set_other (slice_set spans parent over) place parent span nothing (λ e. apart (sym e)) ∙ get_or-set_same spans parent over nothing (omega (arith, parent_in, h.under.long))
+
+  at_other : (i : ℕ) → i ≢ place → i ≢ parent → at next_spans i ≡ at spans i
+  at_other i one two = get_or-set_other (slice_set spans parent over) place i span nothing one ∙ get_or-set_other spans parent i over nothing two
+
+  total : sum_by left_under next_spans ≡ turn + 1
+  total = grind (
+    arith,
+    nat_tests,
+    sum_by-set left_under spans parent over nothing (omega (arith, parent_in, h.under.long)),
+    sum_by-set left_under (slice_set spans parent over) place span nothing (omega (arith, place_low, h.under.long, length-set spans parent over)),
+    get_or-set_other spans parent place over nothing apart,
+    h.under.left parent parent_in (omega (arith, new, low)),
+    h.under.left place place_low (omega (arith, turn_is)),
+    h.under.total,
   )
 
-  pub peeled : number_at left (number_at ps place) - 1 ≢ 0 → ArePeeled ps (slice_set left (number_at ps place) (number_at left (number_at ps place) - 1)) order (turn + 1)
+  long_spans : length next_spans ≡ length ps
+  long_spans = length-set (slice_set spans parent over) place _ ∙ length-set spans parent over ∙ h.under.long
+
+  pub put_fits : (at spans (number_at ps place)).last + 1 + (at spans place).last ≤ length ps
+  put_fits = grind (arith, nat_tests, h.under.left parent parent_in (omega (arith, new, low)), get_or-le-sum_by left_under next_spans parent nothing (omega (arith, parent_in, long_spans)), at_parent, total, few_listed h.listed, low)
+
+  put : AreUnder ps order (turn + 1) (put_under spans place (number_at ps place))
+  put = record {
+    long = long_spans;
+    total = total;
+    left = λ i i_low after. grind (arith, at_parent, at_other i, turn_is, after, h.under.left i i_low, h.under.left parent parent_in, new, low);
+    within = λ i i_low before. grind (arith, at_place, at_parent, at_other i, at_other (number_at ps i), h.under.within i i_low, turn_is, before, new, low, at_turn order i, here);
+    apart = λ i j i_low j_low less before same. grind (arith, at_place, at_other i, at_other j, h.under.within i i_low, h.under.apart i j i_low j_low less, turn_is, before, less, same, new, low, at_turn order i, at_turn order j, here);
+  }
+
+  pub peeled : number_at left (number_at ps place) - 1 ≢ 0 → ArePeeled ps (slice_set left (number_at ps place) (number_at left (number_at ps place) - 1)) order (put_under spans place (number_at ps place)) (turn + 1)
   peeled more = record {
+    few = omega (arith, low);
     kept = fewer;
     long = long;
     counted = counted;
     listed = record {
-      in_range = h.listed.in_range;
       once = h.listed.once;
-      each = λ i i_low. elim (cases_eq i parent) as (λ _. (number_at less_left i ≡ 0) ↔ (turn_of order i < length order)) [
-        | inl is ↦ rw is (λ none. absurd (more (sym now ∙ none)), λ before. absurd (omega (arith, before, new)))
-        | inr other ↦ listed i i_low other
-      ];
+      each = λ i i_low. (λ none. grind (arith, now, others i, (h.listed.each i i_low).0, more, none), λ before. grind (arith, others i, (h.listed.each i i_low).1, new, before));
     };
     each = each;
     behind = h.behind;
+    under = put;
   }
 
-  pub peeled_more : number_at left (number_at ps place) - 1 ≡ 0 → ArePeeled ps (slice_set left (number_at ps place) (number_at left (number_at ps place) - 1)) (order ++ number_at ps place ∷ []) (turn + 1)
+  pub peeled_more : number_at left (number_at ps place) - 1 ≡ 0 → ArePeeled ps (slice_set left (number_at ps place) (number_at left (number_at ps place) - 1)) (order ++ number_at ps place ∷ []) (put_under spans place (number_at ps place)) (turn + 1)
   peeled_more none = record {
+    few = omega (arith, low, length_push order parent);
     kept = fewer;
     long = long;
     counted = counted;
-    listed = listed_more order parent less_left h.listed (omega arith) (within place place_low) new (now ∙ none) listed;
-    each = λ i i_low. (
-      λ before. (each i i_low).0 (grind (arith, before, low, turn_before order parent i, turn_past order parent i)),
-      λ after. (each i i_low).1 (grind (arith, after, low, turn_before order parent i, turn_past order parent i)),
-    );
+    listed = listed_more order parent less_left h.listed (omega arith) (within place place_low) new (now ∙ none) (λ i i_low other. rw (others i other) (h.listed.each i i_low));
+    each = λ i i_low. grind (arith, nat_tests, each i i_low, low, turn_before order parent i, turn_past order parent i);
     behind = λ i i_low inside. elim (cases_eq (parent_of ps i) parent) as (λ _. turn_of (order ++ parent ∷ []) i < turn_of (order ++ parent ∷ []) (parent_of ps i)) [
       | inl is ↦
           let one = get_or-le-sum_by (λ q. cond (eqb parent q) 1 0) fewer i 0 (omega (arith, i_low, long)) in
-          let gone : turn_of order i < turn + 1 = grind (arith, one, (each i i_low).1, is, counted.each parent (within place place_low), now, none) in
+          let gone : turn_of order i < turn + 1 = grind (arith, nat_tests, one, each i i_low, is, counted.each parent (within place place_low), now, none) in
           omega (arith, gone, low, turn_before order parent i, turn_new order parent new, ap (turn_of (order ++ parent ∷ [])) is)
       | inr other ↦ let before = turn_other order parent (parent_of ps i) other inside in omega (arith, h.behind i i_low before, before, turn_before order parent i, turn_before order parent (parent_of ps i))
     ];
+    under = one_listed parent (omega (arith, low)) put;
   }
-
--- the places that are listed stand before their parents
-pub upward : {ps left order : List ℕ} {turn : ℕ} → ArePeeled ps left order turn → ((i : ℕ) → i < length ps → number_at ps i < length ps) → IsUpward ps order
-upward {ps} {left} {order} h within = record {
-  within = within;
-  few = few_listed h.listed;
-  in_range = h.listed.in_range;
-  once = h.listed.once;
-  later = λ u low.
-      let i = number_at order u in
-      let i_low = h.listed.in_range u low in
-      let behind = rw (get_or_default ps i i 0 i_low) at (h.behind i i_low) in
-      grind (arith, behind, h.listed.once u low, low, turn_few order (number_at ps i));
-}

@@ -1,21 +1,27 @@
 -- Places on ways that go round: those of which children are left where no more can be peeled off. Where there are none, the others are in order.
 use Rattle.std.proofs.Common.{◌≡◌, ◌≢◌, ◌↔◌, ℕ, zero, suc, ◌+◌, ◌-◌, ◌<◌, ◌≤◌, cond, eqb, Bool, true, false, true≢false, List, [], ◌∷◌, length, slice_set, refl, sym, ap, subst, ◌∙◌, arith, inl, inr}
 use Rattle.std.proofs.lemmas.Bool.{cases_Bool, cases_eq, eq-eqb, eqb-true, ne_eqb}
+use Rattle.std.proofs.lemmas.Bool.Decides.{nat_tests}
 use Rattle.std.proofs.lemmas.List.Folds.{list_any_at, Any-from_list_any}
-use Rattle.std.proofs.lemmas.List.{get_or_default, get_or-set_same, get_or-set_other, length-set}
+use Rattle.std.proofs.lemmas.List.{get_or_past, get_or_default, get_or-set_same, get_or-set_other, length-set}
 use Rattle.std.proofs.lemmas.List.FromFn.{get_or-range_with_len, length-range_with_len}
 use Rattle.std.proofs.lemmas.List.Sums.{sum_by-cons}
 use Rattle.std.specs.Prelude.{IsTrue, MatchBool}
 use Rattle.std.specs.List.{count_by, list_any, range_with_len, AllWithin, HoldsAt}
 use Rattle.pddl_forest.specs.Forests.{parent_of, up, number_at}
 use Rattle.pddl_forest.specs.Rounds.{GoesRound, IsOnRound, HasRound, AreRounds}
+use Rattle.pddl_forest.specs.declared.spans.Span.{Span}
 use Rattle.pddl_forest.specs.Inner.{turn_of, ArePeeled, GoRound, IsOrder}
-use Rattle.pddl_forest.proofs.Peels.{turn_few, few_apart, upward}
+use Rattle.pddl_forest.proofs.Peels.{turn_few, few_apart}
 
 -- so many steps, and so many more
-up_more : (ps : List ℕ) (m n i : ℕ) → up ps m (up ps n i) ≡ up ps (n + m) i
+pub up_more : (ps : List ℕ) (m n i : ℕ) → up ps m (up ps n i) ≡ up ps (n + m) i
 up_more ps m zero i = let e : m ≡ zero + m = omega arith in ap (λ k. up ps k i) e
 up_more ps m (suc n) i = let e : suc (n + m) ≡ suc n + m = omega arith in up_more ps m n (parent_of ps i) ∙ ap (λ k. up ps k i) e
+
+pub up_low : (ps : List ℕ) → ((i : ℕ) → i < length ps → parent_of ps i < length ps) → (n i : ℕ) → i < length ps → up ps n i < length ps
+up_low ps within zero i low = low
+up_low ps within (suc n) i low = up_low ps within n (parent_of ps i) (within i low)
 
 -- a number that is counted stands somewhere
 counted_some : (numbers : List ℕ) (i : ℕ) → count_by (eqb i) numbers ≢ 0 → (k : ℕ) × (k < length numbers) × (number_at numbers k ≡ i)
@@ -30,14 +36,14 @@ counted_some (x ∷ xs) i some =
 
 -- ---- what is left where all that was listed is peeled off
 
-module _ {ps left order : List ℕ} (h : ArePeeled ps left order (length order)) (within : (i : ℕ) → i < length ps → parent_of ps i < length ps) where
+module _ {ps left order : List ℕ} {spans : List Span} (h : ArePeeled ps left order spans (length order)) (within : (i : ℕ) → i < length ps → parent_of ps i < length ps) where
   -- a place that is not listed has a child that is not
   child : (i : ℕ) → i < length ps → number_at left i ≢ 0 → (k : ℕ) × (k < length ps) × (number_at left k ≢ 0) × (parent_of ps k ≡ i)
   child i low some =
       let (k, inside, is) = counted_some h.kept i (λ none. some (h.counted.each i low ∙ none)) in
       let k_low : k < length ps = omega (arith, inside, h.long) in
-      let out : length order ≤ turn_of order k = grind (arith, (h.each k k_low).0, is, low) in
-      (k, k_low, λ none. omega (arith, (h.listed.each k k_low).0 none, out), sym ((h.each k k_low).1 out) ∙ is)
+      let out : length order ≤ turn_of order k = grind (arith, nat_tests, h.each k k_low, is, low) in
+      (k, k_low, λ none. omega (arith, (h.listed.each k k_low).0 none, out), grind (arith, nat_tests, h.each k k_low, is, low))
 
   down : (i : ℕ) → i < length ps → number_at left i ≢ 0 → (n : ℕ) → (k : ℕ) × (k < length ps) × (number_at left k ≢ 0) × (up ps n k ≡ i)
   down i low some zero = (i, low, some, refl)
@@ -86,37 +92,34 @@ module _ {ps left order : List ℕ} (h : ArePeeled ps left order (length order))
     listed : (i : ℕ) → i < length ps → (i ≡ 0 → parent_of ps 0 ≢ 0) → turn_of order i < length order
     listed i low other = elim (cases_eq (number_at left i) 0) as (λ _. turn_of order i < length order) [ inl none ↦ (h.listed.each i low).0 none | inr more ↦ absurd (no_round (i, low, (on_round i low more, other))) ]
 
-    -- otherwise all places are listed, and the last of them has no parent behind it
+    -- otherwise all places are listed, and a way from one to its parents has no end
     top : parent_of ps 0 ≡ 0
     top = elim (cases_eq (parent_of ps 0) 0) as (λ _. parent_of ps 0 ≡ 0) [
       | inl is ↦ is
-      | inr other ↦
-          let all : (i : ℕ) → i < length ps → turn_of order i < length order = λ i low. listed i low (λ _. other) in
-          let u : ℕ = length order - 1 in
-          let u_low : u < length order = omega (arith, all 0 some) in
-          let low = h.listed.in_range u u_low in
-          let over_low = all (parent_of ps (number_at order u)) (within (number_at order u) low) in
-          absurd (omega (arith, h.behind (number_at order u) low over_low, h.listed.once u u_low, over_low))
+      | inr other ↦ let inside = listed (up ps (length order) 0) (up_low ps within (length order) 0 some) (λ _. other) in absurd (omega (arith, climbs (length order) 0 some inside, inside))
     ]
 
     above : turn_of order 0 ≡ length order
     above = grind (arith, h.behind 0 some, ap (turn_of order) top, turn_few order 0)
 
-    not_top : (u : ℕ) → u < length order → number_at order u ≢ 0
-    not_top u low is = omega (arith, h.listed.once u low, ap (turn_of order) is, above, low)
+    last : number_at order (length order) ≡ 0
+    last = get_or_past order (length order) 0 (omega arith)
+
+    turn_is : (u : ℕ) → u ≤ length order → turn_of order (number_at order u) ≡ u
+    turn_is u low = grind (arith, h.listed.once u, last, above, low)
 
     pub in_order : IsOrder ps order
     in_order = record {
-      upward = upward h (λ i low. rw (get_or_default ps i 0 i low) (within i low));
+      within = λ i low. rw (get_or_default ps i 0 i low) (within i low);
+      once = h.listed.once;
       top = top;
-      few =
-          let few = few_apart (length ps - 1) (length order) (λ u. number_at order u - 1) (λ u low. omega (arith, h.listed.in_range u low, not_top u low)) (λ a b less low same.
-          let a_low : a < length order = omega (arith, less, low) in
-          let is : number_at order a ≡ number_at order b = omega (arith, same, not_top a a_low, not_top b low) in
-          omega (arith, h.listed.once a a_low, ap (turn_of order) is, h.listed.once b low, less)) in
-          omega (arith, few, some);
+      few = omega (
+        arith,
+        few_apart (length ps) (suc (length order)) (number_at order) (λ u low. grind (arith, h.listed.once u, last, some, low)) (λ a b less low same.
+        omega (arith, turn_is a (omega (arith, less, low)), turn_is b (omega (arith, low)), ap (turn_of order) same, less)),
+      );
       above = above;
-      ahead = λ i low other. grind (arith, h.behind i low, listed i low (λ is. absurd (other is)));
+      ahead = λ i low other. rw (get_or_default ps i 0 i low) (grind (arith, h.behind i low, listed i low (λ is. absurd (other is)), turn_few order (parent_of ps i)));
     }
 
 -- with the number 0 for place 0 where it is its own parent

@@ -17,10 +17,6 @@ fn number_from_top(parents: &[usize], order: &[usize], spans: &mut [Span])
     requires under { AreUnder parents.now order.now (length order.now) spans.old }
     ensures { AreSpans parents.now spans.new }
 {
-    spans[0] = Span {
-        first: 0,
-        last: (parents.len() - 1) as u32,
-    };
     for turn in (0..order.len()).rev() {
         let place = order[turn];
         let span = spans[place];

@@ -8,30 +8,11 @@ ghost use Rattle.pddl_forest.specs.Inner.{AreCounted, AreListed, ArePeeled, GoRo
 use crate::spans::Span;
 use std::alloc::{AllocError, Allocator};
 
-/// Puts the places without children into an empty list.
-///
-/// Fails where memory for them is refused.
-fn list_leaves<'a, B: Allocator>(
-    left: &[usize],
-    order: &mut Vec<usize, &'a B>,
-) -> Result<(), AllocError>
-    requires { order.old.items ≡ [] }
-    ensures { OnOk result (AreListed left.now order.new.items (length left.now)) }
-{
-    for place in 0..left.len() {
-        if left[place] == 0 {
-            order.push(place)?;
-        }
-    }
-    Ok(())
-}
-
 /// Puts what is under a place behind what is under its parent so far: its first number is from the number of the parent on, and its last from its own.
 fn put_under(spans: &mut [Span], place: usize, parent: usize)
     requires place { place < length spans.old }
     requires parent { parent < length spans.old }
-    requires short { length spans.old < 2 ^ 32 }
-    requires fits { (at spans.old parent).last + 1 + (at spans.old place).last ≤ length spans.old }
+    requires fits { (at spans.old parent).last + 1 + (at spans.old place).last < 2 ^ 32 }
     ensures { spans.new ≡ put_under spans.old place parent }
 {
     let first = spans[parent].last + 1;
@@ -40,39 +21,8 @@ fn put_under(spans: &mut [Span], place: usize, parent: usize)
     spans[place] = Span { first, last };
 }
 
-/// Peels off the places of a list in turn, and adds each parent of which no child is left by that.
-///
-/// Fails where memory for them is refused.
-fn peel<'a, B: Allocator>(
-    parents: &[usize],
-    left: &mut [usize],
-    order: &mut Vec<usize, &'a B>,
-    spans: &mut [Span],
-) -> Result<(), AllocError>
-    requires short { length parents.now < 2 ^ 32 }
-    requires within { (i : ℕ) → i < length parents.now → number_at parents.now i < length parents.now }
-    requires leaves { ArePeeled parents.now left.old order.old.items 0 }
-    requires none { AreUnder parents.now order.old.items 0 spans.old }
-    ensures peeled { OnOk result (ArePeeled parents.now left.new order.new.items (length order.new.items)) }
-    ensures under { OnOk result (AreUnder parents.now order.new.items (length order.new.items) spans.new) }
-{
-    for turn in 0..parents.len() {
-        if turn == order.len() {
-            return Ok(());
-        }
-        let place = order[turn];
-        let parent = parents[place];
-        put_under(spans, place, parent);
-        let fewer = &mut left[parent];
-        *fewer -= 1;
-        if *fewer == 0 {
-            order.push(parent)?;
-        }
-    }
-    Ok(())
-}
-
-/// Peels off places, which are put into an empty list in turn, while there are any. How many children of each are left, of which none is counted yet, is put beside.
+/// Peels off places, which are put into an empty list in turn: those without children, then each parent of which no child is left by that. How many children
+/// of each are left, of which none is counted yet, is put beside.
 ///
 /// Fails where memory for the work is refused.
 pub fn peel_off<'a, B: Allocator>(
@@ -86,15 +36,30 @@ pub fn peel_off<'a, B: Allocator>(
     requires none { left.old ≡ replicate (length parents.now) 0 }
     requires clear { order.old.items ≡ [] }
     requires under { (places : List ℕ) → AreUnder parents.now places 0 spans.old }
-    ensures peeled { OnOk result (ArePeeled parents.now left.new order.new.items (length order.new.items)) }
-    ensures under { OnOk result (AreUnder parents.now order.new.items (length order.new.items) spans.new) }
+    ensures { OnOk result (ArePeeled parents.now left.new order.new.items spans.new (length order.new.items)) }
 {
     for parent in parents {
         let more = &mut left[*parent];
         *more += 1;
     }
-    list_leaves(left, order)?;
-    peel(parents, left, order, spans)
+    for place in 0..left.len() {
+        if left[place] == 0 {
+            order.push(place)?;
+        }
+    }
+    let mut turn = 0;
+    while turn < order.len() {
+        let place = order[turn];
+        let parent = parents[place];
+        put_under(spans, place, parent);
+        let fewer = &mut left[parent];
+        *fewer -= 1;
+        if *fewer == 0 {
+            order.push(parent)?;
+        }
+        turn += 1;
+    }
+    Ok(())
 }
 
 /// Whether some way goes round, other than that of place 0 to itself, for which the number of place 0 is set to 0.

@@ -1,8 +1,8 @@
 -- Sums over what passes a test, and lists that rise.
-use Rattle.std.proofs.Common.{◌≡◌, ℕ, suc, ◌+◌, ◌<◌, ◌≤◌, Bool, true, not, cond, ◌||◌, leb, List, [], ◌∷◌, filter, length, refl, sym, ap, ◌∙◌, subst, arith, inl, inr, slice_index_or}
+use Rattle.std.proofs.Common.{◌≡◌, ℕ, suc, ◌+◌, ◌<◌, ◌≤◌, Bool, not, cond, leb, List, [], ◌∷◌, filter, length, refl, sym, ap, ◌∙◌, subst, arith, slice_index_or}
 use Rattle.std.specs.List.{sum_by, range_with_len}
 use Rattle.std.specs.List.Sorted.{IsNonDecreasingBy}
-use Rattle.std.proofs.lemmas.Bool.{cases_lt, le-leb, lt-leb}
+use Rattle.std.proofs.lemmas.Bool.Decides.{nat_tests}
 use Rattle.std.proofs.lemmas.List.Sorted.{IsNonDecreasingBy-drop}
 use Rattle.std.proofs.lemmas.List.FromFn.{get_or-range_with_len, length-range_with_len}
 use Rattle.std.proofs.lemmas.List.Filters.{length-filter_both}
@@ -15,10 +15,6 @@ use Rattle.pddl_task.specs.Tasks.{places_from}
 -- a number, if a test is passed
 abbrev pub if_passes : Bool → ℕ → ℕ
 if_passes b n = cond b n 0
-
--- if one of two tests is passed, but not both
-pub if_either : (a b : Bool) (n : ℕ) → (a ≡ true → b ≡ true → ⊥) → if_passes (a || b) n ≡ if_passes a n + if_passes b n
-if_either a b n apart = grind (arith, apart)
 
 pub sum_filter : {X : Type 0} (test : X → Bool) (f : X → ℕ) (xs : List X) → sum_by f (filter test xs) ≡ sum_by (λ x. if_passes (test x) (f x)) xs
 sum_filter test f [] = refl
@@ -40,15 +36,9 @@ few_pass test xs = omega (arith, length-filter_both test (λ x. not (test x)) (�
 -- where all sums are the same, the first number of the one is not past that of the other
 not_past : (x y : ℕ) (xs ys : List ℕ) → IsNonDecreasingBy (λ n. n) (x ∷ xs) → ((f : ℕ → ℕ) → sum_by f (x ∷ xs) ≡ sum_by f (y ∷ ys)) → x ≤ y
 not_past x y xs ys up same =
-    elim (cases_lt y x) as (λ _. x ≤ y) [
-      | inr not ↦ not
-      | inl past ↦
-          let f : ℕ → ℕ = λ n. if_passes (leb n y) 1 in
-          let none = sum_by-le f 0 (x ∷ xs) (λ i d low. let more = up 0 i d (omega arith) low in let is = ap (λ b. if_passes b 1) (lt-leb (slice_index_or (x ∷ xs) i d) y (omega (arith, past, more))) in omega (arith, is)) in
-          let some = get_or-le-sum_by f (y ∷ ys) 0 y (omega arith) in
-          let one : f y ≡ 1 = ap (λ b. if_passes b 1) (le-leb y y (omega arith)) in
-          absurd (omega (arith, none, some, one, same f))
-    ]
+    let f : ℕ → ℕ = λ n. if_passes (leb n y) 1 in
+    let none : y < x → sum_by f (x ∷ xs) ≡ 0 = λ past. omega (arith, sum_by-le f 0 (x ∷ xs) (λ i d low. grind (arith, nat_tests, up 0 i d (omega arith) low, past))) in
+    grind (arith, nat_tests, none, get_or-le-sum_by f (y ∷ ys) 0 y (omega arith), same f)
 
 -- such lists with the same sums are one
 pub same_rising : (xs ys : List ℕ) → IsNonDecreasingBy (λ n. n) xs → IsNonDecreasingBy (λ n. n) ys → ((f : ℕ → ℕ) → sum_by f xs ≡ sum_by f ys) → xs ≡ ys
@@ -67,8 +57,8 @@ places_from_are : {X : Type 0} (test : X → Bool) (d : X) (k : ℕ) (xs : List 
 places_from_are test d k [] passes same = refl
 places_from_are test d k (x ∷ xs) passes same =
     let rest = places_from_are test d (k + 1) xs passes (λ i low. let e : k + 1 + i ≡ k + suc i = omega arith in ap passes e ∙ same (suc i) (omega (arith, low))) in
-    let e : k ≡ k + 0 = omega arith in
-    ap (λ ns. cond (passes k) (k ∷ ns) ns) rest ∙ ap (λ b. cond b (k ∷ places_from (k + 1) test xs) (places_from (k + 1) test xs)) (ap passes e ∙ same 0 (omega arith))
+    let first : passes k ≡ test x = ap passes (omega arith) ∙ same 0 (omega arith) in
+    grind (arith, rest, first)
 
 module _ {X : Type 0} (test : X → Bool) (xs : List X) (d : X) where
   abbrev passes : ℕ → Bool

@@ -1,22 +1,21 @@
 -- The objects under tops that are apart: by sums over their places, and as parts of an order of all.
-use Rattle.std.proofs.Common.{◌≡◌, ℕ, zero, suc, ◌+◌, ◌-◌, ◌<◌, ◌≤◌, Bool, true, false, cond, ltb, leb, ◌&&◌, List, [], ◌∷◌, filter, length, take, drop, refl, sym, ap, ◌∙◌, subst, arith, slice_index_or}
+use Rattle.std.proofs.Common.{◌≡◌, ℕ, zero, suc, ◌+◌, ◌-◌, ◌<◌, ◌≤◌, Bool, true, false, ltb, leb, List, [], ◌∷◌, filter, length, take, drop, refl, sym, ap, ◌∙◌, subst, arith, slice_index_or}
 use Rattle.std.proofs.Math.Nat.{ℕ_set}
 use Rattle.std.specs.Coded.{le_prop}
 use Rattle.std.specs.List.{sum_by, range_with_len}
-use Rattle.std.proofs.lemmas.Bool.{leb-true, lt-leb, ltb-true, ltb-false, and_parts}
+use Rattle.std.proofs.lemmas.Bool.Decides.{nat_tests}
 use Rattle.std.proofs.lemmas.List.{get_or_default, get_or-take, length-drop, length-take-le, nil_from_length, take_rest}
 use Rattle.std.proofs.lemmas.List.Folds.{list_any_more, Any-from_list_any}
 use Rattle.std.proofs.lemmas.List.Sorted.{sum_by-IsPermutation}
 use Rattle.std.specs.List.Sorted.{IsNonDecreasingBy, IsPartitionPoint}
 use Rattle.std.proofs.Math.Logic.{∥∥₁_elim}
-use Rattle.std.proofs.Math.Bool.{and-false}
 use Rattle.pddl_task.specs.Tasks.{places_from}
 use Rattle.pddl_forest.specs.Forests.{number_at}
-use Rattle.pddl_forest.specs.Spans.{holds, some_holds, span_at, AreApart}
+use Rattle.pddl_forest.specs.Spans.{holds, some_holds, AreApart}
 use Rattle.pddl_forest.specs.declared.spans.Span.{Span}
-use Rattle.pddl_forest.proofs.ApartSpans.{held}
+use Rattle.pddl_forest.proofs.ApartSpans.{behind}
 use Rattle.pddl_sizes.specs.ObjectOrders.{IsOrderOf}
-use Rattle.pddl_sizes.proofs.ListSums.{if_passes, if_either, sum_filter, sum_two, places_are}
+use Rattle.pddl_sizes.proofs.ListSums.{if_passes, sum_filter, sum_two, places_are}
 
 module _ (numbers : List ℕ) where
   abbrev all : List ℕ
@@ -48,7 +47,10 @@ module _ (numbers : List ℕ) where
         let g : ℕ → ℕ = λ o. if_passes (some_holds (take 0 tops) (number_at numbers o)) (f o) in
         omega (arith, sum_two g g g (λ o. refl) all, sum_places (some_holds (take 0 tops)) f)
 
-    module _ (apart : AreApart tops) (i : ℕ) (none : Span) (low : i < length tops) where
+    module _ (apart : AreApart tops) (i : ℕ) (low : i < length tops) where
+      abbrev none : Span
+      none = record { first = 0; last = 0 }
+
       abbrev top : Span
       top = slice_index_or tops i none
 
@@ -56,16 +58,12 @@ module _ (numbers : List ℕ) where
       no_other n before here =
           let (k, s, k_low, s_is, on) = Any-from_list_any (λ t. holds t n) (take i tops) before in
           let few = length-take-le i tops (omega (arith, low)) in
-          let past = apart.behind k i (omega (arith, k_low, few)) low in
-          let at : span_at tops k ≡ s = sym (get_or-take i tops k _ (omega (arith, k_low, few))) ∙ get_or_default (take i tops) k _ s k_low ∙ s_is in
-          let also : span_at tops i ≡ top = get_or_default tops i _ none low in
-          let to = leb-true n s.last (and_parts (leb s.first n) (leb n s.last) on).1 in
-          let from = leb-true top.first n (and_parts (leb top.first n) (leb n top.last) here).0 in
-          omega (arith, past, to, from, ap (λ t. t.last) at, ap (λ t. t.first) also)
+          let past = behind apart k i (omega (arith, k_low, few)) low in
+          let at : slice_index_or tops k none ≡ s = sym (get_or-take i tops k none (omega (arith, k_low, few))) ∙ get_or_default (take i tops) k none s k_low ∙ s_is in
+          grind (arith, nat_tests, on, here, past, at)
 
       one_of : (n m : ℕ) → if_passes (some_holds (take (i + 1) tops) n) m ≡ if_passes (some_holds (take i tops) n) m + if_passes (holds top n) m
-      one_of n m =
-          ap (λ b. if_passes b m) (list_any_more (λ t. holds t n) tops i none low) ∙ if_either (some_holds (take i tops) n) (holds top n) m (no_other n)
+      one_of n m = grind (arith, list_any_more (λ t. holds t n) tops i none low, no_other n)
 
       pub next_top : (f : ℕ → ℕ) → sum_under f (i + 1) ≡ sum_under f i + sum_by f (places_from 0 (holds top) numbers)
       next_top f =
@@ -77,9 +75,6 @@ module _ (numbers : List ℕ) where
 
 -- behind the numbers below a span, as far as the numbers are not past it, are those in the span
 module _ {X : Type 0} (n : X → ℕ) (top : Span) where
-  abbrev one : X → Bool → List X → List X
-  one x b xs = cond b (x ∷ filter (λ y. holds top (n y)) xs) (filter (λ y. holds top (n y)) xs)
-
   abbrev IsStart : List X → ℕ → Type 0
   IsStart = IsPartitionPoint (λ x. ltb (n x) top.first ≡ true) (λ x. ltb (n x) top.first ≡ false)
 
@@ -89,16 +84,16 @@ module _ {X : Type 0} (n : X → ℕ) (top : Span) where
   part_holds : (xs : List X) (start many : ℕ) → many ≤ length (drop start xs) → IsStart xs start → IsEnd (drop start xs) many → take many (drop start xs) ≡ filter (λ x. holds top (n x)) xs
   part_holds [] start many few from to = nil_from_length (take many (drop start [])) (omega (arith, few, length-take-le many (drop start []) few, length-drop {A = X} start []))
   part_holds (x ∷ xs) (suc start) many few from to =
-      part_holds xs start many few (λ k d _ low. from.0 (suc k) d (omega arith) (omega (arith, low)), λ k d past low. from.1 (suc k) d (omega (arith, past)) (omega (arith, low))) to
-      ∙ ap (λ b. one x (b && leb (n x) top.last) xs) (sym (lt-leb top.first (n x) (ltb-true (n x) top.first (from.0 0 x (omega arith) (omega arith)))))
+      let rest = part_holds xs start many few (λ k d _ low. from.0 (suc k) d (omega arith) (omega (arith, low)), λ k d past low. from.1 (suc k) d (omega (arith, past)) (omega (arith, low))) to in
+      grind (arith, nat_tests, rest, from.0 0 x (omega arith) (omega arith))
   part_holds (x ∷ xs) zero zero few from to =
-      part_holds xs zero zero (omega arith) (λ k d _ low. absurd (omega (arith, low)), λ k d past low. from.1 (suc k) d (omega arith) (omega (arith, low)))
-      (λ k d _ low. absurd (omega (arith, low)), λ k d past low. to.1 (suc k) d (omega arith) (omega (arith, low)))
-      ∙ ap (λ b. one x b xs) (sym (ap (λ b. leb top.first (n x) && b) (to.1 0 x (omega arith) (omega arith)) ∙ and-false (leb top.first (n x))))
+      let rest = part_holds xs zero zero (omega arith) (λ k d _ low. absurd (omega (arith, low)), λ k d past low. from.1 (suc k) d (omega arith) (omega (arith, low)))
+      (λ k d _ low. absurd (omega (arith, low)), λ k d past low. to.1 (suc k) d (omega arith) (omega (arith, low))) in
+      grind (arith, nat_tests, rest, to.1 0 x (omega arith) (omega arith))
   part_holds (x ∷ xs) zero (suc many) few from to =
-      ap (λ ys. x ∷ ys) (part_holds xs zero many (omega (arith, few)) (λ k d _ low. absurd (omega (arith, low)), λ k d past low. from.1 (suc k) d (omega arith) (omega (arith, low)))
-      (λ k d _ low. to.0 (suc k) d (omega arith) (omega (arith, low)), λ k d past low. to.1 (suc k) d (omega (arith, past)) (omega (arith, low))))
-      ∙ ap (λ b. one x b xs) (sym (held top (n x) (ltb-false (n x) top.first (from.1 0 x (omega arith) (omega arith))) (leb-true (n x) top.last (to.0 0 x (omega arith) (omega arith)))))
+      let rest = part_holds xs zero many (omega (arith, few)) (λ k d _ low. absurd (omega (arith, low)), λ k d past low. from.1 (suc k) d (omega arith) (omega (arith, low)))
+      (λ k d _ low. to.0 (suc k) d (omega arith) (omega (arith, low)), λ k d past low. to.1 (suc k) d (omega (arith, past)) (omega (arith, low))) in
+      grind (arith, nat_tests, rest, from.1 0 x (omega arith) (omega arith), to.0 0 x (omega arith) (omega arith))
 
   -- the same, where the rest is as a slice has it
   pub rest_holds : (xs : List X) (start many : ℕ) → many ≤ length (take (length xs - start) (drop start xs)) → IsStart xs start → IsEnd (take (length xs - start) (drop start xs)) many

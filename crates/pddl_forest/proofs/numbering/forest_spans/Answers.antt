@@ -2,8 +2,7 @@ use Rattle.std.proofs.Common.{◌≡◌, length, ap, sym, subst, ◌∙◌, true
 use Rattle.std.proofs.lemmas.List.{get_or_default}
 use Rattle.pddl_forest.specs.Rounds.{AreRounds}
 use Rattle.pddl_forest.specs.Spans.{AreSpans}
-use Rattle.pddl_forest.proofs.Peels.{in_place}
-use Rattle.pddl_forest.proofs.Numbers.{none_under}
+use Rattle.pddl_forest.proofs.Peels.{in_place, none_under}
 use Rattle.pddl_forest.proofs.RoundWays.{go_round, in_order}
 use Rattle.pddl_forest.proofs.numbering.forest_spans.Goals as goal
 
@@ -19,7 +18,7 @@ peel_off-requires g c = record {
 pub has_round-requires-clause-round : goal.has_round-requires-clause-round
 has_round-requires-clause-round g c =
     let left = c.peel_off.new.left in
-    let peeled = c.in_ok-peel_off.ensures.peeled in
+    let peeled = c.in_ok-peel_off.ensures in
     rw (c.deref_mut-3.ensures.value, in_place left _ c.in_ok-left.left.len (omega (arith, c.in_ok-left.ensures.len, peeled.counted.long))) (go_round peeled c.requires.within)
 
 pub number_from_top-requires : goal.number_from_top-requires
@@ -28,7 +27,7 @@ number_from_top-requires g c =
     let long : c.in_ok-spans.spans.len ≡ length spans = omega (arith, c.in_ok-spans.ensures.len, c.in_ok-peel_off.ensures.under.long) in
     rw (c.deref.ensures.value, c.deref_mut-4.ensures.value, in_place spans _ c.in_ok-spans.spans.len long) record {
       short = omega (arith, c.if-parents.false);
-      order = in_order c.in_ok-peel_off.ensures.peeled c.requires.within c.requires.some (λ round. true≢false (sym (c.has_round.ensures.round.1 round) ∙ c.if-has_round.false));
+      order = in_order c.in_ok-peel_off.ensures c.requires.within c.requires.some (λ round. true≢false (sym (c.has_round.ensures.round.1 round) ∙ c.if-has_round.false));
       under = c.in_ok-peel_off.ensures.under;
     }
 

@@ -4,7 +4,7 @@ use Rattle.std.proofs.lemmas.Option.{slice_get_past, slice_get-get_or}
 use Rattle.pddl_formula.specs.TypedLists.{TypedValue, typed_view}
 use Rattle.pddl_task.specs.GroundSize.{capped, quantifier_size}
 use Rattle.pddl_sizes.proofs.Capped.{capped_product}
-use Rattle.pddl_sizes.proofs.SharedTypes.{type_at}
+use Rattle.pddl_sizes.proofs.SharedTypes.{of_next, type_at}
 use Rattle.pddl_sizes.proofs.size.quantifier_size.Goals.{then-not-shares, else-not-shares}
 use Rattle.pddl_sizes.proofs.size.quantifier_size.Goals as goal
 
@@ -29,10 +29,8 @@ loop-i-preserved g c =
     let told : (x : TypedValue) → slice_get all (l.i - 1) ≡ Some x → c.if-not-shares.count ≡ count x.of = elim c.if-not-shares.branch [
       | then-not-shares w ↦ λ x at. w.count-is ∙ w.fitting_count-count.ensures ∙ ap count (type_at items w.deref.result.now (l.i - 1) w.index-deref-i.result x w.deref.ensures.value low w.index-deref-i.is at)
       | else-not-shares w ↦ λ x at.
-          let one = c.shares.ensures.same w.if-not-shares.false in
-          let same : Some one.0 ≡ Some x = sym one.2 ∙ ap (slice_get all) (omega arith) ∙ at in
-          let is : one.0 ≡ x = cc in
-          w.count-is ∙ l.invariant.last one.1 (ap (slice_get all) (omega (arith, c.loop-i-test.true)) ∙ one.3) ∙ ap count (sym one.4 ∙ ap (λ (z : TypedValue). z.of) is)
+          let (y, z, here, there, same) = c.shares.ensures.same w.if-not-shares.false in
+          w.count-is ∙ of_next (λ t. l.count ≡ count t) all l.i (l.i - 1) (z, y, ap (slice_get all) (omega (arith, c.loop-i-test.true)) ∙ there, ap (slice_get all) (omega arith) ∙ here, sym same) l.invariant.last x at
     ] in
     let none : TypedValue = record { item = []; of = [] } in
     let x = get_or all (l.i - 1) none in

@@ -14,13 +14,13 @@ overflow_add-count g c =
     let held = c.args.self.now.numbers in
     let numbers = held.items in
     let test = some_holds (take (c.loop-top.top-index + 1) c.args.tops.now) in
-    let next = next_top numbers c.args.tops.now c.requires c.loop-top.top-index (record { first = 0; last = 0 }) c.loop-top-test.true (λ _. 1) in
+    let next = next_top numbers c.args.tops.now c.requires c.loop-top.top-index c.loop-top-test.true (λ _. 1) in
     let all = sum_ones (places_from 0 test numbers) ∙ places_many test 0 numbers in
     omega (arith, next, all, few_pass test numbers, c.loop-top.invariant, c.under.ensures (λ _. 1), sum_ones c.under.result.now, held.ok.0, held.ok.1, held.small)
 
 pub loop-top-preserved : goal.loop-top-preserved
 loop-top-preserved g c =
-    let next = next_top c.args.self.now.numbers.items c.args.tops.now c.requires c.loop-top.top-index (record { first = 0; last = 0 }) c.loop-top-test.true (λ _. 1) in
+    let next = next_top c.args.self.now.numbers.items c.args.tops.now c.requires c.loop-top.top-index c.loop-top-test.true (λ _. 1) in
     omega (arith, next, c.loop-top.invariant, c.under.ensures (λ _. 1), sum_ones c.under.result.now)
 
 pub returns : goal.returns

@@ -14,7 +14,7 @@ loop-top-init g c = λ f. ap (sum_by f) c.new-found.ensures.items ∙ none_under
 
 pub loop-top-preserved : goal.loop-top-preserved
 loop-top-preserved g c = λ f.
-    let next = next_top c.args.self.now.numbers.items c.args.tops.now c.requires c.loop-top.top-index (record { first = 0; last = 0 }) c.loop-top-test.true f in
+    let next = next_top c.args.self.now.numbers.items c.args.tops.now c.requires c.loop-top.top-index c.loop-top-test.true f in
     let added = ap (sum_by f) c.in_ok-extend_from_slice.ensures.items ∙ sum_by-append f c.loop-top.found.items c.under.result.now in
     let so_far = c.loop-top.invariant f in
     omega (arith, next, added, so_far, c.under.ensures f)
