@@ -1,6 +1,6 @@
 -- What is found in parts, and what is found in the whole.
 use Rattle.std.proofs.Common.{◌≡◌, ◌≤◌, ◌<◌, ℕ, List, [], ◌++◌, Option, Some, None, Result, Ok, Err, IfSome, refl, sym, ap, ◌∙◌, subst, arith, inl, inr}
-use Rattle.std.specs.Prelude.{Contains, IfErr}
+use Rattle.std.specs.Prelude.{Contains}
 use Rattle.std.specs.Option.{option_map_or}
 use Rattle.std.proofs.lemmas.List.{append_assoc}
 use Rattle.std.proofs.lemmas.Option.{IfSome_then}
@@ -58,17 +58,6 @@ passed_found n words (Err e) h =
 -- a pass for one fault, whose words may be told otherwise
 pub passed_as : {T : Type 0} (n : ℕ) {words told : List Name} (r : Result T LinkFault) → words ≡ told → Passes n words r → IsFound (numbered n told) r
 passed_as n {words} {told} r same h = passed_found n told r (subst (λ ws. Passes n ws r) same h)
-
--- ---- what is found stands
-
--- in the first of two parts, or in the second
-pub stands_front : {T : Type 0} (xs ys : List (ℕ × Name)) (r : Result T LinkFault) → IsFound xs r → IfErr r (λ e. IfSome (fault_of e) (Contains (xs ++ ys)))
-stands_front xs ys (Ok v) h = tt
-stands_front xs ys (Err e) h = IfSome_then (fault_of e) h (λ f low. Contains-append_left xs ys f low.stands)
-
-pub stands_back : {T : Type 0} (xs ys : List (ℕ × Name)) (r : Result T LinkFault) → IsFound ys r → IfErr r (λ e. IfSome (fault_of e) (Contains (xs ++ ys)))
-stands_back xs ys (Ok v) h = tt
-stands_back xs ys (Err e) h = IfSome_then (fault_of e) h (λ f low. Contains-append_right xs ys f low.stands)
 
 -- ---- in turn
 
