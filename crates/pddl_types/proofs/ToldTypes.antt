@@ -171,11 +171,9 @@ pub none_there : (entries : List (Key × List Span)) {told : ToldValue} → told
 none_there entries are n names none at =
     let read = ap (option_map entry_in) none ∙ sym (slice_get-map entry_in entries n) ∙ ap (λ (ts : ToldValue). slice_get ts n) are in cc (ap (option_map (λ (e : Entry). e.0)) read, at)
 
--- a number that has tops is one of a type
-pub some_tops : (told : ToldValue) (n : ℕ) (tops : List Span) → tops ≡ tops_at told n → 0 < length tops → n < length told
-some_tops [] n tops is some = absurd (omega (arith, some, ap length is))
-some_tops (e ∷ told) zero tops is some = omega arith
-some_tops (e ∷ told) (suc n) tops is some = let low = some_tops told n tops is some in omega (arith, low)
+-- a number that is read is one of a type
+pub read_within : (entries : List (Key × List Span)) (n : ℕ) {e : Key × List Span} → Some e ≡ slice_get entries n → n < length (told_in entries)
+read_within entries n is = omega (arith, slice_get_within entries n _ (sym is), length-map entries entry_in)
 
 -- ---- types are the same where their numbers are
 

@@ -1,11 +1,10 @@
 -- Rows of the bits of numbers that spans begin at and hold: set in turn, and what they say of others.
-use Rattle.std.proofs.Common.{◌≡◌, ◌↔◌, ℕ, ◌+◌, ◌<◌, ◌≤◌, ◌==◌, ◌&&◌, ◌||◌, Bool, true, false, List, [], get_or, ltb, leb, refl, sym, ap, ◌∙◌, arith, inl, inr}
+use Rattle.std.proofs.Common.{◌≡◌, ◌↔◌, ℕ, ◌+◌, ◌<◌, ◌≤◌, ◌==◌, ◌&&◌, ◌||◌, Bool, true, false, List, get_or, ltb, leb, refl, sym, ap, ◌∙◌, arith, inl, inr}
 use Rattle.std.proofs.lemmas.Bool.{cases_eq, cases_lt, eq-eqb, eqb-true, ne_eqb, lt-ltb, le-ltb, and_parts, leb-true}
 use Rattle.std.proofs.lemmas.List.Folds.{list_any_at, Any-from_list_any}
 use Rattle.std.proofs.lemmas.List.Sums.{AllPass-from_list_all, list_all-from_AllPass}
 use Rattle.std.specs.Prelude.{IsTrue}
 use Rattle.pddl_bit_rows.specs.BitRows.{has_bit}
-use Rattle.pddl_bit_rows.proofs.RowBits.{no_bits}
 use Rattle.pddl_forest.specs.Spans.{holds, some_holds, hold_all}
 use Rattle.pddl_forest.specs.declared.spans.Span.{Span}
 use Rattle.pddl_forest.proofs.ApartSpans.{held}
@@ -42,9 +41,6 @@ module _ (s : Span) (i : ℕ) where
       one : (b : Bool) → holds s i ≡ b → (b && ltb i n) ≡ b
       one false is = refl
       one true is = lt-ltb i n (omega (arith, past, leb-true i s.last (and_parts (leb s.first i) (leb i s.last) is).1))
-
-pub no_rows : AreRowsOf [] [] []
-no_rows = record { begin = no_bits; hold = no_bits }
 
 -- all numbers are held that others begin at
 pub all_held : {begun row others others_held : List ℕ} {outer inner : List Span} → AreRowsOf begun row outer → AreRowsOf others others_held inner

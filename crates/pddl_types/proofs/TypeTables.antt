@@ -1,6 +1,6 @@
 -- The rows of a table of types, by place and by name, and how the table grows.
 use Rattle.std.proofs.Common.{◌≡◌, ℕ, zero, suc, ◌<◌, ◌||◌, Bool, true, false, cond, List, [], ◌∷◌, ◌++◌, length, map, refl, sym, ap, ◌∙◌, subst, arith, bytes_eq, true≢false}
-use Rattle.std.specs.Prelude.{Some, None, is_some, slice_get}
+use Rattle.std.specs.Prelude.{Option, Some, None, is_some, unwrap_or, slice_get}
 use Rattle.std.specs.Borrow.{Bor}
 use Rattle.std.specs.Cmp.{IsEquivalence, on_equiv}
 use Rattle.std.specs.List.{position, IsDistinct}
@@ -81,12 +81,6 @@ stands_on [] k p i n at = cc
 stands_on (r ∷ rows) k p zero n at = elim (bytes_eq k.now r.0.now) as (λ b. StandsAt (cond b ((r.0, p) ∷ rows) (r ∷ put rows k p)) zero n) [ true ↦ at | false ↦ at ]
 stands_on (r ∷ rows) k p (suc i) n at = elim (bytes_eq k.now r.0.now) as (λ b. StandsAt (cond b ((r.0, p) ∷ rows) (r ∷ put rows k p)) (suc i) n) [ true ↦ at | false ↦ stands_on rows k p i n at ]
 
--- and a new name stands behind all others
-pub put_at : (rows : List Row) (k : Bor (List ℕ)) (p n : ℕ) → position (λ x. bytes_eq k.now x.now) (keys_of rows) ≡ None → n ≡ length rows → StandsAt (put rows k p) n k.now
-put_at rows k p n none is =
-    let last = insert_entry-absent (λ x y. bytes_eq x.now y.now) k p rows (Missing-position (λ x. bytes_eq k.now x.now) rows none).absent in
-    rw (last, is) (seen_entry (λ (r : Row). r.0.now) (rows ++ (k, p) ∷ []) (length rows) (k, p) (at_end rows (k, p)))
-
 -- ---- tables
 
 -- the same types
@@ -158,13 +152,20 @@ module _ (rows after : List Row) (k : Bor (List ℕ)) (p : ℕ) (put_there : aft
           rw (← item, map-append item_of told (d ∷ []), map-append declared_parent told (d ∷ []), list_any-append is (map item_of told ++ d.item ∷ []) (map declared_parent told ++ d.of ∷ []), list_any-append is (map item_of told) (map declared_parent told), list_any-append is (map item_of told) (d.item ∷ []), list_any-append is (map declared_parent told) (d.of ∷ []))
           (either (is d.item) (is d.of) (is root) (is_in (map item_of told) t) (is_in (map declared_parent told) t))
 
--- a type that does not stand there goes under `object`
-pub put_under_root : (told : List TypeValue) (rows after : List Row) (k : Bor (List ℕ)) → IsTableOf (types_of told) told rows → is_some (parent_place rows k.now) ≡ false → after ≡ put rows k 0
-    → IsDistinct (λ x y. bytes_eq x.now y.now) (keys_of after) → IsTableOf (k.now ∷ types_of told) told after
-put_under_root told rows after k h new put_there once = put_in rows after k 0 put_there once (types_of told) told told h (subst (StandsAt rows 0) (sym untold) h.first) (λ t _. refl)
+-- a parent that does not stand there goes under `object`, behind all others; so its place is known
+pub parent_put : (told : List TypeValue) (rows after : List Row) (k : Bor (List ℕ)) (place : Option ℕ) → IsTableOf (types_of told) told rows → place ≡ position (λ x. bytes_eq k.now x.now) (keys_of rows)
+    → after ≡ cond (is_some place) rows (put rows k 0) → IsDistinct (λ x y. bytes_eq x.now y.now) (keys_of after)
+    → IsTableOf (k.now ∷ types_of told) told after × StandsAt after (unwrap_or place (length rows)) k.now
+parent_put told rows after k (Some i) h is put_there once = let at = found_place rows k.now i (sym is) in rw put_there (again (types_of told) told rows i k.now at h, at)
+parent_put told rows after k None h is put_there once =
+    (put_in rows after k 0 put_there once (types_of told) told told h (subst (StandsAt rows 0) (sym untold) h.first) (λ t _. refl),
+    rw (put_there, last) (seen_entry (λ (r : Row). r.0.now) (rows ++ (k, 0) ∷ []) (length rows) (k, 0) (at_end rows (k, 0))))
   where
+    last : put rows k 0 ≡ rows ++ (k, 0) ∷ []
+    last = insert_entry-absent (λ x y. bytes_eq x.now y.now) k 0 rows (Missing-position (λ x. bytes_eq k.now x.now) rows (sym is)).absent
+
     off : is_in (map item_of told ++ map declared_parent told) k.now ≡ false
-    off = none_right (bytes_eq k.now root) (is_in (map item_of told ++ map declared_parent told) k.now) (sym (h.has k.now) ∙ new)
+    off = none_right (bytes_eq k.now root) (is_in (map item_of told ++ map declared_parent told) k.now) (sym (h.has k.now) ∙ no_place rows k.now (sym is))
 
     untold : parent_in told k.now ≡ root
     untold = parent_undeclared told k.now root (none_left (is_in (map item_of told) k.now) (is_in (map declared_parent told) k.now) (sym (list_any-append (bytes_eq k.now) (map item_of told) (map declared_parent told)) ∙ off))
