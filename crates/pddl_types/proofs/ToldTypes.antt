@@ -25,7 +25,6 @@ use Rattle.pddl_task.proofs.Numbers.{both_ways}
 use Rattle.pddl_types.specs.TypeSpans.{TypesValue, IsTold, HaveEach, are_types}
 use Rattle.pddl_types.specs.Told.{ToldValue, told_in, tops_at, IsAt, AreAt, AreDistinct, AreTold, AreKept, AreFitting}
 use Rattle.pddl_types.specs.Signatures.{Rows, IsSlotsAt, AreSlotsAt}
-use Rattle.pddl_types.specs.declared.signatures.Slots.{Slots}
 use Rattle.pddl_types.proofs.Lookups.{entry_seen, in_front, at_end, entry_found}
 use Rattle.pddl_sizes.proofs.SharedTypes.{of_next}
 
@@ -96,11 +95,6 @@ still_all before after items numbers kept are = record { many = are.many; each =
 pub slots_still : {A B : Type 0} (before after : ToldValue) (rows : Rows A B) → AreKept before after → AreSlotsAt before rows → AreSlotsAt after rows
 slots_still before after rows kept =
     All-weaker (λ e. IsSlotsAt before e.1) (λ e. IsSlotsAt after e.1) (λ e. still_all before after (map typed_view e.1.parameters.now) e.1.numbers.items kept) rows
-
--- and with those of one name more
-pub slots_more : {A B : Type 0} (before after : ToldValue) (rows : Rows A B) (e : Bor (List ℕ) × Slots A B) → AreKept before after → AreSlotsAt before rows → IsSlotsAt after e.1
-    → AreSlotsAt after (rows ++ e ∷ [])
-slots_more before after rows e kept are = All-push (λ d. IsSlotsAt after d.1) rows e (slots_still before after rows kept are)
 
 -- ---- tests of names
 
