@@ -31,10 +31,7 @@ use Rattle.pddl_types.proofs.ToldTypes.{one_number, still_all}
 -- ---- each name at its first place
 
 fresh_kept : (b c : Bool) (x : TypedValue) (test : TypedValue → Bool) → test x ≡ not b → filter test (cond c [] (x ∷ [])) ≡ cond (b || c) [] (x ∷ [])
-fresh_kept true true x test h = refl
-fresh_kept false true x test h = refl
-fresh_kept true false x test h = ap (λ d. cond d (x ∷ []) []) h
-fresh_kept false false x test h = ap (λ d. cond d (x ∷ []) []) h
+fresh_kept b c x test h = grind arith
 
 firsts_push : (ys : List TypedValue) (x : TypedValue) → firsts (ys ++ x ∷ []) ≡ firsts ys ++ cond (is_in (map item_of ys) x.item) [] (x ∷ [])
 firsts_push [] x = refl
@@ -47,13 +44,7 @@ firsts_push (y ∷ ys) x =
 -- the first of a name is not among those of another
 find-others : (k : Name) (xs : List TypedValue) (n : Name) → bytes_eq n k ≡ false → find (is_named n) (filter (λ x. not (is_named k x)) xs) ≡ find (is_named n) xs
 find-others k [] n apart = refl
-find-others k (x ∷ xs) n apart =
-    elim (bytes_eq k x.item) as (λ b. bytes_eq k x.item ≡ b → find (is_named n) (cond (not b) (x ∷ filter (λ y. not (is_named k y)) xs) (filter (λ y. not (is_named k y)) xs)) ≡ find (is_named n) (x ∷ xs)) [
-      | true ↦ λ is.
-          let off : bytes_eq n x.item ≡ false = ap (bytes_eq n) (sym (bytes_same k x.item is)) ∙ apart in
-          find-others k xs n apart ∙ ap (λ b. cond b (Some x) (find (is_named n) xs)) (sym off)
-      | false ↦ λ _. ap (λ o. cond (bytes_eq n x.item) (Some x) o) (find-others k xs n apart)
-    ] refl
+find-others k (x ∷ xs) n apart = grind (arith, find-others k xs n apart, bytes_same k x.item)
 
 -- and stands at its first place
 find-firsts : (xs : List TypedValue) (n : Name) → find (is_named n) (firsts xs) ≡ find (is_named n) xs

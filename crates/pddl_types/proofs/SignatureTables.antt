@@ -33,9 +33,7 @@ none_found (Some x) h = cc
 
 -- one that is found stays so with one more
 found_still : {X : Type 0} (o : Option X) (b : Bool) (x : X) → (b ≡ true → is_some o ≡ true) → option_or o (cond b (Some x) None) ≡ o
-found_still (Some y) b x h = refl
-found_still None true x h = let some = h refl in cc
-found_still None false x h = refl
+found_still o b x h = grind arith
 
 -- names, each that stands before it too, with one name more
 pub repeated_more : (before names : List Name) (n : Name) → repeated before (names ++ n ∷ []) ≡ repeated before names ++ word_if (is_in (before ++ names) n) n
