@@ -59,10 +59,7 @@ module _ (t : TypesValue) (h : AreInTable t) where
   within n type = let low = below h.0 (number n) n (stands n type) in (h.3.some (number n) low, omega (arith, h.3.low (number n) low, h.3.many))
 
   pub some : (n : Name) → (span_of t n).first ≤ (span_of t n).last
-  some n = elim (is_type n) as (λ b. is_type n ≡ b → (span_of t n).first ≤ (span_of t n).last) [
-    | true ↦ λ type. (within n type).0
-    | false ↦ λ off. let b = behind n off in omega (arith, b.0, b.1)
-  ] refl
+  some n = grind (arith, within n, behind n)
 
   pub all_some : (names : List Name) (spans : List Span) → spans ≡ map (span_of t) names → (s : Span) → Contains spans s → s.first ≤ s.last
   all_some names spans is s there =

@@ -49,11 +49,7 @@ find-others k (x ∷ xs) n apart = grind (arith, find-others k xs n apart, bytes
 -- and stands at its first place
 find-firsts : (xs : List TypedValue) (n : Name) → find (is_named n) (firsts xs) ≡ find (is_named n) xs
 find-firsts [] n = refl
-find-firsts (x ∷ xs) n =
-    elim (bytes_eq n x.item) as (λ b. bytes_eq n x.item ≡ b → cond b (Some x) (find (is_named n) (filter (λ y. not (is_named x.item y)) (firsts xs))) ≡ cond b (Some x) (find (is_named n) xs)) [
-      | true ↦ λ _. refl
-      | false ↦ λ apart. find-others x.item (firsts xs) n apart ∙ find-firsts xs n
-    ] refl
+find-firsts (x ∷ xs) n = grind (arith, find-others x.item (firsts xs) n, find-firsts xs n)
 
 -- ---- one that is put into a table
 

@@ -103,9 +103,7 @@ all_pass q (n ∷ names) h = rw (and_left (q n) (list_all q names) h) (all_pass 
 
 pass_all : (q : Name → Bool) (names : List Name) → filter (λ n. not (q n)) names ≡ [] → list_all q names ≡ true
 pass_all q [] h = refl
-pass_all q (n ∷ names) h =
-    let rest = filter (λ m. not (q m)) names in
-    elim (q n) as (λ b. cond (not b) (n ∷ rest) rest ≡ [] → (b && list_all q names) ≡ true) [ true ↦ λ none. pass_all q names none | false ↦ λ none. cc ] h
+pass_all q (n ∷ names) h = grind (arith, pass_all q names)
 
 -- keys that differ are types that do
 distinct_told : (es : List (Key × List Span)) → IsDistinct same_keys (keys_of es) → AreDistinct (told_in es)

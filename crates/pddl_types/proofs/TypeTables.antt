@@ -1,5 +1,5 @@
 -- The rows of a table of types, by place and by name, and how the table grows.
-use Rattle.std.proofs.Common.{◌≡◌, ℕ, zero, suc, ◌<◌, ◌||◌, Bool, true, false, cond, List, [], ◌∷◌, ◌++◌, length, map, refl, sym, ap, ◌∙◌, subst, arith, bytes_eq, true≢false}
+use Rattle.std.proofs.Common.{◌≡◌, ℕ, zero, suc, ◌<◌, ◌||◌, Bool, true, false, cond, List, [], ◌∷◌, ◌++◌, length, map, refl, sym, ap, ◌∙◌, subst, arith, bytes_eq}
 use Rattle.std.specs.Prelude.{Option, Some, None, is_some, unwrap_or, slice_get}
 use Rattle.std.specs.Borrow.{Bor}
 use Rattle.std.specs.Cmp.{IsEquivalence, on_equiv}
@@ -48,11 +48,7 @@ module _ (rows : List Row) (t : Name) where
   no_place at = sym (some_index (λ k. bytes_eq t k.now) rows) ∙ ap is_some at
 
   pub number_at : is_some (parent_place rows t) ≡ true → StandsAt rows (number_in (names_in rows) t) t
-  number_at h =
-      elim (position (λ k. bytes_eq t k.now) (keys_of rows)) as (λ o. position (λ k. bytes_eq t k.now) (keys_of rows) ≡ o → StandsAt rows (number_in (names_in rows) t) t) [
-        | None ↦ λ none. absurd (true≢false (sym h ∙ no_place none))
-        | Some i ↦ λ is. subst (λ j. StandsAt rows j t) (sym (found_number i is)) (found_place i is)
-      ] refl
+  number_at h = grind (arith, found_number, found_place, no_place)
 
   pub number_past : is_some (parent_place rows t) ≡ false → number_in (names_in rows) t ≡ length rows
   number_past h = sym (number_lent rows t) ∙ or_len-absent (λ k. bytes_eq t k.now) rows (absent_from_lookup (λ k. bytes_eq t k.now) rows (none_found (parent_place rows t) h))
