@@ -1,5 +1,5 @@
 -- Names with their types, one after another, beside a table of each at its first place.
-use Rattle.std.proofs.Common.{◌≡◌, ℕ, ◌+◌, ◌<◌, ◌≤◌, ◌==◌, Bool, true, false, ◌||◌, not, cond, List, [], ◌∷◌, ◌++◌, map, filter, length, get_or, drop, Some, None, Result, refl, ap, sym, ◌∙◌, subst, bytes_eq, position, arith}
+use Rattle.std.proofs.Common.{◌≡◌, ℕ, ◌+◌, ◌<◌, ◌≤◌, ◌==◌, Bool, true, false, not, cond, List, [], ◌∷◌, ◌++◌, map, filter, length, get_or, drop, Some, None, Result, refl, ap, sym, ◌∙◌, subst, bytes_eq, position, arith}
 use Rattle.std.specs.Prelude.{find, is_some, slice_get}
 use Rattle.std.specs.Borrow.{Bor}
 use Rattle.std.specs.Cmp.Lexicographic.{nat_list_eq_equiv}
@@ -30,16 +30,11 @@ use Rattle.pddl_types.proofs.ToldTypes.{one_number, still_all}
 
 -- ---- each name at its first place
 
-fresh_kept : (b c : Bool) (x : TypedValue) (test : TypedValue → Bool) → test x ≡ not b → filter test (cond c [] (x ∷ [])) ≡ cond (b || c) [] (x ∷ [])
-fresh_kept b c x test h = grind arith
-
 firsts_push : (ys : List TypedValue) (x : TypedValue) → firsts (ys ++ x ∷ []) ≡ firsts ys ++ cond (is_in (map item_of ys) x.item) [] (x ∷ [])
 firsts_push [] x = refl
 firsts_push (y ∷ ys) x =
     let others = λ (z : TypedValue). not (is_named y.item z) in
-    let fresh : List TypedValue = cond (is_in (map item_of ys) x.item) [] (x ∷ []) in
-    ap (λ zs. y ∷ filter others zs) (firsts_push ys x) ∙ ap (λ zs. y ∷ zs) (filter-append others (firsts ys) fresh)
-    ∙ ap (λ zs. y ∷ (filter others (firsts ys) ++ zs)) (fresh_kept (bytes_eq x.item y.item) (is_in (map item_of ys) x.item) x others (ap not (nat_list_eq_equiv.symm y.item x.item)))
+    grind (arith, firsts_push ys x, filter-append others (firsts ys), nat_list_eq_equiv.symm y.item x.item)
 
 -- the first of a name is not among those of another
 find-others : (k : Name) (xs : List TypedValue) (n : Name) → bytes_eq n k ≡ false → find (is_named n) (filter (λ x. not (is_named k x)) xs) ≡ find (is_named n) xs

@@ -31,10 +31,6 @@ pub none_found : {X : Type 0} (o : Option X) → is_some o ≡ false → o ≡ N
 none_found None h = refl
 none_found (Some x) h = cc
 
--- one that is found stays so with one more
-found_still : {X : Type 0} (o : Option X) (b : Bool) (x : X) → (b ≡ true → is_some o ≡ true) → option_or o (cond b (Some x) None) ≡ o
-found_still o b x h = grind arith
-
 -- names, each that stands before it too, with one name more
 pub repeated_more : (before names : List Name) (n : Name) → repeated before (names ++ n ∷ []) ≡ repeated before names ++ word_if (is_in (before ++ names) n) n
 repeated_more before [] n = append-none (word_if (is_in before n) n) ∙ ap (λ ns. word_if (is_in ns n) n) (sym (append-none before))
@@ -70,7 +66,7 @@ module _ {held seen : List Signature} (are : AreFirst held seen) (g : Signature)
   first_still old = record {
     first = λ n.
         let there = λ (is : bytes_eq n g.name ≡ true). is_among seen n ∙ ap (is_in (map symbol_of seen)) (bytes_same n g.name is) ∙ old in
-        are.first n ∙ sym (find-append (λ s. bytes_eq n s.name) seen (g ∷ []) ∙ found_still (signature_among seen n) (bytes_eq n g.name) g there);
+        grind (arith, are.first n, find-append (λ s. bytes_eq n s.name) seen (g ∷ []), there);
     all = λ once. let here = (once_before true old once).1 in cc;
   }
 

@@ -88,11 +88,7 @@ pub again : (types : List Name) (told : List TypeValue) (rows : List Row) (i : �
 again types told rows i n at h = of_types known h
   where
     known : (t : Name) → is_in types t ≡ bytes_eq t n || is_in types t
-    known t =
-        elim (bytes_eq t n) as (λ b. bytes_eq t n ≡ b → is_in types t ≡ b || is_in types t) [
-          | true ↦ λ is. ap (is_in types) (bytes_same t n is) ∙ sym (h.has n) ∙ ap is_some (beside rows n i h.once at).1
-          | false ↦ λ _. refl
-        ] refl
+    known t = grind (arith, bytes_same t n, h.has n, (beside rows n i h.once at).1)
 
 -- `object` alone
 pub root_alone : (k : Bor (List ℕ)) (after : List Row) → k.now ≡ root → after ≡ put [] k 0 → IsTableOf (types_of []) [] after
@@ -102,11 +98,7 @@ root_alone k after is put_there =
       once = (tt, tt);
       first = ap Some is;
       has = λ t. found_or (bytes_eq t k.now) 0 (parent_place [] t) ∙ ap (λ n. bytes_eq t n || false) is;
-      parents = λ t i here.
-          elim (bytes_eq t k.now) as (λ b. cond b (Some 0) (parent_place [] t) ≡ Some i → StandsAt (put [] k 0) i root) [
-            | true ↦ λ first. let zeroth : 0 ≡ i = cc in subst (λ j. StandsAt (put [] k 0) j root) zeroth (ap Some is)
-            | false ↦ λ none. cc
-          ] here;
+      parents = λ t i here. grind (arith, here, is);
     })
 
 module _ (rows after : List Row) (k : Bor (List ℕ)) (p : ℕ) (put_there : after ≡ put rows k p) (once : IsDistinct (λ x y. bytes_eq x.now y.now) (keys_of after)) where
@@ -118,13 +110,8 @@ module _ (rows after : List Row) (k : Bor (List ℕ)) (p : ℕ) (put_there : aft
     first = subst (λ rs. StandsAt rs 0 root) (sym put_there) (stands_on rows k p 0 root h.first);
     has = λ t. ap is_some (place t) ∙ found_or (bytes_eq t k.now) p (parent_place rows t) ∙ ap (λ b. bytes_eq t k.now || b) (h.has t);
     parents = λ t i is.
-        subst (λ rs. StandsAt rs i (parent_in next t)) (sym put_there)
-        (elim (bytes_eq t k.now) as (λ b. bytes_eq t k.now ≡ b → cond b (Some p) (parent_place rows t) ≡ Some i → StandsAt (put rows k p) i (parent_in next t)) [
-          | true ↦ λ same here.
-              let one : p ≡ i = cc in
-              subst (λ j. StandsAt (put rows k p) j (parent_in next t)) one (stands_on rows k p p (parent_in next t) (subst (λ n. StandsAt rows p (parent_in next n)) (sym (bytes_same t k.now same)) at))
-          | false ↦ λ other there. stands_on rows k p i (parent_in next t) (subst (StandsAt rows i) (others t other) (h.parents t i there))
-        ] refl (sym (place t) ∙ is));
+        let stays = stands_on rows k p i (parent_in next t) in
+        rw put_there (grind (arith, place t, is, bytes_same t k.now, stays, others t, h.parents t i, at));
   }
     where
       place : (t : Name) → parent_place after t ≡ cond (bytes_eq t k.now) (Some p) (parent_place rows t)
