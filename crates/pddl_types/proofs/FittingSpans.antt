@@ -24,8 +24,7 @@ same_places : {X Y : Type 0} (p : X → Bool) (q : Y → Bool) (k : ℕ) (xs : L
 same_places p q k [] [] many same = refl
 same_places p q k [] (y ∷ ys) many same = absurd (omega (arith, many))
 same_places p q k (x ∷ xs) [] many same = absurd (omega (arith, many))
-same_places p q k (x ∷ xs) (y ∷ ys) many same =
-    ap (λ ns. cond (p x) (k ∷ ns) ns) (same_places p q (k + 1) xs ys (omega (arith, many)) (λ i. same (suc i))) ∙ ap (λ b. cond b (k ∷ places_from (k + 1) q ys) (places_from (k + 1) q ys)) (same 0 x y refl refl)
+same_places p q k (x ∷ xs) (y ∷ ys) many same = grind (arith, same_places p q (k + 1) xs ys (omega (arith, many)) (λ i. same (suc i)), same 0 x y refl refl)
 
 -- a type of a number fits where that is told of its one primitive
 pub number_fits : {t : TypesValue} {types : List Name} {number : ℕ} (slot : List Name) (fit : Bool) → IsNumberOf t types number

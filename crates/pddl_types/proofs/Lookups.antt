@@ -63,11 +63,7 @@ is_symbol (e ∷ es) n = found_or (bytes_eq n e.0.now) e.1 (lookup (λ k. bytes_
 pub signature_found : {A B : Type 0} (es : List (Bor (List ℕ) × Slots A B)) (n : Name)
     → option_map (λ (s : Signature). s.parameters) (find (λ s. bytes_eq n s.name) (map signature_in es)) ≡ option_map (λ (v : Slots A B). map typed_view v.parameters.now) (lookup (λ k. bytes_eq n k.now) es)
 signature_found [] n = refl
-signature_found {A} {B} (e ∷ es) n =
-    elim (bytes_eq n e.0.now) as (λ b. option_map (λ (s : Signature). s.parameters) (cond b (Some (signature_in e)) (find (λ s. bytes_eq n s.name) (map signature_in es))) ≡ option_map (λ (v : Slots A B). map typed_view v.parameters.now) (cond b (Some e.1) (lookup (λ k. bytes_eq n k.now) es))) [
-      | true ↦ refl
-      | false ↦ signature_found es n
-    ]
+signature_found (e ∷ es) n = grind (arith, signature_found es n)
 
 -- ---- numbers of names
 

@@ -1,5 +1,5 @@
 -- Types by their spans: what is under a type is what has its first number in the type's span.
-use Rattle.std.proofs.Common.{◌≡◌, ℕ, ◌^◌, ◌<◌, ◌≤◌, Bool, true, false, ◌&&◌, eqb, leb, List, map, length, refl, sym, ap, ◌∙◌, subst, arith, eqb-true, leb-true}
+use Rattle.std.proofs.Common.{◌≡◌, ℕ, ◌^◌, ◌<◌, ◌≤◌, Bool, true, false, ◌&&◌, eqb, List, map, length, refl, sym, ap, ◌∙◌, subst, arith, eqb-true}
 use Rattle.std.specs.Prelude.{◌↔◌, IsTrue, Contains}
 use Rattle.std.specs.Cmp.{both_ways}
 use Rattle.std.specs.List.{list_any}
@@ -51,18 +51,14 @@ module _ (t : TypesValue) (h : AreInTable t) where
   behind : (n : Name) → is_type n ≡ false → ((span_of t n).first ≡ length t.spans) × ((span_of t n).last ≡ length t.spans)
   behind n off =
       let past = ap (λ ns. number_in ns n) h.1 ∙ number_past h.0 n (h.2.1.has n ∙ off) in
-      let none : Span = record { first = length t.spans; last = length t.spans } in
-      let span = get_or_past t.spans (number n) none (omega (arith, past, h.3.many, length-map h.0 (λ (r : Row). r.1))) in
+      let span = get_or_past t.spans (number n) (record { first = length t.spans; last = length t.spans }) (omega (arith, past, h.3.many, length-map h.0 (λ (r : Row). r.1))) in
       (ap (λ (s : Span). s.first) span, ap (λ (s : Span). s.last) span)
 
   within : (n : Name) → is_type n ≡ true → ((span_of t n).first ≤ (span_of t n).last) × ((span_of t n).last < length t.spans)
   within n type = let low = below h.0 (number n) n (stands n type) in (h.3.some (number n) low, omega (arith, h.3.low (number n) low, h.3.many))
 
   pub some : (n : Name) → (span_of t n).first ≤ (span_of t n).last
-  some n = elim (is_type n) as (λ b. is_type n ≡ b → (span_of t n).first ≤ (span_of t n).last) [
-    | true ↦ λ type. (within n type).0
-    | false ↦ λ off. let b = behind n off in omega (arith, b.0, b.1)
-  ] refl
+  some n = grind (arith, within n, behind n)
 
   pub all_some : (names : List Name) (spans : List Span) → spans ≡ map (span_of t) names → (s : Span) → Contains spans s → s.first ≤ s.last
   all_some names spans is s there =
@@ -79,7 +75,7 @@ module _ (t : TypesValue) (h : AreInTable t) where
 
   -- what begins among the numbers is a type
   type_if : (n : Name) → (span_of t n).first < length t.spans → is_type n ≡ true
-  type_if n low = elim (is_type n) as (λ b. is_type n ≡ b → b ≡ true) [ true ↦ λ _. refl | false ↦ λ off. let b = behind n off in absurd (omega (arith, low, b.0)) ] refl
+  type_if n low = grind (arith, low, behind n)
 
   both_test : (n m : Name) → is_type n ≡ true → is_type m ≡ true → IsTrue (test n m) ↔ IsTrue (under n m)
   both_test n m one other =
@@ -94,14 +90,10 @@ module _ (t : TypesValue) (h : AreInTable t) where
 
   is_test : (n m : Name) → is_type n ≡ true → test n m ≡ under n m
   is_test n m type =
+      let two = both_test n m type in
       both_ways (test n m) (under n m)
-      (λ yes.
-      let u = span_of t m in
-      let i = (span_of t n).first in
-      let from = leb-true u.first i (and_left (leb u.first i) (leb i u.last) yes) in
-      let w = within n type in
-      (both_test n m type (type_if m (omega (arith, from, w)))).0 yes)
-      (λ yes. (both_test n m type (over_type n m yes type)).1 yes)
+      (λ yes. (two (type_if m (grind (arith, yes, within n type)))).0 yes)
+      (λ yes. (two (over_type n m yes type)).1 yes)
 
   pub test_told : (n m : Name) (number : ℕ) (over : Span) → is_type n ≡ true → number ≡ (span_of t n).first → over ≡ span_of t m → holds over number ≡ under n m
   test_told n m number over known is also = ap (λ s. holds s number) also ∙ ap (holds (span_of t m)) is ∙ is_test n m known

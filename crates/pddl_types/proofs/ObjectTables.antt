@@ -1,5 +1,5 @@
 -- Names with their types, one after another, beside a table of each at its first place.
-use Rattle.std.proofs.Common.{◌≡◌, ℕ, ◌+◌, ◌<◌, ◌≤◌, ◌==◌, Bool, true, false, ◌||◌, not, cond, List, [], ◌∷◌, ◌++◌, map, filter, length, get_or, drop, Some, None, Result, refl, ap, sym, ◌∙◌, subst, bytes_eq, position, arith}
+use Rattle.std.proofs.Common.{◌≡◌, ℕ, ◌+◌, ◌<◌, ◌≤◌, ◌==◌, Bool, true, false, not, cond, List, [], ◌∷◌, ◌++◌, map, filter, length, get_or, drop, Some, None, Result, refl, ap, sym, ◌∙◌, subst, bytes_eq, position, arith}
 use Rattle.std.specs.Prelude.{find, is_some, slice_get}
 use Rattle.std.specs.Borrow.{Bor}
 use Rattle.std.specs.Cmp.Lexicographic.{nat_list_eq_equiv}
@@ -30,39 +30,21 @@ use Rattle.pddl_types.proofs.ToldTypes.{one_number, still_all}
 
 -- ---- each name at its first place
 
-fresh_kept : (b c : Bool) (x : TypedValue) (test : TypedValue → Bool) → test x ≡ not b → filter test (cond c [] (x ∷ [])) ≡ cond (b || c) [] (x ∷ [])
-fresh_kept true true x test h = refl
-fresh_kept false true x test h = refl
-fresh_kept true false x test h = ap (λ d. cond d (x ∷ []) []) h
-fresh_kept false false x test h = ap (λ d. cond d (x ∷ []) []) h
-
 firsts_push : (ys : List TypedValue) (x : TypedValue) → firsts (ys ++ x ∷ []) ≡ firsts ys ++ cond (is_in (map item_of ys) x.item) [] (x ∷ [])
 firsts_push [] x = refl
 firsts_push (y ∷ ys) x =
     let others = λ (z : TypedValue). not (is_named y.item z) in
-    let fresh : List TypedValue = cond (is_in (map item_of ys) x.item) [] (x ∷ []) in
-    ap (λ zs. y ∷ filter others zs) (firsts_push ys x) ∙ ap (λ zs. y ∷ zs) (filter-append others (firsts ys) fresh)
-    ∙ ap (λ zs. y ∷ (filter others (firsts ys) ++ zs)) (fresh_kept (bytes_eq x.item y.item) (is_in (map item_of ys) x.item) x others (ap not (nat_list_eq_equiv.symm y.item x.item)))
+    grind (arith, firsts_push ys x, filter-append others (firsts ys), nat_list_eq_equiv.symm y.item x.item)
 
 -- the first of a name is not among those of another
 find-others : (k : Name) (xs : List TypedValue) (n : Name) → bytes_eq n k ≡ false → find (is_named n) (filter (λ x. not (is_named k x)) xs) ≡ find (is_named n) xs
 find-others k [] n apart = refl
-find-others k (x ∷ xs) n apart =
-    elim (bytes_eq k x.item) as (λ b. bytes_eq k x.item ≡ b → find (is_named n) (cond (not b) (x ∷ filter (λ y. not (is_named k y)) xs) (filter (λ y. not (is_named k y)) xs)) ≡ find (is_named n) (x ∷ xs)) [
-      | true ↦ λ is.
-          let off : bytes_eq n x.item ≡ false = ap (bytes_eq n) (sym (bytes_same k x.item is)) ∙ apart in
-          find-others k xs n apart ∙ ap (λ b. cond b (Some x) (find (is_named n) xs)) (sym off)
-      | false ↦ λ _. ap (λ o. cond (bytes_eq n x.item) (Some x) o) (find-others k xs n apart)
-    ] refl
+find-others k (x ∷ xs) n apart = grind (arith, find-others k xs n apart, bytes_same k x.item)
 
 -- and stands at its first place
 find-firsts : (xs : List TypedValue) (n : Name) → find (is_named n) (firsts xs) ≡ find (is_named n) xs
 find-firsts [] n = refl
-find-firsts (x ∷ xs) n =
-    elim (bytes_eq n x.item) as (λ b. bytes_eq n x.item ≡ b → cond b (Some x) (find (is_named n) (filter (λ y. not (is_named x.item y)) (firsts xs))) ≡ cond b (Some x) (find (is_named n) xs)) [
-      | true ↦ λ _. refl
-      | false ↦ λ apart. find-others x.item (firsts xs) n apart ∙ find-firsts xs n
-    ] refl
+find-firsts (x ∷ xs) n = grind (arith, find-others x.item (firsts xs) n, find-firsts xs n)
 
 -- ---- one that is put into a table
 

@@ -4,13 +4,12 @@ use Rattle.std.specs.Prelude.{is_some, find, slice_get}
 use Rattle.std.specs.Borrow.{Bor}
 use Rattle.std.specs.Map.{lookup}
 use Rattle.std.specs.Option.{option_or}
-use Rattle.std.proofs.lemmas.List.{map-append}
-use Rattle.std.proofs.lemmas.List.Elements.{All-contains}
+use Rattle.std.proofs.lemmas.List.{map-append, map_push}
+use Rattle.std.proofs.lemmas.List.Elements.{All-contains, All-push}
 use Rattle.std.proofs.lemmas.List.Folds.{find-append}
 use Rattle.std.proofs.lemmas.Option.{same_Some, slice_get_within}
 use Rattle.indexmap.specs.IndexMap.{IndexMap, index_of, insert_entry}
-use Rattle.indexmap.proofs.CallerLemmas.{insert_entry-new}
-use Rattle.indexmap.proofs.MapLemmas.{some_index}
+use Rattle.indexmap.proofs.MapLemmas.{Missing-position, insert_entry-absent, some_index}
 use Rattle.pddl_formula.specs.TypedLists.{TypedValue, typed_view}
 use Rattle.pddl_domain.specs.Actions.{ActionValue}
 use Rattle.pddl_domain.specs.Declarations.{Signature}
@@ -26,17 +25,11 @@ use Rattle.pddl_types.specs.Told.{ToldValue, IsAt, AreAt, AreKept}
 use Rattle.pddl_types.specs.Signatures.{Rows, IsSlotsAt, signature_among, AreFirst, HaveFirst, HaveSignatures}
 use Rattle.pddl_types.specs.declared.signatures.Slots.{Slots}
 use Rattle.pddl_types.proofs.Lookups.{seen_entry, entry_seen, is_symbol}
-use Rattle.pddl_types.proofs.ToldTypes.{slots_still, slots_more}
+use Rattle.pddl_types.proofs.ToldTypes.{slots_still}
 
 pub none_found : {X : Type 0} (o : Option X) → is_some o ≡ false → o ≡ None
 none_found None h = refl
 none_found (Some x) h = cc
-
--- one that is found stays so with one more
-found_still : {X : Type 0} (o : Option X) (b : Bool) (x : X) → (b ≡ true → is_some o ≡ true) → option_or o (cond b (Some x) None) ≡ o
-found_still (Some y) b x h = refl
-found_still None true x h = let some = h refl in cc
-found_still None false x h = refl
 
 -- names, each that stands before it too, with one name more
 pub repeated_more : (before names : List Name) (n : Name) → repeated before (names ++ n ∷ []) ≡ repeated before names ++ word_if (is_in (before ++ names) n) n
@@ -73,7 +66,7 @@ module _ {held seen : List Signature} (are : AreFirst held seen) (g : Signature)
   first_still old = record {
     first = λ n.
         let there = λ (is : bytes_eq n g.name ≡ true). is_among seen n ∙ ap (is_in (map symbol_of seen)) (bytes_same n g.name is) ∙ old in
-        are.first n ∙ sym (find-append (λ s. bytes_eq n s.name) seen (g ∷ []) ∙ found_still (signature_among seen n) (bytes_eq n g.name) g there);
+        grind (arith, are.first n, find-append (λ s. bytes_eq n s.name) seen (g ∷ []), there);
     all = λ once. let here = (once_before true old once).1 in cc;
   }
 
@@ -99,37 +92,28 @@ have_all once have = record { signatures_are = have.first.all once; slots = have
 module _ {A B S : Type 0} (m : IndexMap (Bor (List ℕ)) (Slots A B) S) {before after : ToldValue} (kept : AreKept before after) (seen : List Signature) (have : HaveFirst before m.entries seen)
     (g : Signature) (k : Bor (List ℕ)) (name : k.now ≡ g.name) where
   -- a name is in it where it was seen
-  seen_there : (there : Bool) → there ≡ is_some (lookup (λ j. bytes_eq k.now j.now) m.entries) → is_in (map symbol_of seen) g.name ≡ there
-  seen_there there is =
+  seen_there : (place : Option ℕ) → place ≡ index_of (λ a b. bytes_eq a.now b.now) m k → is_in (map symbol_of seen) g.name ≡ is_some place
+  seen_there place is =
       sym (is_among seen g.name) ∙ sym (ap is_some (have.first.first g.name)) ∙ is_among (map signature_in m.entries) g.name ∙ sym (is_symbol m.entries g.name)
-      ∙ ap (λ n. is_some (lookup (λ j. bytes_eq n j.now) m.entries)) (sym name) ∙ sym is
-
-  put_old : true ≡ is_some (lookup (λ j. bytes_eq k.now j.now) m.entries) → (is_in (map symbol_of seen) g.name ≡ true) × HaveFirst after m.entries (seen ++ g ∷ [])
-  put_old is =
-      let there = seen_there true is in (there, record { first = first_still have.first g there; slots = slots_still before after m.entries kept have.slots })
+      ∙ ap (λ n. is_some (lookup (λ j. bytes_eq n j.now) m.entries)) (sym name) ∙ sym (ap is_some is ∙ some_index (λ j. bytes_eq k.now j.now) m.entries)
 
   -- a new name comes last
-  put_new : (v : Slots A B) (next : Rows A B) → false ≡ is_some (lookup (λ j. bytes_eq k.now j.now) m.entries) → next ≡ insert_entry (λ a b. bytes_eq a.now b.now) m.entries k v
-      → map typed_view v.parameters.now ≡ g.parameters → IsSlotsAt after v → (is_in (map symbol_of seen) g.name ≡ false) × HaveFirst after next (seen ++ g ∷ [])
-  put_new v next none put parameters at =
-      let new = seen_there false none in
-      let last = put ∙ insert_entry-new (λ a b. bytes_eq a.now b.now) m k v (none_found (lookup (λ j. bytes_eq k.now j.now) m.entries) (sym none)) in
-      let own : signature_in (k, v) ≡ g = rw (name, parameters) refl in
-      let views = map-append signature_in m.entries ((k, v) ∷ []) ∙ ap (λ s. map signature_in m.entries ++ s ∷ []) own in (
-        new,
-        subst (λ (rows : Rows A B). HaveFirst after rows (seen ++ g ∷ [])) (sym last) (record {
-          first = subst (λ gs. AreFirst gs (seen ++ g ∷ [])) (sym views) (first_more have.first g new);
-          slots = slots_more before after m.entries (k, v) kept have.slots at;
-        }),
-      )
-
   pub put_where_new : (v : Slots A B) (next : Rows A B) (place : Option ℕ) → place ≡ index_of (λ a b. bytes_eq a.now b.now) m k
       → next ≡ cond (is_some place) m.entries (insert_entry (λ a b. bytes_eq a.now b.now) m.entries k v) → map typed_view v.parameters.now ≡ g.parameters → IsSlotsAt after v
       → (is_in (map symbol_of seen) g.name ≡ is_some place) × HaveFirst after next (seen ++ g ∷ [])
-  put_where_new v next None is put parameters at = put_new v next (ap is_some is ∙ some_index (λ j. bytes_eq k.now j.now) m.entries) put parameters at
   put_where_new v next (Some i) is put parameters at =
-      let (there, have) = put_old (ap is_some is ∙ some_index (λ j. bytes_eq k.now j.now) m.entries) in
-      (there, subst (λ (rows : Rows A B). HaveFirst after rows (seen ++ g ∷ [])) (sym put) have)
+      let there = seen_there (Some i) is in (there, rw put (record { first = first_still have.first g there; slots = slots_still before after m.entries kept have.slots }))
+  put_where_new v next None is put parameters at =
+      let new = seen_there None is in
+      let last = put ∙ insert_entry-absent (λ a b. bytes_eq a.now b.now) k v m.entries (Missing-position (λ j. bytes_eq k.now j.now) m.entries (sym is)).absent in
+      let own : signature_in (k, v) ≡ g = rw (name, parameters) refl in
+      let views = map_push signature_in m.entries (k, v) ∙ ap (λ s. map signature_in m.entries ++ s ∷ []) own in (
+        new,
+        rw last (record {
+          first = subst (λ gs. AreFirst gs (seen ++ g ∷ [])) (sym views) (first_more have.first g new);
+          slots = All-push (λ e. IsSlotsAt after e.1) m.entries (k, v) (slots_still before after m.entries kept have.slots) at;
+        }),
+      )
 
 -- ---- the types of the parameters of actions
 

@@ -1,6 +1,6 @@
 -- Types that are told by number, with their tops, the numbers of items' types, and what is found of pairs of them.
 use Rattle.std.proofs.Common.{◌≡◌, ℕ, zero, suc, ◌+◌, ◌-◌, ◌<◌, ◌==◌, ◌&&◌, cond, Bool, true, false, not, List, [], ◌∷◌, ◌++◌, map, filter, length, take, Option, Some, None, position, refl, sym, ap, ◌∙◌, subst, arith, append-nil, append_assoc}
-use Rattle.std.specs.Prelude.{IsTrue, Contains, bytes_eq, option_map, slice_get}
+use Rattle.std.specs.Prelude.{IsTrue, Contains, option_map, slice_get}
 use Rattle.std.specs.Borrow.{Bor}
 use Rattle.std.specs.Cmp.Lexicographic.{bytes_decides, pointwise_decides}
 use Rattle.std.specs.List.{IsDistinct, AllByRecursion, list_all, list_any, position_or_len}
@@ -19,13 +19,13 @@ use Rattle.pddl_formula.specs.TypedLists.{TypedValue, typed_view}
 use Rattle.pddl_formula.specs.Groups.{HaveOneType}
 use Rattle.pddl_domain.specs.Declarations.{TypeValue}
 use Rattle.pddl_task.specs.Names.{Name, is_in, same_names}
-use Rattle.pddl_task.specs.Types.{types_of, pairs, reaches, is_under, fits}
-use Rattle.pddl_task.proofs.Lists.{at_place, and_left, and_right, or_left, found_all, found_any, same_bytes, some_at}
+use Rattle.pddl_task.specs.Types.{types_of, pairs, itself, is_under, fits}
+use Rattle.pddl_task.proofs.Lists.{at_place, and_left, and_right, found_all, found_any, some_at}
 use Rattle.pddl_task.proofs.Numbers.{both_ways}
+use Rattle.pddl_task.proofs.Subtypes.{under_found}
 use Rattle.pddl_types.specs.TypeSpans.{TypesValue, IsTold, HaveEach, are_types}
 use Rattle.pddl_types.specs.Told.{ToldValue, told_in, tops_at, IsAt, AreAt, AreDistinct, AreTold, AreKept, AreFitting}
 use Rattle.pddl_types.specs.Signatures.{Rows, IsSlotsAt, AreSlotsAt}
-use Rattle.pddl_types.specs.declared.signatures.Slots.{Slots}
 use Rattle.pddl_types.proofs.Lookups.{entry_seen, in_front, at_end, entry_found}
 use Rattle.pddl_sizes.proofs.SharedTypes.{of_next}
 
@@ -55,12 +55,9 @@ module _ {T : Type 0} (Holds : List Name → T → Type 0) where
 
 -- ---- what stays told
 
-none_twice : AreDistinct []
-unfolding IsDistinct
-none_twice = tt
-
 pub told_none : (t : TypesValue) (told : ToldValue) → told ≡ [] → AreTold t told
-told_none t told none = rw none (record { once = none_twice; each = All-nil (λ e. IsTold t e.0 e.1 × IsTrue (are_types t.declared e.0)) })
+unfolding IsDistinct
+told_none t told none = rw none (record { once = tt; each = All-nil (λ e. IsTold t e.0 e.1 × IsTrue (are_types t.declared e.0)) })
 
 pub kept_self : (told : ToldValue) → AreKept told told
 kept_self told = ([], sym (append-nil told))
@@ -97,11 +94,6 @@ pub slots_still : {A B : Type 0} (before after : ToldValue) (rows : Rows A B) �
 slots_still before after rows kept =
     All-weaker (λ e. IsSlotsAt before e.1) (λ e. IsSlotsAt after e.1) (λ e. still_all before after (map typed_view e.1.parameters.now) e.1.numbers.items kept) rows
 
--- and with those of one name more
-pub slots_more : {A B : Type 0} (before after : ToldValue) (rows : Rows A B) (e : Bor (List ℕ) × Slots A B) → AreKept before after → AreSlotsAt before rows → IsSlotsAt after e.1
-    → AreSlotsAt after (rows ++ e ∷ [])
-slots_more before after rows e kept are = All-push (λ d. IsSlotsAt after d.1) rows e (slots_still before after rows kept are)
-
 -- ---- tests of names
 
 -- where all pass, none is left that fails
@@ -111,9 +103,7 @@ all_pass q (n ∷ names) h = rw (and_left (q n) (list_all q names) h) (all_pass 
 
 pass_all : (q : Name → Bool) (names : List Name) → filter (λ n. not (q n)) names ≡ [] → list_all q names ≡ true
 pass_all q [] h = refl
-pass_all q (n ∷ names) h =
-    let rest = filter (λ m. not (q m)) names in
-    elim (q n) as (λ b. cond (not b) (n ∷ rest) rest ≡ [] → (b && list_all q names) ≡ true) [ true ↦ λ none. pass_all q names none | false ↦ λ none. cc ] h
+pass_all q (n ∷ names) h = grind (arith, pass_all q names)
 
 -- keys that differ are types that do
 distinct_told : (es : List (Key × List Span)) → IsDistinct same_keys (keys_of es) → AreDistinct (told_in es)
@@ -124,9 +114,6 @@ distinct_told (e ∷ es) once = (apart es once.0, distinct_told es once.1)
     apart : (ds : List (Key × List Span)) → AllByRecursion (λ u. same_keys e.0 u ≡ false) (keys_of ds) → AllByRecursion (λ f. same_names e.0.now f ≡ false) (keys_of (told_in ds))
     apart [] h = tt
     apart (d ∷ ds) h = (h.0, apart ds h.1)
-
-apart_none : AreApart []
-apart_none = record { own = λ i low. absurd (omega (arith, low)); behind = λ i j less low. absurd (omega (arith, low)) }
 
 -- ---- a type of a number
 
@@ -149,7 +136,7 @@ module _ {t : TypesValue} {told : ToldValue} (are : AreTold t told) where
   apart_there n = one (slice_get told n) refl
     where
       one : (o : Option Entry) → slice_get told n ≡ o → AreApart (tops_at told n)
-      one None none = rw none apart_none
+      one None none = rw none (record { own = λ i low. absurd (omega (arith, low)); behind = λ i j less low. absurd (omega (arith, low)) })
       one (Some e) there = rw there (each_of n e there).0.tops_are.apart
 
   -- where tops decide, those of two numbers do
@@ -171,11 +158,9 @@ pub none_there : (entries : List (Key × List Span)) {told : ToldValue} → told
 none_there entries are n names none at =
     let read = ap (option_map entry_in) none ∙ sym (slice_get-map entry_in entries n) ∙ ap (λ (ts : ToldValue). slice_get ts n) are in cc (ap (option_map (λ (e : Entry). e.0)) read, at)
 
--- a number that has tops is one of a type
-pub some_tops : (told : ToldValue) (n : ℕ) (tops : List Span) → tops ≡ tops_at told n → 0 < length tops → n < length told
-some_tops [] n tops is some = absurd (omega (arith, some, ap length is))
-some_tops (e ∷ told) zero tops is some = omega arith
-some_tops (e ∷ told) (suc n) tops is some = let low = some_tops told n tops is some in omega (arith, low)
+-- a number that is read is one of a type
+pub read_within : (entries : List (Key × List Span)) (n : ℕ) {e : Key × List Span} → Some e ≡ slice_get entries n → n < length (told_in entries)
+read_within entries n is = omega (arith, slice_get_within entries n _ (sym is), length-map entries entry_in)
 
 -- ---- types are the same where their numbers are
 
@@ -194,14 +179,10 @@ module _ (told : ToldValue) (once : AreDistinct told) where
 
 -- ---- a type fits itself
 
-under_itself : (ps : List TypeValue) (steps : ℕ) (n : Name) → reaches ps steps n n ≡ true
-under_itself ps zero n = same_bytes n n refl
-under_itself ps (suc steps) n = or_left (bytes_eq n n) (list_any (λ e. bytes_eq n e.item && reaches ps steps e.of n) ps) (same_bytes n n refl)
-
 pub own_fits : (ps : List TypeValue) (told : ToldValue) (number : ℕ) (of to : List Name) → IsAt told of number → IsAt told to number → true ≡ fits ps of to
 own_fits ps told number of to at there =
     sym (found_all (λ n. list_any (is_under ps n) to) of (λ n c.
-    found_any (is_under ps n) to n (subst (λ ns. Contains ns n) (same_Some of to (sym at ∙ there)) c) (under_itself ps (length ps) n)))
+    found_any (is_under ps n) to n (subst (λ ns. Contains ns n) (same_Some of to (sym at ∙ there)) c) (under_found ps n n (itself refl))))
 
 -- ---- a type is told
 

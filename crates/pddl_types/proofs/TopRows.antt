@@ -1,14 +1,12 @@
 -- Rows of the bits of numbers that spans begin at and hold: set in turn, and what they say of others.
-use Rattle.std.proofs.Common.{◌≡◌, ◌↔◌, ℕ, ◌+◌, ◌<◌, ◌≤◌, ◌==◌, ◌&&◌, ◌||◌, Bool, true, false, List, [], get_or, ltb, leb, refl, sym, ap, ◌∙◌, arith, inl, inr}
-use Rattle.std.proofs.lemmas.Bool.{cases_eq, cases_lt, eq-eqb, eqb-true, ne_eqb, lt-ltb, le-ltb, and_parts, leb-true}
+use Rattle.std.proofs.Common.{◌≡◌, ◌↔◌, ℕ, ◌+◌, ◌<◌, ◌≤◌, ◌==◌, ◌&&◌, ◌||◌, Bool, true, false, List, get_or, ltb, refl, sym, ap, ◌∙◌, arith}
+use Rattle.std.proofs.lemmas.Bool.{eq-eqb, eqb-true}
 use Rattle.std.proofs.lemmas.List.Folds.{list_any_at, Any-from_list_any}
 use Rattle.std.proofs.lemmas.List.Sums.{AllPass-from_list_all, list_all-from_AllPass}
 use Rattle.std.specs.Prelude.{IsTrue}
 use Rattle.pddl_bit_rows.specs.BitRows.{has_bit}
-use Rattle.pddl_bit_rows.proofs.RowBits.{no_bits}
 use Rattle.pddl_forest.specs.Spans.{holds, some_holds, hold_all}
 use Rattle.pddl_forest.specs.declared.spans.Span.{Span}
-use Rattle.pddl_forest.proofs.ApartSpans.{held}
 use Rattle.pddl_task.proofs.Numbers.{both_ways}
 use Rattle.pddl_types.specs.TopRows.{AreRowsOf}
 
@@ -19,32 +17,15 @@ below s n i = holds s i && ltb i n
 module _ (s : Span) (i : ℕ) where
   -- below its first there is none
   pub below_first : below s s.first i ≡ false
-  below_first = one (holds s i) refl
-    where
-      one : (b : Bool) → holds s i ≡ b → (b && ltb i s.first) ≡ false
-      one false is = refl
-      one true is = le-ltb i s.first (leb-true s.first i (and_parts (leb s.first i) (leb i s.last) is).0)
+  below_first = grind arith
 
   -- with the next one, beside another answer
   pub below_next : (n : ℕ) (b : Bool) → s.first ≤ n → n ≤ s.last → ((i == n) || (below s n i || b)) ≡ (below s (n + 1) i || b)
-  below_next n b from to = elim (cases_eq i n) as (λ _. ((i == n) || (below s n i || b)) ≡ (below s (n + 1) i || b)) [
-    | inl is ↦ rw (eq-eqb i n is, lt-ltb i (n + 1) (omega (arith, is)), ap (holds s) is ∙ held s n from to) refl
-    | inr other ↦ rw (ne_eqb i n other) (ap (λ low. (holds s i && low) || b) (elim (cases_lt i n) as (λ _. ltb i n ≡ ltb i (n + 1)) [
-      | inl less ↦ lt-ltb i n less ∙ sym (lt-ltb i (n + 1) (omega (arith, less)))
-      | inr not ↦ le-ltb i n not ∙ sym (le-ltb i (n + 1) (omega (arith, not, other)))
-    ]))
-  ]
+  below_next n b from to = grind arith
 
   -- behind its last, all
   pub below_end : (n : ℕ) → s.last < n → below s n i ≡ holds s i
-  below_end n past = one (holds s i) refl
-    where
-      one : (b : Bool) → holds s i ≡ b → (b && ltb i n) ≡ b
-      one false is = refl
-      one true is = lt-ltb i n (omega (arith, past, leb-true i s.last (and_parts (leb s.first i) (leb i s.last) is).1))
-
-pub no_rows : AreRowsOf [] [] []
-no_rows = record { begin = no_bits; hold = no_bits }
+  below_end n past = grind arith
 
 -- all numbers are held that others begin at
 pub all_held : {begun row others others_held : List ℕ} {outer inner : List Span} → AreRowsOf begun row outer → AreRowsOf others others_held inner

@@ -1,5 +1,5 @@
 -- The places of a table of types, which are under which, and ways that go round.
-use Rattle.std.proofs.Common.{◌≡◌, ◌≢◌, ℕ, zero, suc, ◌+◌, ◌<◌, Bool, true, false, cond, List, [], ◌∷◌, map, filter, length, get_or, drop, refl, sym, ap, ◌∙◌, subst, arith, bytes_eq, true≢false}
+use Rattle.std.proofs.Common.{◌≡◌, ◌≢◌, ℕ, zero, suc, ◌+◌, ◌<◌, Bool, true, false, List, [], ◌∷◌, map, filter, length, get_or, drop, refl, sym, ap, ◌∙◌, subst, arith, bytes_eq, true≢false}
 use Rattle.std.specs.Prelude.{◌↔◌, IsTrue, Contains, Some, None, is_some, slice_get}
 use Rattle.std.specs.Borrow.{Bor}
 use Rattle.std.specs.List.{position}
@@ -28,8 +28,7 @@ WithinParents ps = (i : ℕ) → i < length ps → parent_of ps i < length ps
 
 none_kept : (q : Name → Bool) (ns : List Name) → ((n : Name) → q n ≡ true → ⊥) → filter q ns ≡ []
 none_kept q [] h = refl
-none_kept q (n ∷ ns) h =
-    elim (q n) as (λ b. q n ≡ b → cond b (n ∷ filter q ns) (filter q ns) ≡ []) [ true ↦ λ on. absurd (h n on) | false ↦ λ _. none_kept q ns h ] refl
+none_kept q (n ∷ ns) h = grind (arith, none_kept q ns h, h n)
 
 module _ (declared : List TypeValue) (rows : List Row) (h : IsTypeTable declared rows) where
   abbrev ps : List ℕ

@@ -1,5 +1,5 @@
 -- Types with their parents, as they are declared.
-use Rattle.std.proofs.Common.{◌≡◌, Bool, true, false, not, ◌&&◌, cond, List, [], ◌∷◌, ◌++◌, map, filter, fold, refl, sym, ap, ◌∙◌, subst, bytes_eq, inl, inr}
+use Rattle.std.proofs.Common.{◌≡◌, Bool, true, false, not, ◌&&◌, cond, List, [], ◌∷◌, ◌++◌, map, filter, fold, refl, sym, ap, ◌∙◌, subst, bytes_eq, arith, inl, inr}
 use Rattle.std.specs.Prelude.{Contains}
 use Rattle.std.specs.List.{IsDistinct}
 use Rattle.std.proofs.lemmas.List.Elements.{Contains-append_left, Contains-append_right, Contains-append_cases, All-from_recursion}
@@ -34,8 +34,7 @@ told_over t over e = cond (bytes_eq t e.item) e.of over
 
 pub parent_undeclared : (declared : List TypeValue) (t over : Name) → is_in (map item_of declared) t ≡ false → fold (told_over t) over declared ≡ over
 parent_undeclared [] t over h = refl
-parent_undeclared (d ∷ ds) t over h =
-    ap (λ b. fold (told_over t) (cond b d.of over) ds) (none_left (bytes_eq t d.item) (is_in (map item_of ds) t) h) ∙ parent_undeclared ds t over (none_right (bytes_eq t d.item) (is_in (map item_of ds) t) h)
+parent_undeclared (d ∷ ds) t over h = grind (arith, parent_undeclared ds t over)
 
 parent_declared : (declared : List TypeValue) (e : TypeValue) (over : Name) → IsDistinct bytes_eq (map item_of declared) → Contains declared e → fold (told_over e.item) over declared ≡ e.of
 parent_declared [] e over once c = absurd (has_none e c)

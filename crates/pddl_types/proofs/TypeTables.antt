@@ -1,6 +1,6 @@
 -- The rows of a table of types, by place and by name, and how the table grows.
-use Rattle.std.proofs.Common.{◌≡◌, ℕ, zero, suc, ◌<◌, ◌||◌, Bool, true, false, cond, List, [], ◌∷◌, ◌++◌, length, map, refl, sym, ap, ◌∙◌, subst, arith, bytes_eq, true≢false}
-use Rattle.std.specs.Prelude.{Some, None, is_some, slice_get}
+use Rattle.std.proofs.Common.{◌≡◌, ℕ, zero, suc, ◌<◌, ◌||◌, Bool, true, false, cond, List, [], ◌∷◌, ◌++◌, length, map, refl, sym, ap, ◌∙◌, subst, arith, bytes_eq}
+use Rattle.std.specs.Prelude.{Option, Some, None, is_some, unwrap_or, slice_get}
 use Rattle.std.specs.Borrow.{Bor}
 use Rattle.std.specs.Cmp.{IsEquivalence, on_equiv}
 use Rattle.std.specs.List.{position, IsDistinct}
@@ -48,11 +48,7 @@ module _ (rows : List Row) (t : Name) where
   no_place at = sym (some_index (λ k. bytes_eq t k.now) rows) ∙ ap is_some at
 
   pub number_at : is_some (parent_place rows t) ≡ true → StandsAt rows (number_in (names_in rows) t) t
-  number_at h =
-      elim (position (λ k. bytes_eq t k.now) (keys_of rows)) as (λ o. position (λ k. bytes_eq t k.now) (keys_of rows) ≡ o → StandsAt rows (number_in (names_in rows) t) t) [
-        | None ↦ λ none. absurd (true≢false (sym h ∙ no_place none))
-        | Some i ↦ λ is. subst (λ j. StandsAt rows j t) (sym (found_number i is)) (found_place i is)
-      ] refl
+  number_at h = grind (arith, found_number, found_place, no_place)
 
   pub number_past : is_some (parent_place rows t) ≡ false → number_in (names_in rows) t ≡ length rows
   number_past h = sym (number_lent rows t) ∙ or_len-absent (λ k. bytes_eq t k.now) rows (absent_from_lookup (λ k. bytes_eq t k.now) rows (none_found (parent_place rows t) h))
@@ -81,12 +77,6 @@ stands_on [] k p i n at = cc
 stands_on (r ∷ rows) k p zero n at = elim (bytes_eq k.now r.0.now) as (λ b. StandsAt (cond b ((r.0, p) ∷ rows) (r ∷ put rows k p)) zero n) [ true ↦ at | false ↦ at ]
 stands_on (r ∷ rows) k p (suc i) n at = elim (bytes_eq k.now r.0.now) as (λ b. StandsAt (cond b ((r.0, p) ∷ rows) (r ∷ put rows k p)) (suc i) n) [ true ↦ at | false ↦ stands_on rows k p i n at ]
 
--- and a new name stands behind all others
-pub put_at : (rows : List Row) (k : Bor (List ℕ)) (p n : ℕ) → position (λ x. bytes_eq k.now x.now) (keys_of rows) ≡ None → n ≡ length rows → StandsAt (put rows k p) n k.now
-put_at rows k p n none is =
-    let last = insert_entry-absent (λ x y. bytes_eq x.now y.now) k p rows (Missing-position (λ x. bytes_eq k.now x.now) rows none).absent in
-    rw (last, is) (seen_entry (λ (r : Row). r.0.now) (rows ++ (k, p) ∷ []) (length rows) (k, p) (at_end rows (k, p)))
-
 -- ---- tables
 
 -- the same types
@@ -98,11 +88,7 @@ pub again : (types : List Name) (told : List TypeValue) (rows : List Row) (i : �
 again types told rows i n at h = of_types known h
   where
     known : (t : Name) → is_in types t ≡ bytes_eq t n || is_in types t
-    known t =
-        elim (bytes_eq t n) as (λ b. bytes_eq t n ≡ b → is_in types t ≡ b || is_in types t) [
-          | true ↦ λ is. ap (is_in types) (bytes_same t n is) ∙ sym (h.has n) ∙ ap is_some (beside rows n i h.once at).1
-          | false ↦ λ _. refl
-        ] refl
+    known t = grind (arith, bytes_same t n, h.has n, (beside rows n i h.once at).1)
 
 -- `object` alone
 pub root_alone : (k : Bor (List ℕ)) (after : List Row) → k.now ≡ root → after ≡ put [] k 0 → IsTableOf (types_of []) [] after
@@ -112,11 +98,7 @@ root_alone k after is put_there =
       once = (tt, tt);
       first = ap Some is;
       has = λ t. found_or (bytes_eq t k.now) 0 (parent_place [] t) ∙ ap (λ n. bytes_eq t n || false) is;
-      parents = λ t i here.
-          elim (bytes_eq t k.now) as (λ b. cond b (Some 0) (parent_place [] t) ≡ Some i → StandsAt (put [] k 0) i root) [
-            | true ↦ λ first. let zeroth : 0 ≡ i = cc in subst (λ j. StandsAt (put [] k 0) j root) zeroth (ap Some is)
-            | false ↦ λ none. cc
-          ] here;
+      parents = λ t i here. grind (arith, here, is);
     })
 
 module _ (rows after : List Row) (k : Bor (List ℕ)) (p : ℕ) (put_there : after ≡ put rows k p) (once : IsDistinct (λ x y. bytes_eq x.now y.now) (keys_of after)) where
@@ -128,13 +110,8 @@ module _ (rows after : List Row) (k : Bor (List ℕ)) (p : ℕ) (put_there : aft
     first = subst (λ rs. StandsAt rs 0 root) (sym put_there) (stands_on rows k p 0 root h.first);
     has = λ t. ap is_some (place t) ∙ found_or (bytes_eq t k.now) p (parent_place rows t) ∙ ap (λ b. bytes_eq t k.now || b) (h.has t);
     parents = λ t i is.
-        subst (λ rs. StandsAt rs i (parent_in next t)) (sym put_there)
-        (elim (bytes_eq t k.now) as (λ b. bytes_eq t k.now ≡ b → cond b (Some p) (parent_place rows t) ≡ Some i → StandsAt (put rows k p) i (parent_in next t)) [
-          | true ↦ λ same here.
-              let one : p ≡ i = cc in
-              subst (λ j. StandsAt (put rows k p) j (parent_in next t)) one (stands_on rows k p p (parent_in next t) (subst (λ n. StandsAt rows p (parent_in next n)) (sym (bytes_same t k.now same)) at))
-          | false ↦ λ other there. stands_on rows k p i (parent_in next t) (subst (StandsAt rows i) (others t other) (h.parents t i there))
-        ] refl (sym (place t) ∙ is));
+        let stays = stands_on rows k p i (parent_in next t) in
+        rw put_there (grind (arith, place t, is, bytes_same t k.now, stays, others t, h.parents t i, at));
   }
     where
       place : (t : Name) → parent_place after t ≡ cond (bytes_eq t k.now) (Some p) (parent_place rows t)
@@ -158,13 +135,20 @@ module _ (rows after : List Row) (k : Bor (List ℕ)) (p : ℕ) (put_there : aft
           rw (← item, map-append item_of told (d ∷ []), map-append declared_parent told (d ∷ []), list_any-append is (map item_of told ++ d.item ∷ []) (map declared_parent told ++ d.of ∷ []), list_any-append is (map item_of told) (map declared_parent told), list_any-append is (map item_of told) (d.item ∷ []), list_any-append is (map declared_parent told) (d.of ∷ []))
           (either (is d.item) (is d.of) (is root) (is_in (map item_of told) t) (is_in (map declared_parent told) t))
 
--- a type that does not stand there goes under `object`
-pub put_under_root : (told : List TypeValue) (rows after : List Row) (k : Bor (List ℕ)) → IsTableOf (types_of told) told rows → is_some (parent_place rows k.now) ≡ false → after ≡ put rows k 0
-    → IsDistinct (λ x y. bytes_eq x.now y.now) (keys_of after) → IsTableOf (k.now ∷ types_of told) told after
-put_under_root told rows after k h new put_there once = put_in rows after k 0 put_there once (types_of told) told told h (subst (StandsAt rows 0) (sym untold) h.first) (λ t _. refl)
+-- a parent that does not stand there goes under `object`, behind all others; so its place is known
+pub parent_put : (told : List TypeValue) (rows after : List Row) (k : Bor (List ℕ)) (place : Option ℕ) → IsTableOf (types_of told) told rows → place ≡ position (λ x. bytes_eq k.now x.now) (keys_of rows)
+    → after ≡ cond (is_some place) rows (put rows k 0) → IsDistinct (λ x y. bytes_eq x.now y.now) (keys_of after)
+    → IsTableOf (k.now ∷ types_of told) told after × StandsAt after (unwrap_or place (length rows)) k.now
+parent_put told rows after k (Some i) h is put_there once = let at = found_place rows k.now i (sym is) in rw put_there (again (types_of told) told rows i k.now at h, at)
+parent_put told rows after k None h is put_there once =
+    (put_in rows after k 0 put_there once (types_of told) told told h (subst (StandsAt rows 0) (sym untold) h.first) (λ t _. refl),
+    rw (put_there, last) (seen_entry (λ (r : Row). r.0.now) (rows ++ (k, 0) ∷ []) (length rows) (k, 0) (at_end rows (k, 0))))
   where
+    last : put rows k 0 ≡ rows ++ (k, 0) ∷ []
+    last = insert_entry-absent (λ x y. bytes_eq x.now y.now) k 0 rows (Missing-position (λ x. bytes_eq k.now x.now) rows (sym is)).absent
+
     off : is_in (map item_of told ++ map declared_parent told) k.now ≡ false
-    off = none_right (bytes_eq k.now root) (is_in (map item_of told ++ map declared_parent told) k.now) (sym (h.has k.now) ∙ new)
+    off = none_right (bytes_eq k.now root) (is_in (map item_of told ++ map declared_parent told) k.now) (sym (h.has k.now) ∙ no_place rows k.now (sym is))
 
     untold : parent_in told k.now ≡ root
     untold = parent_undeclared told k.now root (none_left (is_in (map item_of told) k.now) (is_in (map declared_parent told) k.now) (sym (list_any-append (bytes_eq k.now) (map item_of told) (map declared_parent told)) ∙ off))

@@ -40,6 +40,7 @@ pub(crate) fn put_new<K: Eq + Hash + Drop, V: Drop, B: Allocator>(
 ) -> Result<Option<usize>, AllocError>
     ensures place { IfOk result (λ place. place ≡ index_of K.eq table.old key) }
     ensures entries { IfOk result (λ place. table.new.entries ≡ (if is_some place then table.old.entries else insert_entry K.eq table.old.entries key value)) }
+    ensures unique { OnOk result (IsUnique K.eq table.new) }
 {
     match table.entry(key)? {
         Entry::Occupied(first) => Ok(Some(first.index())),

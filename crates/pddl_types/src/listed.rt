@@ -1,6 +1,6 @@
 //! Objects by name, each with its type.
 
-ghost use Rattle.std.specs.Prelude.{◌≡◌, ◌++◌, ◌∷◌, [], List, map, not, length, find, slice_get, IfOk, OnOk};
+ghost use Rattle.std.specs.Prelude.{◌≡◌, ◌++◌, ◌∷◌, [], List, map, not, find, slice_get, IfOk};
 ghost use Rattle.pddl_formula.specs.TypedLists.{TypedValue, typed_view};
 ghost use Rattle.pddl_task.specs.Names.{is_named};
 ghost use Rattle.pddl_faults.specs.Passes.{Passes};
@@ -46,10 +46,7 @@ impl<'m, 'a, A: Allocator, B: Allocator> Listed<'m, 'a, A, B> {
     fn type_at(&self, object: usize) -> Option<usize>
         ensures { result ≡ slice_get self.now.types.items object }
     {
-        match self.types.get(object) {
-            Some(number) => Some(*number as usize),
-            None => None,
-        }
+        self.types.get(object).map(|number| *number as usize)
     }
 
     /// Adds an object whose type is told at a number, where its name is new. Answers whether the first of its name has this type.
@@ -67,29 +64,6 @@ impl<'m, 'a, A: Allocator, B: Allocator> Listed<'m, 'a, A, B> {
         };
         self.types.push(number)?;
         Ok(true)
-    }
-
-    /// Adds objects whose types are told at these numbers. Answers the fault of a name that is listed with two types.
-    ///
-    /// Fails where memory for them is refused.
-    fn put_each(
-        &mut self,
-        objects: &'m TypedList<A>,
-        numbers: &[usize],
-    ) -> Result<Result<(), LinkFault<'m>>, AllocError>
-        requires { length numbers.now ≡ length objects.now.items }
-        ensures { (told : ToldValue) (seen : List TypedValue) → AreDistinct told → AreAt told (map typed_view objects.now.items) numbers.now → AreSeen told seen self.old
-            → IfOk result (λ found. IsFound (numbered 24 (off_types seen (map typed_view objects.now.items))) found × AreSeen told (seen ++ map typed_view objects.now.items) self.new) }
-    {
-        self.objects.reserve(objects.len())?;
-        self.types.reserve(objects.len())?;
-        let mut found = Ok(());
-        for place in 0..objects.len() {
-            let object = &objects[place];
-            let is_right = self.put(object, numbers[place])?;
-            found = lower(found, once(is_right, object.name.as_bytes()));
-        }
-        Ok(found)
     }
 
     /// Adds constants or objects, and tells their types. Answers the fault of a name that is listed with two types.
@@ -111,7 +85,14 @@ impl<'m, 'a, A: Allocator, B: Allocator> Listed<'m, 'a, A, B> {
             → IfOk result (λ found. IsFound (numbered 24 (off_types seen (map typed_view objects.now.items))) found × AreSeen told.new (seen ++ map typed_view objects.now.items) self.new) }
     {
         let numbers = told.tell_all(*self.types.allocator(), types, objects)?;
-        let found = self.put_each(objects, &numbers)?;
+        self.objects.reserve(objects.len())?;
+        self.types.reserve(objects.len())?;
+        let mut found = Ok(());
+        for place in 0..objects.len() {
+            let object = &objects[place];
+            let is_right = self.put(object, numbers[place])?;
+            found = lower(found, once(is_right, object.name.as_bytes()));
+        }
         Ok(found)
     }
 

@@ -1,11 +1,11 @@
 //! Predicates, functions and actions, what declares them, and tables of them by name, with the types of their parameters.
 
-ghost use Rattle.std.specs.Prelude.{◌≡◌, [], ◌∷◌, ◌++◌, List, map, not, IfOk};
+ghost use Rattle.std.specs.Prelude.{◌≡◌, [], List, map, IfOk};
 ghost use Rattle.std.specs.List.{flat_map};
 ghost use Rattle.pddl_formula.specs.TypedLists.{typed_view};
 ghost use Rattle.pddl_domain.specs.Declarations.{Signature, predicate_view, function_view};
 ghost use Rattle.pddl_domain.specs.Actions.{action_view};
-ghost use Rattle.pddl_task.specs.Names.{repeated, is_in, item_of};
+ghost use Rattle.pddl_task.specs.Names.{repeated, item_of};
 ghost use Rattle.pddl_task.specs.Settings.{symbol_of, parameters_of};
 ghost use Rattle.pddl_faults.specs.Passes.{Passes};
 ghost use Rattle.pddl_faults.specs.Found.{IsFound, numbered};

@@ -1,10 +1,10 @@
 //! The types that are written in files, by number, with the tops of their primitives.
 
-ghost use Rattle.std.specs.Prelude.{◌≡◌, [], ℕ, List, map, filter, not, IfOk, OnOk};
+ghost use Rattle.std.specs.Prelude.{◌≡◌, [], ℕ, List, map, filter, not, IfOk};
 ghost use Rattle.pddl_formula.specs.TypedLists.{typed_view};
 ghost use Rattle.pddl_task.specs.Names.{is_in};
 ghost use Rattle.pddl_task.specs.Types.{types_of, pairs, fits};
-ghost use Rattle.pddl_forest.specs.Spans.{AreApart, hold_all};
+ghost use Rattle.pddl_forest.specs.Spans.{hold_all};
 ghost use Rattle.pddl_faults.specs.Passes.{Passes};
 ghost use Rattle.pddl_types.specs.Told.{ToldValue, tops_at, first_at, IsAt, AreAt, AreTold, AreKept, AreFitting, unknown_among};
 
@@ -38,33 +38,6 @@ impl<'m, 'a, A: Allocator, B: Allocator> Model for Told<'m, 'a, A, B> {
     ghost view = { λ t. told_in t.types.entries };
 
     ghost invariant = { λ t. AreFitting (told_in t.types.entries) t.fitting.entries };
-}
-
-/// Whether the tops of a slot's type hold the first number of each top of another type. It is found once, and kept by the two types' numbers, where both have
-/// many tops.
-///
-/// Fails where memory is refused.
-fn hold_once<'a, B: Allocator>(
-    fitting: &mut IndexMap<(usize, usize), bool, Hashed, &'a B>,
-    pair: (usize, usize),
-    told: &Tops<'a, B>,
-    tops: &Tops<'a, B>,
-) -> Result<bool, AllocError>
-    requires told { AreApart told.now }
-    requires tops { AreApart tops.now }
-    ensures fitting { (types : ToldValue) → AreFitting types fitting.old.entries → tops_at types pair.0 ≡ told.now → tops_at types pair.1 ≡ tops.now → AreFitting types fitting.new.entries }
-    ensures fit { (types : ToldValue) → AreFitting types fitting.old.entries → tops_at types pair.0 ≡ told.now → tops_at types pair.1 ≡ tops.now
-        → IfOk result (λ fit. fit ≡ hold_all tops.now told.now) }
-{
-    if told.as_slice().len() < 8 || tops.as_slice().len() < 8 {
-        return Ok(hold_all(tops.as_slice(), told.as_slice()));
-    }
-    if let Some(fit) = fitting.get(&pair) {
-        return Ok(*fit);
-    }
-    let fit = tops.hold_all(told)?;
-    fitting.insert(pair, fit)?;
-    Ok(fit)
 }
 
 impl<'m, 'a, A: Allocator, B: Allocator> Told<'m, 'a, A, B> {
@@ -173,6 +146,15 @@ impl<'m, 'a, A: Allocator, B: Allocator> Told<'m, 'a, A, B> {
         let Some((_, tops)) = self.types.get_index(slot) else {
             return Ok(false);
         };
-        hold_once(&mut self.fitting, (number, slot), told, tops)
+        if told.as_slice().len() < 8 || tops.as_slice().len() < 8 {
+            return Ok(hold_all(tops.as_slice(), told.as_slice()));
+        }
+        let pair = (number, slot);
+        if let Some(fit) = self.fitting.get(&pair) {
+            return Ok(*fit);
+        }
+        let fit = tops.hold_all(told)?;
+        self.fitting.insert(pair, fit)?;
+        Ok(fit)
     }
 }

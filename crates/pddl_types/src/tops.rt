@@ -1,7 +1,6 @@
 //! The tops of a type that is told, with rows of bits that say which numbers they begin at, and which they hold.
 
-ghost use Rattle.std.specs.Prelude.{◌≡◌, ◌||◌, ◌↔◌, ℕ, [], true, IsTrue, IfOk, IfSome, OnOk};
-ghost use Rattle.std.specs.List.{list_all};
+ghost use Rattle.std.specs.Prelude.{◌≡◌, ◌||◌, ℕ, IfOk, IfSome, OnOk};
 ghost use Rattle.pddl_bit_rows.specs.BitRows.{has_bit};
 ghost use Rattle.pddl_forest.specs.Spans.{holds, hold_all, AreApart};
 ghost use Rattle.pddl_types.specs.TopRows.{AreRowsOf};
@@ -55,34 +54,6 @@ fn set_span<'a, B: Allocator>(row: &mut Vec<u64, &'a B>, span: Span) -> Result<(
     Ok(())
 }
 
-impl<'a, B: Allocator> Rows<'a, B> {
-    /// Sets the bits of some tops in empty rows.
-    ///
-    /// Fails where memory for them is refused.
-    fn set(&mut self, spans: &[Span]) -> Result<(), AllocError>
-        requires begun { self.old.begun.items ≡ [] }
-        requires held { self.old.held.items ≡ [] }
-        ensures { OnOk result (AreRowsOf self.new.begun.items self.new.held.items spans.now) }
-    {
-        for span in spans {
-            set_bit(&mut self.begun, span.first as usize)?;
-            set_span(&mut self.held, *span)?;
-        }
-        Ok(())
-    }
-
-    /// Whether they hold all numbers that others begin at.
-    ///
-    /// Fails where memory for a row is refused.
-    fn hold(&self, others: &Rows<'a, B>) -> Result<bool, AllocError>
-        ensures { IfOk result (λ all. IsTrue all ↔ ((i : ℕ) → has_bit others.now.begun.items i ≡ true → has_bit self.now.held.items i ≡ true)) }
-    {
-        let mut missed = Vec::from_slice(*others.begun.allocator(), &others.begun)?;
-        clear_bits(&mut missed, &self.held);
-        Ok(share_no_bit(&missed, &missed))
-    }
-}
-
 /// The rows of some tops, where these are eight or more and on the average not more than 128 numbers apart: they take four words for each at most.
 ///
 /// Fails where memory for them is refused.
@@ -98,23 +69,14 @@ fn rows_of<'a, B: Allocator>(
                 begun: Vec::new(alloc),
                 held: Vec::new(alloc),
             };
-            let set = rows.set(spans);
-            set.and(Ok(Some(rows)))
+            for span in spans {
+                set_bit(&mut rows.begun, span.first as usize)?;
+                set_span(&mut rows.held, *span)?;
+            }
+            Ok(Some(rows))
         }
         _ => Ok(None),
     }
-}
-
-/// Whether the bits of the first numbers of some spans are set.
-fn are_bits_set(row: &[u64], spans: &[Span]) -> bool
-    ensures { result ≡ list_all (λ s. has_bit row.now s.first) spans.now }
-{
-    for span in spans {
-        if !is_bit_set(row, span.first as usize) {
-            return false;
-        }
-    }
-    true
 }
 
 impl<'a, B: Allocator> Tops<'a, B> {
@@ -149,8 +111,15 @@ impl<'a, B: Allocator> Tops<'a, B> {
         ensures { IfOk result (λ all. all ≡ hold_all self.now others.now) }
     {
         match (&self.rows, &others.rows) {
-            (Some(rows), Some(of_others)) => rows.hold(of_others),
-            (Some(rows), None) => Ok(are_bits_set(&rows.held, &others.spans)),
+            (Some(rows), Some(of_others)) => {
+                let mut missed = Vec::from_slice(*of_others.begun.allocator(), &of_others.begun)?;
+                clear_bits(&mut missed, &rows.held);
+                Ok(share_no_bit(&missed, &missed))
+            }
+            (Some(rows), None) => Ok(others
+                .spans
+                .iter()
+                .all(|top| is_bit_set(&rows.held, top.first as usize))),
             (None, _) => Ok(hold_all(&self.spans, &others.spans)),
         }
     }

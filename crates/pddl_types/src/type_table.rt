@@ -1,14 +1,14 @@
 //! The table of the types of a domain, each with the place of its parent, and the spans of its places, or the first type that is above itself.
 
-ghost use Rattle.std.specs.Prelude.{◌≡◌, ◌<◌, ◌^◌, List, [], ◌∷◌, length, map, Contains, IfOk, OnOk};
-ghost use Rattle.pddl_domain.specs.Declarations.{TypeValue, type_view};
-ghost use Rattle.pddl_task.specs.Names.{repeated, item_of};
+ghost use Rattle.std.specs.Prelude.{◌≡◌, ◌<◌, ◌^◌, [], length, map, Contains, IfOk, OnOk};
+ghost use Rattle.pddl_domain.specs.Declarations.{type_view};
 ghost use Rattle.pddl_task.specs.Types.{types_of};
 ghost use Rattle.pddl_forest.specs.Rounds.{HasRound, AreRounds};
 ghost use Rattle.pddl_forest.specs.Spans.{AreSpans};
 ghost use Rattle.pddl_faults.specs.Passes.{Passes};
-ghost use Rattle.pddl_types.specs.TypeTables.{parents_in, StandsAt, IsTableOf, IsTypeTable, cycle_in};
+ghost use Rattle.pddl_types.specs.TypeTables.{parents_in, IsTableOf, IsTypeTable, cycle_in};
 
+use crate::entries::put_new;
 use indexmap::IndexMap;
 use pddl_domain::{DeclaredType, DeclaredTypes};
 use pddl_faults::LinkFault;
@@ -16,25 +16,8 @@ use pddl_forest::{Span, forest_spans};
 use pddl_hash::Hashed;
 use std::alloc::{AllocError, Allocator};
 
-/// The place of a type in the table; it is put there under `object` where it does not stand yet.
-fn place_of<'m, 'a, B: Allocator>(
-    parents: &mut IndexMap<&'m [u8], usize, Hashed, &'a B>,
-    name: &'m [u8],
-) -> Result<usize, AllocError>
-    ensures table { (told : List TypeValue) → IsTableOf (types_of told) told parents.old.entries → OnOk result (IsTableOf (name.now ∷ types_of told) told parents.new.entries) }
-    ensures place { IfOk result (λ place. StandsAt parents.new.entries place name.now) }
-{
-    match parents.get_index_of(name) {
-        Some(place) => Ok(place),
-        None => {
-            let place = parents.len();
-            parents.insert(name, 0)?;
-            Ok(place)
-        }
-    }
-}
-
-/// Puts `object` and the declared types into an empty table, each with the place of its parent, which is looked up once for each group.
+/// Puts `object` and the declared types into an empty table, each with the place of its parent, which is looked up once for each group, and put there under
+/// `object` where it does not stand yet.
 ///
 /// Fails where memory for it is refused.
 pub(crate) fn put_types<'m, 'a, A: Allocator, B: Allocator>(
@@ -49,7 +32,8 @@ pub(crate) fn put_types<'m, 'a, A: Allocator, B: Allocator>(
     for number in 0..declared.len() {
         let declared_type = &declared[number];
         if !declared.shares(number) {
-            over = place_of(parents, declared_type.parent.as_bytes())?;
+            let last = parents.len();
+            over = put_new(parents, declared_type.parent.as_bytes(), 0)?.unwrap_or(last);
         }
         parents.insert(declared_type.name.as_bytes(), over)?;
     }

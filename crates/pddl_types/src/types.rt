@@ -138,12 +138,9 @@ impl<'m, 'a, A: Allocator, B: Allocator> Types<'m, 'a, A, B> {
         ensures { (n : List ℕ) → number ≡ (span_of self.now n).first → IsTrue (is_in (types_of self.now.declared) n) → result ≡ list_any (is_under (pairs self.now.declared) n) slot.now }
     {
         let _ = &self.spans;
-        for primitive in slot.as_slice() {
-            if self.span(primitive.as_bytes()).holds(number) {
-                return true;
-            }
-        }
-        false
+        slot.as_slice()
+            .iter()
+            .any(|primitive| self.span(primitive.as_bytes()).holds(number))
     }
 
     /// The tops of a type's primitives: their spans but for those that begin within another, in the order of their numbers. Tops tell what is under some

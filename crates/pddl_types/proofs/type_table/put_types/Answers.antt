@@ -4,9 +4,9 @@ use Rattle.pddl_domain.specs.Declarations.{TypeValue, type_view}
 use Rattle.pddl_task.specs.Types.{types_of}
 use Rattle.pddl_types.specs.TypeTables.{Row, StandsAt, IsTableOf}
 use Rattle.pddl_sizes.proofs.SharedTypes.{of_next}
-use Rattle.pddl_types.proofs.TypeTables.{put, stands_on, again, root_alone, put_under}
+use Rattle.pddl_types.proofs.TypeTables.{put, stands_on, again, root_alone, put_under, parent_put}
 use Rattle.pddl_faults.proofs.ListTurns.{seen_more, viewed_at}
-use Rattle.pddl_types.proofs.type_table.put_types.Goals.{then-not-shares+in_ok-over, else-not-shares}
+use Rattle.pddl_types.proofs.type_table.put_types.Goals.{then-not-shares+in_ok-put_new, else-not-shares}
 use Rattle.pddl_types.proofs.type_table.put_types.Goals as goal
 
 pub loop-number-init : goal.loop-number-init
@@ -26,10 +26,10 @@ loop-number-preserved g c =
     let here : slice_get (map type_view xs) l.number ≡ Some (type_view x) = viewed_at type_view xs l.number x low at in
     let ready : IsTableOf ((type_view x).of ∷ types_of told) told c.if-not-shares.parents.entries × StandsAt c.if-not-shares.parents.entries c.if-not-shares.over (type_view x).of =
     elim c.if-not-shares.branch [
-      | then-not-shares+in_ok-over w ↦
-          let rows = w.place_of.new.parents.entries in
-          rw (w.parents-is, w.over-is) (subst (λ n. IsTableOf (n ∷ types_of told) told rows × StandsAt rows w.in_ok-over.over n) (w.as_bytes.ensures.value ∙ w.deref-then-not-shares.ensures)
-          (w.in_ok-over.ensures.table told l.invariant.table, w.in_ok-over.ensures.place))
+      | then-not-shares+in_ok-put_new w ↦
+          let put = w.in_ok-put_new.ensures in
+          rw (w.parents-is, w.over-is, w.unwrap_or-over.ensures, w.len-last.ensures.len, ← w.deref-then-not-shares.ensures, ← w.as_bytes.ensures.value)
+          (parent_put told l.parents.entries w.put_new.new.table.entries w.as_bytes.result w.in_ok-put_new.field-0 l.invariant.table put.place put.entries put.unique)
       | else-not-shares w ↦
           let there = of_next (λ n. StandsAt l.parents.entries l.over n) (map type_view xs) (l.number - 1) l.number (c.shares.ensures.same w.if-not-shares.false)
           (λ y found. l.invariant.last (l.number - 1) y (omega (arith, c.shares.ensures.later w.if-not-shares.false)) found) (type_view x) here in

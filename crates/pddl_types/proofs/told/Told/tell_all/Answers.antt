@@ -35,18 +35,14 @@ returns-in_err-number g c =
       numbers = tt;
     })
 
-pub returns-in_err-push-clause-told : goal.returns-in_err-push-clause-told
-returns-in_err-push-clause-told g c =
+pub returns-in_err-push : goal.returns-in_err-push
+returns-in_err-push g c =
+    let before = c.loop-place.invariant in
+    let p = err_from_is_err_and c.from_residual-in_err-push.result c.from_residual-in_err-push.ensures.1 in
     elim c.if-not-shares.branch [
-      | then-not-shares+in_ok-number w ↦ subst (AreTold c.args.types.now) (sym w.self-is) w.tell.ensures.told
-      | else-not-shares w ↦ subst (AreTold c.args.types.now) (sym w.self-is) c.loop-place.invariant.types
-    ]
-
-pub returns-in_err-push-clause-kept : goal.returns-in_err-push-clause-kept
-returns-in_err-push-clause-kept g c =
-    elim c.if-not-shares.branch [
-      | then-not-shares+in_ok-number w ↦ subst (AreKept c.args.self.now) (sym w.self-is) (kept_then c.args.self.now c.loop-place.self w.tell.new.self c.loop-place.invariant.kept w.tell.ensures.kept)
-      | else-not-shares w ↦ subst (AreKept c.args.self.now) (sym w.self-is) c.loop-place.invariant.kept
+      | then-not-shares+in_ok-number w ↦
+          rw (w.self-is, p.1) (record { told = w.tell.ensures.told; kept = kept_then c.args.self.now c.loop-place.self w.tell.new.self before.kept w.tell.ensures.kept; passes = rw p.2 tt; numbers = tt })
+      | else-not-shares w ↦ rw (w.self-is, p.1) (record { told = before.types; kept = before.kept; passes = rw p.2 tt; numbers = tt })
     ]
 
 pub loop-place-preserved : goal.loop-place-preserved
