@@ -9,15 +9,13 @@ use Rattle.pddl_domain.specs.Declarations.{TypeValue}
 use Rattle.pddl_domain.specs.Actions.{ActionValue}
 use Rattle.pddl_domain.specs.Domains.{DomainValue}
 use Rattle.pddl_problem.specs.Problems.{ProblemValue}
-use Rattle.pddl_task.specs.Names.{repeated}
 use Rattle.pddl_task.specs.Places.{action_places, domain_places}
-use Rattle.pddl_task.specs.Settings.{symbol_of, parameters_of, function_signatures, objects_of}
+use Rattle.pddl_task.specs.Settings.{parameters_of, function_signatures, objects_of}
 use Rattle.pddl_task.specs.Faults.{variables_at, unknown_types, domain_typed, problem_typed, domain_repeats, problem_repeats, object_types}
 use Rattle.pddl_task.specs.Linked.{fault_in, NoneStands}
 use Rattle.pddl_task.proofs.Lists.{nil_parts, both_nil}
 use Rattle.pddl_task.proofs.DistinctNames.{firsts_have}
 use Rattle.pddl_task.proofs.LinkedTasks.{at_most_one}
-use Rattle.pddl_faults.specs.Found.{numbered}
 use Rattle.pddl_types.specs.KnownNames.{action_signature}
 use Rattle.pddl_types.specs.Told.{ToldValue, first_at, AreAt, AreTold, unknown_among}
 use Rattle.pddl_types.specs.TypeSpans.{TypesValue, AreNumbered}

@@ -1,6 +1,6 @@
 -- Verdicts in turn: what is found among the parts of a domain and a problem is the verdict on the rules from 23 to 33, and rules follow one another by rising numbers.
 use Rattle.std.proofs.Common.{◌≡◌, ◌≤◌, ℕ, Bool, true, List, [], ◌∷◌, ◌++◌, map, drop, Result, Ok, Err, IfSome, refl, ap, ◌∙◌, subst, arith, append_assoc, inl, inr}
-use Rattle.std.specs.Prelude.{nat_le, Contains, Option, Some, None, IsOk, OnOk}
+use Rattle.std.specs.Prelude.{nat_le, Option, Some, None, IsOk, OnOk}
 use Rattle.std.specs.List.{list_all, flat_map}
 use Rattle.std.proofs.lemmas.Bool.Decides.{nat_tests}
 use Rattle.std.proofs.lemmas.List.Elements.{Contains-append_left, Contains-append_cases}
@@ -10,7 +10,7 @@ use Rattle.pddl_task.specs.Names.{Name}
 use Rattle.pddl_task.specs.Places.{domain_places}
 use Rattle.pddl_task.specs.Faults.{unknown_types, variables_at, domain_typed, problem_typed}
 use Rattle.pddl_task.specs.Linked.{Fault, fault, fault_in, Stands, NoneStands, IsLowest}
-use Rattle.pddl_task.proofs.Lists.{all_found, has_none}
+use Rattle.pddl_task.proofs.Lists.{all_found}
 use Rattle.pddl_faults.specs.declared.fault.LinkFault.{LinkFault}
 use Rattle.pddl_faults.specs.Passes.{fault_of, Passes, Verdict}
 use Rattle.pddl_faults.specs.Found.{IsFound, numbered}

@@ -1,4 +1,4 @@
-use Rattle.std.proofs.Common.{◌≡◌, map, take}
+use Rattle.std.proofs.Common.{◌≡◌, take}
 use Rattle.pddl_task.specs.Types.{pairs}
 use Rattle.pddl_task.specs.GroundSize.{fitting_count}
 use Rattle.pddl_types.specs.Known.{objects_in}
