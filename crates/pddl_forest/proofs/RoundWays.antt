@@ -116,7 +116,7 @@ module _ {ps left order : List ℕ} {spans : List Span} (h : ArePeeled ps left o
       few = omega (
         arith,
         few_apart (length ps) (suc (length order)) (number_at order) (λ u low. grind (arith, h.listed.once u, last, some, low)) (λ a b less low same.
-        omega (arith, turn_is a (omega (arith, less, low)), turn_is b (omega (arith, low)), ap (turn_of order) same, less)),
+            omega (arith, turn_is a (omega (arith, less, low)), turn_is b (omega (arith, low)), ap (turn_of order) same, less)),
       );
       above = above;
       ahead = λ i low other. rw (get_or_default ps i 0 i low) (grind (arith, h.behind i low, listed i low (λ is. absurd (other is)), turn_few order (parent_of ps i)));

@@ -1,5 +1,5 @@
 -- What is found in parts of faults.
-use Rattle.std.proofs.Common.{◌≡◌, ◌≤◌, ℕ, Bool, true, List, [], ◌∷◌, ◌++◌, ◌&&◌, drop, Result, Ok, Err, refl, ap, ◌∙◌, arith}
+use Rattle.std.proofs.Common.{◌≡◌, ◌≤◌, ℕ, Bool, true, List, [], ◌∷◌, ◌++◌, drop, Result, Ok, Err, refl, arith}
 use Rattle.std.specs.Prelude.{OnOk, IsOk, nat_le}
 use Rattle.std.specs.List.{flat_map, list_all}
 use Rattle.std.proofs.lemmas.Bool.Decides.{nat_tests}
@@ -31,7 +31,7 @@ found_parts us vs first second both lower h k =
 -- all of what is found in items passes a test where it does in each; and so of nothing
 pub all-flat : {X Y : Type 0} (test : Y → Bool) (f : X → List Y) (xs : List X) → list_all test (flat_map f xs) ≡ list_all (λ x. list_all test (f x)) xs
 all-flat test f [] = refl
-all-flat test f (x ∷ xs) = list_all-append test (f x) (flat_map f xs) ∙ ap (λ b. list_all test (f x) && b) (all-flat test f xs)
+all-flat test f (x ∷ xs) = simp (list_all-append, all-flat test f xs)
 
 pub all_pass : {X : Type 0} (xs : List X) → list_all (λ (x : X). true) xs ≡ true
 all_pass [] = refl

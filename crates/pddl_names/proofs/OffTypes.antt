@@ -1,16 +1,14 @@
 -- Names that are listed with two types: told by the first of each name, and by all that stand before.
-use Rattle.std.proofs.Common.{◌≡◌, Bool, true, false, not, ◌&&◌, ◌||◌, cond, List, [], ◌∷◌, ◌++◌, Some, None, refl, sym, ap, ◌∙◌, subst, bytes_eq, arith, append_assoc, inl, inr}
-use Rattle.std.specs.Prelude.{Contains, Option, find}
+use Rattle.std.proofs.Common.{◌≡◌, Bool, true, false, not, ◌&&◌, List, [], ◌∷◌, ◌++◌, refl, sym, ap, ◌∙◌, subst, arith, append_assoc, inl, inr}
+use Rattle.std.specs.Prelude.{Contains}
 use Rattle.std.specs.Cmp.Lexicographic.{bytes_decides, pointwise_decides, nat_list_eq_equiv}
-use Rattle.std.specs.Option.{option_map_or, option_or}
-use Rattle.std.proofs.Math.Bool.{or-false, or_self}
 use Rattle.std.proofs.lemmas.List.Elements.{Contains-append_left, Contains-append_right, Contains-append_cases}
 use Rattle.std.proofs.lemmas.List.Folds.{find-append}
 use Rattle.pddl_formula.specs.TypedLists.{TypedValue}
 use Rattle.pddl_task.specs.Names.{Name, is_named, item_of, same_names, word_if, wrong_words}
 use Rattle.pddl_task.specs.Faults.{has_other_type, retyped}
 use Rattle.pddl_task.proofs.DistinctNames.{word_none}
-use Rattle.pddl_task.proofs.Lists.{append-none, both_nil, bytes_same, has_none, nil_parts, or_left, or_right}
+use Rattle.pddl_task.proofs.Lists.{append-none, both_nil, bytes_same, has_none, nil_parts}
 use Rattle.pddl_faults.proofs.SeenItems.{any_more}
 use Rattle.pddl_types.specs.Objects.{is_off, off_types}
 
@@ -23,11 +21,7 @@ words-append wrong word before (x ∷ xs) ys = simp (append_assoc, words-append 
 -- where the first of the name has another type, one before it has
 off_is : (seen : List TypedValue) (x : TypedValue) → is_off seen x ≡ true → has_other_type seen x ≡ true
 off_is [] x off = cc
-off_is (y ∷ seen) x off =
-    elim (bytes_eq x.item y.item) as (λ b. bytes_eq x.item y.item ≡ b → option_map_or (λ (z : TypedValue). not (same_names z.of x.of)) (cond b (Some y) (find (is_named x.item) seen)) false ≡ true → has_other_type (y ∷ seen) x ≡ true) [
-      | true ↦ λ same other. or_left _ (has_other_type seen x) (ap (λ b. b && not (same_names y.of x.of)) (nat_list_eq_equiv.symm y.item x.item ∙ same) ∙ other)
-      | false ↦ λ _ other. or_right _ (has_other_type seen x) (off_is seen x other)
-    ] refl off
+off_is (y ∷ seen) x off = grind (arith, off, off_is seen x, nat_list_eq_equiv.symm y.item x.item)
 
 -- so each word of the one is a word of the other
 pub off_within : (seen xs : List TypedValue) (w : Name) → Contains (off_types seen xs) w → Contains (retyped seen xs) w
@@ -48,27 +42,8 @@ AreOne seen = (x : TypedValue) → has_other_type seen x ≡ is_off seen x
 
 one_more : (seen : List TypedValue) (y : TypedValue) → AreOne seen → is_off seen y ≡ false → AreOne (seen ++ y ∷ [])
 one_more seen y one right x =
-    any_more (λ z. is_named z.item x && differs z) seen y ∙ ap (λ b. b || (is_named y.item x && differs y)) (one x)
-    ∙ joined (find (is_named x.item) seen) (bytes_eq y.item x.item) refl refl
-    ∙ ap (λ b. first_differs (option_or (find (is_named x.item) seen) (cond b (Some y) None))) (nat_list_eq_equiv.symm y.item x.item)
-    ∙ ap first_differs (sym (find-append (is_named x.item) seen (y ∷ [])))
-  where
-    differs : TypedValue → Bool
-    differs z = not (same_names z.of x.of)
-
-    first_differs : Option TypedValue → Bool
-    first_differs o = option_map_or differs o false
-
-    same_type : (z : TypedValue) → not (same_names z.of y.of) ≡ false → differs z ≡ differs y
-    same_type z same = ap (λ of. not (same_names of x.of)) ((pointwise_decides bytes_decides z.of y.of).0 (grind arith))
-
-    joined : (o : Option TypedValue) (b : Bool) → find (is_named x.item) seen ≡ o → bytes_eq y.item x.item ≡ b → first_differs o || (b && differs y) ≡ first_differs (option_or o (cond b (Some y) None))
-    joined None true at named = refl
-    joined None false at named = refl
-    joined (Some z) false at named = or-false (differs z)
-    joined (Some z) true at named =
-        let first : find (is_named y.item) seen ≡ Some z = ap (λ n. find (is_named n) seen) (bytes_same y.item x.item named) ∙ at in
-        ap (λ d. differs z || d) (sym (same_type z (ap (λ o. option_map_or (λ u. not (same_names u.of y.of)) o false) (sym first) ∙ right))) ∙ or_self (differs z)
+    let same_type = λ (z : TypedValue) (same : not (same_names z.of y.of) ≡ false). (pointwise_decides bytes_decides z.of y.of).0 (grind (arith, same)) in
+    grind (arith, any_more (λ z. is_named z.item x && not (same_names z.of x.of)) seen y, one x, right, find-append (is_named x.item) seen (y ∷ []), nat_list_eq_equiv.symm y.item x.item, bytes_same y.item x.item, same_type)
 
 none_off : (seen xs : List TypedValue) → AreOne seen → off_types seen xs ≡ [] → retyped seen xs ≡ []
 none_off seen [] one none = refl

@@ -1,5 +1,5 @@
 -- The faults that are looked for in parts are those that the rules of linking name.
-use Rattle.std.proofs.Common.{◌≡◌, ◌≤◌, ℕ, Bool, true, false, ◌==◌, ◌&&◌, cond, List, [], ◌∷◌, ◌++◌, Option, Some, None, Result, Ok, Err, IfSome, map, refl, sym, ap, ap₂, ◌∙◌, subst, arith, append_assoc, inl, inr}
+use Rattle.std.proofs.Common.{◌≡◌, ◌≤◌, ℕ, Bool, true, false, ◌==◌, cond, List, [], ◌∷◌, ◌++◌, Option, Some, None, Result, Ok, Err, IfSome, map, refl, sym, ap, ◌∙◌, subst, arith, append_assoc, inl, inr}
 use Rattle.std.specs.Prelude.{Contains, filter}
 use Rattle.std.specs.List.{AllByRecursion, list_all, list_any, flat_map}
 use Rattle.std.proofs.lemmas.Bool.Decides.{nat_tests}
@@ -12,7 +12,7 @@ use Rattle.pddl_domain.specs.Domains.{DomainValue}
 use Rattle.pddl_problem.specs.Problems.{ProblemValue}
 use Rattle.pddl_task.specs.Names.{Name, is_in, word_if, repeated}
 use Rattle.pddl_task.specs.Places.{Place, action_places, domain_places, problem_places}
-use Rattle.pddl_task.specs.Settings.{symbol_of, parameters_of, function_signatures, Setting}
+use Rattle.pddl_task.specs.Settings.{symbol_of, function_signatures, Setting}
 use Rattle.pddl_task.specs.Faults.{domain_typed, problem_typed, retyped, variables_at, repeated_at, repeated_in_actions}
 use Rattle.pddl_task.specs.Linked.{Fault, fault_in, NoneStands, IsLowest}
 use Rattle.pddl_task.proofs.Lists.{all_found, any_found, append-none, has_cases, has_first, has_none, is_kept, is_mapped, kept_is, mapped_is}
@@ -39,13 +39,8 @@ words-append : (n : ℕ) (xs ys : List (ℕ × Name)) → words_of n (xs ++ ys) 
 words-append n xs ys = simp (filter-append, map-append)
 
 words-numbered : (n m : ℕ) (ws : List Name) → words_of n (numbered m ws) ≡ cond (m == n) ws []
-words-numbered n m [] = elim (m == n) as (λ b. ◌≡◌ {A = List Name} [] (cond b [] [])) [ true ↦ refl | false ↦ refl ]
-words-numbered n m (w ∷ ws) =
-    let rest = filter (λ (f : ℕ × Name). f.0 == n) (numbered m ws) in
-    elim (m == n) as (λ b. words_of n (numbered m ws) ≡ cond b ws [] → map (λ (f : ℕ × Name). f.1) (cond b ((m, w) ∷ rest) rest) ≡ cond b (w ∷ ws) []) [
-      | true ↦ λ h. ap (λ vs. w ∷ vs) h
-      | false ↦ λ h. h
-    ] (words-numbered n m ws)
+words-numbered n m [] = grind arith
+words-numbered n m (w ∷ ws) = grind (arith, words-numbered n m ws)
 
 words-flat : {X : Type 0} (n : ℕ) (f : X → List (ℕ × Name)) (xs : List X) → words_of n (flat_map f xs) ≡ flat_map (λ x. words_of n (f x)) xs
 words-flat n f [] = refl
@@ -114,18 +109,15 @@ words_in named words seen (a ∷ rest) = (cond named (word_if (is_in seen a.name
 words-actions : (n : ℕ) (sought : Place → List (ℕ × Name)) (seen : List Name) (acts : List ActionValue)
     → words_of n (action_faults sought seen acts) ≡ words_in (24 == n) (λ pl. words_of n (sought pl)) seen acts
 words-actions n sought seen [] = refl
-words-actions n sought seen (a ∷ rest) =
-    let named = word_if (is_in seen a.name) a.name in
-    words-append n (numbered 24 named ++ flat_map sought (action_places a)) (action_faults sought (seen ++ a.name ∷ []) rest)
-    ∙ ap₂ ◌++◌ (words-append n (numbered 24 named) (flat_map sought (action_places a)) ∙ ap₂ ◌++◌ (words-numbered n 24 named) (words-flat n sought (action_places a))) (words-actions n sought (seen ++ a.name ∷ []) rest)
+words-actions n sought seen (a ∷ rest) = rw (words-append, words-append, words-numbered, words-flat n sought (action_places a), words-actions n sought (seen ++ a.name ∷ []) rest) refl
 
 words-places : (words : Place → List Name) (seen : List Name) (acts : List ActionValue) → words_in false words seen acts ≡ flat_map words (flat_map action_places acts)
 words-places words seen [] = refl
-words-places words seen (a ∷ rest) = ap (λ ws. flat_map words (action_places a) ++ ws) (words-places words (seen ++ a.name ∷ []) rest) ∙ sym (flat_map-append words (action_places a) (flat_map action_places rest))
+words-places words seen (a ∷ rest) = simp (flat_map-append, words-places words (seen ++ a.name ∷ []) rest)
 
 words-repeated : (seen : List Name) (acts : List ActionValue) → words_in true repeated_at seen acts ≡ repeated_in_actions seen acts
 words-repeated seen [] = refl
-words-repeated seen (a ∷ rest) = ap (λ ws. (word_if (is_in seen a.name) a.name ++ flat_map repeated_at (action_places a)) ++ ws) (words-repeated (seen ++ a.name ∷ []) rest)
+words-repeated seen (a ∷ rest) = simp (words-repeated (seen ++ a.name ∷ []) rest)
 
 abbrev no_words : {X : Type 0} → X → List Name
 no_words x = []
@@ -142,19 +134,16 @@ ruleset by_number = (words-append, words-numbered, words-flat, words-actions, wo
 -- the types of the variables of places
 unknown-places : (ts : List TypeValue) (pls : List Place) → unknown_among ts (flat_map variables_at pls) ≡ flat_map (λ pl. unknown_among ts (variables_at pl)) pls
 unknown-places ts [] = refl
-unknown-places ts (pl ∷ pls) = unknown-append ts (variables_at pl) (flat_map variables_at pls) ∙ ap (λ ws. unknown_among ts (variables_at pl) ++ ws) (unknown-places ts pls)
+unknown-places ts (pl ∷ pls) = simp (unknown-append, unknown-places ts pls)
 
 -- what a domain declares comes before its places
 pub unknown-declared : (ts : List TypeValue) (d : DomainValue)
     → unknown_among ts (domain_typed d) ≡ unknown_among ts (declared_typed d) ++ flat_map (λ pl. unknown_among ts (variables_at pl)) (domain_places d)
-unknown-declared ts d =
-    let bound = flat_map variables_at (domain_places d) in
-    ap (λ xs. unknown_among ts (xs ++ bound)) (append_assoc d.constants (flat_map parameters_of d.predicates) (flat_map parameters_of (function_signatures d)))
-    ∙ unknown-append ts (declared_typed d) bound ∙ ap (λ ws. unknown_among ts (declared_typed d) ++ ws) (unknown-places ts (domain_places d))
+unknown-declared ts d = simp (append_assoc, unknown-append, unknown-places)
 
 -- and a problem's objects come before its places
 unknown-problem : (ts : List TypeValue) (p : ProblemValue) → unknown_among ts (problem_typed p) ≡ unknown_among ts p.objects ++ flat_map (λ pl. unknown_among ts (variables_at pl)) (problem_places p)
-unknown-problem ts p = unknown-append ts p.objects (flat_map variables_at (problem_places p)) ∙ ap (λ ws. unknown_among ts p.objects ++ ws) (unknown-places ts (problem_places p))
+unknown-problem ts p = simp (unknown-append, unknown-places)
 
 -- ---- verdicts
 
@@ -169,11 +158,7 @@ places_ruled ts s pls = simp from_parts
 
 actions_ruled : (ts : List TypeValue) (s : Setting) (seen : List Name) (acts : List ActionValue) → list_all is_ruled (action_faults (place_faults ts s) seen acts) ≡ true
 actions_ruled ts s seen [] = refl
-actions_ruled ts s seen (a ∷ rest) =
-    let named = numbered 24 (word_if (is_in seen a.name) a.name) in
-    let found = flat_map (place_faults ts s) (action_places a) in
-    list_all-append is_ruled (named ++ found) (action_faults (place_faults ts s) (seen ++ a.name ∷ []) rest)
-    ∙ ap₂ ◌&&◌ (list_all-append is_ruled named found ∙ ap₂ ◌&&◌ (named_ruled (word_if (is_in seen a.name) a.name)) (places_ruled ts s (action_places a))) (actions_ruled ts s (seen ++ a.name ∷ []) rest)
+actions_ruled ts s seen (a ∷ rest) = rw (list_all-append, list_all-append, named_ruled, places_ruled ts s (action_places a)) (actions_ruled ts s (seen ++ a.name ∷ []) rest)
 
 both : {P Q : Type 0} → P → Q → P × Q
 both p q = (p, q)

@@ -1,13 +1,13 @@
 -- Names that are seen one after another, and a set of them.
-use Rattle.std.proofs.Common.{◌≡◌, ℕ, Bool, true, false, ◌||◌, not, cond, List, [], ◌∷◌, ◌++◌, map, drop, Result, refl, ap, sym, ◌∙◌, bytes_eq}
+use Rattle.std.proofs.Common.{◌≡◌, ℕ, Bool, true, false, ◌||◌, not, cond, List, [], ◌∷◌, ◌++◌, map, drop, Result, refl, ap, sym, ◌∙◌, bytes_eq, arith}
 use Rattle.std.specs.Borrow.{Bor}
 use Rattle.std.specs.List.{list_any}
-use Rattle.std.proofs.Math.Bool.{or-false, not-not}
+use Rattle.std.proofs.Math.Bool.{not-not}
 use Rattle.pddl_domain.specs.declared.domain.Action.{Action}
 use Rattle.pddl_domain.specs.Actions.{action_view}
 use Rattle.pddl_task.specs.Names.{Name, is_in}
 use Rattle.pddl_task.specs.Places.{Place}
-use Rattle.pddl_task.proofs.Lists.{or_right, bytes_same}
+use Rattle.pddl_task.proofs.Lists.{bytes_same}
 use Rattle.pddl_faults.specs.declared.fault.LinkFault.{LinkFault}
 use Rattle.pddl_faults.proofs.FoundFaults.{IsFoundUpTo}
 use Rattle.pddl_faults.proofs.SeenItems.{any_more}
@@ -22,11 +22,7 @@ HasNames keys seen = (n : Name) → has keys n ≡ is_in seen n
 
 has_more : (keys : List (Bor (List ℕ))) (key : Bor (List ℕ)) (there : Bool) (n : Name) → has keys key.now ≡ there → has (cond there keys (keys ++ key ∷ [])) n ≡ (has keys n || bytes_eq n key.now)
 has_more keys key false n off = any_more (λ k. bytes_eq n k.now) keys key
-has_more keys key true n on =
-    elim (bytes_eq n key.now) as (λ b. bytes_eq n key.now ≡ b → has keys n ≡ (has keys n || b)) [
-      | true ↦ λ is. ap (has keys) (bytes_same n key.now is) ∙ on ∙ sym (or_right (has keys n) true refl)
-      | false ↦ λ _. sym (or-false (has keys n))
-    ] refl
+has_more keys key true n on = grind (arith, on, bytes_same n key.now)
 
 module _ (keys : List (Bor (List ℕ))) (key : Bor (List ℕ)) (seen : List Name) (name : Name) (named : key.now ≡ name) (same : HasNames keys seen) where
   -- with one more

@@ -1,9 +1,8 @@
 -- Terms and their slots, in turn.
-use Rattle.std.proofs.Common.{◌≡◌, ℕ, ◌+◌, ◌<◌, ◌≤◌, Bool, true, false, not, ◌&&◌, ◌||◌, List, [], ◌∷◌, ◌++◌, length, get_or, drop, Option, Some, None, refl, ap, sym, ◌∙◌, subst, arith}
+use Rattle.std.proofs.Common.{◌≡◌, ℕ, ◌+◌, ◌<◌, ◌≤◌, Bool, false, not, ◌&&◌, ◌||◌, List, [], ◌∷◌, ◌++◌, length, get_or, drop, Option, Some, None, refl, ap, sym, ◌∙◌, subst, arith}
 use Rattle.std.specs.Prelude.{Contains, is_some, slice_get}
 use Rattle.std.specs.List.{flat_map}
 use Rattle.std.proofs.lemmas.List.{drop_all}
-use Rattle.std.proofs.Math.Bool.{or-false}
 use Rattle.std.proofs.lemmas.Option.{slice_get_within, get_or_from_slice_get}
 use Rattle.pddl_formula.specs.Terms.{TermValue, name, variable}
 use Rattle.pddl_formula.specs.TypedLists.{TypedValue}
@@ -52,14 +51,6 @@ no_slots : (s : Setting) (b : List TypedValue) (ts : List TermValue) → some_mi
 no_slots s b [] = refl
 no_slots s b (t ∷ ts) = refl
 
--- none is left
-module _ (s : Setting) (b : List TypedValue) (ts : List TermValue) (i : ℕ) (past : length ts ≤ i) where
-  pub all_known : flat_map (unknown_term s b) (drop i ts) ≡ flat_map (unknown_term s b) ts → flat_map (unknown_term s b) ts ≡ []
-  all_known left = sym left ∙ ap (flat_map (unknown_term s b)) (drop_all i ts past)
-
-  pub all_fit : (xs : List TypedValue) (all : Bool) → (not all || some_misfit s b (drop i ts) (drop i xs)) ≡ some_misfit s b ts xs → some_misfit s b ts xs ≡ not all
-  all_fit xs all left = sym left ∙ ap (λ us. not all || some_misfit s b us (drop i xs)) (drop_all i ts past) ∙ or-false (not all)
-
 -- a term that is in turn
 module _ (s : Setting) (b : List TypedValue) (ts : List TermValue) (xs : List TypedValue) (i : ℕ) (t : TermValue) (low : i < length ts) (at : t ≡ get_or ts i t) where
   words_left : flat_map (unknown_term s b) (drop i ts) ≡ unknown_term s b t ++ flat_map (unknown_term s b) (drop (i + 1) ts)
@@ -77,18 +68,8 @@ module _ (s : Setting) (b : List TypedValue) (ts : List TermValue) (xs : List Ty
   pub fits_here : (x : TypedValue) (f all next whole : Bool) → slice_get xs i ≡ Some x → is_misfit s.pairs (typed_term s b t) x ≡ not f → next ≡ all && f
       → (not all || some_misfit s b (drop i ts) (drop i xs)) ≡ whole → (not next || some_misfit s b (drop (i + 1) ts) (drop (i + 1) xs)) ≡ whole
   fits_here x f all next whole slot fit is left =
-      let step : some_misfit s b (drop i ts) (drop i xs) ≡ not f || some_misfit s b (drop (i + 1) ts) (drop (i + 1) xs) =
-      ap (λ us. some_misfit s b us (drop i xs)) (rest_is ts i t low at)
-      ∙ ap (some_misfit s b (t ∷ drop (i + 1) ts)) (rest_is xs i x (slice_get_within xs i x slot) (sym (get_or_from_slice_get xs i x x slot)))
-      ∙ ap (λ c. c || some_misfit s b (drop (i + 1) ts) (drop (i + 1) xs)) fit in
-      more_fit all f next (some_misfit s b (drop i ts) (drop i xs)) (some_misfit s b (drop (i + 1) ts) (drop (i + 1) xs)) step left is
-    where
-      more_fit : (all f next some rest : Bool) → some ≡ not f || rest → (not all || some) ≡ whole → next ≡ all && f → (not next || rest) ≡ whole
-      more_fit true f next some rest step inv is = ap (λ c. not c || rest) is ∙ sym step ∙ inv
-      more_fit false f next some rest step inv is = ap (λ c. not c || rest) is ∙ inv
+      grind (arith, rest_is ts i t low at, rest_is xs i x (slice_get_within xs i x slot) (sym (get_or_from_slice_get xs i x x slot)), fit, is, left)
 
   -- or where it has none
   pub past_here : (all whole : Bool) → length xs ≤ i → (not all || some_misfit s b (drop i ts) (drop i xs)) ≡ whole → (not all || some_misfit s b (drop (i + 1) ts) (drop (i + 1) xs)) ≡ whole
-  past_here all whole past left =
-      ap (λ ys. not all || some_misfit s b (drop (i + 1) ts) ys) (drop_all (i + 1) xs (omega (arith, past))) ∙ ap (λ c. not all || c) (no_slots s b (drop (i + 1) ts) ∙ sym (no_slots s b (drop i ts)))
-      ∙ ap (λ ys. not all || some_misfit s b (drop i ts) ys) (sym (drop_all i xs past)) ∙ left
+  past_here all whole past left = grind (arith, drop_all i xs past, drop_all (i + 1) xs (omega (arith, past)), no_slots s b (drop (i + 1) ts), no_slots s b (drop i ts), left)

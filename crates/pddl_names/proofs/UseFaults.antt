@@ -1,11 +1,12 @@
 -- The faults of a predicate or a function with its terms.
-use Rattle.std.proofs.Common.{◌≡◌, ℕ, Bool, true, not, List, [], ◌++◌, map, length, ◌==◌, Option, Some, None, Result, Err, ap, sym, ◌∙◌, subst, bytes_eq}
+use Rattle.std.proofs.Common.{◌≡◌, ◌≤◌, ℕ, Bool, ◌||◌, true, not, List, [], ◌++◌, map, length, drop, ◌==◌, Option, Some, None, Result, Err, ap, sym, ◌∙◌, subst, bytes_eq}
 use Rattle.std.specs.Prelude.{Contains, is_some, option_map}
 use Rattle.std.specs.List.{flat_map}
 use Rattle.std.specs.Borrow.{Bor}
 use Rattle.std.specs.Map.{lookup}
 use Rattle.std.proofs.lemmas.Option.{same_Some}
-use Rattle.std.proofs.lemmas.List.{map-append}
+use Rattle.std.proofs.Math.Bool.{or-false}
+use Rattle.std.proofs.lemmas.List.{drop_all, map-append}
 use Rattle.std.proofs.lemmas.List.Elements.{All-contains, Contains-append_left}
 use Rattle.pddl_formula.specs.Terms.{TermValue}
 use Rattle.pddl_formula.specs.TypedLists.{TypedValue, typed_view}
@@ -17,7 +18,7 @@ use Rattle.pddl_task.proofs.Lists.{at_place, append-none, has_first}
 use Rattle.pddl_faults.specs.declared.fault.LinkFault.{LinkFault}
 use Rattle.pddl_faults.specs.Passes.{Passes}
 use Rattle.pddl_faults.specs.Found.{IsFound, numbered}
-use Rattle.pddl_faults.proofs.FoundFaults.{passed_found, found_rest}
+use Rattle.pddl_faults.proofs.FoundFaults.{passed_found}
 use Rattle.pddl_search.proofs.InitClaims.{unequal_yes, unequal_no}
 use Rattle.pddl_types.specs.KnownNames.{signature_in}
 use Rattle.pddl_types.specs.Told.{ToldValue}
@@ -85,19 +86,23 @@ module _ {A B : Type 0} (s : Setting) (b : List TypedValue) (ts : List TermValue
     pub unknown_found : (e : LinkFault) → Passes {T = Unit {0}} 26 words (Err e) → IsFound {T = Unit {0}} (faults_of_use s b used) (Err e)
     unknown_found e h = rw declared_is (first_found words (word_if others n) (word_if misfit n) e h)
 
-    -- all are known, and there is another number of terms
-    pub others_found : (e : LinkFault) → words ≡ [] → (length ts ≡ length (map typed_view slots.parameters.now) → ⊥) → ((ns : List Name) → Contains ns n → Passes {T = Unit {0}} 27 ns (Err e)) → IsFound {T = Unit {0}} (faults_of_use s b used) (Err e)
-    others_found e none are told =
-        rw declared_is
-        (found_rest {T = Unit {0}} (numbered 26 words) (numbered 27 (word_if others n) ++ numbered 28 (word_if misfit n)) (Err e) (ap (numbered 26) none)
-        (passed_first 27 (word_if others n) (numbered 28 (word_if misfit n)) e (told (word_if others n) (has_word others n (unequal_yes (length ts) (length (map typed_view slots.parameters.now)) are))) (simp from_parts)))
+    -- all are known, as far as they go
+    module _ (i : ℕ) (past : length ts ≤ i) (left : flat_map (unknown_term s b) (drop i ts) ≡ words) where
+      known : words ≡ []
+      known = sym left ∙ ap (flat_map (unknown_term s b)) (drop_all i ts past)
 
-    -- there are as many terms as slots, and some does not fit, or all do
-    pub misfit_found : (r : Result (Unit {0}) LinkFault) → words ≡ [] → length ts ≡ length (map typed_view slots.parameters.now) → Passes 28 (word_if misfit n) r → IsFound (faults_of_use s b used) r
-    misfit_found r none same h =
-        rw declared_is
-        (found_rest (numbered 26 words) (numbered 27 (word_if others n) ++ numbered 28 (word_if misfit n)) r (ap (numbered 26) none)
-        (found_rest (numbered 27 (word_if others n)) (numbered 28 (word_if misfit n)) r (ap (λ c. numbered 27 (word_if c n)) (unequal_no (length ts) (length (map typed_view slots.parameters.now)) same)) (passed_found 28 (word_if misfit n) r h)))
+      -- there is another number of terms
+      pub others_found : (e : LinkFault) → (length ts ≡ length (map typed_view slots.parameters.now) → ⊥) → ((ns : List Name) → Contains ns n → Passes {T = Unit {0}} 27 ns (Err e)) → IsFound {T = Unit {0}} (faults_of_use s b used) (Err e)
+      others_found e are told =
+          rw (declared_is, known)
+          (passed_first 27 (word_if others n) (numbered 28 (word_if misfit n)) e (told (word_if others n) (has_word others n (unequal_yes (length ts) (length (map typed_view slots.parameters.now)) are))) (simp from_parts))
+
+      -- there are as many terms as slots, and some does not fit, or all do
+      pub misfit_found : (all : Bool) (r : Result (Unit {0}) LinkFault) → length ts ≡ length (map typed_view slots.parameters.now) → (not all || some_misfit s b (drop i ts) (drop i (map typed_view slots.parameters.now))) ≡ misfit
+          → Passes 28 (word_if (not all) n) r → IsFound (faults_of_use s b used) r
+      misfit_found all r same fit h =
+          let none : misfit ≡ not all = sym fit ∙ rw (drop_all i ts past) (or-false (not all)) in
+          rw (declared_is, known, unequal_no (length ts) (length (map typed_view slots.parameters.now)) same, none) (passed_found 28 (word_if (not all) n) r h)
 
 -- two terms, which no other faults follow
 pub both_found : (xs ys : List Name) (r : Result (Unit {0}) LinkFault) → IsFound (numbered 26 xs ++ numbered 26 ys) r → IsFound ((numbered 26 (xs ++ (ys ++ [])) ++ []) ++ []) r

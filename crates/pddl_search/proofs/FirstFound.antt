@@ -21,7 +21,7 @@ module _ {X Y : Type 0} (view : X → Y) (test : Y → Bool) (word : Y → Name)
   first_tells [] = refl
   first_tells (x ∷ xs) =
       elim (test (view x)) as (λ b. MatchOption (cond b (Some x) (find (λ z. test (view z)) xs)) (map word (cond b (view x ∷ filter test (map view xs)) (filter test (map view xs))) ≡ [])
-          (λ z. Contains (map word (cond b (view x ∷ filter test (map view xs)) (filter test (map view xs)))) (word (view z)))) [
+      (λ z. Contains (map word (cond b (view x ∷ filter test (map view xs)) (filter test (map view xs)))) (word (view z)))) [
         | true ↦ (0, omega arith, refl)
         | false ↦ first_tells xs
       ]

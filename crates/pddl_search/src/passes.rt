@@ -35,7 +35,10 @@ pub fn domain_name<'d, A: Allocator, B: Allocator>(
 pub fn object_types<'d, A: Allocator>(objects: &'d [Typed<A>]) -> Result<(), LinkFault<'d>>
     ensures { Passes 25 (object_types (map typed_view objects.now)) result }
 {
-    match objects.iter().find(|object| object.types.as_slice().len() > 1) {
+    match objects
+        .iter()
+        .find(|object| object.types.as_slice().len() > 1)
+    {
         Some(object) => Err(LinkFault::ObjectTypes(object.name.as_bytes())),
         None => Ok(()),
     }
@@ -52,7 +55,11 @@ fn is_number<A: Allocator>(types: &TypeNames<A>) -> bool
 pub fn object_fluents<'d, A: Allocator>(domain: &'d Domain<A>) -> Result<(), LinkFault<'d>>
     ensures { Passes 32 (object_fluents (domain_view domain.now)) result }
 {
-    match domain.functions.iter().find(|function| !is_number(&function.result)) {
+    match domain
+        .functions
+        .iter()
+        .find(|function| !is_number(&function.result))
+    {
         Some(function) => Err(LinkFault::ObjectFluent(function.name.as_bytes())),
         None => Ok(()),
     }

@@ -1,8 +1,9 @@
 -- Types by their spans: what is under a type is what has its first number in the type's span.
-use Rattle.std.proofs.Common.{◌≡◌, ℕ, ◌^◌, ◌<◌, ◌≤◌, Bool, true, false, ◌&&◌, eqb, List, map, length, refl, sym, ap, ◌∙◌, subst, arith, eqb-true}
+use Rattle.std.proofs.Common.{◌≡◌, ℕ, ◌^◌, ◌<◌, ◌≤◌, Bool, true, false, ◌&&◌, eqb, List, map, length, refl, sym, ap, ◌∙◌, subst, arith}
 use Rattle.std.specs.Prelude.{◌↔◌, IsTrue, Contains}
 use Rattle.std.specs.Cmp.{both_ways}
 use Rattle.std.specs.List.{list_any}
+use Rattle.std.proofs.lemmas.Bool.Decides.{nat_tests}
 use Rattle.std.proofs.lemmas.List.{length-map, get_or_past}
 use Rattle.pddl_forest.specs.Spans.{holds, some_holds, hold_all, AreSpans}
 use Rattle.pddl_forest.specs.declared.spans.Span.{Span}
@@ -11,7 +12,7 @@ use Rattle.pddl_task.specs.Names.{Name, is_in, number_in}
 use Rattle.pddl_task.specs.Types.{types_of, pairs, is_under, is_subtype, fits}
 use Rattle.pddl_types.specs.TypeTables.{Row, names_in, parents_in, StandsAt, IsTypeTable}
 use Rattle.pddl_types.specs.TypeSpans.{TypesValue, span_of, IsTold, DoTell, are_types}
-use Rattle.pddl_task.proofs.Lists.{and_left, and_right, any_found, found_any, all_found, found_all, mapped_is, is_mapped}
+use Rattle.pddl_task.proofs.Lists.{any_found, found_any, all_found, found_all, mapped_is, is_mapped}
 use Rattle.pddl_task.proofs.Subtypes.{is_under_decides, under_found, under_through}
 use Rattle.pddl_types.proofs.TypeParents.{same_types}
 use Rattle.pddl_types.proofs.TypeTables.{below, number_past}
@@ -23,10 +24,7 @@ abbrev is_same : Span → Span → Bool
 is_same s u = eqb s.first u.first && eqb s.last u.last
 
 same_span : (s u : Span) → is_same s u ≡ true → s ≡ u
-same_span s u h =
-    let first = eqb-true s.first u.first (and_left (eqb s.first u.first) (eqb s.last u.last) h) in
-    let last = eqb-true s.last u.last (and_right (eqb s.first u.first) (eqb s.last u.last) h) in
-    ap (λ n. record { first = n; last = s.last }) first ∙ ap (λ n. record { first = u.first; last = n }) last
+same_span s u h = grind (arith, nat_tests, h)
 
 -- ---- the spans of types
 

@@ -1,5 +1,5 @@
 -- Tables of what is declared, as it is put into them one after another, and the types of parameters.
-use Rattle.std.proofs.Common.{◌≡◌, ◌≤◌, ℕ, Bool, true, false, ◌||◌, cond, List, [], ◌∷◌, ◌++◌, map, length, Option, Some, None, refl, ap, sym, ◌∙◌, subst, bytes_eq, append_assoc, arith}
+use Rattle.std.proofs.Common.{◌≡◌, ◌≤◌, ℕ, Bool, true, false, cond, List, [], ◌∷◌, ◌++◌, map, length, Option, Some, None, refl, ap, sym, ◌∙◌, subst, bytes_eq, append_assoc, arith}
 use Rattle.std.specs.Prelude.{is_some, find, slice_get}
 use Rattle.std.specs.Borrow.{Bor}
 use Rattle.std.specs.Map.{lookup}
@@ -16,10 +16,9 @@ use Rattle.pddl_domain.specs.Declarations.{Signature}
 use Rattle.pddl_domain.specs.Domains.{DomainValue}
 use Rattle.pddl_task.specs.Names.{Name, is_in, word_if, repeated}
 use Rattle.pddl_task.specs.Settings.{symbol_of}
-use Rattle.pddl_task.proofs.Lists.{append-none, append-one, at_place, bytes_same, nil_parts}
+use Rattle.pddl_task.proofs.Lists.{append-none, at_place, bytes_same, nil_parts}
 use Rattle.pddl_task.proofs.DistinctNames.{word_none}
 use Rattle.pddl_faults.specs.Found.{numbered}
-use Rattle.pddl_faults.proofs.PutValues.{found_or}
 use Rattle.pddl_types.specs.KnownNames.{signature_in, action_signature}
 use Rattle.pddl_types.specs.Told.{ToldValue, IsAt, AreAt, AreKept}
 use Rattle.pddl_types.specs.Signatures.{Rows, IsSlotsAt, signature_among, AreFirst, HaveFirst, HaveSignatures}
@@ -33,15 +32,13 @@ none_found (Some x) h = cc
 
 -- names, each that stands before it too, with one name more
 pub repeated_more : (before names : List Name) (n : Name) → repeated before (names ++ n ∷ []) ≡ repeated before names ++ word_if (is_in (before ++ names) n) n
-repeated_more before [] n = append-none (word_if (is_in before n) n) ∙ ap (λ ns. word_if (is_in ns n) n) (sym (append-none before))
-repeated_more before (m ∷ names) n =
-    ap (λ ws. word_if (is_in before m) m ++ ws) (repeated_more (before ++ m ∷ []) names n ∙ ap (λ ns. repeated (before ++ m ∷ []) names ++ word_if (is_in ns n) n) (append-one before m names))
-    ∙ sym (append_assoc (word_if (is_in before m) m) (repeated (before ++ m ∷ []) names) (word_if (is_in (before ++ m ∷ names) n) n))
+repeated_more before [] n = simp append-none
+repeated_more before (m ∷ names) n = simp (append_assoc, repeated_more (before ++ m ∷ []) names n)
 
 -- a name has a signature where it is one of the names
 is_among : (gs : List Signature) (n : Name) → is_some (signature_among gs n) ≡ is_in (map symbol_of gs) n
 is_among [] n = refl
-is_among (g ∷ gs) n = found_or (bytes_eq n g.name) g (signature_among gs n) ∙ ap (λ b. bytes_eq n g.name || b) (is_among gs n)
+is_among (g ∷ gs) n = grind (arith, is_among gs n)
 
 -- ---- what is seen of signatures is held of them, and so with one more
 

@@ -5,6 +5,7 @@ use Rattle.std.specs.Borrow.{Bor}
 use Rattle.std.specs.Cmp.Lexicographic.{bytes_decides, pointwise_decides}
 use Rattle.std.specs.List.{IsDistinct, AllByRecursion, list_all, list_any, position_or_len}
 use Rattle.std.specs.Map.{keys_of, lookup}
+use Rattle.std.proofs.lemmas.Bool.Decides.{nat_tests}
 use Rattle.std.proofs.lemmas.Bool.{eqb-true, eq-eqb}
 use Rattle.std.proofs.lemmas.Cmp.{nat_list_eq_equiv, lists_equiv}
 use Rattle.std.proofs.lemmas.List.{length-append, length-map, map_push, take_more}
@@ -250,18 +251,8 @@ Tells told p fit = (p.0 < length told) × (p.1 < length told) × (fit ≡ hold_a
 -- with what is found of one pair more
 pub fitting_more : (told : ToldValue) (table new : List ((ℕ × ℕ) × Bool)) (k : ℕ × ℕ) (found : Bool) → AreFitting told table
     → ((p : ℕ × ℕ) → lookup (same_pair p) new ≡ cond (same_pair k p) (Some found) (lookup (same_pair p) table)) → Tells told k found → AreFitting told new
-fitting_more told table new k found are put tells p fit at = one (same_pair k p) refl
-  where
-    one : (b : Bool) → same_pair k p ≡ b → Tells told p fit
-    one false other = are p fit (sym (ap (λ b. cond b (Some found) (lookup (same_pair p) table)) other) ∙ sym (put p) ∙ at)
-    one true same =
-        let first : k.0 ≡ p.0 = eqb-true k.0 p.0 (and_left (k.0 == p.0) (k.1 == p.1) same) in
-        let second : k.1 ≡ p.1 = eqb-true k.1 p.1 (and_right (k.0 == p.0) (k.1 == p.1) same) in
-        let is : found ≡ fit = same_Some found fit (sym (ap (λ b. cond b (Some found) (lookup (same_pair p) table)) same) ∙ sym (put p) ∙ at) in (
-          omega (arith, first, tells.0),
-          omega (arith, second, tells.1),
-          sym is ∙ tells.2 ∙ ap (λ n. hold_all (tops_at told k.1) (tops_at told n)) first ∙ ap (λ n. hold_all (tops_at told n) (tops_at told p.0)) second,
-        )
+fitting_more told table new k found are put tells p fit at =
+    (grind (arith, nat_tests, put p, at, are p fit, tells.0), grind (arith, nat_tests, put p, at, are p fit, tells.1), grind (arith, nat_tests, put p, at, are p fit, tells.2))
 
 tops_front : (told more : ToldValue) (n : ℕ) → n < length told → tops_at (told ++ more) n ≡ tops_at told n
 tops_front told more n low = rw (in_front told more n low) refl
@@ -271,8 +262,4 @@ pub fitting_kept : (before after : ToldValue) (table : List ((ℕ × ℕ) × Boo
 fitting_kept before after table kept are p fit at =
     let (first, second, is) = are p fit at in
     let more = length-append before kept.0 in
-    rw kept.1 (
-      omega (arith, first, more),
-      omega (arith, second, more),
-      is ∙ ap (hold_all (tops_at before p.1)) (sym (tops_front before kept.0 p.0 first)) ∙ ap (λ tops. hold_all tops (tops_at (before ++ kept.0) p.0)) (sym (tops_front before kept.0 p.1 second)),
-    )
+    rw (kept.1, tops_front before kept.0 p.0 first, tops_front before kept.0 p.1 second) (omega (arith, first, more), omega (arith, second, more), is)

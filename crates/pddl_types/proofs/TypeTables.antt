@@ -140,9 +140,10 @@ pub parent_put : (told : List TypeValue) (rows after : List Row) (k : Bor (List 
     → after ≡ cond (is_some place) rows (put rows k 0) → IsDistinct (λ x y. bytes_eq x.now y.now) (keys_of after)
     → IsTableOf (k.now ∷ types_of told) told after × StandsAt after (unwrap_or place (length rows)) k.now
 parent_put told rows after k (Some i) h is put_there once = let at = found_place rows k.now i (sym is) in rw put_there (again (types_of told) told rows i k.now at h, at)
-parent_put told rows after k None h is put_there once =
-    (put_in rows after k 0 put_there once (types_of told) told told h (subst (StandsAt rows 0) (sym untold) h.first) (λ t _. refl),
-    rw (put_there, last) (seen_entry (λ (r : Row). r.0.now) (rows ++ (k, 0) ∷ []) (length rows) (k, 0) (at_end rows (k, 0))))
+parent_put told rows after k None h is put_there once = (
+  put_in rows after k 0 put_there once (types_of told) told told h (subst (StandsAt rows 0) (sym untold) h.first) (λ t _. refl),
+  rw (put_there, last) (seen_entry (λ (r : Row). r.0.now) (rows ++ (k, 0) ∷ []) (length rows) (k, 0) (at_end rows (k, 0))),
+)
   where
     last : put rows k 0 ≡ rows ++ (k, 0) ∷ []
     last = insert_entry-absent (λ x y. bytes_eq x.now y.now) k 0 rows (Missing-position (λ x. bytes_eq k.now x.now) rows (sym is)).absent

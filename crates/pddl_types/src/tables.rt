@@ -115,7 +115,11 @@ impl<'m, 'a, A: Allocator, B: Allocator, N: Allocator> FittingCount<N> for Table
     ghost count = { λ tables slot. fitting_count (pairs tables.known.types.declared) (objects_in tables.known) slot };
 
     fn fitting_count(&self, types: &TypeNames<N>) -> usize {
-        match self.known.types.tops(*self.known.listed.types.allocator(), types) {
+        match self
+            .known
+            .types
+            .tops(*self.known.listed.types.allocator(), types)
+        {
             Ok(tops) => self.order.count(&tops),
             Err(_) => self.count_each(types),
         }

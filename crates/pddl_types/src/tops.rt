@@ -116,10 +116,12 @@ impl<'a, B: Allocator> Tops<'a, B> {
                 clear_bits(&mut missed, &rows.held);
                 Ok(share_no_bit(&missed, &missed))
             }
-            (Some(rows), None) => Ok(others
-                .spans
-                .iter()
-                .all(|top| is_bit_set(&rows.held, top.first as usize))),
+            (Some(rows), None) => Ok(
+                others
+                    .spans
+                    .iter()
+                    .all(|top| is_bit_set(&rows.held, top.first as usize)),
+            ),
             (None, _) => Ok(hold_all(&self.spans, &others.spans)),
         }
     }

@@ -7,7 +7,7 @@ use Rattle.pddl_search.specs.Parts.{terms_in}
 use Rattle.pddl_search.specs.Scopes.{bound_in}
 use Rattle.pddl_names.specs.Uses.{setting_of}
 use Rattle.pddl_names.proofs.UseFaults.{undeclared_found, declared_slots, unknown_found, others_found, misfit_found, has_word}
-use Rattle.pddl_names.proofs.TermSlots.{known_term, unknown_here, known_here, fits_slot, fits_here, past_here, all_known, all_fit}
+use Rattle.pddl_names.proofs.TermSlots.{known_term, unknown_here, known_here, fits_slot, fits_here, past_here}
 use Rattle.pddl_names.proofs.ToldUses.{slot_there, no_slot}
 use Rattle.pddl_names.proofs.uses.look_at_use.Goals as goal
 use Rattle.pddl_names.proofs.uses.look_at_use.Goals.{in-Some-get+in_ok-all_fit, in_default-get}
@@ -62,30 +62,20 @@ loop-i-preserved g c =
 
 pub returns-then-len-slots-clause-found : goal.returns-then-len-slots-clause-found
 returns-then-len-slots-clause-found g c =
-    let s = setting_of c.args.known.now in
-    let b = bound_in c.args.scope.now in
-    let ts = terms_in c.args.terms.now in
     let slots = c.in-Some.slots.now in
-    let known = all_known s b ts c.loop-i.i (omega (arith, c.len-i-end.ensures)) c.loop-i.invariant.unknown in
-    others_found s b ts c.args.declared.now.entries c.args.symbol.now slots c.in-Some.ensures.value (link.Arity c.args.symbol) known
-    (λ is. omega (arith, is, c.len.ensures, length-map slots.parameters.now typed_view, c.if-len-slots.true)) (λ words k. (refl, k))
+    others_found (setting_of c.args.known.now) (bound_in c.args.scope.now) (terms_in c.args.terms.now) c.args.declared.now.entries c.args.symbol.now slots c.in-Some.ensures.value c.loop-i.i
+    (omega (arith, c.len-i-end.ensures)) c.loop-i.invariant.unknown (link.Arity c.args.symbol) (λ is. omega (arith, is, c.len.ensures, length-map slots.parameters.now typed_view, c.if-len-slots.true)) (λ words k. (refl, k))
 
 pub returns-else-all_fit-clause-found : goal.returns-else-all_fit-clause-found
 returns-else-all_fit-clause-found g c =
-    let s = setting_of c.args.known.now in
-    let b = bound_in c.args.scope.now in
-    let ts = terms_in c.args.terms.now in
     let slots = c.in-Some.slots.now in
-    let known = all_known s b ts c.loop-i.i (omega (arith, c.len-i-end.ensures)) c.loop-i.invariant.unknown in
-    misfit_found s b ts c.args.declared.now.entries c.args.symbol.now slots c.in-Some.ensures.value (Err (link.ArgumentType c.args.symbol)) known
-    (omega (arith, c.len.ensures, length-map slots.parameters.now typed_view, c.if-len-slots.false)) (refl, has_word _ c.args.symbol.now (all_fit s b ts c.loop-i.i (omega (arith, c.len-i-end.ensures)) (map typed_view slots.parameters.now) _ c.loop-i.invariant.misfit ∙ ap not c.if-all_fit.false))
+    misfit_found (setting_of c.args.known.now) (bound_in c.args.scope.now) (terms_in c.args.terms.now) c.args.declared.now.entries c.args.symbol.now slots c.in-Some.ensures.value c.loop-i.i
+    (omega (arith, c.len-i-end.ensures)) c.loop-i.invariant.unknown c.loop-i.all_fit (Err (link.ArgumentType c.args.symbol)) (omega (arith, c.len.ensures, length-map slots.parameters.now typed_view, c.if-len-slots.false))
+    c.loop-i.invariant.misfit (refl, has_word _ c.args.symbol.now (ap not c.if-all_fit.false))
 
 pub returns-then-all_fit-clause-found : goal.returns-then-all_fit-clause-found
 returns-then-all_fit-clause-found g c =
-    let s = setting_of c.args.known.now in
-    let b = bound_in c.args.scope.now in
-    let ts = terms_in c.args.terms.now in
     let slots = c.in-Some.slots.now in
-    let known = all_known s b ts c.loop-i.i (omega (arith, c.len-i-end.ensures)) c.loop-i.invariant.unknown in
-    misfit_found s b ts c.args.declared.now.entries c.args.symbol.now slots c.in-Some.ensures.value (Ok tt) known
-    (omega (arith, c.len.ensures, length-map slots.parameters.now typed_view, c.if-len-slots.false)) (ap (λ misfit. word_if misfit c.args.symbol.now) (all_fit s b ts c.loop-i.i (omega (arith, c.len-i-end.ensures)) (map typed_view slots.parameters.now) _ c.loop-i.invariant.misfit ∙ ap not c.if-all_fit.true))
+    misfit_found (setting_of c.args.known.now) (bound_in c.args.scope.now) (terms_in c.args.terms.now) c.args.declared.now.entries c.args.symbol.now slots c.in-Some.ensures.value c.loop-i.i
+    (omega (arith, c.len-i-end.ensures)) c.loop-i.invariant.unknown c.loop-i.all_fit (Ok tt) (omega (arith, c.len.ensures, length-map slots.parameters.now typed_view, c.if-len-slots.false))
+    c.loop-i.invariant.misfit (ap (λ all. word_if (not all) c.args.symbol.now) c.if-all_fit.true)

@@ -18,8 +18,8 @@ returns-then-number-before g c =
       | then-number-before-via-else-number-before+then-starts_above_zero w ↦ rw (sym w.starts_above_zero.ensures ∙ w.if-starts_above_zero.true, or-true) refl
     ] in
     let here =
-        checked_wrong c.loop-item-test.true c.item-item.is c.loop-item.invariant c.is_value.ensures c.if-is_value-of_values.true c.parts-number.ensures.number c.parts-before.ensures.number
-        c.in_ok-place.ensures.keys c.in_ok-place.ensures.index c.index.ensures c.parts-number.result.0.now c.parts-number.ensures.name wrong in
+    checked_wrong c.loop-item-test.true c.item-item.is c.loop-item.invariant c.is_value.ensures c.if-is_value-of_values.true c.parts-number.ensures.number c.parts-before.ensures.number
+    c.in_ok-place.ensures.keys c.in_ok-place.ensures.index c.index.ensures c.parts-number.result.0.now c.parts-number.ensures.name wrong in
     elim c.if-of_values.branch [
       | then-of_values w ↦ rw w.result-is (ap fault_number (sym w.if-of_values.true), here)
       | else-of_values w ↦ rw w.result-is (ap fault_number (sym w.if-of_values.false), here)
