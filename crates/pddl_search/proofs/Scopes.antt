@@ -1,5 +1,5 @@
 -- Variables in scope and their depths by name.
-use Rattle.std.proofs.Common.{◌≡◌, ℕ, suc, ◌+◌, ◌<◌, ◌≤◌, not, cond, List, [], ◌∷◌, ◌++◌, map, length, drop, Some, None, Result, Ok, refl, ap, sym, ◌∙◌, subst, bytes_eq, get_or, drop-cons, add-one, arith}
+use Rattle.std.proofs.Common.{◌≡◌, ℕ, suc, ◌+◌, ◌<◌, ◌≤◌, not, ◌==◌, cond, List, [], ◌∷◌, ◌++◌, map, length, drop, Some, None, Result, Ok, refl, ap, sym, ◌∙◌, subst, bytes_eq, get_or, drop-cons, add-one, arith}
 use Rattle.std.specs.Prelude.{find, option_map, slice_get, reverse, unwrap_or, nat_le}
 use Rattle.std.specs.Borrow.{Bor}
 use Rattle.std.specs.Map.{lookup}
@@ -12,7 +12,7 @@ use Rattle.pddl_formula.specs.declared.type_names.Typed.{Typed}
 use Rattle.pddl_task.specs.Names.{Name, is_in, is_named, item_of, repeated, word_if}
 use Rattle.pddl_task.specs.Places.{binding}
 use Rattle.pddl_task.proofs.Lists.{bytes_same, same_bytes}
-use Rattle.pddl_search.specs.Scopes.{entry_of, bound_in, depth_of, IsScope, entered}
+use Rattle.pddl_search.specs.Scopes.{entry_of, bound_in, innermost_of, depth_of, IsScope, entered}
 use Rattle.pddl_search.specs.declared.scope.Bound.{Bound}
 use Rattle.indexmap.specs.IndexMap.{insert_entry}
 use Rattle.pddl_faults.specs.declared.fault.LinkFault.{LinkFault}
@@ -25,15 +25,16 @@ use Rattle.pddl_faults.proofs.SeenItems.{any_more}
 
 -- ---- depths
 
--- none is in scope
-pub none_found : (n : Name) (es : List (TypedValue × ℕ)) → depth_of n es ≡ 0 → find (λ (e : TypedValue × ℕ). is_named n e.0) es ≡ None
-none_found n [] is = refl
-none_found n (e ∷ es) is = grind (arith, none_found n es, is)
+-- the innermost of a name is the first that is found
+pub innermost_found : (n : Name) (es : List (TypedValue × ℕ))
+    → option_map (λ (e : TypedValue × ℕ). e.1) (find (λ (e : TypedValue × ℕ). is_named n e.0) es) ≡ cond (depth_of n es == 0) None (Some (innermost_of n es).0)
+innermost_found n [] = refl
+innermost_found n (e ∷ es) = grind (arith, innermost_found n es)
 
 -- what a table has of a name where a depth is put into it
-depth_put : (table : List (Bor Name × ℕ)) (k : Bor Name) (depth : ℕ) (n : Name)
-    → unwrap_or (lookup (λ j. bytes_eq n j.now) (insert_entry (λ a c. bytes_eq a.now c.now) table k depth)) 0 ≡ cond (bytes_eq n k.now) depth (unwrap_or (lookup (λ j. bytes_eq n j.now) table) 0)
-depth_put table k depth n = rw (lookup_put table k depth n) (grind arith)
+innermost_put : (table : List (Bor Name × (ℕ × ℕ))) (k : Bor Name) (d : ℕ × ℕ) (n : Name)
+    → unwrap_or (lookup (λ j. bytes_eq n j.now) (insert_entry (λ a c. bytes_eq a.now c.now) table k d)) (0, 0) ≡ cond (bytes_eq n k.now) d (unwrap_or (lookup (λ j. bytes_eq n j.now) table) (0, 0))
+innermost_put table k d n = rw (lookup_put table k d n) (grind arith)
 
 -- no depth is above all that is in scope
 pub depth_low : (n : Name) (es : List (TypedValue × ℕ)) → depth_of n es ≤ length es
@@ -44,39 +45,25 @@ module _ {A : Type 0} where
   abbrev pub entries : List (Bound A) → List (TypedValue × ℕ)
   entries bs = map entry_of bs
 
-  -- the innermost of the name stands there
-  pub found_there : (n : Name) (bs : List (Bound A)) (k : ℕ) → depth_of n (entries bs) ≡ suc k
-      → option_map (λ (b : Bound A). b.number) (slice_get (reverse bs) k) ≡ option_map (λ (e : TypedValue × ℕ). e.1) (find (λ (e : TypedValue × ℕ). is_named n e.0) (entries bs))
-  found_there n [] k is = absurd (omega (arith, is))
-  found_there n (b ∷ bs) k is = grind (arith, reverse-append (b ∷ []) bs, length-map bs entry_of, length-reverse bs, depth_low n (entries bs), nth_left (reverse bs) (b ∷ []) k, nth_right (reverse bs) (b ∷ []) 0, found_there n bs k, is)
-
-  -- the innermost of the last items lies in the list
-  pub depth_within : (n : Name) (items : List (Bound A)) (k : ℕ) → depth_of n (entries (reverse items)) ≡ suc k → k < length items
-  depth_within n items k is = omega (arith, depth_low n (entries (reverse items)), length-map (reverse items) entry_of, length-reverse items)
-
-  pub number_at : (n : Name) (items : List (Bound A)) (k : ℕ) (b : Bound A) → depth_of n (entries (reverse items)) ≡ suc k → b ≡ get_or items k b
-      → Some b.number ≡ option_map (λ (e : TypedValue × ℕ). e.1) (find (λ (e : TypedValue × ℕ). is_named n e.0) (entries (reverse items)))
-  number_at n items k b is at = rw (← found_there n (reverse items) k is, reverse-reverse items, slice_get_read items (length items) k b refl (depth_within n items k is) at) refl
-
   -- one more, at this depth
-  pub scope_more : (bs : List (Bound A)) (table : List (Bor Name × ℕ)) (b : Bound A) (k : Bor Name) (depth : ℕ) → k.now ≡ b.variable.now.name → b.hidden ≡ depth_of k.now (entries bs) → depth ≡ length bs + 1
-      → IsScope bs table → IsScope (b ∷ bs) (insert_entry (λ a c. bytes_eq a.now c.now) table k depth)
+  pub scope_more : (bs : List (Bound A)) (table : List (Bor Name × (ℕ × ℕ))) (b : Bound A) (k : Bor Name) (depth : ℕ) → k.now ≡ b.variable.now.name
+      → b.hidden ≡ innermost_of k.now (entries bs) → depth ≡ length bs + 1 → IsScope bs table → IsScope (b ∷ bs) (insert_entry (λ a c. bytes_eq a.now c.now) table k (b.number, depth))
   scope_more bs table b k depth named hides deep is = record {
-    hidden = (subst (λ n. b.hidden ≡ depth_of n (entries bs)) named hides, is.hidden);
-    depths = λ n. rw (depth_put table k depth n, is.depths n, named) (ap (λ d. cond (bytes_eq n b.variable.now.name) d (depth_of n (entries bs))) (omega (arith, deep, length-map bs entry_of)));
+    hidden = (subst (λ n. b.hidden ≡ innermost_of n (entries bs)) named hides, is.hidden);
+    innermost = λ n. rw (innermost_put table k (b.number, depth) n, is.innermost n, named) (ap (λ d. cond (bytes_eq n b.variable.now.name) (b.number, d) (innermost_of n (entries bs))) (omega (arith, deep, length-map bs entry_of)));
   }
 
   -- the innermost is gone, and what it hid is seen
-  pub scope_less : (bs : List (Bound A)) (table : List (Bor Name × ℕ)) (b : Bound A) (k : Bor Name) → k.now ≡ b.variable.now.name → IsScope (b ∷ bs) table
+  pub scope_less : (bs : List (Bound A)) (table : List (Bor Name × (ℕ × ℕ))) (b : Bound A) (k : Bor Name) → k.now ≡ b.variable.now.name → IsScope (b ∷ bs) table
       → IsScope bs (insert_entry (λ a c. bytes_eq a.now c.now) table k b.hidden)
   scope_less bs table b k named is = record {
     hidden = is.hidden.1;
-    depths = λ n. rw (depth_put table k b.hidden n, is.depths n, named) (grind (arith, bytes_same n b.variable.now.name, is.hidden.0));
+    innermost = λ n. rw (innermost_put table k b.hidden n, is.innermost n, named) (grind (arith, bytes_same n b.variable.now.name, is.hidden.0));
   }
 
-  -- its name has a depth
-  pub scope_there : (bs : List (Bound A)) (table : List (Bor Name × ℕ)) (b : Bound A) (n : Name) → n ≡ b.variable.now.name → IsScope (b ∷ bs) table → lookup (λ j. bytes_eq n j.now) table ≡ None → ⊥
-  scope_there bs table b n named is none = grind (arith, is.depths n, same_bytes n b.variable.now.name named, none)
+  -- its name has an innermost
+  pub scope_there : (bs : List (Bound A)) (table : List (Bor Name × (ℕ × ℕ))) (b : Bound A) (n : Name) → n ≡ b.variable.now.name → IsScope (b ∷ bs) table → lookup (λ j. bytes_eq n j.now) table ≡ None → ⊥
+  scope_there bs table b n named is none = grind (arith, is.innermost n, same_bytes n b.variable.now.name named, none)
 
 -- ---- what a list binds
 

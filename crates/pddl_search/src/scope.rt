@@ -4,7 +4,7 @@ ghost use Rattle.std.specs.Prelude.{◌≡◌, [], ◌∷◌, map, drop, find, l
 ghost use Rattle.pddl_formula.specs.TypedLists.{typed_view};
 ghost use Rattle.pddl_task.specs.Names.{is_named, item_of, repeated};
 ghost use Rattle.pddl_faults.specs.Found.{IsFound, numbered};
-ghost use Rattle.pddl_search.specs.Scopes.{depth_of, entered};
+ghost use Rattle.pddl_search.specs.Scopes.{innermost_of, depth_of, entered};
 
 use indexmap::IndexMap;
 use pddl_faults::{LinkFault, lower, once};
@@ -13,21 +13,22 @@ use pddl_hash::Hashed;
 use std::alloc::{AllocError, Allocator};
 use std::marker::Model;
 
-/// A variable in scope with the number of its type, and the depth of the one of its name that it hides, or 0.
+/// A variable in scope with the number of its type, and what is known of the one of its name that it hides.
 #[derive(Drop)]
 struct Bound<'d, A: Allocator> {
     variable: &'d Typed<A>,
     number: usize,
-    hidden: usize,
+    hidden: (usize, usize),
 }
 
-/// The variables in scope, the innermost last, and the depth of the innermost of each name: how many are in scope up to it, or 0 where none of the name is.
+/// The variables in scope, the innermost last, and by name the number of the type of the innermost, with its depth: how many are in scope up to it, or 0
+/// where none of the name is.
 ///
 /// Contracts see them with the numbers of their types, the innermost first.
 #[derive(Drop)]
 pub struct Scope<'d, 'a, A: Allocator, B: Allocator> {
     bound: Vec<Bound<'d, A>, &'a B>,
-    depths: IndexMap<&'d [u8], usize, Hashed, &'a B>,
+    innermost: IndexMap<&'d [u8], (usize, usize), Hashed, &'a B>,
 }
 
 impl<'d, 'a, A: Allocator, B: Allocator> Model for Scope<'d, 'a, A, B> {
@@ -39,7 +40,7 @@ impl<'d, 'a, A: Allocator, B: Allocator> Model for Scope<'d, 'a, A, B> {
 
     ghost view = { λ s. map entry_of (reverse s.bound.items) };
 
-    ghost invariant = { λ s. IsScope (reverse s.bound.items) s.depths.entries };
+    ghost invariant = { λ s. IsScope (reverse s.bound.items) s.innermost.entries };
 }
 
 impl<'d, 'a, A: Allocator, B: Allocator> Scope<'d, 'a, A, B> {
@@ -49,23 +50,23 @@ impl<'d, 'a, A: Allocator, B: Allocator> Scope<'d, 'a, A, B> {
     {
         Scope {
             bound: Vec::new(alloc),
-            depths: IndexMap::with_hasher(alloc, hashed),
+            innermost: IndexMap::with_hasher(alloc, hashed),
         }
     }
 
-    /// The depth of the innermost variable of a name, or 0.
-    fn depth_of(&self, name: &[u8]) -> usize
-        ensures { result ≡ depth_of name.now self.now }
+    /// The number of the type of the innermost variable of a name, with its depth, or twice 0.
+    fn innermost(&self, name: &[u8]) -> (usize, usize)
+        ensures { result ≡ innermost_of name.now self.now }
     {
-        self.depths.get(name).copied().unwrap_or(0)
+        self.innermost.get(name).copied().unwrap_or((0, 0))
     }
 
     /// The number of the type of the innermost variable of a name.
     pub fn number_of(&self, name: &[u8]) -> Option<usize>
         ensures { result ≡ option_map (λ e. e.1) (find (λ e. is_named name.now e.0) self.now) }
     {
-        let place = self.depth_of(name).checked_sub(1)?;
-        Some(self.bound[place].number)
+        let (number, depth) = self.innermost(name);
+        if depth == 0 { None } else { Some(number) }
     }
 
     /// Adds a variable whose type has a number. Answers the depth of the one of its name that it hides, or 0.
@@ -76,16 +77,16 @@ impl<'d, 'a, A: Allocator, B: Allocator> Scope<'d, 'a, A, B> {
         ensures hidden { IfOk result (λ hidden. hidden ≡ depth_of variable.now.name self.old) }
     {
         let name = variable.name.as_bytes();
-        let hidden = self.depth_of(name);
+        let hidden = self.innermost(name);
         let depth = self.bound.len() + 1;
         self.bound.reserve(1)?;
-        self.depths.insert(name, depth)?;
+        self.innermost.insert(name, (number, depth))?;
         self.bound.push(Bound {
             variable,
             number,
             hidden,
         })?;
-        Ok(hidden)
+        Ok(hidden.1)
     }
 
     /// Takes so many of the innermost variables away.
@@ -95,7 +96,7 @@ impl<'d, 'a, A: Allocator, B: Allocator> Scope<'d, 'a, A, B> {
         for _ in 0..many {
             if let Some(last) = self.bound.pop() {
                 let name = last.variable.name.as_bytes();
-                match self.depths.insert(name, last.hidden) {
+                match self.innermost.insert(name, last.hidden) {
                     Ok(_) => {}
                     // the name stands in the table, so no memory is asked for
                     Err(_) => unreachable!(),

@@ -9,7 +9,7 @@ use Rattle.pddl_search.proofs.scope.Scope.leave.Goals.{in-Some+in-Ok, in_default
 pub unreachable-requires : goal.unreachable-requires
 unreachable-requires g c =
     let left = c.pop.new.self.items in
-    scope_there (reverse left) c.loop.self-inside.depths.entries c.in-Some.last c.as_bytes-name.result.now c.as_bytes-name.ensures.value
+    scope_there (reverse left) c.loop.self-inside.innermost.entries c.in-Some.last c.as_bytes-name.result.now c.as_bytes-name.ensures.value
     (rw (c.in-Some.ensures.items, reverse-append left (c.in-Some.last ∷ [])) at c.loop.invariant.is_scope) c.in-Err.ensures.absent
 
 pub loop-preserved : goal.loop-preserved
@@ -21,7 +21,7 @@ loop-preserved g c =
           let turned : reverse before.bound.items ≡ w.in-Some.last ∷ reverse left = ap reverse w.in-Some.ensures.items ∙ reverse-append left (w.in-Some.last ∷ []) in
           rw (w.self-inside-is, w.in-Ok.ensures.entries) (record {
             left = rw (← drop-drop 1 c.loop.counter c.args.self.now, ← c.loop.invariant.left, turned) refl;
-            is_scope = scope_less (reverse left) before.depths.entries w.in-Some.last w.as_bytes-name.result w.as_bytes-name.ensures.value (rw turned at c.loop.invariant.is_scope);
+            is_scope = scope_less (reverse left) before.innermost.entries w.in-Some.last w.as_bytes-name.result w.as_bytes-name.ensures.value (rw turned at c.loop.invariant.is_scope);
           })
       | in_default w ↦
           let none : left ≡ [] = grind (arith, common_steps, w.in_default.ensures.cases) in

@@ -6,5 +6,5 @@ use Rattle.pddl_search.proofs.scope.Scope.leave.Given as goal
 abbrev pub invariant-loop : goal.invariant-loop
 invariant-loop g l = record {
   left : map entry_of (reverse l.self-inside.bound.items) ≡ drop l.counter l.fn.self;
-  is_scope : IsScope (reverse l.self-inside.bound.items) l.self-inside.depths.entries;
+  is_scope : IsScope (reverse l.self-inside.bound.items) l.self-inside.innermost.entries;
 }
