@@ -19,14 +19,8 @@ use Rattle.pddl_faults.proofs.SeenItems.{any_more, seen_at, AreLeft, seen_bad, s
 -- ---- which claims clash
 
 -- two different numbers
-abbrev pub unequal : ℕ → ℕ → Bool
+abbrev unequal : ℕ → ℕ → Bool
 unequal m n = not (m == n)
-
-pub unequal_yes : (m n : ℕ) → (m ≡ n → ⊥) → unequal m n ≡ true
-unequal_yes m n h = grind (arith, nat_tests, h)
-
-pub unequal_no : (m n : ℕ) → m ≡ n → unequal m n ≡ false
-unequal_no m n h = grind (arith, nat_tests, h)
 
 -- which items clash, of functions of objects or of atoms
 abbrev clash_in : Bool → InitValue → InitValue → Bool
@@ -112,16 +106,15 @@ module _ {X : Type 0} {view : X → InitValue} {of_values : Bool} {xs : List X} 
     told_is = let told = told_at es c d ((λ j. slice_get (sym put j) (sym put_at j)) ∙ stands) in cc
 
     wrong_here : wrong_in of_values so_far (view x) ≡ unequal number before || starts_above_zero (view x)
-    wrong_here = wrong_is of_values so_far (view x) is ∙ ap (λ b. b || starts_above_zero (view x)) (l.told (view x) is ∙ told_is)
+    wrong_here = rw (wrong_is of_values so_far (view x) is, l.told (view x) is, told_is) refl
 
     pub checked_wrong : (w : Name) → w ≡ c.0.name → unequal number before || starts_above_zero (view x) ≡ true → Contains (wrong_words (wrong_in of_values) init_name [] (map view xs)) w
     checked_wrong w named bad = rw (named ∙ name_is (view x)) (seen_bad view init_name (wrong_in of_values) [] xs i x h at l.rest (wrong_here ∙ bad))
 
-    pub checked_more : number ≡ before → starts_above_zero (view x) ≡ false → Checked view of_values xs (i + 1) next
-    checked_more same fine =
-        let agrees = unequal_no number before same in
-        pass next (λ q of_q. rw (any_more, clash_is of_values q (view x) of_q is, l.told q of_q, put) (told_more es c (claim_of q) (told_is ∙ agrees)))
-        (wrong_here ∙ or_none (unequal number before) (starts_above_zero (view x)) agrees fine)
+    pub checked_more : unequal number before || starts_above_zero (view x) ≡ false → Checked view of_values xs (i + 1) next
+    checked_more fine =
+        let agrees : unequal c.1 (told_of es c) ≡ false = grind (arith, told_is, fine) in
+        pass next (λ q of_q. rw (any_more, clash_is of_values q (view x) of_q is, l.told q of_q, put) (told_more es c (claim_of q) agrees)) (wrong_here ∙ fine)
 
 -- ---- where no atom fails, none holds and fails
 

@@ -119,7 +119,7 @@ fn claims_agree<'d, 'a, A: Allocator, B: Allocator>(
             let (name, _, number) = claim.parts();
             let (place, _) = claims.insert_full(claim)?;
             let (_, _, before) = claims[place].parts();
-            if number != before || starts_above_zero(item) {
+            if (number != before) | starts_above_zero(item) {
                 return Err(if of_values {
                     LinkFault::CostValue(name)
                 } else {
