@@ -19,12 +19,7 @@ module _ {X Y : Type 0} (view : X → Y) (test : Y → Bool) (word : Y → Name)
 
   first_tells : (xs : List X) → Tells xs (find (λ x. test (view x)) xs)
   first_tells [] = refl
-  first_tells (x ∷ xs) =
-      elim (test (view x)) as (λ b. MatchOption (cond b (Some x) (find (λ z. test (view z)) xs)) (map word (cond b (view x ∷ filter test (map view xs)) (filter test (map view xs))) ≡ [])
-      (λ z. Contains (map word (cond b (view x ∷ filter test (map view xs)) (filter test (map view xs)))) (word (view z)))) [
-        | true ↦ (0, omega arith, refl)
-        | false ↦ first_tells xs
-      ]
+  first_tells (x ∷ xs) = grind (arith, first_tells xs)
 
   pub found_tells : {S F : Type 0} {steps : S → Option (Bor X) → S → Type 0} {g : Mut F (Bor (Bor X) × Unit {0}) Bool} {s : S} {xs : List X} (u : S) (f : F) (r : Option (Bor X)) → FindsItem steps g s f r u
       → YieldsList steps (λ b. b.now) s xs → ((x : Bor X) (b : Bool) (q : F) → CalledAt g f x b q → (q ≡ f) × (b ≡ test (view x.now))) → MatchOption r (words xs ≡ []) (λ x. Contains (words xs) (word (view x.now)))

@@ -65,11 +65,6 @@ told_put (e ∷ es) c d = grind (arith, common_steps, told_put es c d, claimed_e
 abbrev TellsClaims : Bool → List ClaimValue → List InitValue → Type 0
 TellsClaims of_values es seen = (i : InitValue) → is_value i ≡ of_values → list_any (clash_in of_values i) seen ≡ unequal (claim_of i).1 (told_of es (claim_of i))
 
--- a claim that agrees with all before is put into the table
-told_more : (es : List ClaimValue) (c d : ClaimValue) → unequal c.1 (told_of es c) ≡ false
-    → unequal d.1 (told_of es d) || (same_claimed d c && unequal d.1 c.1) ≡ unequal d.1 (told_of (insert_key same_claimed es c) d)
-told_more es c d agrees = grind (arith, nat_tests, told_put es c d, claimed_equiv.symm d c, ground_is c.0 d.0, agrees)
-
 -- In front of item i, a table tells what was claimed so far, and the words of the whole are those of what is left.
 pub record Checked {X : Type 0} (view : X → InitValue) (of_values : Bool) (xs : List X) (i : ℕ) (es : List ClaimValue) : Type 0 where
   pub told : TellsClaims of_values es (seen_at view [] xs i)
@@ -114,17 +109,14 @@ module _ {X : Type 0} {view : X → InitValue} {of_values : Bool} {xs : List X} 
     pub checked_more : unequal number before || starts_above_zero (view x) ≡ false → Checked view of_values xs (i + 1) next
     checked_more fine =
         let agrees : unequal c.1 (told_of es c) ≡ false = grind (arith, told_is, fine) in
-        pass next (λ q of_q. rw (any_more, clash_is of_values q (view x) of_q is, l.told q of_q, put) (told_more es c (claim_of q) agrees)) (wrong_here ∙ fine)
+        pass next (λ q of_q. rw (any_more, clash_is of_values q (view x) of_q is, l.told q of_q, put) (grind (arith, nat_tests, told_put es c (claim_of q), claimed_equiv.symm (claim_of q) c, ground_is c.0 (claim_of q).0, agrees))) (wrong_here ∙ fine)
 
 -- ---- where no atom fails, none holds and fails
-
-neither_fails : (i j : InitValue) → is_failure i ≡ false → is_failure j ≡ false → contradicts i j ≡ false
-neither_fails i j h k = grind (arith, h, k)
 
 pub no_failures : {X : Type 0} (view : X → InitValue) (seen : List InitValue) (xs : List X) → list_any is_failure seen ≡ false → list_any (λ x. is_failure (view x)) xs ≡ false
     → clashing contradicts seen (map view xs) ≡ []
 no_failures view seen [] h k = refl
 no_failures view seen (x ∷ xs) h k =
     let own : is_failure (view x) ≡ false = grind (arith, k) in
-    rw (none_of (contradicts (view x)) seen (λ j c. neither_fails (view x) j own (any_none is_failure seen j h c)))
+    rw (none_of (contradicts (view x)) seen (λ j c. grind (arith, own, any_none is_failure seen j h c)))
     (no_failures view (seen ++ view x ∷ []) xs (rw (any_more, h) own) (grind (arith, k, own)))
