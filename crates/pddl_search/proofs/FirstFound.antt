@@ -1,6 +1,6 @@
 -- The words of a fault that is looked for in a list, told by the first item that is found.
 use Rattle.std.proofs.Common.{◌≡◌, Bool, true, false, cond, List, [], ◌∷◌, map, filter, Option, Some, None, refl, sym, subst, arith}
-use Rattle.std.specs.Prelude.{Contains, MatchOption, find}
+use Rattle.std.specs.Prelude.{Contains, MatchOption, find, option_map}
 use Rattle.std.specs.Borrow.{Bor}
 use Rattle.std.specs.Fn.{CalledAt}
 use Rattle.std.specs.Iterator.{FindsItem}
@@ -22,6 +22,5 @@ module _ {X Y : Type 0} (view : X → Y) (test : Y → Bool) (word : Y → Name)
   first_tells (x ∷ xs) = grind (arith, first_tells xs)
 
   pub found_tells : {S F : Type 0} {steps : S → Option (Bor X) → S → Type 0} {g : Mut F (Bor (Bor X) × Unit {0}) Bool} {s : S} {xs : List X} (u : S) (f : F) (r : Option (Bor X)) → FindsItem steps g s f r u
-      → YieldsList steps (λ b. b.now) s xs → ((x : Bor X) (b : Bool) (q : F) → CalledAt g f x b q → (q ≡ f) × (b ≡ test (view x.now))) → MatchOption r (words xs ≡ []) (λ x. Contains (words xs) (word (view x.now)))
-  found_tells {xs = xs} u f None ran gives told = subst (Tells xs) (sym (find_from_yields_List (λ x. test (view x)) u f None ran gives told)) (first_tells xs)
-  found_tells {xs = xs} u f (Some x) ran gives told = subst (Tells xs) (sym (find_from_yields_List (λ z. test (view z)) u f (Some x) ran gives told)) (first_tells xs)
+      → YieldsList steps (λ b. b.now) s xs → ((x : Bor X) (b : Bool) (q : F) → CalledAt g f x b q → (q ≡ f) × (b ≡ test (view x.now))) → Tells xs (option_map (λ b. b.now) r)
+  found_tells {xs = xs} u f r ran gives told = rw (find_from_yields_List (λ x. test (view x)) u f r ran gives told) (first_tells xs)
