@@ -1,5 +1,5 @@
 -- The words of a fault that is looked for in a list, told by the first item that is found.
-use Rattle.std.proofs.Common.{◌≡◌, Bool, true, false, cond, List, [], ◌∷◌, map, filter, Option, Some, None, refl, sym, subst, arith}
+use Rattle.std.proofs.Common.{◌≡◌, Bool, List, [], ◌∷◌, map, filter, Option, refl, arith}
 use Rattle.std.specs.Prelude.{Contains, MatchOption, find, option_map}
 use Rattle.std.specs.Borrow.{Bor}
 use Rattle.std.specs.Fn.{CalledAt}

@@ -1,5 +1,5 @@
 -- What is claimed in `:init`, one item after another, beside a table of what was claimed so far.
-use Rattle.std.proofs.Common.{◌≡◌, ℕ, ◌+◌, ◌<◌, Bool, true, false, ◌&&◌, ◌||◌, ◌==◌, not, cond, List, [], ◌∷◌, ◌++◌, map, length, get_or, Some, refl, ap, sym, ◌∙◌, subst, arith}
+use Rattle.std.proofs.Common.{◌≡◌, ℕ, ◌+◌, ◌<◌, Bool, true, false, ◌&&◌, ◌||◌, ◌==◌, not, cond, List, [], ◌∷◌, ◌++◌, map, length, get_or, Some, refl, sym, ◌∙◌, subst, arith}
 use Rattle.std.specs.Prelude.{Contains, unwrap_or, slice_get}
 use Rattle.std.specs.List.{list_any, position_or_len}
 use Rattle.std.specs.Map.{lookup}
@@ -10,7 +10,7 @@ use Rattle.indexmap.specs.IndexSet.{insert_key}
 use Rattle.pddl_problem.specs.Inits.{InitValue}
 use Rattle.pddl_task.specs.Names.{Name, wrong_words}
 use Rattle.pddl_task.specs.Faults.{same_ground, contradicts, revalues, starts_above_zero, init_name, clashing}
-use Rattle.pddl_task.proofs.Lists.{or_none, none_of, any_none}
+use Rattle.pddl_task.proofs.Lists.{none_of, any_none}
 use Rattle.pddl_search.specs.Claims.{is_value, wrong_in, is_failure}
 use Rattle.pddl_search.specs.Grounds.{ClaimValue, claim_of, same_claimed, claimed_equiv, ground_is}
 use Rattle.pddl_faults.proofs.ListTurns.{seen_more}
