@@ -44,10 +44,10 @@ lower_back xs ys (Some f) (Some g) lt h k = low_both xs ys g (Contains-append_ri
 pub number_is : (n : ℕ) (words : List Name) (g : ℕ × Name) → Contains (numbered n words) g → (g.0 ≡ n) × Contains words g.1
 number_is n words g c =
     let m = mapped_is (λ w. (n, w)) words g c in
-    (sym (ap (λ (p : ℕ × Name). p.0) m.2), subst (λ w. Contains words w) (ap (λ (p : ℕ × Name). p.1) m.2) m.1)
+    rw (← m.2) (refl, m.1)
 
 pub is_numbered : (n : ℕ) (words : List Name) (g : ℕ × Name) → g.0 ≡ n → Contains words g.1 → Contains (numbered n words) g
-is_numbered n words g is c = subst (λ m. Contains (numbered n words) (m, g.1)) (sym is) (is_mapped (λ w. (n, w)) words g.1 c)
+is_numbered n words g is c = rw is (is_mapped (λ w. (n, w)) words g.1 c)
 
 -- what a pass for one fault finds
 pub passed_found : {T : Type 0} (n : ℕ) (words : List Name) (r : Result T LinkFault) → Passes n words r → IsFound (numbered n words) r
@@ -57,7 +57,7 @@ passed_found n words (Err e) h =
 
 -- a pass for one fault, whose words may be told otherwise
 pub passed_as : {T : Type 0} (n : ℕ) {words told : List Name} (r : Result T LinkFault) → words ≡ told → Passes n words r → IsFound (numbered n told) r
-passed_as n {words} {told} r same h = passed_found n told r (subst (λ ws. Passes n ws r) same h)
+passed_as n {words} {told} r same h = rw (← same) (passed_found n words r h)
 
 -- ---- in turn
 
@@ -94,10 +94,10 @@ pub up_to_more : {left rest whole : List (ℕ × Name)} {r both : Result (Unit {
     → ((xs ys : List (ℕ × Name)) → IsFound xs r → IsFound ys next → IsFound (xs ++ ys) both) → IsFound part next → IsFoundUpTo left whole r → IsFoundUpTo rest whole both
 up_to_more {rest = rest} part next is lower more so_far = record {
   gone = so_far.gone ++ part;
-  parts = append_assoc so_far.gone part rest ∙ ap (λ zs. so_far.gone ++ zs) (sym is) ∙ so_far.parts;
+  parts = rw (append_assoc, ← is) so_far.parts;
   found = lower so_far.gone part so_far.found more;
 }
 
 -- nothing is left
 pub up_to_all : {left whole : List (ℕ × Name)} {r : Result (Unit {0}) LinkFault} → left ≡ [] → IsFoundUpTo left whole r → IsFound whole r
-up_to_all {whole = whole} {r} none so_far = found_same so_far.gone whole r (sym so_far.parts ∙ ap (λ zs. so_far.gone ++ zs) none ∙ append-none so_far.gone) so_far.found
+up_to_all {whole = whole} {r} none so_far = rw (← so_far.parts, none, append-none) so_far.found

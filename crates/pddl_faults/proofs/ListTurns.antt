@@ -14,9 +14,8 @@ views_drop view xs i x h at = ap (map view) (rest_is xs i x h at)
 -- what was seen before, and of so many and one more
 pub seen_more : {X Y : Type 0} (view : X → Y) (before : List Y) (xs : List X) (i : ℕ) (x : X) → i < length xs → x ≡ get_or xs i x
     → before ++ map view (take (i + 1) xs) ≡ (before ++ map view (take i xs)) ++ view x ∷ []
-seen_more view before xs i x h at =
-    ap (λ ys. before ++ ys) (map_more view xs i x h ∙ ap (λ y. map view (take i xs) ++ view y ∷ []) (sym at)) ∙ sym (append_assoc before (map view (take i xs)) (view x ∷ []))
+seen_more view before xs i x h at = rw (map_more view xs i x h, ← at, append_assoc) refl
 
 -- what is seen of an item that is read
 pub viewed_at : {X Y : Type 0} (view : X → Y) (xs : List X) (i : ℕ) (x : X) → i < length xs → x ≡ get_or xs i x → slice_get (map view xs) i ≡ Some (view x)
-viewed_at view xs i x low is = slice_get-map view xs i ∙ ap (option_map view) (slice_get_read xs (length xs) i x refl low is)
+viewed_at view xs i x low is = rw (slice_get-map view xs i, slice_get_read xs (length xs) i x refl low is) refl

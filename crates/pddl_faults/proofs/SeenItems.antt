@@ -8,7 +8,7 @@ use Rattle.pddl_task.specs.Names.{Name, wrong_words}
 use Rattle.pddl_faults.proofs.ListTurns.{views_drop, seen_more}
 
 pub any_more : {I : Type 0} (f : I → Bool) (xs : List I) (x : I) → list_any f (xs ++ x ∷ []) ≡ list_any f xs || f x
-any_more f xs x = list_any-append f xs (x ∷ []) ∙ ap (λ b. list_any f xs || b) (or-false (f x))
+any_more f xs x = simp (list_any-append, or-false)
 
 -- what was seen before the walk, and what the walk has seen
 abbrev pub seen_at : {X I : Type 0} → (X → I) → List I → List X → ℕ → List I
