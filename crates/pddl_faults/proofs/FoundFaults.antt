@@ -14,7 +14,7 @@ use Rattle.pddl_faults.specs.Found.{IsLowestOf, IsFound, numbered}
 -- ---- two parts
 
 low_both : (xs ys : List (ℕ × Name)) (f : ℕ × Name) → Contains (xs ++ ys) f → ((g : ℕ × Name) → Contains xs g → f.0 ≤ g.0) → ((g : ℕ × Name) → Contains ys g → f.0 ≤ g.0) → IsLowestOf (xs ++ ys) f
-low_both xs ys f has front back = record { stands = has; lowest = λ g c. elim (Contains-append_cases xs ys g c) as (λ _. f.0 ≤ g.0) [ inl h ↦ front g h | inr h ↦ back g h ] }
+low_both xs ys f has front back = record { stands = has; lowest = λ g c. grind (arith, Contains-append_cases xs ys g c, front g, back g) }
 
 -- both have one, and that of the first is not above the other's
 front_low : (xs ys : List (ℕ × Name)) (o p : Option (ℕ × Name)) → option_map_or (λ f. f.0) o 0 ≤ option_map_or (λ f. f.0) p 0 → (option_map_or (λ f. f.0) o 0 ≡ 0 → o ≡ None)
@@ -23,13 +23,9 @@ front_low xs ys None p le some h k = tt
 front_low xs ys (Some f) None le some h k = let none = some (omega arith) in cc
 front_low xs ys (Some f) (Some g) le some h k = low_both xs ys f (Contains-append_left xs ys f h.stands) h.lowest (λ other c. let m = k.lowest other c in omega arith)
 
--- a fault has a number above 0
-above_zero : (e : LinkFault) → option_map_or (λ f. f.0) (fault_of e) 0 ≡ 0 → fault_of e ≡ None
-above_zero e zero = grind (arith, zero)
-
 pub lower_front : (xs ys : List (ℕ × Name)) (e d : LinkFault) → option_map_or (λ f. f.0) (fault_of e) 0 ≤ option_map_or (λ f. f.0) (fault_of d) 0
     → IfSome (fault_of e) (IsLowestOf xs) → IfSome (fault_of d) (IsLowestOf ys) → IfSome (fault_of e) (IsLowestOf (xs ++ ys))
-lower_front xs ys e d le h k = front_low xs ys (fault_of e) (fault_of d) le (above_zero e) h k
+lower_front xs ys e d le h k = front_low xs ys (fault_of e) (fault_of d) le (λ zero. grind (arith, zero)) h k
 
 -- or that of the second is lower
 pub lower_back : (xs ys : List (ℕ × Name)) (o p : Option (ℕ × Name)) → option_map_or (λ f. f.0) p 0 < option_map_or (λ f. f.0) o 0

@@ -15,9 +15,6 @@ use Rattle.pddl_faults.specs.Passes.{fault_of, Passes, Verdict}
 abbrev pub From : ℕ → List Fault → Type 0
 From n fs = list_all (λ f. nat_le n f.number) fs ≡ true
 
-at_most : (m n : ℕ) → nat_le m n ≡ true → m ≤ n
-at_most m n h = grind (arith, nat_tests)
-
 -- where none of the first faults stands, and none of those after them, none does
 pub none_behind : (before fs : List Fault) → NoneStands before → NoneStands fs → NoneStands (before ++ fs)
 none_behind [] fs none more = more
@@ -28,7 +25,7 @@ pub found_at : (before : List Fault) (n : ℕ) (words : List Name) (after : List
     → Passes {T = Unit {0}} n words (Err e) → Verdict {T = Unit {0}} (before ++ fault n words ∷ after) (Err e)
 found_at before n words after e none from h =
     IfSome_then (fault_of e) h
-    (λ f here. rw here.0 (first_is_lowest before (fault n words) after f.1 none here.1 (λ g c. at_most n g.number (all_found (λ k. nat_le n k.number) after from g c))))
+    (λ f here. rw here.0 (first_is_lowest before (fault n words) after f.1 none here.1 (λ g c. grind (arith, nat_tests, all_found (λ k. nat_le n k.number) after from g c))))
 
 lowest_after : (before fs : List Fault) (m : ℕ) (w : Name) → NoneStands before → IsLowest fs m w → IsLowest (before ++ fs) m w
 lowest_after [] fs m w none low = low
