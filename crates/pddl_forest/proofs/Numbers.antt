@@ -24,7 +24,7 @@ pub record AreNumbered (ps order : List ℕ) (old spans : List Span) (turn : ℕ
   pub rest : (i : ℕ) → turn_of order i < turn → at spans i ≡ at old i
   pub each : (i : ℕ) → i < length ps → turn ≤ turn_of order i → IsNumbered ps old spans i
 
-module _ {ps order : List ℕ} (o : IsOrder ps order) {old : List Span} (u : AreUnder ps order (length order) old) where
+module _ {ps order : List ℕ} (o : IsOrder ps order) {old : List Span} (u : AreUnder ps order old) where
   some : 0 < length ps
   some = omega (arith, o.few)
 

@@ -3,7 +3,7 @@ use Rattle.std.proofs.Common.{◌≡◌, ◌≢◌, ◌↔◌, ℕ, zero, suc, �
 use Rattle.std.proofs.lemmas.Bool.{cases_Bool, cases_eq, eq-eqb, eqb-true, ne_eqb}
 use Rattle.std.proofs.lemmas.Bool.Decides.{nat_tests}
 use Rattle.std.proofs.lemmas.List.Folds.{list_any_at, Any-from_list_any}
-use Rattle.std.proofs.lemmas.List.{get_or_past, get_or_default, get_or-set_same, get_or-set_other, length-set}
+use Rattle.std.proofs.lemmas.List.{get_or_past, get_or_default, get_or-set_same, get_or-set_other, length-set, take_all}
 use Rattle.std.proofs.lemmas.List.FromFn.{get_or-range_with_len, length-range_with_len}
 use Rattle.std.proofs.lemmas.List.Sums.{sum_by-cons}
 use Rattle.std.specs.Prelude.{IsTrue, MatchBool}
@@ -11,8 +11,8 @@ use Rattle.std.specs.List.{count_by, list_any, range_with_len, AllWithin, HoldsA
 use Rattle.pddl_forest.specs.Forests.{parent_of, up, number_at}
 use Rattle.pddl_forest.specs.Rounds.{GoesRound, IsOnRound, HasRound, AreRounds}
 use Rattle.pddl_forest.specs.declared.spans.Span.{Span}
-use Rattle.pddl_forest.specs.Inner.{turn_of, ArePeeled, GoRound, IsOrder}
-use Rattle.pddl_forest.proofs.Peels.{turn_few, few_apart}
+use Rattle.pddl_forest.specs.Inner.{turn_of, ArePeeled, ArePeeling, GoRound, IsOrder}
+use Rattle.pddl_forest.proofs.Peels.{turn_few, at_turn, turn_counts, few_apart}
 
 -- so many steps, and so many more
 pub up_more : (ps : List ℕ) (m n i : ℕ) → up ps m (up ps n i) ≡ up ps (n + m) i
@@ -23,27 +23,25 @@ pub up_low : (ps : List ℕ) → ((i : ℕ) → i < length ps → parent_of ps i
 up_low ps within zero i low = low
 up_low ps within (suc n) i low = up_low ps within n (parent_of ps i) (within i low)
 
--- a number that is counted stands somewhere
-counted_some : (numbers : List ℕ) (i : ℕ) → count_by (eqb i) numbers ≢ 0 → (k : ℕ) × (k < length numbers) × (number_at numbers k ≡ i)
-counted_some [] i some = absurd (some refl)
-counted_some (x ∷ xs) i some =
-    elim (cases_eq i x) as (λ _. (k : ℕ) × (k < length (x ∷ xs)) × (number_at (x ∷ xs) k ≡ i)) [
-      | inl is ↦ (0, omega arith, sym is)
-      | inr other ↦
-          let (k, low, is) = counted_some xs i (λ none. some (sum_by-cons (λ y. cond (eqb i y) 1 0) x xs ∙ rw (ne_eqb i x other, none) refl)) in
-          (suc k, omega (arith, low), is)
-    ]
-
 -- ---- what is left where all that was listed is peeled off
 
-module _ {ps left order : List ℕ} {spans : List Span} (h : ArePeeled ps left order spans (length order)) (within : (i : ℕ) → i < length ps → parent_of ps i < length ps) where
-  -- a place that is not listed has a child that is not
+module _ {ps left order : List ℕ} {spans : List Span} (peeling : ArePeeling ps left order spans (length order)) (within : (i : ℕ) → i < length ps → parent_of ps i < length ps) where
+  pub all_peeled : ArePeeled ps left order spans
+  all_peeled = rw (take_all (length order) order (omega arith)) at peeling.peeled
+
+  -- a place is listed where no child of it is left
+  none_left : (i : ℕ) → i < length ps → number_at left i ≡ 0 → turn_of order i < length order
+  none_left i low none = grind (arith, nat_tests, peeling.all i, turn_counts order i, low, none)
+
+  -- and one that is not has a child that is not
   child : (i : ℕ) → i < length ps → number_at left i ≢ 0 → (k : ℕ) × (k < length ps) × (number_at left k ≢ 0) × (parent_of ps k ≡ i)
   child i low some =
-      let (k, inside, is) = counted_some h.kept i (λ none. some (h.counted.each i low ∙ none)) in
-      let k_low : k < length ps = omega (arith, inside, h.long) in
-      let out : length order ≤ turn_of order k = grind (arith, nat_tests, h.each k k_low, is, low) in
-      (k, k_low, λ none. omega (arith, (h.listed.each k k_low).0 none, out), grind (arith, nat_tests, h.each k k_low, is, low))
+      let k : ℕ = turn_of all_peeled.kept i in
+      let inside : k < length all_peeled.kept = grind (arith, nat_tests, turn_counts all_peeled.kept i, all_peeled.counted.each i low, some) in
+      let k_low : k < length ps = omega (arith, inside, all_peeled.long) in
+      let is = at_turn all_peeled.kept i inside in
+      let here = all_peeled.each k k_low in
+      (k, k_low, λ none. grind (arith, nat_tests, none_left k k_low none, here, is, low), grind (arith, nat_tests, here, is, low))
 
   down : (i : ℕ) → i < length ps → number_at left i ≢ 0 → (n : ℕ) → (k : ℕ) × (k < length ps) × (number_at left k ≢ 0) × (up ps n k ≡ i)
   down i low some zero = (i, low, some, refl)
@@ -74,15 +72,15 @@ module _ {ps left order : List ℕ} {spans : List Span} (h : ArePeeled ps left o
   -- a place above which one is listed comes before it
   climbs : (n i : ℕ) → i < length ps → turn_of order (up ps n i) < length order → turn_of order i + n ≤ turn_of order (up ps n i)
   climbs zero i low inside = omega arith
-  climbs (suc n) i low inside = let more = climbs n (parent_of ps i) (within i low) inside in omega (arith, more, h.behind i low (omega (arith, more, inside)))
+  climbs (suc n) i low inside = let more = climbs n (parent_of ps i) (within i low) inside in omega (arith, more, all_peeled.behind i low (omega (arith, more, inside)))
 
   pub go_round : GoRound ps left
   go_round = record {
-    many = h.counted.long;
+    many = all_peeled.counted.long;
     each = λ i low. (
       on_round i low,
       λ (n, round) none.
-          let inside = (h.listed.each i low).0 none in
+          let inside = none_left i low none in
           let e = ap (turn_of order) round in
           omega (arith, climbs (suc n) i low (omega (arith, e, inside)), e),
     );
@@ -90,7 +88,7 @@ module _ {ps left order : List ℕ} {spans : List Span} (h : ArePeeled ps left o
 
   module _ (some : 0 < length ps) (no_round : HasRound ps → ⊥) where
     listed : (i : ℕ) → i < length ps → (i ≡ 0 → parent_of ps 0 ≢ 0) → turn_of order i < length order
-    listed i low other = elim (cases_eq (number_at left i) 0) as (λ _. turn_of order i < length order) [ inl none ↦ (h.listed.each i low).0 none | inr more ↦ absurd (no_round (i, low, (on_round i low more, other))) ]
+    listed i low other = elim (cases_eq (number_at left i) 0) as (λ _. turn_of order i < length order) [ inl none ↦ none_left i low none | inr more ↦ absurd (no_round (i, low, (on_round i low more, other))) ]
 
     -- otherwise all places are listed, and a way from one to its parents has no end
     top : parent_of ps 0 ≡ 0
@@ -100,26 +98,26 @@ module _ {ps left order : List ℕ} {spans : List Span} (h : ArePeeled ps left o
     ]
 
     above : turn_of order 0 ≡ length order
-    above = grind (arith, h.behind 0 some, ap (turn_of order) top, turn_few order 0)
+    above = grind (arith, all_peeled.behind 0 some, ap (turn_of order) top, turn_few order 0)
 
     last : number_at order (length order) ≡ 0
     last = get_or_past order (length order) 0 (omega arith)
 
     turn_is : (u : ℕ) → u ≤ length order → turn_of order (number_at order u) ≡ u
-    turn_is u low = grind (arith, h.listed.once u, last, above, low)
+    turn_is u low = grind (arith, all_peeled.once u, last, above, low)
 
     pub in_order : IsOrder ps order
     in_order = record {
       within = λ i low. rw (get_or_default ps i 0 i low) (within i low);
-      once = h.listed.once;
+      once = all_peeled.once;
       top = top;
       few = omega (
         arith,
-        few_apart (length ps) (suc (length order)) (number_at order) (λ u low. grind (arith, h.listed.once u, last, some, low)) (λ a b less low same.
+        few_apart (length ps) (suc (length order)) (number_at order) (λ u low. grind (arith, all_peeled.once u, last, some, low)) (λ a b less low same.
             omega (arith, turn_is a (omega (arith, less, low)), turn_is b (omega (arith, low)), ap (turn_of order) same, less)),
       );
       above = above;
-      ahead = λ i low other. rw (get_or_default ps i 0 i low) (grind (arith, h.behind i low, listed i low (λ is. absurd (other is)), turn_few order (parent_of ps i)));
+      ahead = λ i low other. rw (get_or_default ps i 0 i low) (grind (arith, all_peeled.behind i low, listed i low (λ is. absurd (other is)), turn_few order (parent_of ps i)));
     }
 
 -- with the number 0 for place 0 where it is its own parent

@@ -14,7 +14,7 @@ use std::alloc::{AllocError, Allocator};
 fn number_from_top(parents: &[usize], order: &[usize], spans: &mut [Span])
     requires short { length parents.now < 2 ^ 32 }
     requires order { IsOrder parents.now order.now }
-    requires under { AreUnder parents.now order.now (length order.now) spans.old }
+    requires under { AreUnder parents.now order.now spans.old }
     ensures { AreSpans parents.now spans.new }
 {
     for turn in (0..order.len()).rev() {
