@@ -12,7 +12,7 @@ use borrow.Author.Count.{below_more}
 use Rattle.std.specs.List.{range_with_len, count_by, slice_index_or, sum_by}
 use Rattle.pddl_forest.specs.Forests.{number_at, parent_of}
 use Rattle.pddl_forest.specs.declared.spans.Span.{Span}
-use Rattle.pddl_forest.specs.Inner.{turn_of, AreListed, AreCounted, ArePeeled, ArePeeling, AreUnder, at, left_under, put_under}
+use Rattle.pddl_forest.specs.Inner.{turn_of, AreCounted, ArePeeled, ArePeeling, at, left_under, put_under}
 
 pub turn_few : (order : List ℕ) (i : ℕ) → turn_of order i ≤ length order
 turn_few order i = prefix_len-le-length (λ x. not (eqb i x)) order

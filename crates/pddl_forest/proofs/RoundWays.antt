@@ -1,13 +1,12 @@
 -- Places on ways that go round: those of which children are left where no more can be peeled off. Where there are none, the others are in order.
-use Rattle.std.proofs.Common.{◌≡◌, ◌≢◌, ◌↔◌, ℕ, zero, suc, ◌+◌, ◌-◌, ◌<◌, ◌≤◌, cond, eqb, Bool, true, false, true≢false, List, [], ◌∷◌, length, slice_set, refl, sym, ap, subst, ◌∙◌, arith, inl, inr}
-use Rattle.std.proofs.lemmas.Bool.{cases_Bool, cases_eq, eq-eqb, eqb-true, ne_eqb}
+use Rattle.std.proofs.Common.{◌≡◌, ◌≢◌, ◌↔◌, ℕ, zero, suc, ◌+◌, ◌-◌, ◌<◌, ◌≤◌, eqb, Bool, true, false, true≢false, List, length, slice_set, refl, sym, ap, subst, ◌∙◌, arith, inl, inr}
+use Rattle.std.proofs.lemmas.Bool.{cases_Bool, cases_eq, eq-eqb, eqb-true}
 use Rattle.std.proofs.lemmas.Bool.Decides.{nat_tests}
 use Rattle.std.proofs.lemmas.List.Folds.{list_any_at, Any-from_list_any}
 use Rattle.std.proofs.lemmas.List.{get_or_past, get_or_default, get_or-set_same, get_or-set_other, length-set, take_all}
 use Rattle.std.proofs.lemmas.List.FromFn.{get_or-range_with_len, length-range_with_len}
-use Rattle.std.proofs.lemmas.List.Sums.{sum_by-cons}
 use Rattle.std.specs.Prelude.{IsTrue, MatchBool}
-use Rattle.std.specs.List.{count_by, list_any, range_with_len, AllWithin, HoldsAt}
+use Rattle.std.specs.List.{list_any, range_with_len, AllWithin, HoldsAt}
 use Rattle.pddl_forest.specs.Forests.{parent_of, up, number_at}
 use Rattle.pddl_forest.specs.Rounds.{GoesRound, IsOnRound, HasRound, AreRounds}
 use Rattle.pddl_forest.specs.declared.spans.Span.{Span}

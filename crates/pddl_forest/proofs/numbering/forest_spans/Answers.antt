@@ -1,4 +1,4 @@
-use Rattle.std.proofs.Common.{◌≡◌, length, ap, sym, subst, ◌∙◌, true≢false, arith}
+use Rattle.std.proofs.Common.{length, ap, sym, subst, ◌∙◌, true≢false, arith}
 use Rattle.std.proofs.lemmas.List.{get_or_default, take_at}
 use Rattle.pddl_forest.specs.Rounds.{AreRounds}
 use Rattle.pddl_forest.specs.Spans.{AreSpans}

@@ -6,9 +6,6 @@ use Rattle.pddl_forest.proofs.ApartSpans.{rising, one_missed, all_past, one_run}
 use Rattle.pddl_forest.proofs.spans.hold_runs.Goals as goal
 use Rattle.pddl_forest.proofs.spans.hold_runs.Goals.{else-next-inner-via-then-next-inner+else-inner-next, else-next-inner-via-else-next-inner}
 
-pub loop-span-init : goal.loop-span-init
-loop-span-init c = record { within = omega arith; past = λ i low. absurd (omega (arith, low)); left = λ i j from low none. absurd (omega (arith, none)) }
-
 pub returns-then-inner-next : goal.returns-then-inner-next
 returns-then-inner-next c =
     sym (one_missed c.loop-span.invariant c.if-next-inner.true (λ j from low. omega (arith, rising c.requires.outer c.loop-span.span-index j from low, c.if-inner-next.true)))
