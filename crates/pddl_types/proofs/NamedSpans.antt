@@ -15,8 +15,7 @@ use Rattle.pddl_types.specs.TypeSpans.{TypesValue, span_of, IsTold, DoTell, are_
 use Rattle.pddl_task.proofs.Lists.{any_found, found_any, all_found, found_all, mapped_is, is_mapped}
 use Rattle.pddl_task.proofs.Subtypes.{is_under_decides, under_found, under_through}
 use Rattle.pddl_types.proofs.TypeParents.{same_types}
-use Rattle.pddl_types.proofs.TypeTables.{below, number_past}
-use Rattle.pddl_types.proofs.TypeForests.{place_in, under_numbered}
+use Rattle.pddl_types.proofs.TypeTables.{below, number_past, place_in, under_numbered}
 
 -- ---- spans
 
@@ -96,6 +95,10 @@ module _ (t : TypesValue) (h : AreInTable t) where
   pub test_told : (n m : Name) (number : ℕ) (over : Span) → is_type n ≡ true → number ≡ (span_of t n).first → over ≡ span_of t m → holds over number ≡ under n m
   test_told n m number over known is also = ap (λ s. holds s number) also ∙ ap (holds (span_of t m)) is ∙ is_test n m known
 
+  -- a test of types alone
+  pub subtype_told : (n m : Name) (number : ℕ) (over : Span) → is_type n ≡ true → number ≡ (span_of t n).first → over ≡ span_of t m → holds over number ≡ is_subtype t.declared n m
+  subtype_told n m number over known is also = grind (arith, test_told n m number over known is also, over_type n m, known)
+
   through : (n m u : Name) → under n m ≡ true → under m u ≡ true → under n u ≡ true
   through n m u low high =
       under_found (pairs t.declared) n u (under_through (pairs t.declared) n m u ((is_under_decides (pairs t.declared) n m).0 low) ((is_under_decides (pairs t.declared) m u).0 high))
@@ -142,8 +145,3 @@ module _ (t : TypesValue) (h : AreInTable t) where
     where
       type : (n : Name) → Contains types n → is_type n ≡ true
       type n there = all_found is_type types known n there
-
--- a test of types alone
-pub subtype_is : (declared : List TypeValue) (sub over : Name) (told : Bool) → is_in (types_of declared) sub ≡ true → is_in (types_of declared) over ≡ true → told ≡ is_under (pairs declared) sub over
-    → told ≡ is_subtype declared sub over
-subtype_is declared sub over told one other is = rw (one, other) is

@@ -6,7 +6,7 @@ use Rattle.std.proofs.lemmas.List.Elements.{Contains-append_left, Contains-appen
 use Rattle.std.proofs.lemmas.List.Folds.{list_any_none, list_any-append}
 use Rattle.std.proofs.lemmas.Map.Keys.{IsDistinct-head, IsDistinct-tail}
 use Rattle.std.proofs.Math.Bool.{and-true}
-use Rattle.std.proofs.lemmas.Bool.{not-true}
+use Rattle.std.proofs.lemmas.Bool.{cases_Bool, not-true}
 use Rattle.pddl_domain.specs.Declarations.{TypeValue}
 use Rattle.pddl_task.specs.Names.{Name, is_in, repeated, item_of}
 use Rattle.pddl_task.specs.Types.{root, parent_of, types_of, says_nothing, under_root, only_parents, pairs, Under, itself, climb}
@@ -42,8 +42,7 @@ parent_declared (d ∷ ds) e over once c =
     elim (has_cases d ds e c) as (λ _. fold (told_over e.item) (told_over e.item over d) ds ≡ e.of) [
       | inl is ↦
           let apart = list_any_none (bytes_eq d.item) (map item_of ds) (All-from_recursion (λ n. bytes_eq d.item n ≡ false) (map item_of ds) (IsDistinct-head bytes_eq d.item (map item_of ds) once)) in
-          ap (λ b. fold (told_over e.item) (cond b d.of over) ds) (same_bytes e.item d.item (sym (ap item_of is))) ∙ parent_undeclared ds e.item d.of (ap (is_in (map item_of ds)) (sym (ap item_of is)) ∙ apart)
-          ∙ ap parent_of is
+          rw (← is, same_bytes d.item d.item refl) (parent_undeclared ds d.item d.of apart)
       | inr later ↦ parent_declared ds e (told_over e.item over d) (IsDistinct-tail bytes_eq d.item (map item_of ds) once) later
     ]
 
@@ -115,10 +114,10 @@ module _ (declared : List TypeValue) (once : repeated [] (map item_of declared) 
   -- a type is under its parent
   pub under_parent : (t : Name) → is_type t ≡ true → Under (pairs declared) t (parent_in declared t)
   under_parent t type =
-      elim (says_nothing (with_parent t)) as (λ b. says_nothing (with_parent t) ≡ b → Under (pairs declared) t (parent_in declared t)) [
-        | true ↦ λ nothing. let (item, of) = both_root (with_parent t) nothing in itself (item ∙ sym of)
-        | false ↦ λ something. climb (with_parent t) (is_pair t type something) refl (itself refl)
-      ] refl
+      elim (cases_Bool (says_nothing (with_parent t))) as (λ _. Under (pairs declared) t (parent_in declared t)) [
+        | inl nothing ↦ let (item, of) = both_root (with_parent t) nothing in itself (item ∙ sym of)
+        | inr something ↦ climb (with_parent t) (is_pair t type something) refl (itself refl)
+      ]
 
   -- what is under a type is one, and what a type is under
   pub same_types : (t u : Name) → Under (pairs declared) t u → is_type t ≡ is_type u
