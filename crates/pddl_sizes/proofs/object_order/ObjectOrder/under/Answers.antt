@@ -4,7 +4,7 @@ use Rattle.std.proofs.lemmas.List.Sorted.{IsNonDecreasingBy-drop, IsNonDecreasin
 use Rattle.pddl_forest.specs.Forests.{number_at}
 use Rattle.pddl_forest.specs.Spans.{holds}
 use Rattle.pddl_task.specs.Tasks.{places_from}
-use Rattle.pddl_sizes.proofs.ObjectSums.{in_order, rising, rest_holds}
+use Rattle.pddl_sizes.proofs.ListSums.{in_order, rising, rest_holds}
 use Rattle.pddl_sizes.proofs.object_order.ObjectOrder.under.Goals as goal
 
 pub returns : goal.returns
