@@ -1,6 +1,6 @@
 -- Spans that are apart, what they hold, and tops of spans.
-use Rattle.std.proofs.Common.{◌≡◌, ℕ, zero, suc, ◌+◌, ◌-◌, ◌<◌, ◌≤◌, ◌==◌, ◌&&◌, leb, Bool, true, false, List, [], ◌∷◌, length, take, drop, sym, ap, ◌∙◌, subst, arith}
-use Rattle.std.proofs.lemmas.Bool.{leb-true, leb-false, le-leb, eq-eqb, and_parts, and_from, cond_both, or_left, or_right}
+use Rattle.std.proofs.Common.{◌≡◌, ℕ, zero, suc, ◌+◌, ◌-◌, ◌<◌, ◌≤◌, ◌==◌, ◌&&◌, leb, Bool, true, false, List, [], ◌∷◌, length, take, drop, sym, ap, ◌∙◌, subst, arith, ◌⊎◌, inl, inr}
+use Rattle.std.proofs.lemmas.Bool.{leb-true, leb-false, le-leb, eq-eqb, and_parts, and_from, cond_both, or_left}
 use Rattle.std.proofs.lemmas.Bool.Decides.{nat_tests}
 use Rattle.std.proofs.lemmas.List.{get_or_default, get_or-drop, get_or-take, length-drop, length-take-le}
 use Rattle.std.proofs.lemmas.List.Elements.{Contains-get_or}
@@ -110,28 +110,28 @@ kept_apart k (x ∷ xs) up =
     (All-dedup within (λ t. k.last < t.first) (x ∷ xs) (λ i d low. let past = leb-false x.first k.last other in let more = up 0 i d (omega arith) low in omega (arith, past, more)))
     (kept_apart x xs rest))
 
--- what a span holds is held by what is kept from it on
-held_kept : (n : ℕ) (k : Span) (xs : List Span) → holds k n ≡ true → some_holds (dedup_from within k xs) n ≡ true
-held_kept n k [] on = or_left (holds k n) false on
-held_kept n k (x ∷ xs) on = cond_both (within x k) (dedup_from within k xs) (k ∷ dedup_from within x xs) (λ tops. some_holds tops n ≡ true) (λ _. held_kept n k xs on) (λ _. or_left (holds k n) _ on)
-
 module _ (s : Span) (own : s.first ≤ s.last) where
-  later_held : (k : Span) (xs : List Span) → IsNonDecreasingBy (λ t. t.first) xs → k.first ≤ s.first → Contains xs s → some_holds (dedup_from within k xs) s.first ≡ true
-  later_held k [] up from (i, low, is) = absurd (omega (arith, low))
-  later_held k (x ∷ xs) up from (zero, low, is) =
-      cond_both (within x k) (dedup_from within k xs) (k ∷ dedup_from within x xs) (λ tops. some_holds tops s.first ≡ true)
-      (λ same. held_kept s.first k xs (held k s.first from (omega (arith, leb-true x.first k.last same, ap (λ t. t.first) is))))
-      (λ _. or_right (holds k s.first) _ (held_kept s.first x xs (rw is (held s s.first (omega arith) own))))
-  later_held k (x ∷ xs) up from (suc i, low, is) =
+  -- what begins in a span, or is one behind it, begins in what is kept from it on
+  held_kept : (k : Span) (xs : List Span) → IsNonDecreasingBy (λ t. t.first) xs → k.first ≤ s.first → (s.first ≤ k.last) ⊎ Contains xs s → some_holds (dedup_from within k xs) s.first ≡ true
+  held_kept k [] up from (inl to) = or_left (holds k s.first) false (held k s.first from to)
+  held_kept k [] up from (inr (i, low, is)) = absurd (omega (arith, low))
+  held_kept k (x ∷ xs) up from (inl to) = grind (arith, nat_tests, held_kept k xs (IsNonDecreasingBy-drop (λ t. t.first) 1 (x ∷ xs) up) from (inl to), from, to)
+  held_kept k (x ∷ xs) up from (inr (zero, low, is)) =
       let rest = IsNonDecreasingBy-drop (λ t. t.first) 1 (x ∷ xs) up in
-      cond_both (within x k) (dedup_from within k xs) (k ∷ dedup_from within x xs) (λ tops. some_holds tops s.first ≡ true) (λ _. later_held k xs rest from (i, omega (arith, low), is))
-      (λ _. or_right (holds k s.first) _ (later_held x xs rest (subst (λ t. x.first ≤ t.first) is (up 0 (suc i) s (omega arith) low)) (i, omega (arith, low), is)))
+      let e : x.first ≡ s.first = ap (λ t. t.first) is in
+      let same = λ (to : x.first ≤ k.last). held_kept k xs rest from (inl (omega (arith, e, to))) in
+      let other : some_holds (dedup_from within x xs) s.first ≡ true = held_kept x xs rest (omega (arith, e)) (inl (omega (arith, own, ap (λ t. t.last) is))) in
+      grind (arith, nat_tests, same, other)
+  held_kept k (x ∷ xs) up from (inr (suc i, low, is)) =
+      let rest = IsNonDecreasingBy-drop (λ t. t.first) 1 (x ∷ xs) up in
+      let there : Contains xs s = (i, omega (arith, low), is) in
+      grind (arith, nat_tests, held_kept k xs rest from (inr there), held_kept x xs rest (subst (λ t. x.first ≤ t.first) is (up 0 (suc i) s (omega arith) low)) (inr there))
 
   all_held : (xs : List Span) → IsNonDecreasingBy (λ t. t.first) xs → Contains xs s → some_holds (dedup within xs) s.first ≡ true
   all_held [] up (i, low, is) = absurd (omega (arith, low))
-  all_held (k ∷ xs) up (zero, low, is) = held_kept s.first k xs (rw is (held s s.first (omega arith) own))
+  all_held (k ∷ xs) up (zero, low, is) = held_kept k xs (IsNonDecreasingBy-drop (λ t. t.first) 1 (k ∷ xs) up) (omega (arith, ap (λ t. t.first) is)) (inl (omega (arith, own, ap (λ t. t.last) is)))
   all_held (k ∷ xs) up (suc i, low, is) =
-      later_held k xs (IsNonDecreasingBy-drop (λ t. t.first) 1 (k ∷ xs) up) (subst (λ t. k.first ≤ t.first) is (up 0 (suc i) s (omega arith) low)) (i, omega (arith, low), is)
+      held_kept k xs (IsNonDecreasingBy-drop (λ t. t.first) 1 (k ∷ xs) up) (subst (λ t. k.first ≤ t.first) is (up 0 (suc i) s (omega arith) low)) (inr (i, omega (arith, low), is))
 
 -- what is left of spans in the order of their first numbers
 pub are_tops : (old spans : List Span) → IsPermutation old spans → IsNonDecreasingBy (λ s. s.first) spans → ((s : Span) → Contains old s → s.first ≤ s.last) → AreTops old (dedup within spans)

@@ -9,8 +9,7 @@ use Rattle.pddl_forest.specs.Spans.{span_at, AreSpans}
 use Rattle.pddl_forest.specs.declared.spans.Span.{Span}
 use Rattle.pddl_forest.specs.Inner.{turn_of, IsOrder, AreUnder, at, left_under}
 use Rattle.pddl_forest.proofs.ApartSpans.{held}
-use Rattle.pddl_forest.proofs.Peels.{turn_few, at_turn}
-use Rattle.pddl_forest.proofs.RoundWays.{up_more, up_low}
+use Rattle.pddl_forest.proofs.Peels.{turn_few, at_turn, up_more, up_low}
 
 -- A span begins as far behind that of the parent as it did behind 0, and is as long as it was.
 pub record IsNumbered (ps : List ℕ) (old spans : List Span) (i : ℕ) : Type 0 where
@@ -134,12 +133,9 @@ module _ {ps order : List ℕ} (o : IsOrder ps order) {old : List Span} (u : Are
         let c : ℕ = up ps n i in
         let c_low : c < length ps = up_low ps (λ k inside. rw (get_or_default ps k k 0 inside) (o.within k inside)) n i low in
         let over : number_at ps c ≡ number_at ps g = sym (get_or_default ps c c 0 c_low) ∙ (rw add-one at (up_more ps 1 n i)) ∙ is in
-        elim (cases_eq c g) as (λ _. IsUnder ps i g) [
-          | inl at_g ↦ (n, at_g)
-          | inr differ ↦ elim (cases_eq c 0) as (λ _. IsUnder ps i g) [
-            | inl at_0 ↦ among n i g low also other (at_0 ∙ sym o.top ∙ ap (number_at ps) (sym at_0) ∙ over) from to
-            | inr below_0 ↦ absurd (grind (arith, behind c g c_low also below_0 other over, behind g c also c_low other below_0 (sym over), at_turn order c (listed c c_low below_0), at_turn order g (listed g also other), differ, below n i low, own i low, from, to))
-          ]
+        elim (cases_eq c 0) as (λ _. IsUnder ps i g) [
+          | inl at_0 ↦ among n i g low also other (at_0 ∙ sym o.top ∙ ap (number_at ps) (sym at_0) ∙ over) from to
+          | inr below_0 ↦ (n, grind (arith, behind c g c_low also below_0 other over, behind g c also c_low other below_0 (sym over), at_turn order c (listed c c_low below_0), at_turn order g (listed g also other), below n i low, own i low, from, to))
         ]
 
     found : (f g i : ℕ) → i < length ps → g < length ps → length order ≤ turn_of order g + f → (at spans g).first ≤ (at spans i).first → (at spans i).first ≤ (at spans g).last → IsUnder ps i g

@@ -2,7 +2,7 @@ use Rattle.std.proofs.Common.{length, ap, sym, subst, ◌∙◌, true≢false, a
 use Rattle.std.proofs.lemmas.List.{get_or_default, take_at}
 use Rattle.pddl_forest.specs.Rounds.{AreRounds}
 use Rattle.pddl_forest.specs.Spans.{AreSpans}
-use Rattle.pddl_forest.proofs.RoundWays.{all_peeled, go_round, in_order}
+use Rattle.pddl_forest.proofs.Peels.{all_peeled, go_round, in_order}
 use Rattle.pddl_forest.proofs.numbering.forest_spans.Goals as goal
 
 pub peel_off-requires : goal.peel_off-requires
