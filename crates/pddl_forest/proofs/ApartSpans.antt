@@ -11,9 +11,8 @@ use Rattle.std.proofs.lemmas.List.Sorted.{Contains-permutation, IsPermutation-sy
 use Rattle.std.specs.Prelude.{Contains}
 use Rattle.std.specs.List.{AllPairs, dedup, dedup_from}
 use Rattle.std.specs.List.Sorted.{IsNonDecreasingBy, IsPartitionPoint, IsPartitionedBy, IsPermutation}
-use Rattle.pddl_forest.specs.Spans.{holds, some_holds, span_at, AreApart, AreTops, hold_all}
+use Rattle.pddl_forest.specs.Spans.{holds, some_holds, AreApart, AreTops, hold_all, at}
 use Rattle.pddl_forest.specs.declared.spans.Span.{Span}
-use Rattle.pddl_forest.specs.Inner.{at}
 use Rattle.std.proofs.lemmas.List.Sums.{list_all-from_AllPass}
 
 pub held : (s : Span) (n : ℕ) → s.first ≤ n → n ≤ s.last → holds s n ≡ true
@@ -21,18 +20,8 @@ held s n from to = and_from (leb s.first n) (leb n s.last) (le-leb s.first n fro
 
 -- ---- spans that are apart
 
-module _ {spans : List Span} (h : AreApart spans) where
-  read : (i : ℕ) → i < length spans → span_at spans i ≡ at spans i
-  read i low = get_or_default spans i _ _ low
-
-  pub own : (i : ℕ) → i < length spans → (at spans i).first ≤ (at spans i).last
-  own i low = rw (read i low) at (h.own i low)
-
-  pub behind : (i j : ℕ) → i < j → j < length spans → (at spans i).last < (at spans j).first
-  behind i j less low = rw (read i (omega (arith, less, low)), read j low) at (h.behind i j less low)
-
-  pub rising : (i j : ℕ) → i ≤ j → j < length spans → (at spans i).first ≤ (at spans j).first
-  rising i j le low = grind (arith, own i (omega (arith, le, low)), behind i j, le, low)
+pub rising : {spans : List Span} → AreApart spans → (i j : ℕ) → i ≤ j → j < length spans → (at spans i).first ≤ (at spans j).first
+rising h i j le low = grind (arith, h.own i (omega (arith, le, low)), h.behind i j, le, low)
 
 -- of a part of them, those that begin at or before a number stand in front of the others
 pub parted : (spans : List Span) (n start many : ℕ) → AreApart spans → IsPartitionedBy (λ s. leb s.first n) (take many (drop start spans))
@@ -63,7 +52,7 @@ last_holds {spans} n point apart within before past some =
     let on : holds (at spans k) n ≡ true = rw (get_or_default spans k (record { first = 0; last = 0 }) s low ∙ is) on in
     let (from, to) = and_parts (leb (at spans k).first n) (leb n (at spans k).last) on in
     let begun : k < point = grind (arith, past k, low, leb-true (at spans k).first n from) in
-    let last : point - 1 ≡ k = grind (arith, begun, leb-true n (at spans k).last to, before (k + 1), behind apart k (k + 1), within) in
+    let last : point - 1 ≡ k = grind (arith, begun, leb-true n (at spans k).last to, before (k + 1), apart.behind k (k + 1), within) in
     (omega (arith, begun), rw last on)
 
 -- ---- the first numbers of others in runs: those that one span holds stand side by side
@@ -92,7 +81,7 @@ module _ {outer inner : List Span} {k next : ℕ} (runs : AreRuns outer inner k 
   one_run apart sorted here begins new within before past = record {
     within = within;
     past = λ i low. grind (arith, nat_tests, runs.past i, list_any_at (λ s. holds s (at inner i).first) outer k (record { first = 0; last = 0 }) here, begins, rising sorted next i, before i low, within, low);
-    left = λ i j from low earlier. grind (arith, behind apart j k, here, own apart k here, past i from low, earlier);
+    left = λ i j from low earlier. grind (arith, apart.behind j k, here, apart.own k here, past i from low, earlier);
   }
 
 -- ---- tops

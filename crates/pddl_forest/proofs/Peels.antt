@@ -11,9 +11,10 @@ use Rattle.std.proofs.lemmas.Map.Keys.{IsDistinct-from_apart}
 use Rattle.std.proofs.lemmas.Map.Steps.{length-le_from_distinct_below}
 use borrow.Author.Count.{below_more}
 use Rattle.std.specs.List.{range_with_len, count_by, slice_index_or, sum_by, list_any, AllWithin, HoldsAt}
+use Rattle.pddl_forest.specs.Spans.{at}
 use Rattle.pddl_forest.specs.Forests.{number_at, parent_of, up}
 use Rattle.pddl_forest.specs.declared.spans.Span.{Span}
-use Rattle.pddl_forest.specs.Inner.{turn_of, AreCounted, ArePeeled, ArePeeling, at, left_under, put_under, GoRound, IsOrder}
+use Rattle.pddl_forest.specs.Inner.{turn_of, AreCounted, ArePeeled, ArePeeling, left_under, put_under, GoRound, IsOrder}
 use Rattle.std.specs.Prelude.{IsTrue, MatchBool}
 use Rattle.pddl_forest.specs.Rounds.{GoesRound, IsOnRound, HasRound, AreRounds}
 
@@ -28,7 +29,7 @@ pub turn_counts : (order : List ℕ) (i : ℕ) → ltb (turn_of order i) (length
 turn_counts [] i = refl
 turn_counts (x ∷ xs) i = grind (arith, nat_tests, sum_by-cons (λ y. cond (eqb i y) 1 0) x xs, turn_counts xs i)
 
-abbrev nothing : Span
+abbrev pub nothing : Span
 nothing = record { first = 0; last = 0 }
 
 -- numbers below a bound of which no two are equal are no more than there are below it
@@ -158,14 +159,19 @@ module _ {ps left listed : List ℕ} {spans : List Span} {turn place : ℕ} (pee
   apart : place ≢ parent
   apart is = omega (arith, some, none, ap (number_at left) is)
 
-  at_place : at next_spans place ≡ span
-  at_place = get_or-set_same (slice_set spans parent over) place span nothing (omega (arith, low, h.under.long, length-set spans parent over))
-
-  at_parent : at next_spans parent ≡ over
-  at_parent = get_or-set_other (slice_set spans parent over) place parent span nothing (λ e. apart (sym e)) ∙ get_or-set_same spans parent over nothing (omega (arith, parent_low, h.under.long))
-
-  at_other : (i : ℕ) → i ≢ place → i ≢ parent → at next_spans i ≡ at spans i
-  at_other i one two = get_or-set_other (slice_set spans parent over) place i span nothing one ∙ get_or-set_other spans parent i over nothing two
+  at_next : (i : ℕ) → at next_spans i ≡ cond (eqb i place) span (cond (eqb i parent) over (at spans i))
+  at_next i = grind (
+    arith,
+    nat_tests,
+    get_or-set_same (slice_set spans parent over) place span nothing,
+    get_or-set_other (slice_set spans parent over) place i span nothing,
+    get_or-set_same spans parent over nothing,
+    get_or-set_other spans parent i over nothing,
+    length-set spans parent over,
+    h.under.long,
+    low,
+    parent_low,
+  )
 
   long_spans : length next_spans ≡ length ps
   long_spans = length-set (slice_set spans parent over) place _ ∙ length-set spans parent over ∙ h.under.long
@@ -191,7 +197,7 @@ module _ {ps left listed : List ℕ} {spans : List Span} {turn place : ℕ} (pee
   )
 
   pub put_fits : (at spans (number_at ps place)).last + 1 + (at spans place).last ≤ length ps
-  put_fits = grind (arith, nat_tests, h.under.left parent parent_low parent_new, get_or-le-sum_by left_under next_spans parent nothing (omega (arith, parent_low, long_spans)), at_parent, total, few)
+  put_fits = grind (arith, nat_tests, h.under.left parent parent_low parent_new, get_or-le-sum_by left_under next_spans parent nothing (omega (arith, parent_low, long_spans)), at_next parent, apart, total, few)
 
   peeled : ArePeeled ps (slice_set left parent (number_at left parent - 1)) next next_spans
   peeled = record {
@@ -208,9 +214,9 @@ module _ {ps left listed : List ℕ} {spans : List Span} {turn place : ℕ} (pee
     under = record {
       long = long_spans;
       total = total ∙ sym (length_push order place);
-      left = λ i i_low. grind (arith, nat_tests, turns i, length_push order place, at_parent, at_other i, h.under.left i i_low, h.under.left parent parent_low);
-      within = λ i i_low. grind (arith, nat_tests, turns i, length_push order place, at_place, at_parent, at_other i, at_other (number_at ps i), h.under.within i i_low, new, parent_new);
-      apart = λ i j i_low j_low less before is. grind (arith, nat_tests, turns i, turns j, length_push order place, at_place, at_other i, at_other j, h.under.within i i_low, h.under.apart i j i_low j_low, less, before, is, new, parent_new);
+      left = λ i i_low. grind (arith, nat_tests, turns i, length_push order place, at_next i, h.under.left i i_low, h.under.left parent parent_low);
+      within = λ i i_low. grind (arith, nat_tests, turns i, length_push order place, at_next i, at_next (number_at ps i), apart, h.under.within i i_low, new, parent_new);
+      apart = λ i j i_low j_low less before is. grind (arith, nat_tests, turns i, turns j, length_push order place, at_next i, at_next j, h.under.within i i_low, h.under.apart i j i_low j_low, less, before, is, new, parent_new);
     };
   }
 
@@ -220,14 +226,8 @@ module _ {ps left listed : List ℕ} {spans : List Span} {turn place : ℕ} (pee
   peeled_more {more} is = record {
     few = grind (arith, nat_tests, is, length_push listed parent, before);
     all = λ i. grind (arith, nat_tests, is, peeling.all i, get_or-set_same left parent (number_at left parent - 1) 0, get_or-set_other left parent i (number_at left parent - 1) 0, some, parent_low, h.counted.long, sum_by_push (λ q. cond (eqb i q) 1 0) listed parent);
-    peeled = subst (λ (done : List ℕ). ArePeeled ps less_left done next_spans) (sym taken) peeled;
+    peeled = let taken : take (turn + 1) more ≡ next = grind (arith, nat_tests, is, take_next, take-append-le (turn + 1) listed (parent ∷ []), before) in rw taken peeled;
   }
-    where
-      less_left : List ℕ
-      less_left = slice_set left parent (number_at left parent - 1)
-
-      taken : take (turn + 1) more ≡ next
-      taken = grind (arith, nat_tests, is, take_next, take-append-le (turn + 1) listed (parent ∷ []), before)
 
 -- ---- ways from parent to parent
 

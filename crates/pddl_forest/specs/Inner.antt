@@ -1,9 +1,10 @@
 -- What the code and the proofs go by: the places of a forest in an order in which each comes before its parent, how they are found and what is numbered in it.
 -- No public contract names these.
 use Rattle.std.specs.Prelude.{◌≡◌, ◌≢◌, ◌+◌, ◌≤◌, ◌<◌, ◌&&◌, ◌↔◌, cond, eqb, ltb, ℕ, List, length, slice_set, take}
-use Rattle.std.specs.List.{count_by, position_or_len, slice_index_or, sum_by}
+use Rattle.std.specs.List.{count_by, position_or_len, sum_by}
 use Rattle.pddl_forest.specs.Forests.{parent_of, number_at}
 use Rattle.pddl_forest.specs.Rounds.{GoesRound}
+use Rattle.pddl_forest.specs.Spans.{at}
 use Rattle.pddl_forest.specs.declared.spans.Span.{Span}
 
 -- the turn at which a place stands in an order, or how many stand there where it does not
@@ -32,10 +33,6 @@ pub record IsOrder (ps order : List ℕ) : Type 0 where
   pub few : length order < length ps
   pub above : turn_of order 0 ≡ length order
   pub ahead : (i : ℕ) → i < length ps → i ≢ 0 → turn_of order i < turn_of order (number_at ps i)
-
--- the span at a place
-abbrev pub at : List Span → ℕ → Span
-at spans i = slice_index_or spans i (record { first = 0; last = 0 })
 
 -- what is under a place is put behind what is under another
 abbrev pub put_under : List Span → ℕ → ℕ → List Span

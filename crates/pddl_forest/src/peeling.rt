@@ -1,9 +1,10 @@
 //! Places that are peeled off in turn, each once no child of it is left. What is left lies on ways from parent to parent that go round.
 
 ghost use Rattle.std.specs.Prelude.{◌≡◌, ◌+◌, ◌^◌, ◌<◌, ◌≤◌, ◌↔◌, ℕ, IsTrue, [], length, replicate, OnOk};
+ghost use Rattle.pddl_forest.specs.Spans.{at};
 ghost use Rattle.pddl_forest.specs.Forests.{number_at};
 ghost use Rattle.pddl_forest.specs.Rounds.{HasRound, AreRounds};
-ghost use Rattle.pddl_forest.specs.Inner.{AreCounted, AreListed, ArePeeling, GoRound, at, put_under};
+ghost use Rattle.pddl_forest.specs.Inner.{AreCounted, AreListed, ArePeeling, GoRound, put_under};
 
 use crate::spans::Span;
 use std::alloc::{AllocError, Allocator};

@@ -13,7 +13,6 @@ use Rattle.pddl_task.specs.Tasks.{places_from}
 use Rattle.pddl_forest.specs.Forests.{number_at}
 use Rattle.pddl_forest.specs.Spans.{holds, some_holds, AreApart}
 use Rattle.pddl_forest.specs.declared.spans.Span.{Span}
-use Rattle.pddl_forest.proofs.ApartSpans.{behind}
 use Rattle.pddl_sizes.specs.ObjectOrders.{IsOrderOf}
 use Rattle.std.proofs.lemmas.List.FromFn.{get_or-range_with_len, length-range_with_len}
 use Rattle.std.proofs.lemmas.List.Filters.{length-filter_both}
@@ -129,7 +128,7 @@ module _ (numbers : List ℕ) where
       no_other n before here =
           let (k, s, k_low, s_is, on) = Any-from_list_any (λ t. holds t n) (take i tops) before in
           let few = length-take-le i tops (omega (arith, low)) in
-          let past = behind apart k i (omega (arith, k_low, few)) low in
+          let past = apart.behind k i (omega (arith, k_low, few)) low in
           let at : slice_index_or tops k none ≡ s = sym (get_or-take i tops k none (omega (arith, k_low, few))) ∙ get_or_default (take i tops) k none s k_low ∙ s_is in
           grind (arith, nat_tests, on, here, past, at)
 
