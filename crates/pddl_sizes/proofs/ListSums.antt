@@ -1,10 +1,10 @@
 -- Sums over what passes a test, lists that rise, and the objects under tops that are apart: by sums over their places, and as parts of an order of all.
-use Rattle.std.proofs.Common.{◌≡◌, ℕ, zero, suc, ◌+◌, ◌-◌, ◌<◌, ◌≤◌, Bool, true, false, ltb, leb, List, [], ◌∷◌, filter, length, take, drop, refl, sym, ap, ◌∙◌, subst, arith, slice_index_or, not, cond}
+use Rattle.std.proofs.Common.{◌≡◌, ℕ, suc, ◌+◌, ◌<◌, ◌≤◌, Bool, true, false, ltb, leb, List, [], ◌∷◌, filter, length, take, drop, refl, sym, ap, ◌∙◌, subst, arith, slice_index_or, not, cond}
 use Rattle.std.proofs.Math.Nat.{ℕ_set}
 use Rattle.std.specs.Coded.{le_prop}
 use Rattle.std.specs.List.{sum_by, range_with_len}
 use Rattle.std.proofs.lemmas.Bool.Decides.{nat_tests}
-use Rattle.std.proofs.lemmas.List.{get_or_default, get_or-take, length-drop, length-take-le, nil_from_length, take_rest}
+use Rattle.std.proofs.lemmas.List.{get_or_default, get_or-take, get_or-drop, length-drop, length-take, length-take-le}
 use Rattle.std.proofs.lemmas.List.Folds.{list_any_more, Any-from_list_any}
 use Rattle.std.proofs.lemmas.List.Sorted.{sum_by-IsPermutation, IsNonDecreasingBy-drop}
 use Rattle.std.specs.List.Sorted.{IsNonDecreasingBy, IsPartitionPoint}
@@ -17,7 +17,7 @@ use Rattle.pddl_sizes.specs.ObjectOrders.{IsOrderOf}
 use Rattle.std.proofs.lemmas.List.FromFn.{get_or-range_with_len, length-range_with_len}
 use Rattle.std.proofs.lemmas.List.Filters.{length-filter_both}
 use Rattle.std.proofs.lemmas.List.Kept.{IsNonDecreasingBy-filter}
-use Rattle.std.proofs.lemmas.List.Sums.{sum_by-cons, sum_by-le, get_or-le-sum_by}
+use Rattle.std.proofs.lemmas.List.Sums.{sum_by-cons, sum_by-le, sum_by-take-drop, get_or-le-sum_by}
 
 -- ---- sums
 
@@ -98,10 +98,9 @@ module _ (numbers : List ℕ) where
   sum_places test f = rw (← places_are test numbers 0) (sum_filter (λ o. test (number_at numbers o)) f all)
 
   -- all objects stand in an order once
-  pub in_order : (order : List ℕ) (test : ℕ → Bool) (f : ℕ → ℕ) → ∥ IsOrderOf numbers order ∥₁ → sum_by f (filter (λ o. test (number_at numbers o)) order) ≡ sum_by f (places_from 0 test numbers)
+  pub in_order : (order : List ℕ) (test : ℕ → Bool) (f : ℕ → ℕ) → ∥ IsOrderOf numbers order ∥₁ → sum_if test f order ≡ sum_by f (places_from 0 test numbers)
   in_order order test f ordered =
-      sum_filter (λ o. test (number_at numbers o)) f order
-      ∙ ∥∥₁_elim ordered (hlevel ℕ_set) (λ is. sum_by-IsPermutation (λ o. if_passes (test (number_at numbers o)) (f o)) all order is.all) ∙ sym (sum_places test f)
+      ∥∥₁_elim ordered (hlevel ℕ_set) (λ is. sum_by-IsPermutation (λ o. if_passes (test (number_at numbers o)) (f o)) all order is.all) ∙ sym (sum_places test f)
 
   -- their types have numbers that do not fall
   pub rising : (order : List ℕ) → ∥ IsOrderOf numbers order ∥₁ → IsNonDecreasingBy (number_at numbers) order
@@ -151,23 +150,11 @@ module _ {X : Type 0} (n : X → ℕ) (top : Span) where
   abbrev IsEnd : List X → ℕ → Type 0
   IsEnd = IsPartitionPoint (λ x. leb (n x) top.last ≡ true) (λ x. leb (n x) top.last ≡ false)
 
-  part_holds : (xs : List X) (start many : ℕ) → many ≤ length (drop start xs) → IsStart xs start → IsEnd (drop start xs) many → take many (drop start xs) ≡ filter (λ x. holds top (n x)) xs
-  part_holds [] start many few from to = nil_from_length (take many (drop start [])) (omega (arith, few, length-take-le many (drop start []) few, length-drop {A = X} start []))
-  part_holds (x ∷ xs) (suc start) many few from to =
-      let rest = part_holds xs start many few (λ k d _ low. from.0 (suc k) d (omega arith) (omega (arith, low)), λ k d past low. from.1 (suc k) d (omega (arith, past)) (omega (arith, low))) to in
-      grind (arith, nat_tests, rest, from.0 0 x (omega arith) (omega arith))
-  part_holds (x ∷ xs) zero zero few from to =
-      let rest = part_holds xs zero zero (omega arith) (λ k d _ low. absurd (omega (arith, low)), λ k d past low. from.1 (suc k) d (omega arith) (omega (arith, low)))
-      (λ k d _ low. absurd (omega (arith, low)), λ k d past low. to.1 (suc k) d (omega arith) (omega (arith, low))) in
-      grind (arith, nat_tests, rest, to.1 0 x (omega arith) (omega arith))
-  part_holds (x ∷ xs) zero (suc many) few from to =
-      let rest = part_holds xs zero many (omega (arith, few)) (λ k d _ low. absurd (omega (arith, low)), λ k d past low. from.1 (suc k) d (omega arith) (omega (arith, low)))
-      (λ k d _ low. to.0 (suc k) d (omega arith) (omega (arith, low)), λ k d past low. to.1 (suc k) d (omega (arith, past)) (omega (arith, low))) in
-      grind (arith, nat_tests, rest, from.1 0 x (omega arith) (omega arith), to.0 0 x (omega arith) (omega arith))
-
-  -- the same, where the rest is as a slice has it
-  pub rest_holds : (xs : List X) (start many : ℕ) → many ≤ length (take (length xs - start) (drop start xs)) → IsStart xs start → IsEnd (take (length xs - start) (drop start xs)) many
-      → take many (take (length xs - start) (drop start xs)) ≡ filter (λ x. holds top (n x)) xs
-  rest_holds xs start many few from to =
-      let same = take_rest xs start in
-      ap (take many) same ∙ part_holds xs start many (subst (λ ys. many ≤ length ys) same few) from (subst (λ ys. IsEnd ys many) same to)
+  pub part_sum : (f : X → ℕ) (xs rest : List X) (start many : ℕ) → rest ≡ drop start xs → IsStart xs start → IsEnd rest many → sum_by f (take many rest) ≡ sum_by (λ x. if_passes (holds top (n x)) (f x)) xs
+  part_sum f xs rest start many same from to =
+      let on : X → ℕ = λ x. if_passes (holds top (n x)) (f x) in
+      let off : X → ℕ = λ x. if_passes (not (holds top (n x))) (f x) in
+      let front = sum_by-le on 0 (take start xs) (λ i d low. grind (arith, nat_tests, from.0 i d, get_or-take start xs i d, length-take start xs, low)) in
+      let middle = sum_by-le off 0 (take many rest) (λ i d low. grind (arith, nat_tests, from.1 (start + i) d, to.0 i d, get_or-take many rest i d, same, get_or-drop start xs i d, length-take many rest, length-drop start xs, low)) in
+      let back = sum_by-le on 0 (drop many rest) (λ i d low. grind (arith, nat_tests, to.1 (many + i) d, get_or-drop many rest i d, length-drop many rest, low)) in
+      omega (arith, front, middle, back, sum_by-take-drop on xs start, ap (sum_by on) same, sum_by-take-drop on rest many, sum_two on off f (λ x. grind (arith, nat_tests)) (take many rest))
