@@ -1,6 +1,6 @@
 -- Spans that are apart, what they hold, and tops of spans.
-use Rattle.std.proofs.Common.{◌≡◌, ℕ, zero, suc, ◌+◌, ◌-◌, ◌<◌, ◌≤◌, ◌==◌, ◌&&◌, leb, Bool, true, false, List, [], ◌∷◌, length, take, drop, sym, ap, ◌∙◌, subst, arith}
-use Rattle.std.proofs.lemmas.Bool.{leb-true, leb-false, le-leb, eq-eqb, and_parts, and_from, cond_both, or_left, or_right}
+use Rattle.std.proofs.Common.{◌≡◌, ℕ, zero, suc, ◌+◌, ◌-◌, ◌<◌, ◌≤◌, ◌==◌, ◌&&◌, leb, Bool, true, false, List, [], ◌∷◌, length, take, drop, sym, ap, ◌∙◌, subst, arith, ◌⊎◌, inl, inr}
+use Rattle.std.proofs.lemmas.Bool.{leb-true, leb-false, le-leb, eq-eqb, and_parts, and_from, cond_both, or_left}
 use Rattle.std.proofs.lemmas.Bool.Decides.{nat_tests}
 use Rattle.std.proofs.lemmas.List.{get_or_default, get_or-drop, get_or-take, length-drop, length-take-le}
 use Rattle.std.proofs.lemmas.List.Elements.{Contains-get_or}
@@ -11,9 +11,8 @@ use Rattle.std.proofs.lemmas.List.Sorted.{Contains-permutation, IsPermutation-sy
 use Rattle.std.specs.Prelude.{Contains}
 use Rattle.std.specs.List.{AllPairs, dedup, dedup_from}
 use Rattle.std.specs.List.Sorted.{IsNonDecreasingBy, IsPartitionPoint, IsPartitionedBy, IsPermutation}
-use Rattle.pddl_forest.specs.Spans.{holds, some_holds, span_at, AreApart, AreTops, hold_all}
+use Rattle.pddl_forest.specs.Spans.{holds, some_holds, AreApart, AreTops, hold_all, at}
 use Rattle.pddl_forest.specs.declared.spans.Span.{Span}
-use Rattle.pddl_forest.specs.Inner.{at}
 use Rattle.std.proofs.lemmas.List.Sums.{list_all-from_AllPass}
 
 pub held : (s : Span) (n : ℕ) → s.first ≤ n → n ≤ s.last → holds s n ≡ true
@@ -21,18 +20,8 @@ held s n from to = and_from (leb s.first n) (leb n s.last) (le-leb s.first n fro
 
 -- ---- spans that are apart
 
-module _ {spans : List Span} (h : AreApart spans) where
-  read : (i : ℕ) → i < length spans → span_at spans i ≡ at spans i
-  read i low = get_or_default spans i _ _ low
-
-  pub own : (i : ℕ) → i < length spans → (at spans i).first ≤ (at spans i).last
-  own i low = rw (read i low) at (h.own i low)
-
-  pub behind : (i j : ℕ) → i < j → j < length spans → (at spans i).last < (at spans j).first
-  behind i j less low = rw (read i (omega (arith, less, low)), read j low) at (h.behind i j less low)
-
-  pub rising : (i j : ℕ) → i ≤ j → j < length spans → (at spans i).first ≤ (at spans j).first
-  rising i j le low = grind (arith, own i (omega (arith, le, low)), behind i j, le, low)
+pub rising : {spans : List Span} → AreApart spans → (i j : ℕ) → i ≤ j → j < length spans → (at spans i).first ≤ (at spans j).first
+rising h i j le low = grind (arith, h.own i (omega (arith, le, low)), h.behind i j, le, low)
 
 -- of a part of them, those that begin at or before a number stand in front of the others
 pub parted : (spans : List Span) (n start many : ℕ) → AreApart spans → IsPartitionedBy (λ s. leb s.first n) (take many (drop start spans))
@@ -63,7 +52,7 @@ last_holds {spans} n point apart within before past some =
     let on : holds (at spans k) n ≡ true = rw (get_or_default spans k (record { first = 0; last = 0 }) s low ∙ is) on in
     let (from, to) = and_parts (leb (at spans k).first n) (leb n (at spans k).last) on in
     let begun : k < point = grind (arith, past k, low, leb-true (at spans k).first n from) in
-    let last : point - 1 ≡ k = grind (arith, begun, leb-true n (at spans k).last to, before (k + 1), behind apart k (k + 1), within) in
+    let last : point - 1 ≡ k = grind (arith, begun, leb-true n (at spans k).last to, before (k + 1), apart.behind k (k + 1), within) in
     (omega (arith, begun), rw last on)
 
 -- ---- the first numbers of others in runs: those that one span holds stand side by side
@@ -92,7 +81,7 @@ module _ {outer inner : List Span} {k next : ℕ} (runs : AreRuns outer inner k 
   one_run apart sorted here begins new within before past = record {
     within = within;
     past = λ i low. grind (arith, nat_tests, runs.past i, list_any_at (λ s. holds s (at inner i).first) outer k (record { first = 0; last = 0 }) here, begins, rising sorted next i, before i low, within, low);
-    left = λ i j from low earlier. grind (arith, behind apart j k, here, own apart k here, past i from low, earlier);
+    left = λ i j from low earlier. grind (arith, apart.behind j k, here, apart.own k here, past i from low, earlier);
   }
 
 -- ---- tops
@@ -110,28 +99,28 @@ kept_apart k (x ∷ xs) up =
     (All-dedup within (λ t. k.last < t.first) (x ∷ xs) (λ i d low. let past = leb-false x.first k.last other in let more = up 0 i d (omega arith) low in omega (arith, past, more)))
     (kept_apart x xs rest))
 
--- what a span holds is held by what is kept from it on
-held_kept : (n : ℕ) (k : Span) (xs : List Span) → holds k n ≡ true → some_holds (dedup_from within k xs) n ≡ true
-held_kept n k [] on = or_left (holds k n) false on
-held_kept n k (x ∷ xs) on = cond_both (within x k) (dedup_from within k xs) (k ∷ dedup_from within x xs) (λ tops. some_holds tops n ≡ true) (λ _. held_kept n k xs on) (λ _. or_left (holds k n) _ on)
-
 module _ (s : Span) (own : s.first ≤ s.last) where
-  later_held : (k : Span) (xs : List Span) → IsNonDecreasingBy (λ t. t.first) xs → k.first ≤ s.first → Contains xs s → some_holds (dedup_from within k xs) s.first ≡ true
-  later_held k [] up from (i, low, is) = absurd (omega (arith, low))
-  later_held k (x ∷ xs) up from (zero, low, is) =
-      cond_both (within x k) (dedup_from within k xs) (k ∷ dedup_from within x xs) (λ tops. some_holds tops s.first ≡ true)
-      (λ same. held_kept s.first k xs (held k s.first from (omega (arith, leb-true x.first k.last same, ap (λ t. t.first) is))))
-      (λ _. or_right (holds k s.first) _ (held_kept s.first x xs (rw is (held s s.first (omega arith) own))))
-  later_held k (x ∷ xs) up from (suc i, low, is) =
+  -- what begins in a span, or is one behind it, begins in what is kept from it on
+  held_kept : (k : Span) (xs : List Span) → IsNonDecreasingBy (λ t. t.first) xs → k.first ≤ s.first → (s.first ≤ k.last) ⊎ Contains xs s → some_holds (dedup_from within k xs) s.first ≡ true
+  held_kept k [] up from (inl to) = or_left (holds k s.first) false (held k s.first from to)
+  held_kept k [] up from (inr (i, low, is)) = absurd (omega (arith, low))
+  held_kept k (x ∷ xs) up from (inl to) = grind (arith, nat_tests, held_kept k xs (IsNonDecreasingBy-drop (λ t. t.first) 1 (x ∷ xs) up) from (inl to), from, to)
+  held_kept k (x ∷ xs) up from (inr (zero, low, is)) =
       let rest = IsNonDecreasingBy-drop (λ t. t.first) 1 (x ∷ xs) up in
-      cond_both (within x k) (dedup_from within k xs) (k ∷ dedup_from within x xs) (λ tops. some_holds tops s.first ≡ true) (λ _. later_held k xs rest from (i, omega (arith, low), is))
-      (λ _. or_right (holds k s.first) _ (later_held x xs rest (subst (λ t. x.first ≤ t.first) is (up 0 (suc i) s (omega arith) low)) (i, omega (arith, low), is)))
+      let e : x.first ≡ s.first = ap (λ t. t.first) is in
+      let same = λ (to : x.first ≤ k.last). held_kept k xs rest from (inl (omega (arith, e, to))) in
+      let other : some_holds (dedup_from within x xs) s.first ≡ true = held_kept x xs rest (omega (arith, e)) (inl (omega (arith, own, ap (λ t. t.last) is))) in
+      grind (arith, nat_tests, same, other)
+  held_kept k (x ∷ xs) up from (inr (suc i, low, is)) =
+      let rest = IsNonDecreasingBy-drop (λ t. t.first) 1 (x ∷ xs) up in
+      let there : Contains xs s = (i, omega (arith, low), is) in
+      grind (arith, nat_tests, held_kept k xs rest from (inr there), held_kept x xs rest (subst (λ t. x.first ≤ t.first) is (up 0 (suc i) s (omega arith) low)) (inr there))
 
   all_held : (xs : List Span) → IsNonDecreasingBy (λ t. t.first) xs → Contains xs s → some_holds (dedup within xs) s.first ≡ true
   all_held [] up (i, low, is) = absurd (omega (arith, low))
-  all_held (k ∷ xs) up (zero, low, is) = held_kept s.first k xs (rw is (held s s.first (omega arith) own))
+  all_held (k ∷ xs) up (zero, low, is) = held_kept k xs (IsNonDecreasingBy-drop (λ t. t.first) 1 (k ∷ xs) up) (omega (arith, ap (λ t. t.first) is)) (inl (omega (arith, own, ap (λ t. t.last) is)))
   all_held (k ∷ xs) up (suc i, low, is) =
-      later_held k xs (IsNonDecreasingBy-drop (λ t. t.first) 1 (k ∷ xs) up) (subst (λ t. k.first ≤ t.first) is (up 0 (suc i) s (omega arith) low)) (i, omega (arith, low), is)
+      held_kept k xs (IsNonDecreasingBy-drop (λ t. t.first) 1 (k ∷ xs) up) (subst (λ t. k.first ≤ t.first) is (up 0 (suc i) s (omega arith) low)) (inr (i, omega (arith, low), is))
 
 -- what is left of spans in the order of their first numbers
 pub are_tops : (old spans : List Span) → IsPermutation old spans → IsNonDecreasingBy (λ s. s.first) spans → ((s : Span) → Contains old s → s.first ≤ s.last) → AreTops old (dedup within spans)

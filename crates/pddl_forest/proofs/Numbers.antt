@@ -1,16 +1,15 @@
 -- Places of a forest are numbered from the top: each as far behind the number of its parent as it was put there.
-use Rattle.std.proofs.Common.{◌≡◌, ◌≢◌, ℕ, zero, suc, ◌+◌, ◌-◌, ◌<◌, ◌≤◌, leb, List, length, slice_set, refl, sym, ap, add-one, ◌∙◌, arith, inl, inr}
+use Rattle.std.proofs.Common.{◌≡◌, ◌≢◌, ℕ, zero, suc, ◌+◌, ◌-◌, ◌<◌, ◌≤◌, leb, cond, eqb, List, length, slice_set, refl, sym, ap, add-one, ◌∙◌, arith, inl, inr}
 use Rattle.std.proofs.lemmas.Bool.{and_parts, cases_eq, leb-true}
 use Rattle.std.proofs.lemmas.Bool.Decides.{nat_tests}
 use Rattle.std.proofs.lemmas.List.{get_or_default, get_or-set_same, get_or-set_other, length-set}
 use Rattle.std.proofs.lemmas.List.Sums.{get_or-le-sum_by}
 use Rattle.pddl_forest.specs.Forests.{up, IsUnder, number_at}
-use Rattle.pddl_forest.specs.Spans.{span_at, AreSpans}
+use Rattle.pddl_forest.specs.Spans.{span_at, AreSpans, at}
 use Rattle.pddl_forest.specs.declared.spans.Span.{Span}
-use Rattle.pddl_forest.specs.Inner.{turn_of, IsOrder, AreUnder, at, left_under}
+use Rattle.pddl_forest.specs.Inner.{turn_of, IsOrder, AreUnder, left_under}
 use Rattle.pddl_forest.proofs.ApartSpans.{held}
-use Rattle.pddl_forest.proofs.Peels.{turn_few, at_turn}
-use Rattle.pddl_forest.proofs.RoundWays.{up_more, up_low}
+use Rattle.pddl_forest.proofs.Peels.{nothing, turn_few, at_turn, up_more, up_low}
 
 -- A span begins as far behind that of the parent as it did behind 0, and is as long as it was.
 pub record IsNumbered (ps : List ℕ) (old spans : List Span) (i : ℕ) : Type 0 where
@@ -24,7 +23,7 @@ pub record AreNumbered (ps order : List ℕ) (old spans : List Span) (turn : ℕ
   pub rest : (i : ℕ) → turn_of order i < turn → at spans i ≡ at old i
   pub each : (i : ℕ) → i < length ps → turn ≤ turn_of order i → IsNumbered ps old spans i
 
-module _ {ps order : List ℕ} (o : IsOrder ps order) {old : List Span} (u : AreUnder ps order (length order) old) where
+module _ {ps order : List ℕ} (o : IsOrder ps order) {old : List Span} (u : AreUnder ps order old) where
   some : 0 < length ps
   some = omega (arith, o.few)
 
@@ -72,30 +71,26 @@ module _ {ps order : List ℕ} (o : IsOrder ps order) {old : List Span} (u : Are
     pub written_fits : (at spans p).last + start < length ps
     written_fits = rw was (omega (arith, u.within p p_low (omega (arith, turn_is, low)), h.each (number_at ps p) (o.within p p_low) (omega (arith, later))))
 
+    abbrev placed : Span
+    placed = record { first = start; last = (at spans p).last + start }
+
     abbrev next : List Span
-    next = slice_set spans p (record { first = start; last = (at spans p).last + start })
+    next = slice_set spans p placed
 
-    same : (i : ℕ) → i ≢ p → at next i ≡ at spans i
-    same i = get_or-set_other spans p i _ _
-
-    new : at next p ≡ record { first = start; last = (at spans p).last + start }
-    new = get_or-set_same spans p _ _ (omega (arith, p_low, h.long))
+    at_next : (i : ℕ) → at next i ≡ cond (eqb i p) placed (at spans i)
+    at_next i = grind (arith, nat_tests, get_or-set_same spans p placed nothing, get_or-set_other spans p i placed nothing, p_low, h.long)
 
     pub written : AreNumbered ps order old (slice_set spans p (record { first = start; last = (at spans p).last + start })) (turns - 1)
     written = record {
       long = length-set spans p _ ∙ h.long;
-      rest = λ i before. same i (λ is. omega (arith, before, ap (turn_of order) is, turn_is)) ∙ h.rest i (omega (arith, before));
-      each = λ i i_low after. elim (cases_eq i p) as (λ _. IsNumbered ps old next i) [
-        | inl is ↦ rw is record { first = λ _. rw (new, same (number_at ps p) (λ e. omega (arith, ap (turn_of order) e, later, turn_is))) (ap (λ s. s.first + (at spans (number_at ps p)).first) was); last = rw new (ap (λ s. s.last + start) was); low = rw new written_fits }
-        | inr differ ↦
-            let past : turns ≤ turn_of order i = grind (arith, at_turn order i, differ, low, after) in
-            let h = h.each i i_low past in
-            record {
-              first = λ other. rw (same i differ, same (number_at ps i) (λ e. omega (arith, o.ahead i i_low other, past, ap (turn_of order) e, turn_is, more))) (h.first other);
-              last = rw (same i differ) h.last;
-              low = rw (same i differ) h.low;
-            }
-      ];
+      rest = λ i before. grind (arith, nat_tests, at_next i, turn_is, before, h.rest i);
+      each = λ i i_low after.
+          let past = λ (differ : i ≢ p). h.each i i_low (grind (arith, at_turn order i, differ, low, after)) in
+          record {
+            first = λ other. grind (arith, nat_tests, at_next i, at_next (number_at ps i), later, o.ahead i i_low other, turn_is, was, λ (differ : i ≢ p). (past differ).first other);
+            last = grind (arith, nat_tests, at_next i, was, λ (differ : i ≢ p). (past differ).last);
+            low = grind (arith, nat_tests, at_next i, written_fits, λ (differ : i ≢ p). (past differ).low);
+          };
     }
 
   -- ---- where all are numbered, spans are nested as places are
@@ -134,12 +129,9 @@ module _ {ps order : List ℕ} (o : IsOrder ps order) {old : List Span} (u : Are
         let c : ℕ = up ps n i in
         let c_low : c < length ps = up_low ps (λ k inside. rw (get_or_default ps k k 0 inside) (o.within k inside)) n i low in
         let over : number_at ps c ≡ number_at ps g = sym (get_or_default ps c c 0 c_low) ∙ (rw add-one at (up_more ps 1 n i)) ∙ is in
-        elim (cases_eq c g) as (λ _. IsUnder ps i g) [
-          | inl at_g ↦ (n, at_g)
-          | inr differ ↦ elim (cases_eq c 0) as (λ _. IsUnder ps i g) [
-            | inl at_0 ↦ among n i g low also other (at_0 ∙ sym o.top ∙ ap (number_at ps) (sym at_0) ∙ over) from to
-            | inr below_0 ↦ absurd (grind (arith, behind c g c_low also below_0 other over, behind g c also c_low other below_0 (sym over), at_turn order c (listed c c_low below_0), at_turn order g (listed g also other), differ, below n i low, own i low, from, to))
-          ]
+        elim (cases_eq c 0) as (λ _. IsUnder ps i g) [
+          | inl at_0 ↦ among n i g low also other (at_0 ∙ sym o.top ∙ ap (number_at ps) (sym at_0) ∙ over) from to
+          | inr below_0 ↦ (n, grind (arith, behind c g c_low also below_0 other over, behind g c also c_low other below_0 (sym over), at_turn order c (listed c c_low below_0), at_turn order g (listed g also other), below n i low, own i low, from, to))
         ]
 
     found : (f g i : ℕ) → i < length ps → g < length ps → length order ≤ turn_of order g + f → (at spans g).first ≤ (at spans i).first → (at spans i).first ≤ (at spans g).last → IsUnder ps i g

@@ -20,10 +20,14 @@ hold_all outer inner = list_all (λ s. some_holds outer s.first) inner
 abbrev pub span_at : List Span → ℕ → Span
 span_at spans i = slice_index_or spans i (record { first = length spans; last = length spans })
 
+-- the span at a place that has one
+abbrev pub at : List Span → ℕ → Span
+at spans i = slice_index_or spans i (record { first = 0; last = 0 })
+
 -- each span has a number, and ends before those behind it begin
 pub record AreApart (spans : List Span) : Type 0 where
-  pub own : (i : ℕ) → i < length spans → (span_at spans i).first ≤ (span_at spans i).last
-  pub behind : (i j : ℕ) → i < j → j < length spans → (span_at spans i).last < (span_at spans j).first
+  pub own : (i : ℕ) → i < length spans → (at spans i).first ≤ (at spans i).last
+  pub behind : (i j : ℕ) → i < j → j < length spans → (at spans i).last < (at spans j).first
 
 -- the span is one of these
 abbrev pub is_one_of : List Span → Span → Bool

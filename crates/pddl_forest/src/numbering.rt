@@ -11,10 +11,11 @@ use crate::spans::Span;
 use std::alloc::{AllocError, Allocator};
 
 /// Numbers places from 0 on from the end of such an order: each behind its parent's number by what was put before it.
+#[tactic(auto, using(crate::proofs::Numbers::top_numbered, crate::proofs::Numbers::written_fits, crate::proofs::Numbers::are_spans))]
 fn number_from_top(parents: &[usize], order: &[usize], spans: &mut [Span])
     requires short { length parents.now < 2 ^ 32 }
     requires order { IsOrder parents.now order.now }
-    requires under { AreUnder parents.now order.now (length order.now) spans.old }
+    requires under { AreUnder parents.now order.now spans.old }
     ensures { AreSpans parents.now spans.new }
 {
     for turn in (0..order.len()).rev() {

@@ -1,9 +1,10 @@
 //! Places that are peeled off in turn, each once no child of it is left. What is left lies on ways from parent to parent that go round.
 
-ghost use Rattle.std.specs.Prelude.{◌≡◌, ◌+◌, ◌^◌, ◌<◌, ◌≤◌, ◌↔◌, ℕ, IsTrue, List, [], length, replicate, OnOk};
+ghost use Rattle.std.specs.Prelude.{◌≡◌, ◌+◌, ◌^◌, ◌<◌, ◌≤◌, ◌↔◌, ℕ, IsTrue, [], length, replicate, OnOk};
+ghost use Rattle.pddl_forest.specs.Spans.{at};
 ghost use Rattle.pddl_forest.specs.Forests.{number_at};
 ghost use Rattle.pddl_forest.specs.Rounds.{HasRound, AreRounds};
-ghost use Rattle.pddl_forest.specs.Inner.{AreCounted, AreListed, ArePeeled, GoRound, AreUnder, at, put_under};
+ghost use Rattle.pddl_forest.specs.Inner.{AreCounted, AreListed, ArePeeling, GoRound, put_under};
 
 use crate::spans::Span;
 use std::alloc::{AllocError, Allocator};
@@ -35,8 +36,8 @@ pub fn peel_off<'a, B: Allocator>(
     requires within { (i : ℕ) → i < length parents.now → number_at parents.now i < length parents.now }
     requires none { left.old ≡ replicate (length parents.now) 0 }
     requires clear { order.old.items ≡ [] }
-    requires under { (places : List ℕ) → AreUnder parents.now places 0 spans.old }
-    ensures { OnOk result (ArePeeled parents.now left.new order.new.items spans.new (length order.new.items)) }
+    requires under { spans.old ≡ replicate (length parents.now) (record { first = 0; last = 0 }) }
+    ensures { OnOk result (ArePeeling parents.now left.new order.new.items spans.new (length order.new.items)) }
 {
     for parent in parents {
         let more = &mut left[*parent];

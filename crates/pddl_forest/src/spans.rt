@@ -1,8 +1,7 @@
 //! Spans of numbers, and what they hold.
 
 ghost use Rattle.std.specs.Prelude.{◌≡◌, ◌+◌, ◌<◌, ◌≤◌, ℕ, length};
-ghost use Rattle.pddl_forest.specs.Spans.{holds, hold_all, AreApart};
-ghost use Rattle.pddl_forest.specs.Inner.{at};
+ghost use Rattle.pddl_forest.specs.Spans.{holds, hold_all, AreApart, at};
 
 /// The numbers from a first to a last, in four bytes each.
 #[derive(Clone, Copy)]

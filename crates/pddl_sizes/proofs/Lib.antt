@@ -1,4 +1,3 @@
 pub mod Capped
 pub mod ListSums
-pub mod ObjectSums
 pub mod SharedTypes

@@ -1,26 +1,35 @@
--- Sums over what passes a test, and lists that rise.
-use Rattle.std.proofs.Common.{◌≡◌, ℕ, suc, ◌+◌, ◌<◌, ◌≤◌, Bool, not, cond, leb, List, [], ◌∷◌, filter, length, refl, sym, ap, ◌∙◌, subst, arith, slice_index_or}
+-- Sums over what passes a test, lists that rise, and the objects under tops that are apart: by sums over their places, and as parts of an order of all.
+use Rattle.std.proofs.Common.{◌≡◌, ℕ, suc, ◌+◌, ◌<◌, ◌≤◌, Bool, true, false, ltb, leb, List, [], ◌∷◌, filter, length, take, drop, refl, sym, ap, ◌∙◌, subst, arith, slice_index_or, not, cond}
+use Rattle.std.proofs.Math.Nat.{ℕ_set}
+use Rattle.std.specs.Coded.{le_prop}
 use Rattle.std.specs.List.{sum_by, range_with_len}
-use Rattle.std.specs.List.Sorted.{IsNonDecreasingBy}
 use Rattle.std.proofs.lemmas.Bool.Decides.{nat_tests}
-use Rattle.std.proofs.lemmas.List.Sorted.{IsNonDecreasingBy-drop}
+use Rattle.std.proofs.lemmas.List.{get_or_default, get_or-take, get_or-drop, length-drop, length-take, length-take-le}
+use Rattle.std.proofs.lemmas.List.Folds.{list_any_more, Any-from_list_any}
+use Rattle.std.proofs.lemmas.List.Sorted.{sum_by-IsPermutation, IsNonDecreasingBy-drop}
+use Rattle.std.specs.List.Sorted.{IsNonDecreasingBy, IsPartitionPoint}
+use Rattle.std.proofs.Math.Logic.{∥∥₁_elim}
+use Rattle.pddl_task.specs.Tasks.{places_from}
+use Rattle.pddl_forest.specs.Forests.{number_at}
+use Rattle.pddl_forest.specs.Spans.{holds, some_holds, AreApart}
+use Rattle.pddl_forest.specs.declared.spans.Span.{Span}
+use Rattle.pddl_sizes.specs.ObjectOrders.{IsOrderOf}
 use Rattle.std.proofs.lemmas.List.FromFn.{get_or-range_with_len, length-range_with_len}
 use Rattle.std.proofs.lemmas.List.Filters.{length-filter_both}
 use Rattle.std.proofs.lemmas.List.Kept.{IsNonDecreasingBy-filter}
-use Rattle.std.proofs.lemmas.List.Sums.{sum_by-cons, sum_by-le, get_or-le-sum_by}
-use Rattle.pddl_task.specs.Tasks.{places_from}
+use Rattle.std.proofs.lemmas.List.Sums.{sum_by-cons, sum_by-le, sum_by-take-drop, get_or-le-sum_by}
 
 -- ---- sums
 
 -- a number, if a test is passed
-abbrev pub if_passes : Bool → ℕ → ℕ
+abbrev if_passes : Bool → ℕ → ℕ
 if_passes b n = cond b n 0
 
-pub sum_filter : {X : Type 0} (test : X → Bool) (f : X → ℕ) (xs : List X) → sum_by f (filter test xs) ≡ sum_by (λ x. if_passes (test x) (f x)) xs
+sum_filter : {X : Type 0} (test : X → Bool) (f : X → ℕ) (xs : List X) → sum_by f (filter test xs) ≡ sum_by (λ x. if_passes (test x) (f x)) xs
 sum_filter test f [] = refl
 sum_filter test f (x ∷ xs) = grind (arith, sum_filter test f xs, sum_by-cons f x (filter test xs), sum_by-cons (λ y. if_passes (test y) (f y)) x xs)
 
-pub sum_two : {X : Type 0} (f g h : X → ℕ) → ((x : X) → h x ≡ f x + g x) → (xs : List X) → sum_by h xs ≡ sum_by f xs + sum_by g xs
+sum_two : {X : Type 0} (f g h : X → ℕ) → ((x : X) → h x ≡ f x + g x) → (xs : List X) → sum_by h xs ≡ sum_by f xs + sum_by g xs
 sum_two f g h is [] = refl
 sum_two f g h is (x ∷ xs) = omega (arith, sum_two f g h is xs, is x, sum_by-cons f x xs, sum_by-cons g x xs, sum_by-cons h x xs)
 
@@ -48,7 +57,7 @@ same_rising (x ∷ xs) [] up also same = absurd (omega (arith, same (λ _. 1), s
 same_rising (x ∷ xs) (y ∷ ys) up also same =
     let one : x ≡ y = omega (arith, not_past x y xs ys up same, not_past y x ys xs also (λ f. sym (same f))) in
     let rest = same_rising xs ys (IsNonDecreasingBy-drop (λ n. n) 1 (x ∷ xs) up) (IsNonDecreasingBy-drop (λ n. n) 1 (y ∷ ys) also) (λ f. omega (arith, sum_by-cons f x xs, sum_by-cons f y ys, same f, ap f one)) in
-    ap (λ n. n ∷ xs) one ∙ ap (λ ns. y ∷ ns) rest
+    cc
 
 -- ---- the places of what passes a test
 
@@ -64,7 +73,7 @@ module _ {X : Type 0} (test : X → Bool) (xs : List X) (d : X) where
   abbrev passes : ℕ → Bool
   passes i = test (slice_index_or xs i d)
 
-  pub places_are : filter passes (range_with_len 0 (length xs)) ≡ places_from 0 test xs
+  places_are : filter passes (range_with_len 0 (length xs)) ≡ places_from 0 test xs
   places_are = places_from_are test d 0 xs passes (λ i low. let e : 0 + i ≡ i = omega arith in ap passes e)
 
   pub places_rise : IsNonDecreasingBy (λ k. k) (places_from 0 test xs)
@@ -75,3 +84,77 @@ module _ {X : Type 0} (test : X → Bool) (xs : List X) (d : X) where
 pub places_many : {X : Type 0} (test : X → Bool) (k : ℕ) (xs : List X) → length (places_from k test xs) ≡ length (filter test xs)
 places_many test k [] = refl
 places_many test k (x ∷ xs) = grind (arith, places_many test (k + 1) xs)
+
+-- ---- objects under tops
+
+module _ (numbers : List ℕ) where
+  abbrev all : List ℕ
+  all = range_with_len 0 (length numbers)
+
+  abbrev sum_if : (ℕ → Bool) → (ℕ → ℕ) → List ℕ → ℕ
+  sum_if test f = sum_by (λ o. if_passes (test (number_at numbers o)) (f o))
+
+  sum_places : (test : ℕ → Bool) (f : ℕ → ℕ) → sum_by f (places_from 0 test numbers) ≡ sum_if test f all
+  sum_places test f = rw (← places_are test numbers 0) (sum_filter (λ o. test (number_at numbers o)) f all)
+
+  -- all objects stand in an order once
+  pub in_order : (order : List ℕ) (test : ℕ → Bool) (f : ℕ → ℕ) → ∥ IsOrderOf numbers order ∥₁ → sum_if test f order ≡ sum_by f (places_from 0 test numbers)
+  in_order order test f ordered =
+      ∥∥₁_elim ordered (hlevel ℕ_set) (λ is. sum_by-IsPermutation (λ o. if_passes (test (number_at numbers o)) (f o)) all order is.all) ∙ sym (sum_places test f)
+
+  -- their types have numbers that do not fall
+  pub rising : (order : List ℕ) → ∥ IsOrderOf numbers order ∥₁ → IsNonDecreasingBy (number_at numbers) order
+  rising order ordered = λ i j d le low. ∥∥₁_elim ordered (hlevel le_prop) (λ is. is.rising i j d le low)
+
+  module _ (tops : List Span) where
+    -- over those that are under so many tops
+    abbrev pub sum_under : (ℕ → ℕ) → ℕ → ℕ
+    sum_under f i = sum_by f (places_from 0 (some_holds (take i tops)) numbers)
+
+    pub none_under : (f : ℕ → ℕ) → 0 ≡ sum_under f 0
+    none_under f =
+        let g : ℕ → ℕ = λ o. if_passes (some_holds (take 0 tops) (number_at numbers o)) (f o) in
+        omega (arith, sum_two g g g (λ o. refl) all, sum_places (some_holds (take 0 tops)) f)
+
+    module _ (apart : AreApart tops) (i : ℕ) (low : i < length tops) where
+      abbrev none : Span
+      none = record { first = 0; last = 0 }
+
+      abbrev top : Span
+      top = slice_index_or tops i none
+
+      no_other : (n : ℕ) → some_holds (take i tops) n ≡ true → holds top n ≡ true → ⊥
+      no_other n before here =
+          let (k, s, k_low, s_is, on) = Any-from_list_any (λ t. holds t n) (take i tops) before in
+          let few = length-take-le i tops (omega (arith, low)) in
+          let past = apart.behind k i (omega (arith, k_low, few)) low in
+          let at : slice_index_or tops k none ≡ s = sym (get_or-take i tops k none (omega (arith, k_low, few))) ∙ get_or_default (take i tops) k none s k_low ∙ s_is in
+          grind (arith, nat_tests, on, here, past, at)
+
+      one_of : (n m : ℕ) → if_passes (some_holds (take (i + 1) tops) n) m ≡ if_passes (some_holds (take i tops) n) m + if_passes (holds top n) m
+      one_of n m = grind (arith, list_any_more (λ t. holds t n) tops i none low, no_other n)
+
+      pub next_top : (f : ℕ → ℕ) → sum_under f (i + 1) ≡ sum_under f i + sum_by f (places_from 0 (holds top) numbers)
+      next_top f =
+          let both = sum_two (λ o. if_passes (some_holds (take i tops) (number_at numbers o)) (f o)) (λ o. if_passes (holds top (number_at numbers o)) (f o)) (λ o. if_passes (some_holds (take (i + 1) tops) (number_at numbers o)) (f o))
+          (λ o. one_of (number_at numbers o) (f o)) all in
+          omega (arith, both, sum_places (some_holds (take (i + 1) tops)) f, sum_places (some_holds (take i tops)) f, sum_places (holds top) f)
+
+-- ---- a part of an order
+
+-- behind the numbers below a span, as far as the numbers are not past it, are those in the span
+module _ {X : Type 0} (n : X → ℕ) (top : Span) where
+  abbrev IsStart : List X → ℕ → Type 0
+  IsStart = IsPartitionPoint (λ x. ltb (n x) top.first ≡ true) (λ x. ltb (n x) top.first ≡ false)
+
+  abbrev IsEnd : List X → ℕ → Type 0
+  IsEnd = IsPartitionPoint (λ x. leb (n x) top.last ≡ true) (λ x. leb (n x) top.last ≡ false)
+
+  pub part_sum : (f : X → ℕ) (xs rest : List X) (start many : ℕ) → rest ≡ drop start xs → IsStart xs start → IsEnd rest many → sum_by f (take many rest) ≡ sum_by (λ x. if_passes (holds top (n x)) (f x)) xs
+  part_sum f xs rest start many same from to =
+      let on : X → ℕ = λ x. if_passes (holds top (n x)) (f x) in
+      let off : X → ℕ = λ x. if_passes (not (holds top (n x))) (f x) in
+      let front = sum_by-le on 0 (take start xs) (λ i d low. grind (arith, nat_tests, from.0 i d, get_or-take start xs i d, length-take start xs, low)) in
+      let middle = sum_by-le off 0 (take many rest) (λ i d low. grind (arith, nat_tests, from.1 (start + i) d, to.0 i d, get_or-take many rest i d, same, get_or-drop start xs i d, length-take many rest, length-drop start xs, low)) in
+      let back = sum_by-le on 0 (drop many rest) (λ i d low. grind (arith, nat_tests, to.1 (many + i) d, get_or-drop many rest i d, length-drop many rest, low)) in
+      omega (arith, front, middle, back, sum_by-take-drop on xs start, ap (sum_by on) same, sum_by-take-drop on rest many, sum_two on off f (λ x. grind (arith, nat_tests)) (take many rest))

@@ -1,10 +1,14 @@
-//! Ground sizes, without writing any quantifier out.
+//! Ground sizes of formulas, effects and actions, without writing any quantifier out.
 
 ghost use Rattle.std.specs.Prelude.{◌≡◌, ◌+◌, map};
 ghost use Rattle.pddl_formula.specs.TypedLists.{typed_view};
 ghost use Rattle.pddl_formula.specs.Formulas.{formula_view};
-ghost use Rattle.pddl_task.specs.GroundSize.{capped, quantifier_size, formula_size};
+ghost use Rattle.pddl_effect.specs.Effects.{effect_view};
+ghost use Rattle.pddl_domain.specs.Actions.{action_view};
+ghost use Rattle.pddl_task.specs.GroundSize.{capped, quantifier_size, formula_size, effect_size, action_size};
 
+use pddl_domain::Action;
+use pddl_effect::Effect;
 use pddl_formula::{Formula, TypeNames, TypedList};
 use std::alloc::Allocator;
 
@@ -20,14 +24,14 @@ pub trait FittingCount<A: Allocator> {
 }
 
 /// The sum of two sizes.
-pub fn sum(a: u32, b: u32) -> u32
+fn sum(a: u32, b: u32) -> u32
     ensures { result ≡ capped (a + b) }
 {
     a.saturating_add(b).min(1_000_001)
 }
 
 /// The size of a quantifier over variables, where what is quantified has a size. How many objects fit is counted once for each group of variables.
-pub fn quantifier_size<A: Allocator, C: FittingCount<A>>(
+fn quantifier_size<A: Allocator, C: FittingCount<A>>(
     counts: &C,
     variables: &TypedList<A>,
     body: u32,
@@ -69,4 +73,38 @@ pub fn ground_size<A: Allocator, C: FittingCount<A>>(counts: &C, formula: &Formu
             quantifier_size(counts, variables, ground_size(counts, inner))
         }
     }
+}
+
+/// The ground size of an effect, or 1,000,001 where it is more than 1,000,000.
+#[tactic(auto, using(pddl_effect::specs::declared::effect::Effect::TheFolds::the_lemmas))]
+pub fn effect_ground_size<A: Allocator, C: FittingCount<A>>(counts: &C, effect: &Effect<A>) -> u32
+    ensures { result ≡ capped (effect_size (C.count counts.now) (effect_view effect.now)) }
+{
+    match effect {
+        Effect::And(parts) => {
+            let mut size = 1;
+            for part in parts {
+                size = sum(size, effect_ground_size(counts, part));
+            }
+            size
+        }
+        Effect::Forall(variables, inner) => {
+            quantifier_size(counts, variables, effect_ground_size(counts, inner))
+        }
+        Effect::When(condition, inner) => {
+            let condition = ground_size(counts, condition);
+            let inner = effect_ground_size(counts, inner);
+            sum(1, sum(condition, inner))
+        }
+        Effect::Add(_) | Effect::Del(_) | Effect::Increase(_) => 1,
+    }
+}
+
+/// The ground size of an action's step, that of its precondition and its effect, or 1,000,001 where it is more than 1,000,000.
+pub fn action_ground_size<A: Allocator, C: FittingCount<A>>(counts: &C, action: &Action<A>) -> u32
+    ensures { result ≡ capped (action_size (C.count counts.now) (action_view action.now)) }
+{
+    let precondition = ground_size(counts, &action.precondition);
+    let effect = effect_ground_size(counts, &action.effect);
+    sum(precondition, effect)
 }

@@ -1,7 +1,5 @@
 pub mod Lookups
 pub mod SignatureTables
-pub mod TypeParents
-pub mod TypeForests
 pub mod NamedSpans
 pub mod ListedObjects
 pub mod FittingSpans

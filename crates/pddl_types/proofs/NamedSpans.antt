@@ -14,17 +14,12 @@ use Rattle.pddl_types.specs.TypeTables.{Row, names_in, parents_in, StandsAt, IsT
 use Rattle.pddl_types.specs.TypeSpans.{TypesValue, span_of, IsTold, DoTell, are_types}
 use Rattle.pddl_task.proofs.Lists.{any_found, found_any, all_found, found_all, mapped_is, is_mapped}
 use Rattle.pddl_task.proofs.Subtypes.{is_under_decides, under_found, under_through}
-use Rattle.pddl_types.proofs.TypeParents.{same_types}
-use Rattle.pddl_types.proofs.TypeTables.{below, number_past}
-use Rattle.pddl_types.proofs.TypeForests.{place_in, under_numbered}
+use Rattle.pddl_types.proofs.TypeTables.{same_types, below, number_past, place_in, under_numbered}
 
 -- ---- spans
 
 abbrev is_same : Span → Span → Bool
 is_same s u = eqb s.first u.first && eqb s.last u.last
-
-same_span : (s u : Span) → is_same s u ≡ true → s ≡ u
-same_span s u h = grind (arith, nat_tests, h)
 
 -- ---- the spans of types
 
@@ -71,10 +66,6 @@ module _ (t : TypesValue) (h : AreInTable t) where
   abbrev test : Name → Name → Bool
   test n m = holds (span_of t m) (span_of t n).first
 
-  -- what begins among the numbers is a type
-  type_if : (n : Name) → (span_of t n).first < length t.spans → is_type n ≡ true
-  type_if n low = grind (arith, low, behind n)
-
   both_test : (n m : Name) → is_type n ≡ true → is_type m ≡ true → IsTrue (test n m) ↔ IsTrue (under n m)
   both_test n m one other =
       let at = stands n one in
@@ -90,11 +81,15 @@ module _ (t : TypesValue) (h : AreInTable t) where
   is_test n m type =
       let two = both_test n m type in
       both_ways (test n m) (under n m)
-      (λ yes. (two (type_if m (grind (arith, yes, within n type)))).0 yes)
+      (λ yes. (two (grind (arith, yes, within n type, behind m))).0 yes)
       (λ yes. (two (over_type n m yes type)).1 yes)
 
   pub test_told : (n m : Name) (number : ℕ) (over : Span) → is_type n ≡ true → number ≡ (span_of t n).first → over ≡ span_of t m → holds over number ≡ under n m
   test_told n m number over known is also = ap (λ s. holds s number) also ∙ ap (holds (span_of t m)) is ∙ is_test n m known
+
+  -- a test of types alone
+  pub subtype_told : (n m : Name) (number : ℕ) (over : Span) → is_type n ≡ true → number ≡ (span_of t n).first → over ≡ span_of t m → holds over number ≡ is_subtype t.declared n m
+  subtype_told n m number over known is also = grind (arith, test_told n m number over known is also, over_type n m, known)
 
   through : (n m u : Name) → under n m ≡ true → under m u ≡ true → under n u ≡ true
   through n m u low high =
@@ -107,7 +102,7 @@ module _ (t : TypesValue) (h : AreInTable t) where
   top_of names tops s told there =
       let one = any_found (is_same s) (map (span_of t) names) (told.tops_are.each s there) in
       let m = mapped_is (span_of t) names one.0 one.1 in
-      (m.0, m.1, m.2 ∙ sym (same_span s one.0 one.2))
+      (m.0, m.1, grind (arith, nat_tests, m.2, one.2))
 
   -- the span of a name begins in that of one of the names, which is a top
   in_top : (names : List Name) (tops : List Span) (n : Name) → IsTold t names tops → some_holds tops (span_of t n).first ≡ true
@@ -142,8 +137,3 @@ module _ (t : TypesValue) (h : AreInTable t) where
     where
       type : (n : Name) → Contains types n → is_type n ≡ true
       type n there = all_found is_type types known n there
-
--- a test of types alone
-pub subtype_is : (declared : List TypeValue) (sub over : Name) (told : Bool) → is_in (types_of declared) sub ≡ true → is_in (types_of declared) over ≡ true → told ≡ is_under (pairs declared) sub over
-    → told ≡ is_subtype declared sub over
-subtype_is declared sub over told one other is = rw (one, other) is

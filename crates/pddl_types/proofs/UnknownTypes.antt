@@ -1,5 +1,5 @@
 -- Types that are used and not known, part by part.
-use Rattle.std.proofs.Common.{◌≡◌, ℕ, ◌+◌, ◌<◌, not, List, ◌++◌, map, filter, length, get_or, drop, slice_get, Some, sym, ap, ◌∙◌}
+use Rattle.std.proofs.Common.{◌≡◌, ℕ, ◌+◌, ◌<◌, not, List, ◌++◌, map, filter, length, get_or, drop, slice_get, Some, sym}
 use Rattle.std.specs.List.{flat_map}
 use Rattle.std.proofs.lemmas.List.Concat.{flat_map-append}
 use Rattle.std.proofs.lemmas.List.Elements.{filter-append}
@@ -18,19 +18,14 @@ unknown-append ts xs ys = simp (flat_map-append, filter-append)
 -- what is left of what is declared: the first, and the rest
 pub declared_left : {X : Type 0} (ts : List TypeValue) (signature : X → Signature) (xs : List X) (i : ℕ) (x : X) (own : List TypedValue) → i < length xs → x ≡ get_or xs i x
     → own ≡ (signature x).parameters → unknown_among ts (flat_map parameters_of (map signature (drop i xs))) ≡ unknown_among ts own ++ unknown_among ts (flat_map parameters_of (map signature (drop (i + 1) xs)))
-declared_left ts signature xs i x own h at is =
-    let rest = flat_map parameters_of (map signature (drop (i + 1) xs)) in
-    ap (λ ys. unknown_among ts (flat_map parameters_of ys)) (views_drop signature xs i x h at)
-    ∙ ap (λ ys. unknown_among ts (ys ++ rest)) (sym is) ∙ unknown-append ts own rest
+declared_left ts signature xs i x own h at is = rw (views_drop signature xs i x h at, is) (unknown-append ts (signature x).parameters _)
 
 -- two kinds of what is declared, the second told otherwise
 pub declared_parts : (ts : List TypeValue) (gs : List Signature) {hs fs : List Signature} → fs ≡ hs
     → unknown_among ts (flat_map parameters_of gs ++ flat_map parameters_of hs) ≡ unknown_among ts (flat_map parameters_of gs) ++ unknown_among ts (flat_map parameters_of fs)
-declared_parts ts gs {hs} same =
-    unknown-append ts (flat_map parameters_of gs) (flat_map parameters_of hs) ∙ ap (λ xs. unknown_among ts (flat_map parameters_of gs) ++ unknown_among ts (flat_map parameters_of xs)) (sym same)
+declared_parts ts gs {hs} same = rw same (unknown-append ts (flat_map parameters_of gs) (flat_map parameters_of hs))
 
 -- what is left of what is typed: the first, and the rest
 pub typed_left : (ts : List TypeValue) (xs : List TypedValue) (i : ℕ) (x : TypedValue) → slice_get xs i ≡ Some x
     → unknown_among ts (drop i xs) ≡ filter (λ n. not (is_in (types_of ts) n)) x.of ++ unknown_among ts (drop (i + 1) xs)
-typed_left ts xs i x at =
-    ap (unknown_among ts) (rest_is xs i x (slice_get_within xs i x at) (sym (get_or_from_slice_get xs i x x at))) ∙ filter-append (λ n. not (is_in (types_of ts) n)) x.of _
+typed_left ts xs i x at = rw (rest_is xs i x (slice_get_within xs i x at) (sym (get_or_from_slice_get xs i x x at))) (filter-append (λ n. not (is_in (types_of ts) n)) x.of _)

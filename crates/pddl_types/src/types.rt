@@ -108,7 +108,7 @@ impl<'m, 'a, A: Allocator, B: Allocator> Types<'m, 'a, A, B> {
         ensures { result ≡ is_subtype self.now.declared sub.now over.now }
     {
         let _ = &self.spans;
-        self.contains(sub) && self.contains(over) && self.span(over).holds(self.span(sub).first)
+        self.contains(sub) && self.span(over).holds(self.span(sub).first)
     }
 
     /// Tops tell of two types whether one fits the other.

@@ -2,7 +2,7 @@ use Rattle.std.proofs.Common.{◌≡◌, ◌≢◌, sym, ◌∙◌, rules, tests
 use Rattle.std.proofs.lemmas.List.{get_or_default}
 use Rattle.std.proofs.lemmas.Iterator.{cases_from_any, YieldsList-from_slice}
 use Rattle.pddl_forest.specs.Rounds.{AreRounds}
-use Rattle.pddl_forest.proofs.RoundWays.{with_top, without_top, told_round}
+use Rattle.pddl_forest.proofs.Peels.{with_top, without_top, told_round}
 use Rattle.pddl_forest.proofs.peeling.has_round.Goals.{then-parents-eq0, else-parents-eq0}
 use Rattle.pddl_forest.proofs.peeling.has_round.Goals as goal
 

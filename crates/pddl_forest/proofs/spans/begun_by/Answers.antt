@@ -1,6 +1,6 @@
 use Rattle.std.proofs.Common.{◌-◌, ◌<◌, length, leb, rules, arith}
 use Rattle.std.proofs.lemmas.List.Sorted.{IsPartitionPoint-from_clause}
-use Rattle.pddl_forest.specs.Inner.{at}
+use Rattle.pddl_forest.specs.Spans.{at}
 use Rattle.pddl_forest.proofs.ApartSpans.{parted, parted_at}
 use Rattle.pddl_forest.proofs.spans.begun_by.Goals as goal
 use Rattle.pddl_forest.proofs.spans.begun_by.Goals.{then-loop-end-test+else-spans-end, else-loop-end-test}

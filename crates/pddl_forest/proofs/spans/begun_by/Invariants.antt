@@ -1,5 +1,5 @@
 use Rattle.std.proofs.Common.{length, ◌-◌, ◌<◌, ◌≤◌, ℕ}
-use Rattle.pddl_forest.specs.Inner.{at}
+use Rattle.pddl_forest.specs.Spans.{at}
 use Rattle.pddl_forest.proofs.spans.begun_by.Given as goal
 
 -- what stands in front of the start begins at or before the number

@@ -1,8 +1,7 @@
 use Rattle.std.proofs.Common.{sym, ◌∙◌, arith}
 use Rattle.std.proofs.lemmas.Bool.{false_from_ne_true, true≢false}
 use Rattle.std.proofs.lemmas.List.Folds.{list_all_at}
-use Rattle.pddl_forest.specs.Spans.{some_holds}
-use Rattle.pddl_forest.specs.Inner.{at}
+use Rattle.pddl_forest.specs.Spans.{some_holds, at}
 use Rattle.pddl_forest.proofs.ApartSpans.{last_holds}
 use Rattle.pddl_forest.proofs.spans.hold_each.Goals.{then-behind-eq0-via-then-behind-eq0, then-behind-eq0-via-else-behind-eq0+then-not-holds-2}
 use Rattle.pddl_forest.proofs.spans.hold_each.Goals as goal

@@ -1,13 +1,9 @@
 use Rattle.std.proofs.Common.{◌≡◌, ◌≤◌, ◌<◌, false, length, sym, arith}
 use Rattle.std.proofs.lemmas.Bool.Decides.{nat_tests}
-use Rattle.pddl_forest.specs.Spans.{hold_all}
-use Rattle.pddl_forest.specs.Inner.{at}
+use Rattle.pddl_forest.specs.Spans.{hold_all, at}
 use Rattle.pddl_forest.proofs.ApartSpans.{rising, one_missed, all_past, one_run}
 use Rattle.pddl_forest.proofs.spans.hold_runs.Goals as goal
 use Rattle.pddl_forest.proofs.spans.hold_runs.Goals.{else-next-inner-via-then-next-inner+else-inner-next, else-next-inner-via-else-next-inner}
-
-pub loop-span-init : goal.loop-span-init
-loop-span-init c = record { within = omega arith; past = λ i low. absurd (omega (arith, low)); left = λ i j from low none. absurd (omega (arith, none)) }
 
 pub returns-then-inner-next : goal.returns-then-inner-next
 returns-then-inner-next c =

@@ -1,5 +1,5 @@
 use Rattle.std.proofs.Common.{◌≡◌}
-use Rattle.pddl_sizes.proofs.ObjectSums.{sum_under}
+use Rattle.pddl_sizes.proofs.ListSums.{sum_under}
 use Rattle.pddl_sizes.proofs.object_order.ObjectOrder.count.Given as goal
 
 -- the objects under the tops so far are counted

@@ -5,8 +5,7 @@ use Rattle.std.proofs.lemmas.List.Sorted.{sum_by-IsPermutation, IsNonDecreasingB
 use Rattle.std.proofs.lemmas.List.Sums.{sum_by-append}
 use Rattle.pddl_forest.specs.Spans.{some_holds}
 use Rattle.pddl_task.specs.Tasks.{places_from}
-use Rattle.pddl_sizes.proofs.ListSums.{same_rising, places_rise}
-use Rattle.pddl_sizes.proofs.ObjectSums.{none_under, next_top}
+use Rattle.pddl_sizes.proofs.ListSums.{same_rising, places_rise, none_under, next_top}
 use Rattle.pddl_sizes.proofs.object_order.ObjectOrder.objects_under.Goals as goal
 
 pub loop-top-init : goal.loop-top-init

@@ -1,6 +1,6 @@
 use Rattle.std.proofs.Common.{◌≡◌, ℕ}
 use Rattle.std.specs.List.{sum_by}
-use Rattle.pddl_sizes.proofs.ObjectSums.{sum_under}
+use Rattle.pddl_sizes.proofs.ListSums.{sum_under}
 use Rattle.pddl_sizes.proofs.object_order.ObjectOrder.objects_under.Given as goal
 
 -- the objects under the tops so far are found

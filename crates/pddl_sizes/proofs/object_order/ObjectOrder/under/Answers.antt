@@ -1,10 +1,11 @@
 use Rattle.std.proofs.Common.{◌-◌, ℕ, length, take, drop, ltb, leb, ap, ◌∙◌, rules}
 use Rattle.std.specs.List.{sum_by}
+use Rattle.std.proofs.lemmas.List.{take_rest}
 use Rattle.std.proofs.lemmas.List.Sorted.{IsNonDecreasingBy-drop, IsNonDecreasingBy-take, IsPartitionedBy-leb, IsPartitionedBy-ltb, IsPartitionPoint-from_clause}
 use Rattle.pddl_forest.specs.Forests.{number_at}
 use Rattle.pddl_forest.specs.Spans.{holds}
 use Rattle.pddl_task.specs.Tasks.{places_from}
-use Rattle.pddl_sizes.proofs.ObjectSums.{in_order, rising, rest_holds}
+use Rattle.pddl_sizes.proofs.ListSums.{in_order, rising, part_sum}
 use Rattle.pddl_sizes.proofs.object_order.ObjectOrder.under.Goals as goal
 
 pub returns : goal.returns
@@ -17,7 +18,7 @@ returns g c = λ f.
     let up = rising c.as_slice-numbers.result.now xs ordered in
     let up_from = IsNonDecreasingBy-take n (length xs - start) (drop start xs) (IsNonDecreasingBy-drop n start xs up) in
     let part =
-    rest_holds n top xs start c.partition_point-many.result c.partition_point-many.ensures.bound
+    part_sum n top f xs (take (length xs - start) (drop start xs)) start c.partition_point-many.result (take_rest xs start)
     (IsPartitionPoint-from_clause (λ o. ltb (n o) top.first) _ _ c.partition_point-start.ensures.partitioned (IsPartitionedBy-ltb n xs top.first up) (λ a r q k. search rules))
     (IsPartitionPoint-from_clause (λ o. leb (n o) top.last) _ _ c.partition_point-many.ensures.partitioned (IsPartitionedBy-leb n (take (length xs - start) (drop start xs)) top.last up_from) (λ a r q k. search rules)) in
-    ap (sum_by f) part ∙ in_order c.as_slice-numbers.result.now xs (holds top) f ordered ∙ ap (λ ns. sum_by f (places_from 0 (holds top) ns)) c.as_slice-numbers.ensures.value
+    part ∙ in_order c.as_slice-numbers.result.now xs (holds top) f ordered ∙ ap (λ ns. sum_by f (places_from 0 (holds top) ns)) c.as_slice-numbers.ensures.value

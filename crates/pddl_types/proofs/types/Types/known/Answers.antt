@@ -1,4 +1,4 @@
-use Rattle.std.proofs.Common.{◌≡◌, true, false, not, refl, ap, sym, subst, ◌∙◌, arith}
+use Rattle.std.proofs.Common.{◌≡◌, true, not, refl, ap, sym, subst, ◌∙◌, arith}
 use Rattle.std.specs.Prelude.{Contains}
 use Rattle.std.proofs.lemmas.List.{drop_all}
 use Rattle.pddl_task.specs.Names.{is_in}
@@ -8,9 +8,8 @@ use Rattle.pddl_types.proofs.types.Types.known.Goals as goal
 
 pub loop-primitive-preserved : goal.loop-primitive-preserved
 loop-primitive-preserved g c =
-    let known = is_in (types_of c.args.self.now.declared) in
-    let own : not (known c.primitive-item.result) ≡ false = ap (λ n. not (known n)) (sym c.as_bytes-name.ensures.value) ∙ ap not (sym c.contains.ensures) ∙ ap not c.if-not-contains.false in
-    rw (rest_is c.as_slice-primitives.result.now c.loop-primitive.primitive-index c.primitive-item.result c.loop-primitive-test.true c.primitive-item.is, own) at c.loop-primitive.invariant
+    let left = rw (rest_is c.as_slice-primitives.result.now c.loop-primitive.primitive-index c.primitive-item.result c.loop-primitive-test.true c.primitive-item.is) at c.loop-primitive.invariant in
+    grind (arith, left, c.as_bytes-name.ensures.value, c.contains.ensures, c.if-not-contains.false)
 
 pub returns-then-not-contains : goal.returns-then-not-contains
 returns-then-not-contains g c =

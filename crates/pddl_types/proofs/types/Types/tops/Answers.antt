@@ -1,8 +1,6 @@
-use Rattle.std.proofs.Common.{[], take, length, nat_lt, sym, ap, ◌∙◌, ltb-true}
-use Rattle.std.specs.List.{list_all}
+use Rattle.std.proofs.Common.{arith, [], take, sym, ap, ◌∙◌}
+use Rattle.std.proofs.lemmas.Bool.Decides.{nat_tests}
 use Rattle.std.proofs.lemmas.List.{take_all}
-use Rattle.pddl_formula.specs.Reserved.{is_type_name}
-use Rattle.pddl_task.proofs.Lists.{and_left}
 use Rattle.pddl_faults.proofs.ListTurns.{seen_more}
 use Rattle.pddl_types.specs.TypeSpans.{span_of}
 use Rattle.pddl_types.proofs.NamedSpans.{in_table, all_some, do_tell}
@@ -22,7 +20,7 @@ keep_tops-requires g c =
 
 pub returns-clause-told : goal.returns-clause-told
 returns-clause-told g c = record {
-  some = ltb-true 0 (length c.args.types.now) (and_left (nat_lt 0 (length c.args.types.now)) (list_all is_type_name c.args.types.now) c.as_slice-primitives.ensures.types);
+  some = grind (arith, nat_tests, c.as_slice-primitives.ensures.types);
   tops_are = rw (c.loop-primitive.invariant, take_all c.loop-primitive.primitive-index c.as_slice-primitives.result.now c.loop-primitive-test.false, c.as_slice-primitives.ensures.value) at c.keep_tops.ensures;
 }
 

@@ -2,4 +2,4 @@ use Rattle.pddl_types.proofs.NamedSpans.{in_table, tops_fit}
 use Rattle.pddl_types.proofs.types.Types.tops_decide.Goals as goal
 
 pub returns : goal.returns
-returns g c = λ types slot told tops first second known. tops_fit c.args.self.now (in_table c.self.view_is c.self.invariant) types slot told tops first second known
+returns g c = tops_fit c.args.self.now (in_table c.self.view_is c.self.invariant)

@@ -1,7 +1,7 @@
 use Rattle.std.proofs.Common.{◌≡◌, ◌≤◌, ◌+◌, drop, map}
 use Rattle.pddl_effect.specs.Effects.{effect_view, effects_of}
 use Rattle.pddl_task.specs.GroundSize.{capped, effects_size}
-use Rattle.pddl_sizes.proofs.effect_size.+effect_ground_size.Given as goal
+use Rattle.pddl_sizes.proofs.size.+effect_ground_size.Given as goal
 
 abbrev pub invariant-loop-part : goal.invariant-loop-part
 invariant-loop-part g l =

@@ -7,7 +7,7 @@ use Rattle.pddl_formula.proofs.Depths.{among}
 use Rattle.pddl_effect.proofs.Depths.{under_all}
 use Rattle.pddl_faults.proofs.ViewTurns.{effects-drop}
 use Rattle.pddl_effect.proofs.Views.{view_and, view_forall, view_when, view_add, view_del, view_increase}
-use Rattle.pddl_sizes.proofs.effect_size.+effect_ground_size.Goals as goal
+use Rattle.pddl_sizes.proofs.size.+effect_ground_size.Goals as goal
 
 pub returns-after-loop-part : goal.returns-after-loop-part
 returns-after-loop-part g t c =
