@@ -23,12 +23,6 @@ declared_left ts signature xs i x own h at is =
     ap (λ ys. unknown_among ts (flat_map parameters_of ys)) (views_drop signature xs i x h at)
     ∙ ap (λ ys. unknown_among ts (ys ++ rest)) (sym is) ∙ unknown-append ts own rest
 
--- two kinds of what is declared, the second told otherwise
-pub declared_parts : (ts : List TypeValue) (gs : List Signature) {hs fs : List Signature} → fs ≡ hs
-    → unknown_among ts (flat_map parameters_of gs ++ flat_map parameters_of hs) ≡ unknown_among ts (flat_map parameters_of gs) ++ unknown_among ts (flat_map parameters_of fs)
-declared_parts ts gs {hs} same =
-    unknown-append ts (flat_map parameters_of gs) (flat_map parameters_of hs) ∙ ap (λ xs. unknown_among ts (flat_map parameters_of gs) ++ unknown_among ts (flat_map parameters_of xs)) (sym same)
-
 -- what is left of what is typed: the first, and the rest
 pub typed_left : (ts : List TypeValue) (xs : List TypedValue) (i : ℕ) (x : TypedValue) → slice_get xs i ≡ Some x
     → unknown_among ts (drop i xs) ≡ filter (λ n. not (is_in (types_of ts) n)) x.of ++ unknown_among ts (drop (i + 1) xs)

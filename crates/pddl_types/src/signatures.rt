@@ -92,6 +92,7 @@ pub type Signatures<'m, 'a, A, B> = IndexMap<&'m [u8], Slots<'m, 'a, A, B>, Hash
 /// # Errors
 ///
 /// `LinkFault::UnknownType`; `Memory` where memory for the table is refused.
+#[tactic(auto, using(crate::proofs::ToldTypes::kept_then))]
 pub(crate) fn put<'m, 'a, A: Allocator, B: Allocator, D: Declares<A>>(
     types: &Types<'m, 'a, A, B>,
     told: &mut Told<'m, 'a, A, B>,
