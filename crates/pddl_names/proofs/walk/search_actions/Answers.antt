@@ -1,9 +1,8 @@
-use Rattle.std.proofs.Common.{[], ◌∷◌, ◌++◌, map, ap, ◌∙◌}
+use Rattle.std.proofs.Common.{[], ◌∷◌, ◌++◌, refl, ap, ◌∙◌}
 use Rattle.std.proofs.lemmas.List.{drop_all}
 use Rattle.std.proofs.lemmas.Result.{err_from_is_err_and}
 use Rattle.pddl_domain.specs.Actions.{action_view}
-use Rattle.pddl_task.specs.Names.{is_in, word_if}
-use Rattle.pddl_faults.proofs.FoundFaults.{passed_as, up_to_none, up_to_more, up_to_all}
+use Rattle.pddl_faults.proofs.FoundFaults.{passed_found, up_to_none, up_to_more, up_to_all}
 use Rattle.pddl_faults.proofs.ListTurns.{views_drop}
 use Rattle.pddl_names.specs.FaultParts.{action_faults}
 use Rattle.pddl_names.specs.Uses.{faults_by}
@@ -35,7 +34,7 @@ loop-action-preserved g c =
         so_far =
             up_to_more _ c.lower.result (ap (action_faults (faults_by c.args.known.now) so.seen) (views_drop action_view c.args.actions.now c.loop-action.action-index a c.loop-action-test.true c.action-item.is))
             c.lower-found.ensures.found
-            (c.lower.ensures.found _ _ (passed_as 24 c.once.result (ap (λ b. word_if b name.now) seen ∙ ap (word_if (is_in so.seen a.name)) named) c.once.ensures) own.found) so.so_far;
+            (c.lower.ensures.found _ _ (passed_found 24 _ _ (rw (seen, named) at c.once.ensures)) own.found) so.so_far;
       };
     }
 
@@ -44,5 +43,4 @@ returns-in_err-is_new-clause-found g c = let p = err_from_is_err_and c.from_resi
 
 pub returns-clause-found : goal.returns-clause-found
 returns-clause-found g c =
-    let so = c.loop-action.invariant.so_far in
-    up_to_all (ap (λ xs. action_faults (faults_by c.args.known.now) so.seen (map action_view xs)) (drop_all c.loop-action.action-index c.args.actions.now c.loop-action-test.false)) so.so_far
+    up_to_all refl (rw (drop_all c.loop-action.action-index c.args.actions.now c.loop-action-test.false) at c.loop-action.invariant.so_far.so_far)
