@@ -1,6 +1,5 @@
 -- Verdicts in turn: what is found among the parts of a domain and a problem is the verdict on the rules from 23 to 33, and rules follow one another by rising numbers.
-use Rattle.std.proofs.Common.{◌≡◌, ◌≤◌, ℕ, Bool, true, List, [], ◌∷◌, ◌++◌, map, drop, Result, Ok, Err, IfSome, refl, ap, subst, arith, append_assoc, inl, inr}
-use Rattle.std.specs.Prelude.{nat_le, IsOk, MatchResult}
+use Rattle.std.proofs.Common.{◌≡◌, ◌≤◌, ℕ, Bool, true, List, [], ◌∷◌, ◌++◌, map, drop, Result, Ok, Err, IfSome, refl, ap, subst, arith, append_assoc, inl, inr, nat_le, IsOk, MatchResult}
 use Rattle.std.specs.List.{list_all}
 use Rattle.std.proofs.lemmas.Bool.Decides.{nat_tests}
 use Rattle.std.proofs.lemmas.Option.{IfSome_then}

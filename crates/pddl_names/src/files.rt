@@ -24,6 +24,7 @@ use std::alloc::Allocator;
 /// # Errors
 ///
 /// `LinkFault::UnknownType` of what it declares, than which none is lower; `Memory` where memory is refused. Then nothing more is looked at.
+#[tactic(auto, using(std::proofs::lemmas::Result::err_from_is_err_and))]
 pub fn look_at_domain<'m, 'a, A: Allocator, B: Allocator>(
     known: &mut Known<'m, 'a, A, B>,
     told: &mut Told<'m, 'a, A, B>,

@@ -123,6 +123,7 @@ fn search_action<'m, 'a, A: Allocator, B: Allocator>(
 }
 
 /// Searches actions in turn, and looks for names that stand twice, for which they are put into an empty set.
+#[tactic(auto, using(std::proofs::lemmas::Result::err_from_is_err_and))]
 pub(crate) fn search_actions<'m, 'a, A: Allocator, B: Allocator>(
     known: &Known<'m, 'a, A, B>,
     told: &mut Told<'m, 'a, A, B>,

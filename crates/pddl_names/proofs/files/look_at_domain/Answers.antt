@@ -1,12 +1,8 @@
 use Rattle.std.proofs.Common.{refl}
-use Rattle.std.proofs.lemmas.Result.{err_from_is_err_and}
 use Rattle.pddl_faults.proofs.FoundFaults.{passed_found}
 use Rattle.pddl_names.proofs.FoundParts.{passed_part}
 use Rattle.pddl_names.proofs.HeldFiles.{known_faults, nothing_bound, known_still}
 use Rattle.pddl_names.proofs.files.look_at_domain.Goals as goal
-
-pub returns-in_err-names-clause-passes : goal.returns-in_err-names-clause-passes
-returns-in_err-names-clause-passes g c = let p = err_from_is_err_and c.from_residual.result c.from_residual.ensures.1 in rw (p.1, p.2) c.in_err-names.ensures.passes
 
 pub search_actions-actions-requires-clause-told : goal.search_actions-actions-requires-clause-told
 search_actions-actions-requires-clause-told g c = rw c.new-scope.ensures (nothing_bound c.in_ok-names.ensures.known)

@@ -6,18 +6,12 @@ use Rattle.pddl_names.specs.Uses.{faults_by}
 use Rattle.pddl_names.proofs.Walks.{one_more, at_end}
 use Rattle.pddl_names.proofs.walk.search_problem.Goals as goal
 
-pub search_item-requires-clause-told : goal.search_item-requires-clause-told
-search_item-requires-clause-told g c = rw (c.loop-item.invariant.kept, c.new-scope.ensures) c.requires
-
 pub loop-item-preserved : goal.loop-item-preserved
 loop-item-preserved g c = record {
-  kept = c.search_item.ensures.kept ∙ c.loop-item.invariant.kept;
+  told = rw c.search_item.ensures.kept c.loop-item.invariant.told;
   so_far = one_more (faults_by c.args.known.now) (λ items. flat_map init_places (map init_view items)) c.deref-item-items.result.now _ _ _ c.loop-item-test.true c.item-item.is (λ rest. refl)
       c.lower-init.ensures.found c.search_item.ensures.found c.loop-item.invariant.so_far;
 }
-
-pub search_formula-goal-requires : goal.search_formula-goal-requires
-search_formula-goal-requires g c = rw (c.loop-item.invariant.kept, c.new-scope.ensures) c.requires
 
 pub returns-clause-found : goal.returns-clause-found
 returns-clause-found g c =
