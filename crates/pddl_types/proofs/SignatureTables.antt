@@ -1,7 +1,5 @@
 -- Tables of what is declared, as it is put into them one after another, and the types of parameters.
-use Rattle.std.proofs.Common.{◌≡◌, ◌≤◌, ℕ, true, false, cond, List, [], ◌∷◌, ◌++◌, map, length, Option, Some, None, refl, ap, sym, ◌∙◌, subst, bytes_eq, append_assoc, arith}
-use Rattle.std.specs.Prelude.{is_some, slice_get}
-use Rattle.std.specs.Borrow.{Bor}
+use Rattle.std.proofs.Common.{◌≡◌, ◌≤◌, ℕ, true, false, cond, List, [], ◌∷◌, ◌++◌, map, length, Option, Some, None, refl, ap, sym, ◌∙◌, subst, bytes_eq, append_assoc, arith, is_some, slice_get, Bor}
 use Rattle.std.proofs.lemmas.List.{map-append}
 use Rattle.std.proofs.lemmas.List.Elements.{All-contains, All-push}
 use Rattle.std.proofs.lemmas.List.Folds.{find-append}
@@ -16,7 +14,6 @@ use Rattle.pddl_task.specs.Names.{Name, is_in, word_if, repeated}
 use Rattle.pddl_task.specs.Settings.{symbol_of}
 use Rattle.pddl_task.proofs.Lists.{append-none, at_place, bytes_same, nil_parts}
 use Rattle.pddl_task.proofs.DistinctNames.{word_none}
-use Rattle.pddl_faults.specs.Found.{numbered}
 use Rattle.pddl_types.specs.KnownNames.{signature_in, action_signature}
 use Rattle.pddl_types.specs.Told.{ToldValue, IsAt, AreAt, AreKept}
 use Rattle.pddl_types.specs.Signatures.{Rows, IsSlotsAt, signature_among, AreFirst, HaveFirst, HaveSignatures}
@@ -46,14 +43,14 @@ module _ {held seen : List Signature} (are : AreFirst held seen) (g : Signature)
       let parts = nil_parts (repeated [] (map symbol_of seen)) (word_if (is_in (map symbol_of seen) g.name) g.name) (rw (map-append, repeated_more) at once) in
       (parts.0, word_none (is_in (map symbol_of seen) g.name) g.name parts.1)
 
-  -- of a new name it is put there
-  first_more : is_in (map symbol_of seen) g.name ≡ false → AreFirst (held ++ g ∷ []) (seen ++ g ∷ [])
-  first_more new = record {
+  -- where it is put there
+  first_more : AreFirst (held ++ g ∷ []) (seen ++ g ∷ [])
+  first_more = record {
     first = λ n. simp (find-append, are.first n);
     all = λ once. ap (λ gs. gs ++ g ∷ []) (are.all (once_before once).0);
   }
 
-  -- of a name that was seen the first is there
+  -- or not, as its name was seen
   first_still : is_in (map symbol_of seen) g.name ≡ true → AreFirst held (seen ++ g ∷ [])
   first_still old = record {
     first = λ n.
@@ -61,12 +58,6 @@ module _ {held seen : List Signature} (are : AreFirst held seen) (g : Signature)
         grind (arith, are.first n, find-append (λ s. bytes_eq n s.name) seen (g ∷ []), there);
     all = λ once. cc (once_before once).1;
   }
-
--- of names that stand twice, that of the next one, and those that are left behind it
-pub repeated_left : (seen next left rest : List Signature) (g : Signature) → next ≡ seen ++ g ∷ [] → left ≡ g ∷ rest → numbered 24 (repeated (map symbol_of seen) (map symbol_of left))
-    ≡ numbered 24 (word_if (is_in (map symbol_of seen) g.name) g.name) ++ numbered 24 (repeated (map symbol_of next) (map symbol_of rest))
-repeated_left seen next left rest g next_is left_is =
-    simp (next_is, left_is, map-append)
 
 -- ---- what is declared
 
@@ -99,7 +90,7 @@ module _ {A B S : Type 0} (m : IndexMap (Bor (List ℕ)) (Slots A B) S) {before 
       let own : signature_in (k, v) ≡ g = rw (name, parameters) refl in (
         new,
         rw last (record {
-          first = rw (map-append, own) (first_more have.first g new);
+          first = rw (map-append, own) (first_more have.first g);
           slots = All-push (λ e. IsSlotsAt after e.1) m.entries (k, v) (have_still kept have).slots at;
         }),
       )

@@ -1,8 +1,8 @@
-use Rattle.std.proofs.Common.{◌≤◌, ◌+◌, arith, length, [], map, not, take, drop, sym, ap, ◌∙◌, subst}
-use Rattle.std.proofs.lemmas.List.{drop_all, take_all}
+use Rattle.std.proofs.Common.{◌≤◌, arith, length, [], map, not, take, sym, ap, ◌∙◌, subst}
+use Rattle.std.proofs.lemmas.List.{drop_all, take_all, map-append}
 use Rattle.std.proofs.lemmas.Result.{err_from_is_err_and}
 use Rattle.pddl_formula.specs.TypedLists.{typed_view}
-use Rattle.pddl_task.specs.Names.{repeated, word_if}
+use Rattle.pddl_task.specs.Names.{is_in, repeated, word_if}
 use Rattle.pddl_task.specs.Settings.{symbol_of}
 use Rattle.pddl_faults.specs.Found.{numbered}
 use Rattle.pddl_faults.proofs.FoundFaults.{passed_as, up_to_more, up_to_all}
@@ -10,7 +10,7 @@ use Rattle.pddl_faults.proofs.ListTurns.{views_drop, seen_more}
 use Rattle.pddl_faults.proofs.PassedParts.{pass_front}
 use Rattle.pddl_types.specs.Told.{AreAt}
 use Rattle.pddl_types.proofs.ToldTypes.{kept_then}
-use Rattle.pddl_types.proofs.SignatureTables.{repeated_left, put_where_new}
+use Rattle.pddl_types.proofs.SignatureTables.{put_where_new}
 use Rattle.pddl_types.proofs.UnknownTypes.{declared_left}
 use Rattle.pddl_types.proofs.signatures.put.Goals as goal
 
@@ -45,8 +45,7 @@ loop-each-preserved g c =
       kept = kept_then c.args.told.now c.loop-each.told told before.kept c.tell_all.ensures.kept;
       held = rw more held;
       found =
-          up_to_more _ c.once.result
-          (repeated_left seen (map signature (take (i + 1) all)) (map signature (drop i all)) (map signature (drop (i + 1) all)) (signature x) more rest)
+          up_to_more (numbered 24 (word_if (is_in (map symbol_of seen) (signature x).name) (signature x).name)) c.once.result (simp (more, rest, map-append))
           c.lower-found.ensures.found
           (passed_as 24 c.once.result (ap (word_if (not c.is_none-is_new.result)) c.name-name.ensures ∙ ap (λ b. word_if b (signature x).name) (sym (twice ∙ c.is_none-is_new.ensures))) c.once.ensures) before.found;
       left = rw (left, c.in_ok-numbers.ensures.passes) at before.left;
