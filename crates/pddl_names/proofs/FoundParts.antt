@@ -11,9 +11,9 @@ use Rattle.pddl_faults.specs.Found.{IsFound, numbered}
 use Rattle.pddl_faults.proofs.FoundFaults.{number_is, found_first, found_same, passed_as, passed_found}
 use Rattle.pddl_names.specs.FaultParts.{joined}
 
--- a pass for one fault alone, whose words may be told otherwise
-pub passed_part : {T : Type 0} (n : ℕ) {words told : List Name} (r : Result T LinkFault) → words ≡ told → Passes n words r → IsFound (joined (numbered n told ∷ [])) r
-passed_part n {words} {told} r same h = found_same (numbered n told) (numbered n told ++ []) r (append-none (numbered n told)) (passed_as n r same h)
+-- a pass for one fault alone
+pub passed_part : {T : Type 0} (n : ℕ) (words : List Name) (r : Result T LinkFault) → Passes n words r → IsFound (joined (numbered n words ∷ [])) r
+passed_part n words r h = rw append-none (passed_found n words r h)
 
 -- ---- numbers of faults
 

@@ -51,16 +51,13 @@ no_slots s b (t ∷ ts) = refl
 
 -- a term that is in turn
 module _ (s : Setting) (b : List TypedValue) (ts : List TermValue) (i : ℕ) (t : TermValue) (low : i < length ts) (at : t ≡ get_or ts i t) where
-  words_left : flat_map (unknown_term s b) (drop i ts) ≡ unknown_term s b t ++ flat_map (unknown_term s b) (drop (i + 1) ts)
-  words_left = ap (flat_map (unknown_term s b)) (rest_is ts i t low at)
-
   -- it is not known
   pub unknown_here : (whole : List Name) (n : Name) → flat_map (unknown_term s b) (drop i ts) ≡ whole → unknown_term s b t ≡ n ∷ [] → Contains whole n
-  unknown_here whole n left none = rw (← left, words_left, none) (has_first n _)
+  unknown_here whole n left none = rw (← left, rest_is ts i t low at, none) (has_first n _)
 
   -- it is known, and those that are left decide
   pub known_here : (whole : List Name) → flat_map (unknown_term s b) (drop i ts) ≡ whole → unknown_term s b t ≡ [] → flat_map (unknown_term s b) (drop (i + 1) ts) ≡ whole
-  known_here whole left known = rw (words_left, known) at left
+  known_here whole left known = rw (rest_is ts i t low at, known) at left
 
   module _ (xs : List TypedValue) where
     -- whether all fit so far, with it and its slot

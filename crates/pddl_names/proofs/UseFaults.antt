@@ -1,5 +1,5 @@
 -- The faults of a predicate or a function with its terms.
-use Rattle.std.proofs.Common.{◌≡◌, ◌≤◌, ℕ, Bool, ◌||◌, true, false, not, ◌∷◌, refl, List, [], ◌++◌, map, length, drop, ◌==◌, Option, Some, None, Result, Err, ap, sym, ◌∙◌, bytes_eq, Contains, is_some, option_map, flat_map, Bor}
+use Rattle.std.proofs.Common.{arith, ◌≡◌, ◌≤◌, ℕ, Bool, ◌||◌, true, false, not, ◌∷◌, refl, List, [], ◌++◌, map, length, drop, ◌==◌, Option, Some, None, Result, Err, ap, sym, ◌∙◌, bytes_eq, Contains, is_some, option_map, flat_map, Bor}
 use Rattle.std.specs.Map.{lookup}
 use Rattle.std.proofs.lemmas.Option.{same_Some}
 use Rattle.std.proofs.Math.Bool.{or-false}
@@ -11,7 +11,7 @@ use Rattle.pddl_domain.specs.Declarations.{Signature}
 use Rattle.pddl_task.specs.Names.{Name, word_if}
 use Rattle.pddl_task.specs.Settings.{Setting}
 use Rattle.pddl_task.specs.Faults.{Use, is_declared, signature_of, unknown_term, takes_others, some_misfit, has_misfit}
-use Rattle.pddl_task.proofs.Lists.{at_place, has_first}
+use Rattle.pddl_task.proofs.Lists.{at_place, bytes_same, has_first}
 use Rattle.pddl_faults.specs.declared.fault.LinkFault.{LinkFault}
 use Rattle.pddl_faults.specs.declared.fault.LinkFault.TheVariants as link
 use Rattle.pddl_faults.specs.Passes.{Passes}
@@ -20,9 +20,9 @@ use Rattle.pddl_faults.proofs.FoundFaults.{passed_found}
 use Rattle.pddl_search.proofs.InitClaims.{unequal_yes, unequal_no}
 use Rattle.pddl_types.specs.KnownNames.{signature_in}
 use Rattle.pddl_types.specs.Told.{ToldValue}
-use Rattle.pddl_types.specs.Signatures.{Rows, IsSlotsAt, AreSlotsAt}
+use Rattle.pddl_types.specs.Signatures.{Rows, IsSlotsAt, AreSlotsAt, signature_among}
 use Rattle.pddl_types.specs.declared.signatures.Slots.{Slots}
-use Rattle.pddl_types.proofs.Lookups.{is_symbol, signature_found, entry_at}
+use Rattle.pddl_types.proofs.Lookups.{is_symbol, entry_at}
 use Rattle.pddl_names.specs.Uses.{faults_of_use}
 use Rattle.pddl_names.proofs.FoundParts.{from_parts, passed_first}
 
@@ -33,11 +33,11 @@ in_turn xs ys zs = numbered 26 xs ++ (numbered 27 ys ++ numbered 28 zs)
 first_found : (xs ys zs : List Name) (e : LinkFault) → Passes {T = Unit {0}} 26 xs (Err e) → IsFound {T = Unit {0}} (in_turn xs ys zs) (Err e)
 first_found xs ys zs e h = passed_first 26 xs (numbered 27 ys ++ numbered 28 zs) e h (simp from_parts)
 
--- with slots, these decide whether there is another number of terms, and whether some does not fit
-shape_is : (s : Setting) (b : List TypedValue) (ts : List TermValue) (g : Option Signature) (xs : List TypedValue) → option_map (λ (h : Signature). h.parameters) g ≡ Some xs
-    → (takes_others g ts ≡ not (length ts == length xs)) × (has_misfit s b ts g ≡ some_misfit s b ts xs)
-shape_is s b ts None xs none = absurd (cc)
-shape_is s b ts (Some g) xs same = let is = same_Some g.parameters xs same in (ap (λ ys. not (length ts == length ys)) is, ap (some_misfit s b ts) is)
+-- the signature of a name, where its slots are found
+signature_here : {A B : Type 0} (es : Rows A B) (n : Name)
+    → signature_among (map signature_in es) n ≡ option_map (λ (v : Slots A B). record { name = n; parameters = map typed_view v.parameters.now }) (lookup (λ k. bytes_eq n k.now) es)
+signature_here [] n = refl
+signature_here (e ∷ es) n = grind (arith, signature_here es n, bytes_same n e.0.now)
 
 module _ {A B : Type 0} (s : Setting) (b : List TypedValue) (ts : List TermValue) (es : Rows A B) (w : Bor Name) where
   abbrev used : Use
@@ -66,8 +66,8 @@ module _ {A B : Type 0} (s : Setting) (b : List TypedValue) (ts : List TermValue
     declared_is : faults_of_use s b used ≡ in_turn words (word_if (not (length ts == length xs)) w.now) (word_if (some_misfit s b ts xs) w.now)
     declared_is =
         let on : is_declared used ≡ true = sym (is_symbol es w.now) ∙ ap is_some (sym at) in
-        let shape = shape_is s b ts (signature_of used) xs (signature_found es w.now ∙ ap (option_map (λ (v : Slots A B). map typed_view v.parameters.now)) (sym at)) in
-        λ i. in_turn (word_if (not (on i)) w.now ++ words) (word_if (shape.0 i) w.now) (word_if (shape.1 i) w.now)
+        let found : signature_of used ≡ Some (record { name = w.now; parameters = xs }) = signature_here es w.now ∙ ap (option_map _) (sym at) in
+        rw (on, found) refl
 
     -- a term is not known
     pub unknown_found : (v : Bor Name) → Contains words v.now → IsFound {T = Unit {0}} (faults_of_use s b used) (Err (link.UnknownName v))

@@ -75,6 +75,7 @@ fn look_at_use<'m, 'a, 'd, A: Allocator, B: Allocator>(
 }
 
 /// A term is known.
+#[tactic(auto, using(crate::proofs::TermSlots::known_term, crate::proofs::TermSlots::unknown_word))]
 fn look_at_term<'m, 'a, 'd, A: Allocator, B: Allocator>(
     known: &Known<'m, 'a, A, B>,
     scope: &Scope<'m, 'a, A, B>,

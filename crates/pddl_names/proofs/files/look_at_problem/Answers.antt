@@ -23,7 +23,7 @@ returns-in_ok-objects-in-Some-clause-found g c =
     (c.lower-in-Some.ensures.found _ _ (rw (known_faults (known_more c.requires c.add.ensures.told c.add.ensures.kept seen.1)) at c.search_problem-places.ensures.found)
     (c.lower-alone.ensures.found _ _ (passed_found 29 _ _ (rw c.deref.ensures.value at c.contradictions-literals.ensures))
     (c.lower.ensures.found _ _ (passed_found 31 _ _ (rw c.deref-in-Some.ensures.value at c.cost_values-costs.ensures))
-    (c.lower-others.ensures.found _ _ (passed_found 25 _ _ (rw c.deref-in-Some-2.ensures.value at c.object_types.ensures)) (passed_part 33 c.metric.result refl c.metric.ensures))))))
+    (c.lower-others.ensures.found _ _ (passed_found 25 _ _ (rw c.deref-in-Some-2.ensures.value at c.object_types.ensures)) (passed_part 33 _ c.metric.result c.metric.ensures))))))
 
 pub returns-in_ok-objects-in-Some-clause-known : goal.returns-in_ok-objects-in-Some-clause-known
 returns-in_ok-objects-in-Some-clause-known g c =
