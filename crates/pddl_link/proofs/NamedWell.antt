@@ -1,7 +1,5 @@
 -- What is known where none of the faults from 23 to 33 stands: nothing is declared twice, types of parameters are known, and objects have one primitive.
-use Rattle.std.proofs.Common.{◌≡◌, ◌≤◌, ℕ, nat_lt, List, [], ◌∷◌, ◌++◌, map, drop, length, refl, sym, ap, ◌∙◌, subst, inl, inr}
-use Rattle.std.specs.Prelude.{Contains}
-use Rattle.std.specs.List.{flat_map}
+use Rattle.std.proofs.Common.{◌≡◌, ◌≤◌, ℕ, nat_lt, List, [], ◌∷◌, ◌++◌, map, drop, length, refl, sym, ap, ◌∙◌, subst, inl, inr, Contains, flat_map}
 use Rattle.std.proofs.lemmas.List.Concat.{flat_map-append}
 use Rattle.std.proofs.lemmas.List.Elements.{Contains-append_cases}
 use Rattle.pddl_formula.specs.TypedLists.{TypedValue}
@@ -9,11 +7,11 @@ use Rattle.pddl_domain.specs.Declarations.{TypeValue}
 use Rattle.pddl_domain.specs.Actions.{ActionValue}
 use Rattle.pddl_domain.specs.Domains.{DomainValue}
 use Rattle.pddl_problem.specs.Problems.{ProblemValue}
-use Rattle.pddl_task.specs.Places.{action_places, domain_places}
-use Rattle.pddl_task.specs.Settings.{parameters_of, function_signatures, objects_of}
+use Rattle.pddl_task.specs.Places.{action_places}
+use Rattle.pddl_task.specs.Settings.{parameters_of, objects_of}
 use Rattle.pddl_task.specs.Faults.{variables_at, unknown_types, domain_typed, problem_typed, domain_repeats, problem_repeats, object_types}
 use Rattle.pddl_task.specs.Linked.{fault_in, NoneStands}
-use Rattle.pddl_task.proofs.Lists.{nil_parts, both_nil}
+use Rattle.pddl_task.proofs.Lists.{nil_parts}
 use Rattle.pddl_task.proofs.DistinctNames.{firsts_have}
 use Rattle.pddl_task.proofs.LinkedTasks.{at_most_one}
 use Rattle.pddl_types.specs.KnownNames.{action_signature}
@@ -34,7 +32,7 @@ action_types ts (a ∷ rest) none =
     let all = nil_parts (unknown_among ts (flat_map variables_at places)) (unknown_among ts (flat_map variables_at more))
     (sym (unknown-append ts (flat_map variables_at places) (flat_map variables_at more)) ∙ ap (unknown_among ts) (sym (flat_map-append variables_at places more)) ∙ none) in
     let own = nil_parts (unknown_among ts a.parameters) (unknown_among ts (flat_map variables_at (drop 1 places))) (sym (unknown-append ts a.parameters (flat_map variables_at (drop 1 places))) ∙ all.0) in
-    unknown-append ts a.parameters (flat_map parameters_of (map action_signature rest)) ∙ both_nil (unknown_among ts a.parameters) (unknown_among ts (flat_map parameters_of (map action_signature rest))) own.0 (action_types ts rest all.1)
+    rw (unknown-append, own.0) (action_types ts rest all.1)
 
 module _ (d : DomainValue) (p : ProblemValue) (named : NoneStands (map (fault_in d p) part_rules)) where
   -- nothing is declared twice
@@ -44,10 +42,8 @@ module _ (d : DomainValue) (p : ProblemValue) (named : NoneStands (map (fault_in
   -- the types of the parameters of actions are known
   pub parameters_known : unknown_among d.types (flat_map parameters_of (map action_signature d.actions)) ≡ []
   parameters_known =
-      let front = d.constants ++ flat_map parameters_of d.predicates ++ flat_map parameters_of (function_signatures d) in
-      let bound = flat_map variables_at (domain_places d) in
-      action_types d.types d.actions
-      (nil_parts (unknown_types d front) (unknown_types d bound) (sym (unknown-append d.types front bound) ∙ (nil_parts (unknown_types d (domain_typed d)) (unknown_types d (problem_typed p)) named.0).0)).1
+      let typed = nil_parts (unknown_types d (domain_typed d)) (unknown_types d (problem_typed p)) named.0 in
+      action_types d.types d.actions (nil_parts _ _ (rw (unknown-append d.types) at typed.0)).1
 
   -- objects that are listed have types of one primitive, whose numbers are those of the types that are told
   pub objects_numbered : {t : TypesValue} {told : ToldValue} {objects : List TypedValue} {types : List ℕ} → AreTold t told → AreAt told objects types → objects ≡ objects_of d p

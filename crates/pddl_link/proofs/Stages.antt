@@ -1,15 +1,14 @@
 -- Verdicts in turn: what is found among the parts of a domain and a problem is the verdict on the rules from 23 to 33, and rules follow one another by rising numbers.
-use Rattle.std.proofs.Common.{◌≡◌, ◌≤◌, ℕ, Bool, true, List, [], ◌∷◌, ◌++◌, map, drop, Result, Ok, Err, IfSome, refl, ap, ◌∙◌, subst, arith, append_assoc, inl, inr}
-use Rattle.std.specs.Prelude.{nat_le, Option, Some, None, IsOk, OnOk}
-use Rattle.std.specs.List.{list_all, flat_map}
+use Rattle.std.proofs.Common.{◌≡◌, ◌≤◌, ℕ, Bool, true, List, [], ◌∷◌, ◌++◌, map, drop, Result, Ok, Err, IfSome, refl, ap, subst, arith, append_assoc, inl, inr, nat_le, IsOk, MatchResult}
+use Rattle.std.specs.List.{list_all}
 use Rattle.std.proofs.lemmas.Bool.Decides.{nat_tests}
+use Rattle.std.proofs.lemmas.Option.{IfSome_then}
 use Rattle.std.proofs.lemmas.List.Elements.{Contains-append_left, Contains-append_cases}
 use Rattle.pddl_domain.specs.Domains.{DomainValue}
 use Rattle.pddl_problem.specs.Problems.{ProblemValue}
 use Rattle.pddl_task.specs.Names.{Name}
-use Rattle.pddl_task.specs.Places.{domain_places}
-use Rattle.pddl_task.specs.Faults.{unknown_types, variables_at, domain_typed, problem_typed}
-use Rattle.pddl_task.specs.Linked.{Fault, fault, fault_in, Stands, NoneStands, IsLowest}
+use Rattle.pddl_task.specs.Faults.{unknown_types, domain_typed, problem_typed}
+use Rattle.pddl_task.specs.Linked.{Fault, fault, fault_in, Stands, IsLowest}
 use Rattle.pddl_task.proofs.Lists.{all_found}
 use Rattle.pddl_faults.specs.declared.fault.LinkFault.{LinkFault}
 use Rattle.pddl_faults.specs.Passes.{fault_of, Passes, Verdict}
@@ -30,20 +29,13 @@ parts_verdict d p r none h = rules_verdict d p r (found_rest (numbered 23 (unkno
 -- a type of what a domain declares that is not known
 pub stopped_verdict : (d : DomainValue) (p : ProblemValue) (e : LinkFault) → Passes {T = Unit {0}} 23 (unknown_among d.types (declared_typed d)) (Err e) → Verdict {T = Unit {0}} (map (fault_in d p) part_rules) (Err e)
 stopped_verdict d p e h =
-    let own = unknown_among d.types (declared_typed d) in
-    let bound = flat_map (λ pl. unknown_among d.types (variables_at pl)) (domain_places d) in
-    let others = unknown_types d (problem_typed p) in
-    found_at [] 23 (unknown_types d (domain_typed d) ++ others) (map (fault_in d p) (drop 1 part_rules)) e tt refl
-    (pass_front 23 own (bound ++ others) (unknown_types d (domain_typed d) ++ others) e (ap (λ ws. ws ++ others) (unknown-declared d.types d) ∙ append_assoc own bound others) h)
+    found_at [] 23 (unknown_types d (domain_typed d) ++ unknown_types d (problem_typed p)) (map (fault_in d p) (drop 1 part_rules)) e tt refl
+    (rw (unknown-declared d.types d, append_assoc) (pass_front 23 (unknown_among d.types (declared_typed d)) _ _ e refl h))
 
--- what holds where something is made holds, and none of the faults stands, once it is
-pub ok_holds : {T : Type 0} (r : Result T LinkFault) (P : Type 0) → IsOk r → OnOk r P → P
-ok_holds (Ok u) P is h = h
-ok_holds (Err e) P is h = absurd (cc is)
-
-pub ok_none : {T : Type 0} (fs : List Fault) (r : Result T LinkFault) → IsOk r → Verdict fs r → NoneStands fs
-ok_none fs (Ok u) is h = h
-ok_none fs (Err e) is h = absurd (cc is)
+-- what holds where something is made holds once it is
+pub ok_holds : {T : Type 0} (P : Type 0) (Q : LinkFault → Type 0) (r : Result T LinkFault) → IsOk r → MatchResult r (λ _. P) Q → P
+ok_holds P Q (Ok u) is h = h
+ok_holds P Q (Err e) is h = absurd (cc is)
 
 -- the verdict on one fault alone
 pub alone_verdict : (n : ℕ) (words : List Name) (r : Result (Unit {0}) LinkFault) → Passes n words r → Verdict (fault n words ∷ []) r
@@ -68,12 +60,7 @@ lowest_first n fs gs m w below above low = record {
   ];
 }
 
-some_first : (n : ℕ) (fs gs : List Fault) (o : Option (ℕ × Name)) → list_all (λ f. nat_le f.number n) fs ≡ true → list_all (λ f. nat_le n f.number) gs ≡ true
-    → IfSome o (λ f. IsLowest fs f.0 f.1) → IfSome o (λ f. IsLowest (fs ++ gs) f.0 f.1)
-some_first n fs gs None below above h = tt
-some_first n fs gs (Some f) below above h = lowest_first n fs gs f.0 f.1 below above h
-
 -- what a stage answers is the verdict on all, where its numbers come first
 pub stage_first : (n : ℕ) (fs gs : List Fault) (e : LinkFault) → list_all (λ f. nat_le f.number n) fs ≡ true → list_all (λ f. nat_le n f.number) gs ≡ true
     → IfSome (fault_of e) (λ f. IsLowest fs f.0 f.1) → IfSome (fault_of e) (λ f. IsLowest (fs ++ gs) f.0 f.1)
-stage_first n fs gs e below above h = some_first n fs gs (fault_of e) below above h
+stage_first n fs gs e below above h = IfSome_then (fault_of e) h (λ f low. lowest_first n fs gs f.0 f.1 below above low)

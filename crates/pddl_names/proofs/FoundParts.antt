@@ -1,30 +1,19 @@
 -- What is found in parts of faults.
-use Rattle.std.proofs.Common.{◌≡◌, ◌≤◌, ℕ, Bool, true, List, [], ◌∷◌, ◌++◌, drop, Result, Ok, Err, refl, arith}
-use Rattle.std.specs.Prelude.{OnOk, IsOk, nat_le}
+use Rattle.std.proofs.Common.{◌≡◌, ◌≤◌, ℕ, Bool, true, List, [], ◌∷◌, ◌++◌, Result, Ok, Err, refl, arith, OnOk, nat_le}
 use Rattle.std.specs.List.{flat_map, list_all}
 use Rattle.std.proofs.lemmas.Bool.Decides.{nat_tests}
-use Rattle.std.proofs.lemmas.List.Concat.{flat_map-append}
 use Rattle.std.proofs.lemmas.List.Folds.{list_all-append, list_all-map}
-use Rattle.pddl_domain.specs.Domains.{DomainValue}
-use Rattle.pddl_problem.specs.Problems.{ProblemValue}
 use Rattle.pddl_task.specs.Names.{Name}
 use Rattle.pddl_task.proofs.Lists.{all_found, append-none}
 use Rattle.pddl_faults.specs.declared.fault.LinkFault.{LinkFault}
 use Rattle.pddl_faults.specs.Passes.{Passes}
 use Rattle.pddl_faults.specs.Found.{IsFound, numbered}
 use Rattle.pddl_faults.proofs.FoundFaults.{number_is, found_first, found_same, passed_as, passed_found}
-use Rattle.pddl_types.specs.Told.{unknown_among}
-use Rattle.pddl_names.specs.FaultParts.{FaultParts, joined, problem_parts}
+use Rattle.pddl_names.specs.FaultParts.{joined}
 
--- a pass for one fault alone, whose words may be told otherwise
-pub passed_part : {T : Type 0} (n : ℕ) {words told : List Name} (r : Result T LinkFault) → words ≡ told → Passes n words r → IsFound (joined (numbered n told ∷ [])) r
-passed_part n {words} {told} r same h = found_same (numbered n told) (numbered n told ++ []) r (append-none (numbered n told)) (passed_as n r same h)
-
--- some parts, and then others
-pub found_parts : {T : Type 0} (us vs : FaultParts) (first : Result (Unit {0}) LinkFault) (second both : Result T LinkFault)
-    → ((xs ys : List (ℕ × Name)) → IsFound xs first → IsFound ys second → IsFound (xs ++ ys) both) → IsFound (joined us) first → IsFound (joined vs) second → IsFound (joined (us ++ vs)) both
-found_parts us vs first second both lower h k =
-    found_same (joined us ++ joined vs) (joined (us ++ vs)) both (flat_map-append (λ (part : List (ℕ × Name)). part) us vs) (lower (joined us) (joined vs) h k)
+-- a pass for one fault alone
+pub passed_part : {T : Type 0} (n : ℕ) (words : List Name) (r : Result T LinkFault) → Passes n words r → IsFound (joined (numbered n words ∷ [])) r
+passed_part n words r h = rw append-none (passed_found n words r h)
 
 -- ---- numbers of faults
 
@@ -49,19 +38,9 @@ passed_first n words rest e h from =
     below : (k m : ℕ) → k ≡ n → nat_le n m ≡ true → k ≤ m
     below k m is low = grind (arith, nat_tests, low)
 
--- an unknown type of an object is the lowest fault of a problem
-pub stopped_at : (d : DomainValue) (p : ProblemValue) (e : LinkFault) → Passes {T = Unit {0}} 23 (unknown_among d.types p.objects) (Err e) → IsFound {T = Unit {0}} (joined (problem_parts d p)) (Err e)
-stopped_at d p e h = passed_first 23 (unknown_among d.types p.objects) (joined (drop 1 (problem_parts d p))) e h (simp from_parts)
-
 -- ---- values
 
 -- what holds anyway holds where nothing was found
 pub holds_on : {U E P : Type 0} (r : Result U E) → P → OnOk r P
 holds_on (Ok u) h = h
 holds_on (Err e) h = tt
-
--- what holds where the second part found nothing holds where nothing was found
-pub second_kept : {U E : Type 0} (first second r : Result U E) (P : Type 0) → OnOk r (IsOk first × IsOk second) → OnOk second P → OnOk r P
-second_kept first second (Err e) P h k = tt
-second_kept first (Ok u) (Ok v) P h k = k
-second_kept first (Err d) (Ok v) P h k = absurd (cc (h.1))

@@ -1,6 +1,5 @@
 -- What is known of files: the faults that are looked for by it, and that it is known while more types are told; and goals that are too large.
-use Rattle.std.proofs.Common.{◌≡◌, ℕ, ◌<◌, true, List, [], refl, ap, ◌∙◌, arith}
-use Rattle.std.specs.Prelude.{Contains, nat_lt}
+use Rattle.std.proofs.Common.{◌≡◌, ℕ, ◌<◌, true, List, [], refl, ap, ◌∙◌, arith, Contains, nat_lt}
 use Rattle.std.proofs.lemmas.List.Elements.{All-nil}
 use Rattle.pddl_formula.specs.TypedLists.{TypedValue}
 use Rattle.pddl_domain.specs.Domains.{DomainValue}
@@ -44,7 +43,7 @@ module _ {A B : Type 0} {d : DomainValue} {objects : List TypedValue} {k : Known
   pub known_more : {more : List TypedValue} {listed : Listed A B} {after : ToldValue} → AreTold k.types after → AreKept told after → AreSeen after more listed
       → AreKnown d more (record { types = k.types; listed = listed; predicates = k.predicates; functions = k.functions; actions = k.actions }) after
   known_more types kept seen =
-      record { typed = are.typed; types = types; predicates = have_still kept refl are.predicates; functions = have_still kept refl are.functions; actions = are.actions; listed = seen }
+      record { typed = are.typed; types = types; predicates = have_still kept are.predicates; functions = have_still kept are.functions; actions = are.actions; listed = seen }
 
 -- ---- goals
 

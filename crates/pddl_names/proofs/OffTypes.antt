@@ -1,6 +1,5 @@
 -- Names that are listed with two types: told by the first of each name, and by all that stand before.
-use Rattle.std.proofs.Common.{◌≡◌, Bool, true, false, not, ◌&&◌, List, [], ◌∷◌, ◌++◌, refl, sym, ap, ◌∙◌, subst, arith, append_assoc, inl, inr}
-use Rattle.std.specs.Prelude.{Contains}
+use Rattle.std.proofs.Common.{◌≡◌, Bool, true, false, not, ◌&&◌, List, [], ◌∷◌, ◌++◌, refl, sym, ap, ◌∙◌, subst, arith, append_assoc, inl, inr, Contains}
 use Rattle.std.specs.Cmp.Lexicographic.{bytes_decides, pointwise_decides, nat_list_eq_equiv}
 use Rattle.std.proofs.lemmas.List.Elements.{Contains-append_left, Contains-append_right, Contains-append_cases}
 use Rattle.std.proofs.lemmas.List.Folds.{find-append}
@@ -23,14 +22,17 @@ off_is : (seen : List TypedValue) (x : TypedValue) → is_off seen x ≡ true �
 off_is [] x off = cc
 off_is (y ∷ seen) x off = grind (arith, off, off_is seen x, nat_list_eq_equiv.symm y.item x.item)
 
+-- words of two lists, each list in front of the same
+pub within_both : (xs ys vs zs : List Name) (w : Name) → (Contains xs w → Contains vs w) → (Contains ys w → Contains zs w) → Contains (xs ++ ys) w → Contains (vs ++ zs) w
+within_both xs ys vs zs w h k c =
+    elim (Contains-append_cases xs ys w c) as (λ _. Contains (vs ++ zs) w) [ inl l ↦ Contains-append_left vs zs w (h l) | inr r ↦ Contains-append_right vs zs w (k r) ]
+
 -- so each word of the one is a word of the other
 pub off_within : (seen xs : List TypedValue) (w : Name) → Contains (off_types seen xs) w → Contains (retyped seen xs) w
 off_within seen [] w c = c
 off_within seen (x ∷ xs) w c =
-    elim (Contains-append_cases (word_if (is_off seen x) x.item) (off_types (seen ++ x ∷ []) xs) w c) as (λ _. Contains (retyped seen (x ∷ xs)) w) [
-      | inl here ↦ Contains-append_left (word_if (has_other_type seen x) x.item) (retyped (seen ++ x ∷ []) xs) w (own (is_off seen x) (has_other_type seen x) (off_is seen x) here)
-      | inr later ↦ Contains-append_right (word_if (has_other_type seen x) x.item) (retyped (seen ++ x ∷ []) xs) w (off_within (seen ++ x ∷ []) xs w later)
-    ]
+    within_both (word_if (is_off seen x) x.item) (off_types (seen ++ x ∷ []) xs) (word_if (has_other_type seen x) x.item) (retyped (seen ++ x ∷ []) xs) w
+    (own (is_off seen x) (has_other_type seen x) (off_is seen x)) (off_within (seen ++ x ∷ []) xs w) c
   where
     own : (b c : Bool) → (b ≡ true → c ≡ true) → Contains (word_if b x.item) w → Contains (word_if c x.item) w
     own true c then has = subst (λ d. Contains (word_if d x.item) w) (sym (then refl)) has

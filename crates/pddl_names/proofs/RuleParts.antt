@@ -1,11 +1,10 @@
 -- The faults that are looked for in parts are those that the rules of linking name.
-use Rattle.std.proofs.Common.{◌≡◌, ◌≤◌, ℕ, Bool, true, false, ◌==◌, cond, List, [], ◌∷◌, ◌++◌, Option, Some, None, Result, Ok, Err, IfSome, map, refl, sym, ap, ◌∙◌, subst, arith, append_assoc, inl, inr}
-use Rattle.std.specs.Prelude.{Contains, filter}
+use Rattle.std.proofs.Common.{◌≡◌, ◌≤◌, ℕ, Bool, true, false, ◌==◌, cond, List, [], ◌∷◌, ◌++◌, Option, Some, None, Result, Ok, Err, IfSome, map, refl, sym, ap, ◌∙◌, subst, arith, append_assoc, inl, inr, Contains, filter}
 use Rattle.std.specs.List.{AllByRecursion, list_all, list_any, flat_map}
 use Rattle.std.proofs.lemmas.Bool.Decides.{nat_tests}
 use Rattle.std.proofs.lemmas.List.{map-append}
 use Rattle.std.proofs.lemmas.List.Concat.{flat_map-append}
-use Rattle.std.proofs.lemmas.List.Elements.{filter-append, Contains-append_left, Contains-append_right, Contains-append_cases}
+use Rattle.std.proofs.lemmas.List.Elements.{filter-append}
 use Rattle.pddl_domain.specs.Declarations.{TypeValue}
 use Rattle.pddl_domain.specs.Actions.{ActionValue}
 use Rattle.pddl_domain.specs.Domains.{DomainValue}
@@ -13,9 +12,9 @@ use Rattle.pddl_problem.specs.Problems.{ProblemValue}
 use Rattle.pddl_task.specs.Names.{Name, is_in, word_if, repeated}
 use Rattle.pddl_task.specs.Places.{Place, action_places, domain_places, problem_places}
 use Rattle.pddl_task.specs.Settings.{symbol_of, function_signatures, Setting}
-use Rattle.pddl_task.specs.Faults.{domain_typed, problem_typed, retyped, variables_at, repeated_at, repeated_in_actions}
+use Rattle.pddl_task.specs.Faults.{domain_typed, retyped, variables_at, repeated_at, repeated_in_actions}
 use Rattle.pddl_task.specs.Linked.{Fault, fault_in, NoneStands, IsLowest}
-use Rattle.pddl_task.proofs.Lists.{all_found, any_found, append-none, has_cases, has_first, has_none, is_kept, is_mapped, kept_is, mapped_is}
+use Rattle.pddl_task.proofs.Lists.{all_found, any_found, append-none, nil_parts, both_nil, has_cases, has_first, has_none, is_kept, is_mapped, kept_is, mapped_is}
 use Rattle.pddl_faults.specs.declared.fault.LinkFault.{LinkFault}
 use Rattle.pddl_faults.specs.Passes.{fault_of, Verdict}
 use Rattle.pddl_faults.specs.Found.{IsLowestOf, IsFound, numbered}
@@ -27,7 +26,7 @@ use Rattle.pddl_types.proofs.UnknownTypes.{unknown-append}
 use Rattle.pddl_names.specs.Uses.{place_faults}
 use Rattle.pddl_names.specs.FaultParts.{joined, action_faults, domain_parts, problem_parts, part_rules}
 use Rattle.pddl_names.proofs.FoundParts.{from_parts}
-use Rattle.pddl_names.proofs.OffTypes.{off_within, none_retyped}
+use Rattle.pddl_names.proofs.OffTypes.{within_both, off_within, none_retyped}
 
 -- ---- words by number
 
@@ -44,7 +43,7 @@ words-numbered n m (w ∷ ws) = grind (arith, words-numbered n m ws)
 
 words-flat : {X : Type 0} (n : ℕ) (f : X → List (ℕ × Name)) (xs : List X) → words_of n (flat_map f xs) ≡ flat_map (λ x. words_of n (f x)) xs
 words-flat n f [] = refl
-words-flat n f (x ∷ xs) = words-append n (f x) (flat_map f xs) ∙ ap (λ ws. words_of n (f x) ++ ws) (words-flat n f xs)
+words-flat n f (x ∷ xs) = simp (words-append, words-flat n f xs)
 
 has_word : (n : ℕ) (w : Name) (fs : List (ℕ × Name)) → Contains fs (n, w) → Contains (words_of n fs) w
 has_word n w fs c = is_mapped (λ (f : ℕ × Name). f.1) (filter (λ (f : ℕ × Name). f.0 == n) fs) (n, w) (is_kept (λ (f : ℕ × Name). f.0 == n) fs (n, w) c (grind (arith, nat_tests)))
@@ -141,10 +140,6 @@ pub unknown-declared : (ts : List TypeValue) (d : DomainValue)
     → unknown_among ts (domain_typed d) ≡ unknown_among ts (declared_typed d) ++ flat_map (λ pl. unknown_among ts (variables_at pl)) (domain_places d)
 unknown-declared ts d = simp (append_assoc, unknown-append, unknown-places)
 
--- and a problem's objects come before its places
-unknown-problem : (ts : List TypeValue) (p : ProblemValue) → unknown_among ts (problem_typed p) ≡ unknown_among ts p.objects ++ flat_map (λ pl. unknown_among ts (variables_at pl)) (problem_places p)
-unknown-problem ts p = simp (unknown-append, unknown-places)
-
 -- ---- verdicts
 
 abbrev is_ruled : ℕ × Name → Bool
@@ -162,11 +157,6 @@ actions_ruled ts s seen (a ∷ rest) = rw (list_all-append, list_all-append, nam
 
 both : {P Q : Type 0} → P → Q → P × Q
 both p q = (p, q)
-
--- words of two lists, each list in front of the same
-within_both : (xs ys vs zs : List Name) (w : Name) → (Contains xs w → Contains vs w) → (Contains ys w → Contains zs w) → Contains (xs ++ ys) w → Contains (vs ++ zs) w
-within_both xs ys vs zs w h k c =
-    elim (Contains-append_cases xs ys w c) as (λ _. Contains (vs ++ zs) w) [ inl l ↦ Contains-append_left vs zs w (h l) | inr r ↦ Contains-append_right vs zs w (k r) ]
 
 module _ (d : DomainValue) (p : ProblemValue) where
   -- all that is found in a domain and a problem
@@ -188,18 +178,18 @@ module _ (d : DomainValue) (p : ProblemValue) where
   }
     where
       others : (xs q f a ys pl vs zs : List Name) → (xs ++ ys ≡ [] → vs ++ zs ≡ []) → (((xs ++ q) ++ f) ++ a) ++ (ys ++ pl) ≡ [] → (((vs ++ q) ++ f) ++ a) ++ (zs ++ pl) ≡ []
-      others [] [] [] [] [] [] vs zs same none = simp append-none (same refl)
-      others (x ∷ xs) q f a ys pl vs zs same none = cc
-      others [] (x ∷ q) f a ys pl vs zs same none = cc
-      others [] [] (x ∷ f) a ys pl vs zs same none = cc
-      others [] [] [] (x ∷ a) ys pl vs zs same none = cc
-      others [] [] [] [] (x ∷ ys) pl vs zs same none = cc
-      others [] [] [] [] [] (x ∷ pl) vs zs same none = cc
+      others xs q f a ys pl vs zs same none =
+          let (front, back) = nil_parts (((xs ++ q) ++ f) ++ a) (ys ++ pl) none in
+          let (first, acts) = nil_parts ((xs ++ q) ++ f) a front in
+          let (symbols, functions) = nil_parts (xs ++ q) f first in
+          let (own, predicates) = nil_parts xs q symbols in
+          let (objects, places) = nil_parts ys pl back in
+          rw (predicates, functions, acts, places) (simp append-none (same (both_nil xs ys own objects)))
 
   pub parts_verdict : (r : Result (Unit {0}) LinkFault) → IsFound all_parts r → Verdict (map (fault_in d p) part_rules) r
   parts_verdict r h =
       verdict all_parts (map (fault_in d p) part_rules)
-      (both (told all_parts 23 _ (rw (unknown-declared d.types d, unknown-problem d.types p) (simp by_number))) (both (repeats_tell (simp by_number)) (both (told all_parts 25 _ (simp by_number))
+      (both (told all_parts 23 _ (simp (by_number, unknown-append, unknown-places))) (both (repeats_tell (simp by_number)) (both (told all_parts 25 _ (simp by_number))
       (both (told all_parts 26 _ (simp by_number)) (both (told all_parts 27 _ (simp by_number)) (both (told all_parts 28 _ (simp by_number)) (both (told all_parts 29 _ (simp by_number))
       (both (told all_parts 30 _ (simp by_number)) (both (told all_parts 31 _ (simp by_number)) (both (told all_parts 32 _ (simp by_number)) (both (told all_parts 33 _ (simp by_number)) tt)))))))))))
       (simp (from_parts, actions_ruled)) r h

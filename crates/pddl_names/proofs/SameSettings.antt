@@ -1,23 +1,17 @@
 -- Settings in which each name is declared alike have the same faults.
-use Rattle.std.proofs.Common.{◌≡◌, true, false, ◌||◌, not, cond, List, [], ◌∷◌, ◌++◌, map, Option, Some, None, refl, ap, sym, ◌∙◌, bytes_eq}
-use Rattle.std.specs.Prelude.{find, is_some}
-use Rattle.std.specs.List.{flat_map}
+use Rattle.std.proofs.Common.{◌≡◌, ◌||◌, not, List, [], ◌∷◌, ◌++◌, map, Option, Some, None, refl, ap, sym, ◌∙◌, find, is_some, flat_map}
 use Rattle.pddl_formula.specs.Terms.{TermValue, name, variable}
 use Rattle.pddl_formula.specs.TypedLists.{TypedValue}
 use Rattle.pddl_domain.specs.Declarations.{TypeValue, Signature}
 use Rattle.pddl_task.specs.Names.{Name, is_in, word_if, item_of, is_named}
 use Rattle.pddl_task.specs.Places.{Part, says, calls, equates, binds, counts, at}
-use Rattle.pddl_task.specs.Settings.{symbol_of, Setting}
+use Rattle.pddl_task.specs.Settings.{Setting}
 use Rattle.pddl_task.specs.Faults.{variables_at, repeated_at, unknown_term, typed_term, takes_others, is_misfit, some_misfit, has_misfit}
 use Rattle.pddl_faults.specs.Found.{numbered}
 use Rattle.pddl_types.specs.Told.{unknown_among}
 use Rattle.pddl_types.specs.Signatures.{signature_among}
+use Rattle.pddl_types.proofs.SignatureTables.{is_among}
 use Rattle.pddl_names.specs.Uses.{use_faults, place_faults, faults_of_use}
-
--- a name is declared where a signature of it is found
-is_among : (ps : List Signature) (n : Name) → is_in (map symbol_of ps) n ≡ is_some (signature_among ps n)
-is_among [] n = refl
-is_among (p ∷ ps) n = elim (bytes_eq n p.name) as (λ b. (b || is_in (map symbol_of ps) n) ≡ is_some (cond b (Some p) (signature_among ps n))) [ true ↦ refl | false ↦ is_among ps n ]
 
 -- the same types and objects, and the same signatures by name
 pub record AreAlike (s u : Setting) : Type 0 where
@@ -53,7 +47,7 @@ module _ (s u : Setting) (alike : AreAlike s u) where
     uses_alike : (n : Name) (ts : List TermValue) (ps qs : List Signature) → signature_among ps n ≡ signature_among qs n
         → faults_of_use s b (record { name = n; terms = ts; declared = ps }) ≡ faults_of_use u b (record { name = n; terms = ts; declared = qs })
     uses_alike n ts ps qs same =
-        let there = is_among ps n ∙ ap is_some same ∙ sym (is_among qs n) in
+        let there = sym (is_among ps n) ∙ ap is_some same ∙ is_among qs n in
         let misfit = ap (has_misfit s b ts) same ∙ has_alike ts (signature_among qs n) in
         λ i. numbered 26 (word_if (not (there i)) n ++ unknown_all ts i) ++ (numbered 27 (word_if (takes_others (same i) ts) n) ++ numbered 28 (word_if (misfit i) n))
 

@@ -1,6 +1,5 @@
 -- Names that are seen one after another, and a set of them.
-use Rattle.std.proofs.Common.{◌≡◌, ℕ, Bool, true, false, ◌||◌, not, cond, List, [], ◌∷◌, ◌++◌, map, drop, Result, refl, ap, sym, ◌∙◌, bytes_eq, arith}
-use Rattle.std.specs.Borrow.{Bor}
+use Rattle.std.proofs.Common.{◌≡◌, ℕ, Bool, true, false, ◌||◌, not, cond, List, [], ◌∷◌, ◌++◌, map, drop, Result, refl, ap, sym, ◌∙◌, bytes_eq, arith, Bor}
 use Rattle.std.specs.List.{list_any}
 use Rattle.std.proofs.Math.Bool.{not-not}
 use Rattle.pddl_domain.specs.declared.domain.Action.{Action}
@@ -24,15 +23,13 @@ has_more : (keys : List (Bor (List ℕ))) (key : Bor (List ℕ)) (there : Bool) 
 has_more keys key false n off = any_more (λ k. bytes_eq n k.now) keys key
 has_more keys key true n on = grind (arith, on, bytes_same n key.now)
 
-module _ (keys : List (Bor (List ℕ))) (key : Bor (List ℕ)) (seen : List Name) (name : Name) (named : key.now ≡ name) (same : HasNames keys seen) where
-  -- with one more
-  pub names_more : (next : List (Bor (List ℕ))) → next ≡ cond (has keys key.now) keys (keys ++ key ∷ []) → HasNames next (seen ++ name ∷ [])
-  names_more next is n =
-      ap (λ ks. has ks n) is ∙ has_more keys key (has keys key.now) n refl ∙ ap (λ b. b || bytes_eq n key.now) (same n) ∙ ap (λ m. is_in seen n || bytes_eq n m) named ∙ sym (any_more (bytes_eq n) seen name)
-
-  -- whether it was seen
-  pub was_seen : (is_new : Bool) → is_new ≡ not (has keys key.now) → not is_new ≡ is_in seen name
-  was_seen is_new told = ap not told ∙ not-not (has keys key.now) ∙ same key.now ∙ ap (is_in seen) named
+-- whether a name was seen, and the set with it
+pub put_seen : (keys : List (Bor (List ℕ))) (seen : List Name) (key : Bor (List ℕ)) (name : Name) (is_new : Bool) (next : List (Bor (List ℕ))) → HasNames keys seen → key.now ≡ name → is_new ≡ not (has keys key.now)
+    → next ≡ cond (has keys key.now) keys (keys ++ key ∷ []) → (not is_new ≡ is_in seen name) × HasNames next (seen ++ name ∷ [])
+put_seen keys seen key name is_new next same named added put = (
+  rw (added, not-not, same key.now, named) refl,
+  λ n. rw (put, has_more keys key (has keys key.now) n refl, same n, named, any_more (bytes_eq n) seen name) refl,
+)
 
 -- what was found in the actions up to one, and the names that a set has from them
 pub record ActionsUpTo {A : Type 0} (sought : Place → List (ℕ × Name)) (all : List (Action A)) (i : ℕ) (keys : List (Bor (List ℕ))) (found : Result (Unit {0}) LinkFault) : Type 0 where

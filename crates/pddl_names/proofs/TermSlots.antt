@@ -1,7 +1,5 @@
 -- Terms and their slots, in turn.
-use Rattle.std.proofs.Common.{◌≡◌, ℕ, ◌+◌, ◌<◌, ◌≤◌, Bool, false, not, ◌&&◌, ◌||◌, List, [], ◌∷◌, ◌++◌, length, get_or, drop, Option, Some, None, refl, ap, sym, ◌∙◌, subst, arith}
-use Rattle.std.specs.Prelude.{Contains, is_some, slice_get}
-use Rattle.std.specs.List.{flat_map}
+use Rattle.std.proofs.Common.{◌≡◌, ℕ, ◌+◌, ◌<◌, ◌≤◌, Bool, false, not, ◌&&◌, ◌||◌, List, [], ◌∷◌, ◌++◌, length, get_or, drop, Option, Some, None, refl, ap, sym, ◌∙◌, arith, Contains, is_some, slice_get, flat_map}
 use Rattle.std.proofs.lemmas.List.{drop_all}
 use Rattle.std.proofs.lemmas.Option.{slice_get_within, get_or_from_slice_get}
 use Rattle.pddl_formula.specs.Terms.{TermValue, name, variable}
@@ -37,7 +35,7 @@ module _ (s : Setting) (b : List TypedValue) (t : TermValue) (told : ToldValue) 
 
   -- and where there is none, its name is a fault
   pub unknown_word : IsAtOf told (typed_term s b t) None → Contains (unknown_term s b t) (term_name t)
-  unknown_word is = subst (λ ws. Contains ws (term_name t)) (sym (known_term None is)) (has_first (term_name t) [])
+  unknown_word is = rw (known_term None is) (has_first (term_name t) [])
 
 -- whether it fits its slot, as it is found by the numbers of their types
 pub fits_slot : (told : ToldValue) (ps : List TypeValue) (y : Option TypedValue) (x : TypedValue) (n m : ℕ) (fit : Bool) → ((of to : List Name) → IsAt told of n → IsAt told to m → fit ≡ fits ps of to)
@@ -52,24 +50,22 @@ no_slots s b [] = refl
 no_slots s b (t ∷ ts) = refl
 
 -- a term that is in turn
-module _ (s : Setting) (b : List TypedValue) (ts : List TermValue) (xs : List TypedValue) (i : ℕ) (t : TermValue) (low : i < length ts) (at : t ≡ get_or ts i t) where
-  words_left : flat_map (unknown_term s b) (drop i ts) ≡ unknown_term s b t ++ flat_map (unknown_term s b) (drop (i + 1) ts)
-  words_left = ap (flat_map (unknown_term s b)) (rest_is ts i t low at)
-
+module _ (s : Setting) (b : List TypedValue) (ts : List TermValue) (i : ℕ) (t : TermValue) (low : i < length ts) (at : t ≡ get_or ts i t) where
   -- it is not known
   pub unknown_here : (whole : List Name) (n : Name) → flat_map (unknown_term s b) (drop i ts) ≡ whole → unknown_term s b t ≡ n ∷ [] → Contains whole n
-  unknown_here whole n left none = subst (λ ws. Contains ws n) (ap (λ ws. ws ++ flat_map (unknown_term s b) (drop (i + 1) ts)) (sym none) ∙ sym words_left ∙ left) (has_first n _)
+  unknown_here whole n left none = rw (← left, rest_is ts i t low at, none) (has_first n _)
 
   -- it is known, and those that are left decide
   pub known_here : (whole : List Name) → flat_map (unknown_term s b) (drop i ts) ≡ whole → unknown_term s b t ≡ [] → flat_map (unknown_term s b) (drop (i + 1) ts) ≡ whole
-  known_here whole left known = ap (λ ws. ws ++ flat_map (unknown_term s b) (drop (i + 1) ts)) (sym known) ∙ sym words_left ∙ left
+  known_here whole left known = rw (rest_is ts i t low at, known) at left
 
-  -- whether all fit so far, with it and its slot
-  pub fits_here : (x : TypedValue) (f all next whole : Bool) → slice_get xs i ≡ Some x → is_misfit s.pairs (typed_term s b t) x ≡ not f → next ≡ all && f
-      → (not all || some_misfit s b (drop i ts) (drop i xs)) ≡ whole → (not next || some_misfit s b (drop (i + 1) ts) (drop (i + 1) xs)) ≡ whole
-  fits_here x f all next whole slot fit is left =
-      grind (arith, rest_is ts i t low at, rest_is xs i x (slice_get_within xs i x slot) (sym (get_or_from_slice_get xs i x x slot)), fit, is, left)
+  module _ (xs : List TypedValue) where
+    -- whether all fit so far, with it and its slot
+    pub fits_here : (x : TypedValue) (f all next whole : Bool) → slice_get xs i ≡ Some x → is_misfit s.pairs (typed_term s b t) x ≡ not f → next ≡ all && f
+        → (not all || some_misfit s b (drop i ts) (drop i xs)) ≡ whole → (not next || some_misfit s b (drop (i + 1) ts) (drop (i + 1) xs)) ≡ whole
+    fits_here x f all next whole slot fit is left =
+        grind (arith, rest_is ts i t low at, rest_is xs i x (slice_get_within xs i x slot) (sym (get_or_from_slice_get xs i x x slot)), fit, is, left)
 
-  -- or where it has none
-  pub past_here : (all whole : Bool) → length xs ≤ i → (not all || some_misfit s b (drop i ts) (drop i xs)) ≡ whole → (not all || some_misfit s b (drop (i + 1) ts) (drop (i + 1) xs)) ≡ whole
-  past_here all whole past left = grind (arith, drop_all i xs past, drop_all (i + 1) xs (omega (arith, past)), no_slots s b (drop (i + 1) ts), no_slots s b (drop i ts), left)
+    -- or where it has none
+    pub past_here : (all whole : Bool) → length xs ≤ i → (not all || some_misfit s b (drop i ts) (drop i xs)) ≡ whole → (not all || some_misfit s b (drop (i + 1) ts) (drop (i + 1) xs)) ≡ whole
+    past_here all whole past left = grind (arith, drop_all i xs past, drop_all (i + 1) xs (omega (arith, past)), no_slots s b (drop (i + 1) ts), no_slots s b (drop i ts), left)

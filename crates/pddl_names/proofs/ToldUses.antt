@@ -1,8 +1,5 @@
 -- What is told of the types of terms and of slots, and of what is bound.
-use Rattle.std.proofs.Common.{◌≡◌, ℕ, suc, true, false, cond, List, [], ◌∷◌, map, length, drop, ◌≤◌, Some, None, refl, arith}
-use Rattle.std.specs.Prelude.{option_map, find, slice_get}
-use Rattle.std.specs.Borrow.{Bor}
-use Rattle.std.specs.List.{All}
+use Rattle.std.proofs.Common.{◌≡◌, ℕ, suc, true, false, cond, List, [], ◌∷◌, map, length, drop, ◌≤◌, Some, None, refl, arith, option_map, find, slice_get, Bor, All}
 use Rattle.std.specs.Slice.{IsItemAt}
 use Rattle.std.proofs.lemmas.List.Elements.{All-weaker, All-drop, All-cons, All-head}
 use Rattle.std.proofs.lemmas.Option.{slice_get_read}
@@ -26,11 +23,7 @@ pub variable_told : (told : ToldValue) (n : Name) (scope : List (TypedValue × �
     → IsAtOf told (find (is_named n) (bound_in scope)) (option_map (λ (e : TypedValue × ℕ). e.1) (find (λ (e : TypedValue × ℕ). is_named n e.0) scope))
 variable_told told n [] all = tt
 variable_told told n (e ∷ scope) all =
-    let inner = find (λ (d : TypedValue × ℕ). is_named n d.0) scope in
-    elim (is_named n e.0) as (λ b. IsAtOf told (cond b (Some e.0) (find (is_named n) (bound_in scope))) (option_map (λ (d : TypedValue × ℕ). d.1) (cond b (Some e) inner))) [
-      | true ↦ All-head (λ (d : TypedValue × ℕ). IsAt told d.0.of d.1) e scope all
-      | false ↦ variable_told told n scope (All-drop (λ (d : TypedValue × ℕ). IsAt told d.0.of d.1) 1 (e ∷ scope) all)
-    ]
+    grind (arith, All-head (λ (d : TypedValue × ℕ). IsAt told d.0.of d.1) e scope all, variable_told told n scope (All-drop (λ (d : TypedValue × ℕ). IsAt told d.0.of d.1) 1 (e ∷ scope) all))
 
 told_entered : (told : ToldValue) (xs : List TypedValue) (numbers : List ℕ) (scope : List (TypedValue × ℕ)) → AreAt told xs numbers → All (λ e. IsAt told e.0.of e.1) scope
     → All (λ e. IsAt told e.0.of e.1) (entered xs numbers scope)

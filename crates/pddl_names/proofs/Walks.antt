@@ -1,6 +1,5 @@
 -- A walk over places, part by part, and what is found at the places so far.
-use Rattle.std.proofs.Common.{◌≡◌, ℕ, ◌+◌, ◌<◌, ◌≤◌, List, [], ◌∷◌, ◌++◌, map, length, get_or, drop, Result, Err, ap, ◌∙◌, subst}
-use Rattle.std.specs.List.{flat_map}
+use Rattle.std.proofs.Common.{◌≡◌, ℕ, ◌+◌, ◌<◌, ◌≤◌, List, [], ◌∷◌, ◌++◌, map, length, get_or, drop, Result, Err, ap, ◌∙◌, subst, flat_map}
 use Rattle.std.proofs.lemmas.List.{drop_all, append_assoc}
 use Rattle.std.proofs.lemmas.List.Concat.{flat_map-append}
 use Rattle.pddl_formula.specs.TypedLists.{TypedValue}
@@ -10,7 +9,7 @@ use Rattle.pddl_task.proofs.Lists.{append-none}
 use Rattle.pddl_faults.specs.declared.fault.LinkFault.{LinkFault}
 use Rattle.pddl_faults.specs.Passes.{Passes}
 use Rattle.pddl_faults.specs.Found.{IsFound, numbered}
-use Rattle.pddl_faults.proofs.FoundFaults.{IsFoundUpTo, up_to_more, up_to_all, found_rest, found_same}
+use Rattle.pddl_faults.proofs.FoundFaults.{IsFoundUpTo, up_to_more, up_to_all}
 use Rattle.pddl_faults.proofs.ListTurns.{rest_is}
 use Rattle.pddl_types.specs.Told.{unknown_among}
 use Rattle.pddl_types.specs.declared.known.Known.{Known}
@@ -28,25 +27,14 @@ Lowers r s both = (xs ys : List (ℕ × Name)) → IsFound xs r → IsFound ys s
 -- some places, and then others
 pub in_turn : (sought : Place → List (ℕ × Name)) (ps qs : List Place) (r s both : Result (Unit {0}) LinkFault) → Lowers r s both → IsFound (flat_map sought ps) r → IsFound (flat_map sought qs) s
     → IsFound (flat_map sought (ps ++ qs)) both
-in_turn sought ps qs r s both lower h k = found_same (flat_map sought ps ++ flat_map sought qs) (flat_map sought (ps ++ qs)) both (flat_map-append sought ps qs) (lower (flat_map sought ps) (flat_map sought qs) h k)
+in_turn sought ps qs r s both lower h k = rw flat_map-append (lower _ _ h k)
 
--- ---- the list of a quantifier, and the places that are behind it
-
-module _ {A B : Type 0} (k : Known A B) (xs b : List TypedValue) (ps : List Place) where
-  abbrev unknown : List Name
-  unknown = unknown_among k.types.declared xs
-
-  abbrev twice : List (ℕ × Name)
-  twice = numbered 24 (repeated [] (map item_of xs))
-
-  -- a type is not known, or memory for the list is refused: nothing lower is behind it
-  pub stopped : (e : LinkFault) → Passes {T = Unit {0}} 23 unknown (Err e) → IsFound {T = Unit {0}} (flat_map (faults_by k) (at b (binds xs) ∷ ps)) (Err e)
-  stopped e passes = rw (append-none twice, append_assoc) (passed_first 23 unknown (twice ++ flat_map (faults_by k) ps) e passes (simp from_parts))
-
-  -- all types are known
-  pub within : (own r both : Result (Unit {0}) LinkFault) → unknown ≡ [] → IsFound twice own → Lowers own r both → IsFound (flat_map (faults_by k) ps) r
-      → IsFound (flat_map (faults_by k) (at b (binds xs) ∷ ps)) both
-  within own r both none found lower inner = lower (numbered 23 unknown ++ (twice ++ [])) (flat_map (faults_by k) ps) (found_rest (numbered 23 unknown) (twice ++ []) own (ap (numbered 23) none) (rw append-none found)) inner
+-- a type of a list is not known, or memory for the list is refused: nothing lower is behind it
+pub stopped : {A B : Type 0} (k : Known A B) (xs : List TypedValue) (ps : List Place) (e : LinkFault) → Passes {T = Unit {0}} 23 (unknown_among k.types.declared xs) (Err e)
+    → IsFound {T = Unit {0}} (flat_map (faults_by k) (at [] (binds xs) ∷ ps)) (Err e)
+stopped k xs ps e passes =
+    let twice = numbered 24 (repeated [] (map item_of xs)) in
+    rw (append-none twice, append_assoc) (passed_first 23 (unknown_among k.types.declared xs) (twice ++ flat_map (faults_by k) ps) e passes (simp from_parts))
 
 -- ---- items in turn
 

@@ -1,7 +1,6 @@
 -- The faults of a domain and of a problem in the parts in which they are looked for (own). Their order says nothing.
-use Rattle.std.specs.Prelude.{ℕ, List, [], ◌∷◌, ◌++◌, Option, None, take, drop}
+use Rattle.std.specs.Prelude.{ℕ, List, [], ◌∷◌, ◌++◌, Option, None, take, drop, flat_map}
 use Rattle.std.specs.Borrow.{Bor}
-use Rattle.std.specs.List.{flat_map}
 use Rattle.std.specs.Option.{option_map_or}
 use Rattle.pddl_formula.specs.Formulas.{conjunction, no_formulas}
 use Rattle.pddl_domain.specs.Actions.{ActionValue}

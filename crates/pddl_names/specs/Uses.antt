@@ -1,6 +1,5 @@
 -- The faults that are looked for at each place, each told by its number and its word, and what is known where they are.
-use Rattle.std.specs.Prelude.{not, ℕ, List, ◌++◌, map}
-use Rattle.std.specs.List.{All, flat_map}
+use Rattle.std.specs.Prelude.{not, ℕ, List, ◌++◌, map, All, flat_map}
 use Rattle.pddl_formula.specs.TypedLists.{TypedValue}
 use Rattle.pddl_domain.specs.Declarations.{TypeValue}
 use Rattle.pddl_task.specs.Names.{Name, word_if}

@@ -2,14 +2,12 @@
 
 ghost use Rattle.std.specs.Prelude.{◌≡◌, ◌++◌, [], IfOk, OnOk};
 ghost use Rattle.pddl_domain.specs.Domains.{domain_view};
-ghost use Rattle.pddl_task.specs.Settings.{in_domain};
 ghost use Rattle.pddl_task.specs.Faults.{large_goals};
 ghost use Rattle.pddl_faults.specs.Passes.{Passes};
 ghost use Rattle.pddl_faults.specs.Found.{IsFound};
 ghost use Rattle.pddl_types.specs.Told.{unknown_among};
 ghost use Rattle.pddl_types.specs.Known.{declared_typed, IsNothing, AreKnown, AreAllKnown};
-ghost use Rattle.pddl_names.specs.Uses.{place_faults};
-ghost use Rattle.pddl_names.specs.FaultParts.{problem_in, joined, action_faults, domain_parts, problem_parts};
+ghost use Rattle.pddl_names.specs.FaultParts.{problem_in, joined, domain_parts, problem_parts};
 
 use crate::walk::{search_actions, search_problem};
 use indexmap::IndexSet;
@@ -21,28 +19,12 @@ use pddl_sizes::ground_size;
 use pddl_types::{Known, Tables, Told};
 use std::alloc::Allocator;
 
-/// The lowest fault of actions.
-fn look_at_actions<'m, 'a, A: Allocator, B: Allocator>(
-    known: &Known<'m, 'a, A, B>,
-    told: &mut Told<'m, 'a, A, B>,
-    domain: &'m Domain<A>,
-) -> Result<(), LinkFault<'m>>
-    requires { AreKnown (domain_view domain.now) (domain_view domain.now).constants known.now told.old }
-    ensures known { AreKnown (domain_view domain.now) (domain_view domain.now).constants known.now told.new }
-    ensures found { IsFound (action_faults (place_faults (domain_view domain.now).types (in_domain (domain_view domain.now))) [] (domain_view domain.now).actions) result }
-{
-    let alloc = known.types.allocator();
-    let hashed = known.types.hashed();
-    let mut seen = IndexSet::with_hasher(alloc, hashed);
-    let mut scope = Scope::new(alloc, hashed);
-    search_actions(known, told, &mut scope, &mut seen, &domain.actions)
-}
-
 /// The lowest fault of a domain from 23 on, where the types of what it declares are known. Nothing is known before but its types, and none is told.
 ///
 /// # Errors
 ///
 /// `LinkFault::UnknownType` of what it declares, than which none is lower; `Memory` where memory is refused. Then nothing more is looked at.
+#[tactic(auto, using(std::proofs::lemmas::Result::err_from_is_err_and))]
 pub fn look_at_domain<'m, 'a, A: Allocator, B: Allocator>(
     known: &mut Known<'m, 'a, A, B>,
     told: &mut Told<'m, 'a, A, B>,
@@ -56,7 +38,11 @@ pub fn look_at_domain<'m, 'a, A: Allocator, B: Allocator>(
     ensures known { IfOk result (λ _. AreKnown (domain_view domain.now) (domain_view domain.now).constants known.new told.new) }
 {
     let names = known.add_domain(told, domain)?;
-    let actions = look_at_actions(&*known, told, domain);
+    let alloc = known.types.allocator();
+    let hashed = known.types.hashed();
+    let mut seen = IndexSet::with_hasher(alloc, hashed);
+    let mut scope = Scope::new(alloc, hashed);
+    let actions = search_actions(&*known, told, &mut scope, &mut seen, &domain.actions);
     let others = lower(object_types(&domain.constants), object_fluents(domain));
     Ok(lower(names, lower(actions, others)))
 }
@@ -77,9 +63,9 @@ pub fn look_at_problem<'m, 'a, A: Allocator, B: Allocator>(
             let alloc = known.types.allocator();
             let hashed = known.types.hashed();
             let literals = contradictions(alloc, hashed, &problem.init);
-            let init = lower(literals, cost_values(alloc, hashed, &problem.init));
+            let costs = cost_values(alloc, hashed, &problem.init);
             let others = lower(object_types(&problem.objects), metric(&problem.metric));
-            let alone = lower(init, others);
+            let alone = lower(literals, lower(costs, others));
             let objects = known.listed.add(&known.types, told, &problem.objects)?;
             let places = search_problem(&*known, told, problem);
             lower(objects, lower(places, alone))

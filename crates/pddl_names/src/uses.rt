@@ -1,8 +1,7 @@
 //! What is looked for at one place: names that are not known, other numbers of terms than declared, terms that do not fit their slots, and numbers that are
 //! not whole, with one look-up of each name; and variables that are bound.
 
-ghost use Rattle.std.specs.Prelude.{◌≡◌, [], ◌∷◌, map, drop, length, IfOk, MatchResult};
-ghost use Rattle.std.specs.List.{flat_map};
+ghost use Rattle.std.specs.Prelude.{◌≡◌, [], ◌∷◌, map, drop, length, IfOk, MatchResult, flat_map};
 ghost use Rattle.pddl_formula.specs.Terms.{term_view};
 ghost use Rattle.pddl_formula.specs.TypedLists.{typed_view};
 ghost use Rattle.pddl_task.specs.Names.{item_of, repeated};
@@ -76,6 +75,7 @@ fn look_at_use<'m, 'a, 'd, A: Allocator, B: Allocator>(
 }
 
 /// A term is known.
+#[tactic(auto, using(crate::proofs::TermSlots::known_term, crate::proofs::TermSlots::unknown_word))]
 fn look_at_term<'m, 'a, 'd, A: Allocator, B: Allocator>(
     known: &Known<'m, 'a, A, B>,
     scope: &Scope<'m, 'a, A, B>,

@@ -2,8 +2,7 @@
 //!
 //! Each function answers the lowest of the faults that stand in its part, and leaves what is in scope as it was.
 
-ghost use Rattle.std.specs.Prelude.{◌≡◌, [], map, option_map};
-ghost use Rattle.std.specs.List.{flat_map};
+ghost use Rattle.std.specs.Prelude.{◌≡◌, [], map, option_map, flat_map};
 ghost use Rattle.pddl_formula.specs.Formulas.{formula_view};
 ghost use Rattle.pddl_effect.specs.Effects.{effect_view};
 ghost use Rattle.pddl_domain.specs.Actions.{action_view};
@@ -28,6 +27,7 @@ use pddl_types::{Known, Told};
 use std::alloc::Allocator;
 
 /// Searches a formula.
+#[tactic(auto, using(pddl_formula::specs::declared::formula::Formula::TheFolds::the_lemmas, pddl_faults::proofs::FoundFaults::up_to_none))]
 fn search_formula<'m, 'a, A: Allocator, B: Allocator>(
     known: &Known<'m, 'a, A, B>,
     told: &mut Told<'m, 'a, A, B>,
@@ -64,6 +64,7 @@ fn search_formula<'m, 'a, A: Allocator, B: Allocator>(
 }
 
 /// Searches an effect.
+#[tactic(auto, using(pddl_effect::specs::declared::effect::Effect::TheFolds::the_lemmas))]
 fn search_effect<'m, 'a, A: Allocator, B: Allocator>(
     known: &Known<'m, 'a, A, B>,
     told: &mut Told<'m, 'a, A, B>,
@@ -122,6 +123,7 @@ fn search_action<'m, 'a, A: Allocator, B: Allocator>(
 }
 
 /// Searches actions in turn, and looks for names that stand twice, for which they are put into an empty set.
+#[tactic(auto, using(std::proofs::lemmas::Result::err_from_is_err_and))]
 pub(crate) fn search_actions<'m, 'a, A: Allocator, B: Allocator>(
     known: &Known<'m, 'a, A, B>,
     told: &mut Told<'m, 'a, A, B>,
@@ -193,6 +195,7 @@ fn search_metric<'m, 'a, 'd, A: Allocator, B: Allocator>(
 }
 
 /// Searches a problem: its initial state, its goal and its metric.
+#[tactic(auto, using(pddl_faults::proofs::FoundFaults::up_to_none))]
 pub(crate) fn search_problem<'m, 'a, A: Allocator, B: Allocator>(
     known: &Known<'m, 'a, A, B>,
     told: &mut Told<'m, 'a, A, B>,

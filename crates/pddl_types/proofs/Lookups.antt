@@ -1,6 +1,6 @@
 -- What is read of lists and tables, by place and by name.
 use Rattle.std.proofs.Common.{◌≡◌, ℕ, zero, suc, ◌+◌, ◌<◌, Bool, true, false, ◌||◌, not, cond, List, [], ◌∷◌, ◌++◌, map, length, Some, refl, sym, ap, ◌∙◌, arith, bytes_eq}
-use Rattle.std.specs.Prelude.{is_some, find, option_map, slice_get}
+use Rattle.std.specs.Prelude.{is_some, option_map, slice_get}
 use Rattle.std.specs.Borrow.{Bor}
 use Rattle.std.specs.List.{position, position_or_len}
 use Rattle.std.specs.Map.{keys_of, lookup}
@@ -8,8 +8,6 @@ use Rattle.std.proofs.lemmas.Map.Made.{lookup_key_passes}
 use Rattle.std.proofs.lemmas.Option.{slice_get-map}
 use Rattle.std.proofs.lemmas.Simd.{map-map}
 use Rattle.indexmap.proofs.MapLemmas.{Found-position}
-use Rattle.pddl_formula.specs.TypedLists.{typed_view}
-use Rattle.pddl_domain.specs.Declarations.{Signature}
 use Rattle.pddl_task.specs.Names.{Name, is_in}
 use Rattle.pddl_task.specs.Settings.{symbol_of}
 use Rattle.pddl_types.specs.KnownNames.{signature_in}
@@ -56,14 +54,6 @@ entry_found {K} {X} test es i is =
 pub is_symbol : {A B : Type 0} (es : List (Bor (List ℕ) × Slots A B)) (n : Name) → is_some (lookup (λ k. bytes_eq n k.now) es) ≡ is_in (map symbol_of (map signature_in es)) n
 is_symbol [] n = refl
 is_symbol (e ∷ es) n = found_or (bytes_eq n e.0.now) e.1 (lookup (λ k. bytes_eq n k.now) es) ∙ ap (λ b. bytes_eq n e.0.now || b) (is_symbol es n)
-
--- ---- what is found, by a value of it
-
--- the parameters of a predicate or a function
-pub signature_found : {A B : Type 0} (es : List (Bor (List ℕ) × Slots A B)) (n : Name)
-    → option_map (λ (s : Signature). s.parameters) (find (λ s. bytes_eq n s.name) (map signature_in es)) ≡ option_map (λ (v : Slots A B). map typed_view v.parameters.now) (lookup (λ k. bytes_eq n k.now) es)
-signature_found [] n = refl
-signature_found (e ∷ es) n = grind (arith, signature_found es n)
 
 -- ---- numbers of names
 

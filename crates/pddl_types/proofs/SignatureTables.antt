@@ -1,10 +1,6 @@
 -- Tables of what is declared, as it is put into them one after another, and the types of parameters.
-use Rattle.std.proofs.Common.{◌≡◌, ◌≤◌, ℕ, Bool, true, false, cond, List, [], ◌∷◌, ◌++◌, map, length, Option, Some, None, refl, ap, sym, ◌∙◌, subst, bytes_eq, append_assoc, arith}
-use Rattle.std.specs.Prelude.{is_some, find, slice_get}
-use Rattle.std.specs.Borrow.{Bor}
-use Rattle.std.specs.Map.{lookup}
-use Rattle.std.specs.Option.{option_or}
-use Rattle.std.proofs.lemmas.List.{map-append, map_push}
+use Rattle.std.proofs.Common.{◌≡◌, ◌≤◌, ℕ, true, false, cond, List, [], ◌∷◌, ◌++◌, map, length, Option, Some, None, refl, ap, sym, ◌∙◌, subst, bytes_eq, append_assoc, arith, is_some, slice_get, Bor}
+use Rattle.std.proofs.lemmas.List.{map-append}
 use Rattle.std.proofs.lemmas.List.Elements.{All-contains, All-push}
 use Rattle.std.proofs.lemmas.List.Folds.{find-append}
 use Rattle.std.proofs.lemmas.Option.{same_Some, slice_get_within}
@@ -18,7 +14,6 @@ use Rattle.pddl_task.specs.Names.{Name, is_in, word_if, repeated}
 use Rattle.pddl_task.specs.Settings.{symbol_of}
 use Rattle.pddl_task.proofs.Lists.{append-none, at_place, bytes_same, nil_parts}
 use Rattle.pddl_task.proofs.DistinctNames.{word_none}
-use Rattle.pddl_faults.specs.Found.{numbered}
 use Rattle.pddl_types.specs.KnownNames.{signature_in, action_signature}
 use Rattle.pddl_types.specs.Told.{ToldValue, IsAt, AreAt, AreKept}
 use Rattle.pddl_types.specs.Signatures.{Rows, IsSlotsAt, signature_among, AreFirst, HaveFirst, HaveSignatures}
@@ -36,50 +31,39 @@ repeated_more before [] n = simp append-none
 repeated_more before (m ∷ names) n = simp (append_assoc, repeated_more (before ++ m ∷ []) names n)
 
 -- a name has a signature where it is one of the names
-is_among : (gs : List Signature) (n : Name) → is_some (signature_among gs n) ≡ is_in (map symbol_of gs) n
+pub is_among : (gs : List Signature) (n : Name) → is_some (signature_among gs n) ≡ is_in (map symbol_of gs) n
 is_among [] n = refl
 is_among (g ∷ gs) n = grind (arith, is_among gs n)
 
 -- ---- what is seen of signatures is held of them, and so with one more
 
 module _ {held seen : List Signature} (are : AreFirst held seen) (g : Signature) where
-  once_before : (here : Bool) → is_in (map symbol_of seen) g.name ≡ here → repeated [] (map symbol_of (seen ++ g ∷ [])) ≡ [] → (repeated [] (map symbol_of seen) ≡ []) × (here ≡ false)
-  once_before here is once =
-      let parts = nil_parts (repeated [] (map symbol_of seen)) (word_if (is_in (map symbol_of seen) g.name) g.name)
-      (sym (ap (repeated []) (map-append symbol_of seen (g ∷ [])) ∙ repeated_more [] (map symbol_of seen) g.name) ∙ once) in
-      (parts.0, sym is ∙ word_none (is_in (map symbol_of seen) g.name) g.name parts.1)
+  once_before : repeated [] (map symbol_of (seen ++ g ∷ [])) ≡ [] → (repeated [] (map symbol_of seen) ≡ []) × (is_in (map symbol_of seen) g.name ≡ false)
+  once_before once =
+      let parts = nil_parts (repeated [] (map symbol_of seen)) (word_if (is_in (map symbol_of seen) g.name) g.name) (rw (map-append, repeated_more) at once) in
+      (parts.0, word_none (is_in (map symbol_of seen) g.name) g.name parts.1)
 
-  -- of a new name it is put there
-  first_more : is_in (map symbol_of seen) g.name ≡ false → AreFirst (held ++ g ∷ []) (seen ++ g ∷ [])
-  first_more new = record {
-    first = λ n.
-        let test : Signature → Bool = λ s. bytes_eq n s.name in
-        find-append test held (g ∷ []) ∙ ap (λ o. option_or o (find test (g ∷ []))) (are.first n) ∙ sym (find-append test seen (g ∷ []));
-    all = λ once. ap (λ gs. gs ++ g ∷ []) (are.all (once_before false new once).0);
+  -- where it is put there
+  first_more : AreFirst (held ++ g ∷ []) (seen ++ g ∷ [])
+  first_more = record {
+    first = λ n. simp (find-append, are.first n);
+    all = λ once. ap (λ gs. gs ++ g ∷ []) (are.all (once_before once).0);
   }
 
-  -- of a name that was seen the first is there
+  -- or not, as its name was seen
   first_still : is_in (map symbol_of seen) g.name ≡ true → AreFirst held (seen ++ g ∷ [])
   first_still old = record {
     first = λ n.
         let there = λ (is : bytes_eq n g.name ≡ true). is_among seen n ∙ ap (is_in (map symbol_of seen)) (bytes_same n g.name is) ∙ old in
         grind (arith, are.first n, find-append (λ s. bytes_eq n s.name) seen (g ∷ []), there);
-    all = λ once. let here = (once_before true old once).1 in cc;
+    all = λ once. cc (once_before once).1;
   }
-
--- of names that stand twice, that of the next one, and those that are left behind it
-pub repeated_left : (seen next left rest : List Signature) (g : Signature) → next ≡ seen ++ g ∷ [] → left ≡ g ∷ rest → numbered 24 (repeated (map symbol_of seen) (map symbol_of left))
-    ≡ numbered 24 (word_if (is_in (map symbol_of seen) g.name) g.name) ++ numbered 24 (repeated (map symbol_of next) (map symbol_of rest))
-repeated_left seen next left rest g next_is left_is =
-    let own = word_if (is_in (map symbol_of seen) g.name) g.name in
-    ap (λ gs. numbered 24 (repeated (map symbol_of seen) (map symbol_of gs))) left_is ∙ map-append (λ (w : Name). (24, w)) own (repeated (map symbol_of seen ++ g.name ∷ []) (map symbol_of rest))
-    ∙ ap (λ ns. numbered 24 own ++ numbered 24 (repeated ns (map symbol_of rest))) (sym (ap (map symbol_of) next_is ∙ map-append symbol_of seen (g ∷ [])))
 
 -- ---- what is declared
 
--- it is held while more is told, and of what is told otherwise too
-pub have_still : {A B : Type 0} {before after : ToldValue} {rows : Rows A B} {gs hs : List Signature} → AreKept before after → gs ≡ hs → HaveFirst before rows gs → HaveFirst after rows hs
-have_still {before = before} {after} {rows} kept same have = record { first = subst (AreFirst (map signature_in rows)) same have.first; slots = slots_still before after rows kept have.slots }
+-- it is held while more is told
+pub have_still : {A B : Type 0} {before after : ToldValue} {rows : Rows A B} {gs : List Signature} → AreKept before after → HaveFirst before rows gs → HaveFirst after rows gs
+have_still {before = before} {after} {rows} kept have = record { first = have.first; slots = slots_still before after rows kept have.slots }
 
 -- all are held where no name stands twice
 pub have_all : {A B : Type 0} {told : ToldValue} {rows : Rows A B} {gs : List Signature} → repeated [] (map symbol_of gs) ≡ [] → HaveFirst told rows gs → HaveSignatures told rows gs
@@ -91,24 +75,23 @@ module _ {A B S : Type 0} (m : IndexMap (Bor (List ℕ)) (Slots A B) S) {before 
   -- a name is in it where it was seen
   seen_there : (place : Option ℕ) → place ≡ index_of (λ a b. bytes_eq a.now b.now) m k → is_in (map symbol_of seen) g.name ≡ is_some place
   seen_there place is =
-      sym (is_among seen g.name) ∙ sym (ap is_some (have.first.first g.name)) ∙ is_among (map signature_in m.entries) g.name ∙ sym (is_symbol m.entries g.name)
-      ∙ ap (λ n. is_some (lookup (λ j. bytes_eq n j.now) m.entries)) (sym name) ∙ sym (ap is_some is ∙ some_index (λ j. bytes_eq k.now j.now) m.entries)
+      rw (← name)
+      (cc (is_among seen k.now, have.first.first k.now, is_among (map signature_in m.entries) k.now, is_symbol m.entries k.now, is, some_index (λ j. bytes_eq k.now j.now) m.entries))
 
   -- a new name comes last
   pub put_where_new : (v : Slots A B) (next : Rows A B) (place : Option ℕ) → place ≡ index_of (λ a b. bytes_eq a.now b.now) m k
       → next ≡ cond (is_some place) m.entries (insert_entry (λ a b. bytes_eq a.now b.now) m.entries k v) → map typed_view v.parameters.now ≡ g.parameters → IsSlotsAt after v
       → (is_in (map symbol_of seen) g.name ≡ is_some place) × HaveFirst after next (seen ++ g ∷ [])
   put_where_new v next (Some i) is put parameters at =
-      let there = seen_there (Some i) is in (there, rw put (record { first = first_still have.first g there; slots = slots_still before after m.entries kept have.slots }))
+      let there = seen_there (Some i) is in (there, rw put (record { first = first_still have.first g there; slots = (have_still kept have).slots }))
   put_where_new v next None is put parameters at =
       let new = seen_there None is in
       let last = put ∙ insert_entry-absent (λ a b. bytes_eq a.now b.now) k v m.entries (Missing-position (λ j. bytes_eq k.now j.now) m.entries (sym is)).absent in
-      let own : signature_in (k, v) ≡ g = rw (name, parameters) refl in
-      let views = map_push signature_in m.entries (k, v) ∙ ap (λ s. map signature_in m.entries ++ s ∷ []) own in (
+      let own : signature_in (k, v) ≡ g = rw (name, parameters) refl in (
         new,
         rw last (record {
-          first = subst (λ gs. AreFirst gs (seen ++ g ∷ [])) (sym views) (first_more have.first g new);
-          slots = All-push (λ e. IsSlotsAt after e.1) m.entries (k, v) (slots_still before after m.entries kept have.slots) at;
+          first = rw (map-append, own) (first_more have.first g);
+          slots = All-push (λ e. IsSlotsAt after e.1) m.entries (k, v) (have_still kept have).slots at;
         }),
       )
 

@@ -20,11 +20,6 @@ pub declared_left : {X : Type 0} (ts : List TypeValue) (signature : X → Signat
     → own ≡ (signature x).parameters → unknown_among ts (flat_map parameters_of (map signature (drop i xs))) ≡ unknown_among ts own ++ unknown_among ts (flat_map parameters_of (map signature (drop (i + 1) xs)))
 declared_left ts signature xs i x own h at is = rw (views_drop signature xs i x h at, is) (unknown-append ts (signature x).parameters _)
 
--- two kinds of what is declared, the second told otherwise
-pub declared_parts : (ts : List TypeValue) (gs : List Signature) {hs fs : List Signature} → fs ≡ hs
-    → unknown_among ts (flat_map parameters_of gs ++ flat_map parameters_of hs) ≡ unknown_among ts (flat_map parameters_of gs) ++ unknown_among ts (flat_map parameters_of fs)
-declared_parts ts gs {hs} same = rw same (unknown-append ts (flat_map parameters_of gs) (flat_map parameters_of hs))
-
 -- what is left of what is typed: the first, and the rest
 pub typed_left : (ts : List TypeValue) (xs : List TypedValue) (i : ℕ) (x : TypedValue) → slice_get xs i ≡ Some x
     → unknown_among ts (drop i xs) ≡ filter (λ n. not (is_in (types_of ts) n)) x.of ++ unknown_among ts (drop (i + 1) xs)

@@ -1,7 +1,6 @@
 -- Tables of what is declared with parameters, as they are held for look-ups by name. Own.
-use Rattle.std.specs.Prelude.{◌≡◌, ℕ, List, [], Option, map, find, bytes_eq}
+use Rattle.std.specs.Prelude.{◌≡◌, ℕ, List, [], Option, map, find, bytes_eq, All}
 use Rattle.std.specs.Borrow.{Bor}
-use Rattle.std.specs.List.{All}
 use Rattle.pddl_formula.specs.TypedLists.{typed_view}
 use Rattle.pddl_domain.specs.Declarations.{Signature}
 use Rattle.pddl_task.specs.Names.{Name, repeated}

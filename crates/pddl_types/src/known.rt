@@ -1,7 +1,6 @@
 //! What a domain and a problem declare, by name.
 
-ghost use Rattle.std.specs.Prelude.{◌≡◌, [], None, List, map, IfOk, MatchResult};
-ghost use Rattle.std.specs.List.{flat_map};
+ghost use Rattle.std.specs.Prelude.{◌≡◌, [], None, List, map, IfOk, MatchResult, flat_map};
 ghost use Rattle.pddl_formula.specs.TypedLists.{TypedValue};
 ghost use Rattle.pddl_domain.specs.Domains.{domain_view};
 ghost use Rattle.pddl_task.specs.Settings.{parameters_of};

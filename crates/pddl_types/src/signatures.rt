@@ -1,7 +1,6 @@
 //! Predicates, functions and actions, what declares them, and tables of them by name, with the types of their parameters.
 
-ghost use Rattle.std.specs.Prelude.{◌≡◌, [], List, map, IfOk};
-ghost use Rattle.std.specs.List.{flat_map};
+ghost use Rattle.std.specs.Prelude.{◌≡◌, [], List, map, IfOk, flat_map};
 ghost use Rattle.pddl_formula.specs.TypedLists.{typed_view};
 ghost use Rattle.pddl_domain.specs.Declarations.{Signature, predicate_view, function_view};
 ghost use Rattle.pddl_domain.specs.Actions.{action_view};
@@ -92,6 +91,7 @@ pub type Signatures<'m, 'a, A, B> = IndexMap<&'m [u8], Slots<'m, 'a, A, B>, Hash
 /// # Errors
 ///
 /// `LinkFault::UnknownType`; `Memory` where memory for the table is refused.
+#[tactic(auto, using(crate::proofs::ToldTypes::kept_then))]
 pub(crate) fn put<'m, 'a, A: Allocator, B: Allocator, D: Declares<A>>(
     types: &Types<'m, 'a, A, B>,
     told: &mut Told<'m, 'a, A, B>,

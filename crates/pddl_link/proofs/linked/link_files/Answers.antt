@@ -1,32 +1,31 @@
-use Rattle.std.proofs.Common.{◌≡◌, List, [], ◌∷◌, ◌++◌, map, drop, Result, Ok, Err, IfOk, refl, ◌∙◌}
-use Rattle.std.specs.Result.{result_and}
+use Rattle.std.proofs.Common.{◌≡◌, [], ◌∷◌, ◌++◌, map, drop, Result, Ok, Err, refl, ◌∙◌}
+use Rattle.std.specs.Result.{MatchResult, result_and}
 use Rattle.std.proofs.lemmas.Result.{err_from_is_err_and}
 use Rattle.pddl_domain.specs.Domains.{DomainValue, domain_view}
 use Rattle.pddl_problem.specs.Problems.{ProblemValue}
 use Rattle.pddl_task.specs.Faults.{types_twice, type_cycles, large_goals}
-use Rattle.pddl_task.specs.Linked.{Fault, fault, fault_in, rules}
+use Rattle.pddl_task.specs.Linked.{fault, fault_in, rules}
 use Rattle.pddl_task.proofs.Lists.{append-none}
 use Rattle.pddl_faults.specs.declared.fault.LinkFault.{LinkFault}
 use Rattle.pddl_faults.specs.Passes.{Verdict}
-use Rattle.pddl_faults.proofs.PassedParts.{pass_front}
 use Rattle.pddl_faults.proofs.Verdicts.{found_at, decided_after}
 use Rattle.pddl_names.specs.FaultParts.{problem_in, part_rules, goal_rules}
-use Rattle.pddl_link.proofs.Stages.{ok_holds, ok_none, stage_first, alone_verdict}
+use Rattle.pddl_names.proofs.FoundParts.{holds_on}
+use Rattle.pddl_link.proofs.Stages.{ok_holds, stage_first, alone_verdict}
 use Rattle.pddl_link.proofs.linked.link_files.Goals as goal
 
 pub returns-in_err-type_twice-clause-verdict : goal.returns-in_err-type_twice-clause-verdict
 returns-in_err-type_twice-clause-verdict g c =
-    let twice = types_twice (domain_view c.args.domain.now) in
     let p = err_from_is_err_and c.from_residual.result c.from_residual.ensures.1 in
-    rw (p.1, p.2) (found_at [] 21 (twice ++ []) _ c.in_err-type_twice.field-0.0 tt refl (pass_front 21 twice [] (twice ++ []) _ refl c.in_err-type_twice.ensures))
+    rw (p.1, p.2) (found_at [] 21 (types_twice (domain_view c.args.domain.now) ++ []) _ c.in_err-type_twice.field-0.0 tt refl (rw append-none c.in_err-type_twice.ensures))
 
 pub returns-in_err-types-clause-verdict : goal.returns-in_err-types-clause-verdict
 returns-in_err-types-clause-verdict g c =
     let twice = types_twice (domain_view c.args.domain.now) in
-    let cyclic = type_cycles (domain_view c.args.domain.now) in
     let p = err_from_is_err_and c.from_residual-in_err-types.result c.from_residual-in_err-types.ensures.1 in
-    rw (p.1, p.2) (found_at (fault 21 (twice ++ []) ∷ []) 22 (cyclic ++ []) _ c.in_err-types.field-0.0 (append-none twice ∙ c.in_ok-type_twice.ensures, tt) refl
-    (pass_front 22 cyclic [] (cyclic ++ []) _ refl c.in_err-types.ensures.cycle))
+    rw (p.1, p.2)
+    (found_at (fault 21 (twice ++ []) ∷ []) 22 (type_cycles (domain_view c.args.domain.now) ++ []) _ c.in_err-types.field-0.0 (append-none twice ∙ c.in_ok-type_twice.ensures, tt) refl
+    (rw append-none c.in_err-types.ensures.cycle))
 
 -- no fault of types stands in front of the others
 behind_types : {T : Type 0} (d : DomainValue) (p : ProblemValue) (r : Result T LinkFault) → types_twice d ≡ [] → type_cycles d ≡ [] → Verdict (map (fault_in d p) (drop 3 rules)) r
@@ -49,23 +48,18 @@ returns-in_err-tables-clause-verdict g c =
 pub look_at_goal-goal-requires : goal.look_at_goal-goal-requires
 look_at_goal-goal-requires g c =
     rw (c.in_ok-tables.ensures.held.0, c.in_ok-tables.ensures.held.1)
-    (ok_holds c.order_behind_types-order.result _ c.in_ok-tables.ensures.made c.order_behind_types-order.ensures.known)
+    (ok_holds _ _ c.order_behind_types-order.result c.in_ok-tables.ensures.made c.order_behind_types-order.ensures.known)
 
--- what holds of what is given on
-held_on : {U T E : Type 0} (r : Result U E) (x : T) (P : T → Type 0) → P x → IfOk (result_and r (Ok x)) P
-held_on (Ok u) x P h = h
-held_on (Err e) x P h = tt
+-- what holds where nothing is found holds of what is given on then
+given_on : {U T E : Type 0} (P : T → Type 0) (Q : E → Type 0) (r : Result U E) (x : T) → MatchResult r (λ _. P x) Q → MatchResult (result_and r (Ok x)) P Q
+given_on P Q (Ok u) x h = h
+given_on P Q (Err e) x h = h
 
 pub returns-clause-known : goal.returns-clause-known
 returns-clause-known g c =
     rw c.and.ensures
-    (held_on c.look_at_goal-goal.result _ _ (rw (c.in_ok-tables.ensures.held.0, c.in_ok-tables.ensures.held.1)
-    (ok_holds c.order_behind_types-order.result _ c.in_ok-tables.ensures.made c.order_behind_types-order.ensures.known)))
-
--- a verdict is that of what is given on
-given_on : {U T : Type 0} (fs : List Fault) (r : Result U LinkFault) (x : T) → Verdict fs r → Verdict fs (result_and r (Ok x))
-given_on fs (Ok u) x verdict = verdict
-given_on fs (Err e) x verdict = verdict
+    (given_on _ _ c.look_at_goal-goal.result _ (holds_on c.look_at_goal-goal.result (rw (c.in_ok-tables.ensures.held.0, c.in_ok-tables.ensures.held.1)
+    (ok_holds _ _ c.order_behind_types-order.result c.in_ok-tables.ensures.made c.order_behind_types-order.ensures.known))))
 
 pub returns-clause-verdict : goal.returns-clause-verdict
 returns-clause-verdict g c =
@@ -75,5 +69,5 @@ returns-clause-verdict g c =
     let parts = map (fault_in d p) part_rules in
     rw c.and.ensures
     (behind_types d p _ c.in_ok-type_twice.ensures c.in_ok-types.ensures.cycle
-    (decided_after parts goals _ (ok_none parts c.order_behind_types-order.result c.in_ok-tables.ensures.made c.order_behind_types-order.ensures.verdict)
-    (given_on goals c.look_at_goal-goal.result _ (alone_verdict 35 (large_goals d p) c.look_at_goal-goal.result c.look_at_goal-goal.ensures))))
+    (decided_after parts goals _ (ok_holds _ _ c.order_behind_types-order.result c.in_ok-tables.ensures.made c.order_behind_types-order.ensures.verdict)
+    (given_on _ _ c.look_at_goal-goal.result _ (alone_verdict 35 (large_goals d p) c.look_at_goal-goal.result c.look_at_goal-goal.ensures))))

@@ -5,13 +5,13 @@ use Rattle.pddl_domain.specs.Declarations.{type_view}
 use Rattle.pddl_task.specs.Names.{is_in, item_of}
 use Rattle.pddl_faults.proofs.ListTurns.{seen_more}
 use Rattle.pddl_faults.proofs.SeenItems.{seen_bad, seen_good}
-use Rattle.pddl_names.proofs.SeenNames.{HasNames, names_more, was_seen}
+use Rattle.pddl_names.proofs.SeenNames.{put_seen}
 use Rattle.pddl_names.proofs.repeats.types_once.Goals as goal
 
 pub returns-then-not-is_new : goal.returns-then-not-is_new
 returns-then-not-is_new g c =
     let before = c.loop-declared.invariant in
-    let seen = was_seen c.loop-declared.seen.keys c.as_bytes-name.result _ _ c.as_bytes-name.ensures.value before.same _ c.in_ok-is_new.ensures.added in
+    let (seen, _) = put_seen c.loop-declared.seen.keys _ _ _ _ _ before.same c.as_bytes-name.ensures.value c.in_ok-is_new.ensures.added c.in_ok-is_new.ensures.keys in
     rw (map-map, c.as_bytes-name.ensures.value) (
       refl,
       seen_bad (λ t. item_of (type_view t)) (λ n. n) is_in [] c.args.types.now c.loop-declared.declared-index c.declared-item.result c.loop-declared-test.true c.declared-item.is before.rest
@@ -24,11 +24,9 @@ loop-declared-preserved g c =
     let i = c.loop-declared.declared-index in
     let t = c.declared-item.result in
     let before = c.loop-declared.invariant in
-    let keys = c.loop-declared.seen.keys in
-    let seen = was_seen keys c.as_bytes-name.result _ _ c.as_bytes-name.ensures.value before.same _ c.in_ok-is_new.ensures.added in
+    let (seen, same) = put_seen c.loop-declared.seen.keys _ _ _ _ _ before.same c.as_bytes-name.ensures.value c.in_ok-is_new.ensures.added c.in_ok-is_new.ensures.keys in
     record {
-      same = subst (HasNames c.insert_full.new.self.keys) (sym (seen_more (λ u. item_of (type_view u)) [] types i t c.loop-declared-test.true c.declared-item.is))
-          (names_more keys c.as_bytes-name.result _ _ c.as_bytes-name.ensures.value before.same _ c.in_ok-is_new.ensures.keys);
+      same = rw (seen_more (λ u. item_of (type_view u)) [] types i t c.loop-declared-test.true c.declared-item.is) same;
       rest = seen_good (λ u. item_of (type_view u)) (λ n. n) is_in [] types i t c.loop-declared-test.true c.declared-item.is before.rest (sym seen ∙ ap not c.if-not-is_new.false);
     }
 

@@ -1,6 +1,6 @@
+use Rattle.std.proofs.lemmas.List.{map-append}
 use Rattle.pddl_task.proofs.Lists.{append-none}
 use Rattle.pddl_faults.proofs.FoundFaults.{passed_found}
-use Rattle.pddl_names.proofs.UseFaults.{both_found}
 use Rattle.pddl_names.proofs.uses.look.Goals as goal
 
 pub returns-in-Says-clause-found : goal.returns-in-Says-clause-found
@@ -13,5 +13,5 @@ pub returns-in-Equates-clause-found : goal.returns-in-Equates-clause-found
 returns-in-Equates-clause-found g c =
     let told = c.args.told.now in
     rw c.in-Equates.is
-    (both_found _ _ c.lower.result (c.lower.ensures.found _ _ (passed_found 26 _ c.look_at_term-first.result (c.look_at_term-first.ensures told c.requires))
+    (simp (append-none, map-append) (c.lower.ensures.found _ _ (passed_found 26 _ c.look_at_term-first.result (c.look_at_term-first.ensures told c.requires))
     (passed_found 26 _ c.look_at_term.result (c.look_at_term.ensures told c.requires))))

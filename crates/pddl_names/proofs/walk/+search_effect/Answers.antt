@@ -1,63 +1,58 @@
 use Rattle.std.proofs.Common.{[], ◌∷◌, ◌∙◌, map, refl, ap, inl, inr, arith}
 use denote.Param.Weighed.{most}
+use Rattle.std.proofs.lemmas.List.Concat.{flat_map-append}
 use Rattle.std.proofs.lemmas.Result.{err_from_is_err_and}
 use Rattle.pddl_formula.specs.TypedLists.{typed_view}
 use Rattle.pddl_effect.specs.Effects.{effect_view, effects_of, amount_view}
-use Rattle.pddl_formula.specs.Formulas.{formula_view}
 use Rattle.pddl_effect.proofs.effect.Effect.TheLaws.{the_size}
 use Rattle.pddl_formula.proofs.Depths.{among}
-use Rattle.pddl_effect.proofs.Depths.{under_all, under_each, under_when}
+use Rattle.pddl_effect.proofs.Depths.{under_all}
 use Rattle.pddl_effect.proofs.Views.{view_and, view_add, view_del, view_when, view_forall, view_increase}
-use Rattle.pddl_task.specs.Places.{at, calls, bare, total_cost, amount_part, places_in, effect_places, effects_places, binding}
+use Rattle.pddl_task.specs.Places.{at, calls, bare, total_cost, amount_part, effect_places, effects_places, binding}
+use Rattle.pddl_task.proofs.Lists.{append-none}
 use Rattle.pddl_faults.proofs.FoundFaults.{up_to_none}
 use Rattle.pddl_search.specs.Scopes.{bound_in}
 use Rattle.pddl_names.specs.Uses.{faults_by}
 use Rattle.pddl_names.proofs.ToldUses.{told_outside}
-use Rattle.pddl_names.proofs.Walks.{stopped, in_turn, within, one_more, at_end}
+use Rattle.pddl_names.proofs.Walks.{stopped, in_turn, one_more, at_end}
 use Rattle.pddl_names.proofs.walk.+search_effect.Goals as goal
 
 pub returns-in-When-clause-found : goal.returns-in-When-clause-found
 returns-in-When-clause-found g t c =
-    rw (c.in-When.is, view_when c.in-When.condition c.in-When.inner)
-    (in_turn (faults_by c.args.known.now) (places_in (formula_view c.in-When.condition) (bound_in c.args.scope.now)) (effect_places (effect_view c.in-When.inner.value) (bound_in c.args.scope.now))
-    c.search_formula-condition.result c.search_effect-in-When.result c.lower-in-When.result c.lower-in-When.ensures.found c.search_formula-condition.ensures.found
-    (rw (c.deref-in-When.ensures, c.search_formula-condition.ensures.kept) at c.search_effect-in-When.ensures.found))
+    rw (c.in-When.is, view_when _ _, flat_map-append)
+    (c.lower-in-When.ensures.found _ _ c.search_formula-condition.ensures.found (rw (c.deref-in-When.ensures, c.search_formula-condition.ensures.kept) at c.search_effect-in-When.ensures.found))
 
 pub returns-in-Add-clause-found : goal.returns-in-Add-clause-found
 returns-in-Add-clause-found g t c =
     let found = rw c.of_atom.ensures at c.look-in-Add.ensures.found in
     elim c.in-Add.is [
-      | inl here ↦ rw (here, view_add c.in-Add.atom) found
-      | inr here ↦ rw (here, view_del c.in-Add.atom) found
+      | inl here ↦ rw (here, view_add _) found
+      | inr here ↦ rw (here, view_del _) found
     ]
 
 pub returns-in-Increase-clause-found : goal.returns-in-Increase-clause-found
 returns-in-Increase-clause-found g t c =
     let b = bound_in c.args.scope.now in
-    rw (c.in-Increase.is, view_increase c.in-Increase.amount)
-    (in_turn (faults_by c.args.known.now) (at b (calls (bare total_cost)) ∷ []) (at b (amount_part (amount_view c.in-Increase.amount)) ∷ []) c.look-cost.result c.look.result c.lower-in-Increase.result
-    c.lower-in-Increase.ensures.found (rw c.total_cost.ensures at c.look-cost.ensures.found) (rw c.of_amount.ensures at c.look.ensures.found))
+    rw (c.in-Increase.is, view_increase _)
+    (in_turn (faults_by c.args.known.now) (at b (calls (bare total_cost)) ∷ []) (at b (amount_part (amount_view c.in-Increase.amount)) ∷ []) _ _ _ c.lower-in-Increase.ensures.found
+    (rw c.total_cost.ensures at c.look-cost.ensures.found) (rw c.of_amount.ensures at c.look.ensures.found))
 
 pub returns-in_err-repeated-in-Forall-clause-found : goal.returns-in_err-repeated-in-Forall-clause-found
 returns-in_err-repeated-in-Forall-clause-found g t c =
     let p = err_from_is_err_and c.from_residual.result c.from_residual.ensures.1 in
     let stop = c.in_err-repeated-in-Forall in
-    let b = bound_in c.args.scope.now in
     let xs = map typed_view c.in-Forall.variables.items in
-    rw (p.1, p.2, c.in-Forall.is, view_forall c.in-Forall.variables c.in-Forall.inner)
-    (stopped c.args.known.now xs b (effect_places (effect_view c.in-Forall.inner.value) (binding xs b)) stop.field-0.0 stop.ensures.passes)
-
-pub returns-in_ok-repeated-in-Forall-clause-told : goal.returns-in_ok-repeated-in-Forall-clause-told
-returns-in_ok-repeated-in-Forall-clause-told g t c = rw c.leave.ensures (told_outside c.len.result c.search_effect-found.ensures.told)
+    rw (p.1, p.2, c.in-Forall.is, view_forall _ _)
+    (stopped c.args.known.now xs (effect_places (effect_view c.in-Forall.inner.value) (binding xs (bound_in c.args.scope.now))) stop.field-0.0 stop.ensures.passes)
 
 pub returns-in_ok-repeated-in-Forall-clause-found : goal.returns-in_ok-repeated-in-Forall-clause-found
 returns-in_ok-repeated-in-Forall-clause-found g t c =
     let entered = c.in_ok-repeated-in-Forall.ensures in
-    let b = bound_in c.args.scope.now in
-    let xs = map typed_view c.in-Forall.variables.items in
-    rw (c.in-Forall.is, view_forall c.in-Forall.variables c.in-Forall.inner)
-    (within c.args.known.now xs b (effect_places (effect_view c.in-Forall.inner.value) (binding xs b)) c.in_ok-repeated-in-Forall.repeated c.search_effect-found.result c.lower.result entered.passes
-    entered.found c.lower.ensures.found (rw (c.deref.ensures, entered.bound) at c.search_effect-found.ensures.found))
+    rw (c.in-Forall.is, view_forall _ _, entered.passes, append-none)
+    (c.lower.ensures.found _ _ entered.found (rw (c.deref.ensures, entered.bound) at c.search_effect-found.ensures.found))
+
+pub returns-in_ok-repeated-in-Forall-clause-told : goal.returns-in_ok-repeated-in-Forall-clause-told
+returns-in_ok-repeated-in-Forall-clause-told g t c = rw c.leave.ensures (told_outside c.len.result c.search_effect-found.ensures.told)
 
 pub loop-part-init : goal.loop-part-init
 loop-part-init g t c = record { told = c.requires; kept = refl; so_far = up_to_none }
@@ -66,43 +61,22 @@ pub loop-part-preserved : goal.loop-part-preserved
 loop-part-preserved g t c =
     let before = c.loop-part.invariant in
     let next = c.search_effect.ensures in
-    let b = bound_in c.args.scope.now in
     record {
       told = next.told;
       kept = next.kept ∙ before.kept;
-      so_far = one_more (faults_by c.args.known.now) (λ es. effects_places (effects_of (map effect_view es)) b) c.deref-part-items.result.now c.search_effect.result
-          (effect_places (effect_view c.part-item.result) b)
-          c.part-item.result c.loop-part-test.true c.part-item.is (λ rest. refl) c.lower-found.ensures.found (rw before.kept at next.found) before.so_far;
+      so_far = one_more (faults_by c.args.known.now) (λ es. effects_places (effects_of (map effect_view es)) (bound_in c.args.scope.now)) c.deref-part-items.result.now _ _ _ c.loop-part-test.true c.part-item.is
+          (λ rest. refl) c.lower-found.ensures.found (rw before.kept at next.found) before.so_far;
     }
 
 pub returns-after-loop-part-clause-found : goal.returns-after-loop-part-clause-found
 returns-after-loop-part-clause-found g t c =
-    rw (c.in-And.is, view_and c.in-And.parts)
+    rw (c.in-And.is, view_and _)
     (at_end (faults_by c.args.known.now) (λ es. effects_places (effects_of (map effect_view es)) (bound_in c.args.scope.now)) c.deref-part-items.result.now c.loop-part-test.false refl c.deref-part-items.ensures.value
     c.loop-part.invariant.so_far)
-
-pub search_effect-requires-in-When : goal.search_effect-requires-in-When
-search_effect-requires-in-When g t c κs lives = (
-  omega (arith, under_when g.row.A g.A.Allocator g.A.laws c.args.effect.now c.deref-in-When.result.now c.in-When.condition c.in-When.inner c.in-When.is c.deref-in-When.ensures, c.decreases),
-  (lives.0, (lives.1, c.search_formula-condition.ensures.told)),
-)
-
-pub search_effect-found-requires : goal.search_effect-found-requires
-search_effect-found-requires g t c κs lives = (
-  omega (arith, under_each g.row.A g.A.Allocator g.A.laws c.args.effect.now c.deref.result.now c.in-Forall.variables c.in-Forall.inner c.in-Forall.is c.deref.ensures, c.decreases),
-  (lives.0, (lives.1, c.enter.ensures.told)),
-)
 
 pub search_effect-requires : goal.search_effect-requires
 search_effect-requires g t c κs lives =
     let depth = the_size g.row.A g.A.Allocator g.A.laws in
-    let same = ap (most depth) c.deref-part-items.ensures.value in (
-      omega (
-        arith,
-        among depth c.deref-part-items.result.now c.loop-part.part-index c.part-item.result c.loop-part-test.true c.part-item.is,
-        same,
-        under_all g.row.A g.A.Allocator g.A.laws c.args.effect.now c.in-And.parts c.in-And.is,
-        c.decreases,
-      ),
-      (lives.0, (lives.1, c.loop-part.invariant.told)),
-    )
+    let same = ap (most depth) c.deref-part-items.ensures.value in
+    let less = among depth c.deref-part-items.result.now c.loop-part.part-index c.part-item.result c.loop-part-test.true c.part-item.is in
+    (omega (arith, less, same, under_all g.row.A g.A.Allocator g.A.laws c.args.effect.now c.in-And.parts c.in-And.is, c.decreases), (lives.0, (lives.1, c.loop-part.invariant.told)))

@@ -1,13 +1,11 @@
-use Rattle.std.proofs.Common.{[], ◌∷◌, ◌++◌, map, ap, ◌∙◌}
+use Rattle.std.proofs.Common.{[], ◌∷◌, ◌++◌, refl, ap, ◌∙◌}
 use Rattle.std.proofs.lemmas.List.{drop_all}
-use Rattle.std.proofs.lemmas.Result.{err_from_is_err_and}
 use Rattle.pddl_domain.specs.Actions.{action_view}
-use Rattle.pddl_task.specs.Names.{is_in, word_if}
-use Rattle.pddl_faults.proofs.FoundFaults.{passed_as, up_to_none, up_to_more, up_to_all}
+use Rattle.pddl_faults.proofs.FoundFaults.{passed_found, up_to_none, up_to_more, up_to_all}
 use Rattle.pddl_faults.proofs.ListTurns.{views_drop}
 use Rattle.pddl_names.specs.FaultParts.{action_faults}
 use Rattle.pddl_names.specs.Uses.{faults_by}
-use Rattle.pddl_names.proofs.SeenNames.{has, names_more, was_seen}
+use Rattle.pddl_names.proofs.SeenNames.{has, put_seen}
 use Rattle.pddl_names.proofs.walk.search_actions.Goals as goal
 
 pub loop-action-init : goal.loop-action-init
@@ -20,29 +18,23 @@ loop-action-init g c = record {
 pub loop-action-preserved : goal.loop-action-preserved
 loop-action-preserved g c =
     let a = c.action-item.result in
-    let keys = c.loop-action.seen.keys in
-    let name = c.as_bytes-name.result in
     let named = c.as_bytes-name.ensures.value in
     let so = c.loop-action.invariant.so_far in
     let own = c.search_action-own.ensures in
-    let seen = was_seen keys name so.seen a.name named so.same c.in_ok-is_new.is_new c.in_ok-is_new.ensures.added in
+    let (seen, same) = put_seen c.loop-action.seen.keys so.seen _ a.name _ _ so.same named c.in_ok-is_new.ensures.added c.in_ok-is_new.ensures.keys in
     record {
       told = own.told;
       empty = own.kept ∙ c.loop-action.invariant.empty;
       so_far = record {
         seen = so.seen ++ a.name ∷ [];
-        same = names_more keys name so.seen a.name named so.same c.insert_full.new.self.keys c.in_ok-is_new.ensures.keys;
+        same = same;
         so_far =
             up_to_more _ c.lower.result (ap (action_faults (faults_by c.args.known.now) so.seen) (views_drop action_view c.args.actions.now c.loop-action.action-index a c.loop-action-test.true c.action-item.is))
             c.lower-found.ensures.found
-            (c.lower.ensures.found _ _ (passed_as 24 c.once.result (ap (λ b. word_if b name.now) seen ∙ ap (word_if (is_in so.seen a.name)) named) c.once.ensures) own.found) so.so_far;
+            (c.lower.ensures.found _ _ (passed_found 24 _ _ (rw (seen, named) at c.once.ensures)) own.found) so.so_far;
       };
     }
 
-pub returns-in_err-is_new-clause-found : goal.returns-in_err-is_new-clause-found
-returns-in_err-is_new-clause-found g c = let p = err_from_is_err_and c.from_residual.result c.from_residual.ensures.1 in rw (p.1, p.2) tt
-
 pub returns-clause-found : goal.returns-clause-found
 returns-clause-found g c =
-    let so = c.loop-action.invariant.so_far in
-    up_to_all (ap (λ xs. action_faults (faults_by c.args.known.now) so.seen (map action_view xs)) (drop_all c.loop-action.action-index c.args.actions.now c.loop-action-test.false)) so.so_far
+    up_to_all refl (rw (drop_all c.loop-action.action-index c.args.actions.now c.loop-action-test.false) at c.loop-action.invariant.so_far.so_far)

@@ -9,9 +9,8 @@ pub returns-in-Value-clause-found : goal.returns-in-Value-clause-found
 returns-in-Value-clause-found g c =
     let call = function_view c.in-Value.call in
     rw c.in-Value.is
-    (in_turn (faults_by c.args.known.now) (at [] (calls (ground_call call)) ∷ []) (at [] (counts call.name c.in-Value.amount) ∷ []) c.look-value.result c.look.result c.lower.result c.lower.ensures.found
-    (rw (c.requires.empty, c.as_bytes-function.ensures.value) at c.look-value.ensures.found)
-    (rw c.as_bytes-function.ensures.value at c.look.ensures.found))
+    (in_turn (faults_by c.args.known.now) (at [] (calls (ground_call call)) ∷ []) (at [] (counts call.name c.in-Value.amount) ∷ []) _ _ _ c.lower.ensures.found
+    (rw (c.requires.empty, c.as_bytes-function.ensures.value) at c.look-value.ensures.found) (rw c.as_bytes-function.ensures.value at c.look.ensures.found))
 
 pub returns-in-Holds-clause-found : goal.returns-in-Holds-clause-found
 returns-in-Holds-clause-found g c =

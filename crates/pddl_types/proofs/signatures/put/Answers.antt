@@ -1,39 +1,26 @@
-use Rattle.std.proofs.Common.{◌≡◌, ◌<◌, ◌≤◌, ◌+◌, arith, ℕ, List, length, get_or, [], map, not, take, drop, sym, ap, ◌∙◌, subst}
-use Rattle.std.proofs.lemmas.List.{drop_all, take_all}
+use Rattle.std.proofs.Common.{◌≤◌, arith, length, [], map, not, take, sym, ap, ◌∙◌, subst}
+use Rattle.std.proofs.lemmas.List.{drop_all, take_all, map-append}
 use Rattle.std.proofs.lemmas.Result.{err_from_is_err_and}
 use Rattle.pddl_formula.specs.TypedLists.{typed_view}
-use Rattle.pddl_task.specs.Names.{repeated, word_if}
+use Rattle.pddl_task.specs.Names.{is_in, repeated, word_if}
 use Rattle.pddl_task.specs.Settings.{symbol_of}
 use Rattle.pddl_faults.specs.Found.{numbered}
 use Rattle.pddl_faults.proofs.FoundFaults.{passed_as, up_to_more, up_to_all}
 use Rattle.pddl_faults.proofs.ListTurns.{views_drop, seen_more}
 use Rattle.pddl_faults.proofs.PassedParts.{pass_front}
 use Rattle.pddl_types.specs.Told.{AreAt}
-use Rattle.pddl_types.specs.Signatures.{HaveFirst}
 use Rattle.pddl_types.proofs.ToldTypes.{kept_then}
-use Rattle.pddl_types.proofs.SignatureTables.{repeated_left, put_where_new}
+use Rattle.pddl_types.proofs.SignatureTables.{put_where_new}
 use Rattle.pddl_types.proofs.UnknownTypes.{declared_left}
 use Rattle.pddl_types.proofs.signatures.put.Goals as goal
 
--- what is read of a list at a place
-item_read : {X : Type 0} {items xs : List X} {i : ℕ} {x : X} → items ≡ xs → i < length items → x ≡ get_or items i x → (i < length xs) × (x ≡ get_or xs i x)
-item_read {i = i} {x} same low is = subst (λ ys. (i < length ys) × (x ≡ get_or ys i x)) same (low, is)
-
 pub returns-in_err-numbers-clause-passes : goal.returns-in_err-numbers-clause-passes
 returns-in_err-numbers-clause-passes g c =
-    let (low, at) = item_read c.deref-each-items.ensures.value c.loop-each-test.true c.each-item.is in
+    let low = rw c.deref-each-items.ensures.value at c.loop-each-test.true in
+    let at = rw c.deref-each-items.ensures.value at c.each-item.is in
     let left = declared_left c.args.types.now.declared g.D.Declares.signature c.args.declared.now.items c.loop-each.each-index c.each-item.result _ low at c.parameters-parameters.ensures in
     let p = err_from_is_err_and c.from_residual.result c.from_residual.ensures.1 in
     rw (p.1, p.2) (pass_front 23 _ _ _ c.in_err-numbers.field-0.0 (sym c.loop-each.invariant.left ∙ left) c.in_err-numbers.ensures.passes)
-
-pub returns-in_err-numbers-clause-kept : goal.returns-in_err-numbers-clause-kept
-returns-in_err-numbers-clause-kept g c = kept_then c.args.told.now c.loop-each.told c.tell_all.new.self c.loop-each.invariant.kept c.tell_all.ensures.kept
-
-pub returns-in_err-put_new-clause-told : goal.returns-in_err-put_new-clause-told
-returns-in_err-put_new-clause-told g c = c.tell_all.ensures.told
-
-pub returns-in_err-put_new-clause-kept : goal.returns-in_err-put_new-clause-kept
-returns-in_err-put_new-clause-kept g c = kept_then c.args.told.now c.loop-each.told c.tell_all.new.self c.loop-each.invariant.kept c.tell_all.ensures.kept
 
 pub loop-each-preserved : goal.loop-each-preserved
 loop-each-preserved g c =
@@ -42,7 +29,8 @@ loop-each-preserved g c =
     let i = c.loop-each.each-index in
     let x = c.each-item.result in
     let before = c.loop-each.invariant in
-    let (low, at) = item_read c.deref-each-items.ensures.value c.loop-each-test.true c.each-item.is in
+    let low = rw c.deref-each-items.ensures.value at c.loop-each-test.true in
+    let at = rw c.deref-each-items.ensures.value at c.each-item.is in
     let told = c.tell_all.new.self in
     let numbers = c.in_ok-numbers.numbers in
     let seen = map signature (take i all) in
@@ -55,10 +43,9 @@ loop-each-preserved g c =
     record {
       types = c.tell_all.ensures.told;
       kept = kept_then c.args.told.now c.loop-each.told told before.kept c.tell_all.ensures.kept;
-      held = subst (HaveFirst told c.put_new.new.table.entries) (sym more) held;
+      held = rw more held;
       found =
-          up_to_more _ c.once.result
-          (repeated_left seen (map signature (take (i + 1) all)) (map signature (drop i all)) (map signature (drop (i + 1) all)) (signature x) more rest)
+          up_to_more (numbered 24 (word_if (is_in (map symbol_of seen) (signature x).name) (signature x).name)) c.once.result (simp (more, rest, map-append))
           c.lower-found.ensures.found
           (passed_as 24 c.once.result (ap (word_if (not c.is_none-is_new.result)) c.name-name.ensures ∙ ap (λ b. word_if b (signature x).name) (sym (twice ∙ c.is_none-is_new.ensures))) c.once.ensures) before.found;
       left = rw (left, c.in_ok-numbers.ensures.passes) at before.left;

@@ -1,5 +1,4 @@
-use Rattle.std.proofs.Common.{◌≡◌, [], map, take, drop}
-use Rattle.std.specs.List.{flat_map}
+use Rattle.std.proofs.Common.{◌≡◌, [], map, take, drop, flat_map}
 use Rattle.pddl_task.specs.Names.{repeated}
 use Rattle.pddl_task.specs.Settings.{symbol_of, parameters_of}
 use Rattle.pddl_faults.specs.Found.{numbered}
