@@ -3,7 +3,6 @@ pub mod SignatureTables
 pub mod TypeParents
 pub mod TypeForests
 pub mod NamedSpans
-pub mod ListedObjects
 pub mod FittingSpans
 pub mod TopRows
 pub mod ToldTypes

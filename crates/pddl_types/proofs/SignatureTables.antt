@@ -8,6 +8,7 @@ use Rattle.std.proofs.lemmas.List.{map-append, map_push}
 use Rattle.std.proofs.lemmas.List.Elements.{All-contains, All-push}
 use Rattle.std.proofs.lemmas.List.Folds.{find-append}
 use Rattle.std.proofs.lemmas.Option.{same_Some, slice_get_within}
+use Rattle.std.proofs.lemmas.Slice.Zip.{AllZip-left, AllZip-long}
 use Rattle.indexmap.specs.IndexMap.{IndexMap, index_of, insert_entry}
 use Rattle.indexmap.proofs.MapLemmas.{Missing-position, insert_entry-absent, some_index}
 use Rattle.pddl_formula.specs.TypedLists.{TypedValue, typed_view}
@@ -132,7 +133,7 @@ module _ {A B : Type 0} (d : DomainValue) (told : ToldValue) (rows : Rows A B) (
 
     -- the type of each of them has a number
     pub some_number : length e.1.numbers.items ≤ j → ⊥
-    some_number past = absurd (omega (arith, past, slice_get_within a.parameters j x there, parameters_told.many))
+    some_number past = absurd (omega (arith, past, slice_get_within a.parameters j x there, AllZip-long _ a.parameters e.1.numbers.items parameters_told))
 
     pub number_there : (n : ℕ) → slice_get e.1.numbers.items j ≡ Some n → IsAt told x.of n
-    number_there n is = parameters_told.each j n x there is
+    number_there n is = rw (there, is) at (AllZip-left (λ (y : TypedValue). IsAt told y.of) a.parameters e.1.numbers.items parameters_told j)

@@ -12,6 +12,7 @@ use Rattle.std.proofs.lemmas.List.{length-append, length-map, map_push, take_mor
 use Rattle.std.proofs.lemmas.List.Elements.{All-nil, All-weaker, All-push, All-contains}
 use Rattle.std.proofs.lemmas.Option.{same_Some, get_or_from_slice_get, slice_get_within, slice_get-map}
 use Rattle.std.specs.Option.{option_map_or}
+use Rattle.std.proofs.lemmas.Slice.Zip.{all_zipped_more}
 use Rattle.indexmap.proofs.MapLemmas.{or_len-first}
 use Rattle.indexmap.proofs.RemoveLemmas.{own_first}
 use Rattle.pddl_forest.specs.Spans.{AreApart, hold_all}
@@ -24,35 +25,11 @@ use Rattle.pddl_task.specs.Types.{types_of, pairs, itself, is_under, fits}
 use Rattle.pddl_task.proofs.Lists.{at_place, and_left, and_right, found_all, found_any, some_at}
 use Rattle.pddl_task.proofs.Numbers.{both_ways}
 use Rattle.pddl_task.proofs.Subtypes.{under_found}
-use Rattle.pddl_types.specs.TypeSpans.{TypesValue, IsTold, HaveEach, are_types}
+use Rattle.pddl_types.specs.TypeSpans.{TypesValue, IsTold, are_types}
 use Rattle.pddl_types.specs.Told.{ToldValue, told_in, tops_at, IsAt, AreAt, AreDistinct, AreTold, AreKept, AreFitting}
 use Rattle.pddl_types.specs.Signatures.{Rows, IsSlotsAt, AreSlotsAt}
 use Rattle.pddl_types.proofs.Lookups.{entry_seen, in_front, at_end, entry_found}
 use Rattle.pddl_sizes.proofs.SharedTypes.{of_next}
-
--- ---- values of items, one for each
-
--- what holds of what stands at one place of two lists, and of what comes last in both
-both_more : {X Y : Type 0} (Holds : X → Y → Type 0) (xs : List X) (ys : List Y) (x : X) (y : Y) → length ys ≡ length xs → Holds x y
-    → ((k : ℕ) (z : X) (w : Y) → slice_get xs k ≡ Some z → slice_get ys k ≡ Some w → Holds z w)
-    → (k : ℕ) (z : X) (w : Y) → slice_get (xs ++ x ∷ []) k ≡ Some z → slice_get (ys ++ y ∷ []) k ≡ Some w → Holds z w
-both_more Holds [] [] x y many last each zero z w at is = subst (Holds z) (same_Some y w is) (subst (λ v. Holds v y) (same_Some x z at) last)
-both_more Holds [] [] x y many last each (suc k) z w at is = cc
-both_more Holds [] (b ∷ ys) x y many last each k z w at is = absurd (omega (arith, many))
-both_more Holds (a ∷ xs) [] x y many last each k z w at is = absurd (omega (arith, many))
-both_more Holds (a ∷ xs) (b ∷ ys) x y many last each zero z w at is = each 0 z w at is
-both_more Holds (a ∷ xs) (b ∷ ys) x y many last each (suc k) z w at is = both_more Holds xs ys x y (omega (arith, many)) last (λ j. each (suc j)) k z w at is
-
-module _ {T : Type 0} (Holds : List Name → T → Type 0) where
-  pub each_none : HaveEach Holds [] []
-  each_none = record { many = refl; each = λ k v x at is. absurd (omega (arith, slice_get_within [] k x at)) }
-
-  -- one that is listed last
-  pub each_more : (objects : List TypedValue) (values : List T) (x : TypedValue) (v : T) → Holds x.of v → HaveEach Holds objects values → HaveEach Holds (objects ++ x ∷ []) (values ++ v ∷ [])
-  each_more objects values x v last are = record {
-    many = omega (arith, length-append values (v ∷ []), length-append objects (x ∷ []), are.many);
-    each = λ k w y at is. both_more (λ (z : TypedValue) u. Holds z.of u) objects values x v are.many last (λ i z u. are.each i u z) k y w at is;
-  }
 
 -- ---- what stays told
 
@@ -88,7 +65,10 @@ still_at before after names n kept at =
     ap (λ (ts : ToldValue). option_map (λ (e : Entry). e.0) (slice_get ts n)) kept.1 ∙ ap (option_map (λ (e : Entry). e.0)) (in_front before kept.0 n low) ∙ at
 
 pub still_all : (before after : ToldValue) (items : List TypedValue) (numbers : List ℕ) → AreKept before after → AreAt before items numbers → AreAt after items numbers
-still_all before after items numbers kept are = record { many = are.many; each = λ k v x at is. still_at before after x.of v kept (are.each k v x at is) }
+still_all before after [] [] kept are = tt
+still_all before after [] (n ∷ numbers) kept are = are
+still_all before after (x ∷ items) [] kept are = are
+still_all before after (x ∷ items) (n ∷ numbers) kept are = (still_at before after x.of n kept are.0, still_all before after items numbers kept are.1)
 
 -- so it is with the slots of a table
 pub slots_still : {A B : Type 0} (before after : ToldValue) (rows : Rows A B) → AreKept before after → AreSlotsAt before rows → AreSlotsAt after rows
@@ -234,7 +214,7 @@ module _ {told : ToldValue} {list : List TypedValue} where
   told_next {new} {count} {numbers} {pushed} {number} {next} so_far kept low is pushed_is = record {
     each =
         let (x, at) = some_at list count low in
-        rw (pushed_is, take_more list count x low, get_or_from_slice_get list count x x at) (each_more (IsAt new) (take count list) numbers x next (is x at) (still_all told new (take count list) numbers kept so_far.each));
+        rw (pushed_is, take_more list count x low, get_or_from_slice_get list count x x at) (all_zipped_more (λ (y : TypedValue). IsAt new y.of) (take count list) numbers x next (still_all told new (take count list) numbers kept so_far.each) (is x at));
     last = λ x some at. is x (ap (slice_get list) (omega arith) ∙ at);
   }
 

@@ -1,7 +1,7 @@
 -- Types by the numbers at which they are told, with the tops of their primitives. Own.
 use Rattle.std.specs.Prelude.{◌≡◌, ◌<◌, ◌==◌, ◌&&◌, ℕ, Bool, IsTrue, List, [], ◌++◌, Some, map, filter, length, not, option_map, slice_get}
 use Rattle.std.specs.Borrow.{Bor}
-use Rattle.std.specs.List.{All, IsDistinct, flat_map}
+use Rattle.std.specs.List.{All, AllZip, IsDistinct, flat_map}
 use Rattle.std.specs.Map.{keys_of, lookup}
 use Rattle.std.specs.Option.{option_map_or}
 use Rattle.pddl_forest.specs.Spans.{hold_all}
@@ -11,7 +11,7 @@ use Rattle.pddl_domain.specs.Declarations.{TypeValue}
 use Rattle.pddl_task.specs.Names.{Name, is_in, same_names}
 use Rattle.pddl_task.specs.Types.{types_of}
 use Rattle.pddl_task.specs.Faults.{primitives_of}
-use Rattle.pddl_types.specs.TypeSpans.{TypesValue, IsTold, HaveEach, are_types}
+use Rattle.pddl_types.specs.TypeSpans.{TypesValue, IsTold, are_types}
 
 -- of typed names and variables, the primitive types that are none of these types
 abbrev pub unknown_among : List TypeValue → List TypedValue → List Name
@@ -39,7 +39,7 @@ IsAt told names number = option_map (λ e. e.0) (slice_get told number) ≡ Some
 
 -- the types of items have these numbers
 abbrev pub AreAt : ToldValue → List TypedValue → List ℕ → Type 0
-AreAt told items numbers = HaveEach (IsAt told) items numbers
+AreAt told items numbers = AllZip (λ x. IsAt told x.of) items numbers
 
 -- no type is told twice
 abbrev pub AreDistinct : ToldValue → Type 0

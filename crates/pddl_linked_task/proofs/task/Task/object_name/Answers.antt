@@ -8,11 +8,11 @@ use Rattle.pddl_linked_task.proofs.task.Task.object_name.Goals as goal
 pub returns-in-Some : goal.returns-in-Some
 returns-in-Some g c =
     let t = c.self.inside in
-    rw (← c.self.view_is) (item_at t.tables.known.listed.objects.entries (objects_of (domain_view t.domain.now) (problem_view t.problem.now)) c.args.number (Some (c.in-Some.field-0-0.now, c.in-Some.listed.now))
-    c.self.invariant.known.listed.objects c.self.invariant.known.listed.named c.in-Some.ensures.entry)
+    let listed = c.self.invariant.known.listed in
+    rw (← c.self.view_is) (item_at _ t.tables.known.listed.objects.entries (objects_of (domain_view t.domain.now) (problem_view t.problem.now)) c.args.number _ listed.objects listed.each c.in-Some.ensures.entry)
 
 pub returns-in-None : goal.returns-in-None
 returns-in-None g c =
     let t = c.self.inside in
-    rw (← c.self.view_is) (item_at t.tables.known.listed.objects.entries (objects_of (domain_view t.domain.now) (problem_view t.problem.now)) c.args.number None
-    c.self.invariant.known.listed.objects c.self.invariant.known.listed.named c.in-None.ensures.entry)
+    let listed = c.self.invariant.known.listed in
+    rw (← c.self.view_is) (item_at _ t.tables.known.listed.objects.entries (objects_of (domain_view t.domain.now) (problem_view t.problem.now)) c.args.number None listed.objects listed.each c.in-None.ensures.entry)

@@ -6,7 +6,7 @@ use Rattle.pddl_task.proofs.Lists.{some_at}
 use Rattle.pddl_faults.proofs.PassedParts.{pass_front}
 use Rattle.pddl_sizes.proofs.SharedTypes.{type_at}
 use Rattle.pddl_types.specs.Told.{AreTold, AreKept, IsAt}
-use Rattle.pddl_types.proofs.ToldTypes.{each_none, kept_self, kept_then, none_unknown, told_shared, told_next}
+use Rattle.pddl_types.proofs.ToldTypes.{kept_self, kept_then, none_unknown, told_shared, told_next}
 use Rattle.pddl_types.proofs.UnknownTypes.{typed_left}
 use Rattle.pddl_types.proofs.told.Told.tell_all.Goals as goal
 use Rattle.pddl_types.proofs.told.Told.tell_all.Goals.{then-not-shares+in_ok-number, else-not-shares}
@@ -15,7 +15,7 @@ pub loop-place-init : goal.loop-place-init
 loop-place-init g c = record {
   types = c.requires.told;
   kept = kept_self c.args.self.now;
-  told = record { each = rw c.in_ok-numbers.ensures.items (each_none (IsAt c.args.self.now)); last = λ x some. absurd (omega (arith, some)) };
+  told = record { each = rw c.in_ok-numbers.ensures.items tt; last = λ x some. absurd (omega (arith, some)) };
   left = refl;
 }
 
