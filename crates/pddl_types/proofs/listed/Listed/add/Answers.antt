@@ -1,6 +1,4 @@
 use Rattle.std.proofs.Common.{◌≡◌, ◌<◌, get_or, length, map, sym, ap, ◌∙◌, arith, rules}
-use Rattle.std.proofs.lemmas.List.{length-map}
-use Rattle.std.proofs.lemmas.Slice.Zip.{AllZip-long}
 use Rattle.std.proofs.lemmas.Result.{err_from_is_err_and}
 use Rattle.pddl_formula.specs.TypedLists.{typed_view}
 use Rattle.pddl_task.specs.Names.{word_if}
@@ -16,11 +14,6 @@ returns-in_err-numbers-clause-passes g c = let p = err_from_is_err_and c.from_re
 
 pub loop-place-init : goal.loop-place-init
 loop-place-init g c = λ seen are. let first = seen_still c.in_ok-numbers.ensures.kept are in search rules
-
-pub index-requires : goal.index-requires
-index-requires g c =
-    let items = c.args.objects.now.items in
-    omega (arith, AllZip-long _ (map typed_view items) c.in_ok-numbers.numbers.items c.in_ok-numbers.ensures.numbers, length-map items typed_view)
 
 pub loop-place-preserved : goal.loop-place-preserved
 loop-place-preserved g c = λ seen are.
