@@ -101,6 +101,9 @@ module _ {t : TypesValue} {told : ToldValue} (are : AreTold t told) where
       one None none = rw none (record { own = λ i low. absurd (omega (arith, low)); behind = λ i j less low. absurd (omega (arith, low)) })
       one (Some e) there = rw there (each_of n e there).0.tops_are.apart
 
+  pub apart_read : (n : ℕ) (e : Entry) → Some e ≡ slice_get told n → AreApart e.1
+  apart_read n e is = (each_of n e (sym is)).0.tops_are.apart
+
   -- where tops decide, those of two numbers do
   pub decided_there :
       ((types slot : List Name) (first second : List Span) → IsTold t types first → IsTold t slot second → IsTrue (are_types t.declared types) → hold_all second first ≡ fits (pairs t.declared) types slot)

@@ -127,6 +127,7 @@ impl<'m, 'a, A: Allocator, B: Allocator> Told<'m, 'a, A, B> {
     /// fits. Where both have many tops, what is found is kept.
     ///
     /// Fails where memory for that is refused.
+    #[tactic(auto, using(crate::proofs::ToldTypes::none_there, crate::proofs::ToldTypes::apart_read))]
     pub fn fits(
         &mut self,
         types: &Types<'m, 'a, A, B>,

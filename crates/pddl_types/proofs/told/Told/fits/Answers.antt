@@ -1,22 +1,10 @@
 use Rattle.std.proofs.Common.{sym, subst, ap, ◌∙◌}
 use Rattle.pddl_types.specs.Told.{IsAt}
-use Rattle.pddl_types.proofs.ToldTypes.{apart_there, decided_there, own_fits, tops_read, none_there, fitting_more}
+use Rattle.pddl_types.proofs.ToldTypes.{apart_read, decided_there, own_fits, tops_read, fitting_more}
 use Rattle.pddl_types.proofs.told.Told.fits.Goals as goal
 
 pub returns-then-number-slot-clause-fits : goal.returns-then-number-slot-clause-fits
 returns-then-number-slot-clause-fits g c = λ of to at there. own_fits _ c.args.self.now c.args.number of to at (subst (IsAt c.args.self.now to) (sym c.if-number-slot.true) there)
-
-pub returns-in_default-clause-fits : goal.returns-in_default-clause-fits
-returns-in_default-clause-fits g c = λ of to at there. absurd (none_there _ c.args.number of (rw c.self.view_is at c.in_default.ensures.entry) at)
-
-pub returns-in_default-get_index-clause-fits : goal.returns-in_default-get_index-clause-fits
-returns-in_default-get_index-clause-fits g c = λ of to at there. absurd (none_there _ c.args.slot to (rw c.self.view_is at c.in_default-get_index.ensures.entry) there)
-
-pub hold_all-requires : goal.hold_all-requires
-hold_all-requires g c = record {
-  outer = rw (tops_read _ c.args.slot _ (rw c.self.view_is at c.in-Some-get_index.ensures.entry)).1 (apart_there c.requires c.args.slot);
-  inner = rw (tops_read _ c.args.number _ (rw c.self.view_is at c.in-Some.ensures.entry)).1 (apart_there c.requires c.args.number);
-}
 
 pub returns-then-as_slice-lt8-clause-fits : goal.returns-then-as_slice-lt8-clause-fits
 returns-then-as_slice-lt8-clause-fits g c = λ of to at there.
@@ -31,8 +19,8 @@ returns-in-Some-get-clause-fits g c = λ of to at there.
 
 pub hold_all-requires-2 : goal.hold_all-requires-2
 hold_all-requires-2 g c = record {
-  outer = rw (tops_read _ c.args.slot _ (rw c.self.view_is at c.in-Some-get_index.ensures.entry)).1 (apart_there c.requires c.args.slot);
-  inner = rw (tops_read _ c.args.number _ (rw c.self.view_is at c.in-Some.ensures.entry)).1 (apart_there c.requires c.args.number);
+  outer = apart_read c.requires c.args.slot _ (rw c.self.view_is at c.in-Some-get_index.ensures.entry);
+  inner = apart_read c.requires c.args.number _ (rw c.self.view_is at c.in-Some.ensures.entry);
 }
 
 pub invariant_of-self-2 : goal.invariant_of-self-2
