@@ -1,8 +1,10 @@
 -- What is known where none of the faults from 23 to 33 stands: nothing is declared twice, types of parameters are known, and objects have one primitive.
-use Rattle.std.proofs.Common.{◌≡◌, ◌≤◌, ℕ, nat_lt, List, [], ◌∷◌, ◌++◌, map, drop, length, refl, sym, ap, ◌∙◌, subst, inl, inr, Contains, flat_map}
+use Rattle.std.proofs.Common.{◌≡◌, ◌≤◌, ℕ, nat_lt, List, [], ◌∷◌, ◌++◌, map, drop, length, refl, sym, ap, ◌∙◌, subst, inl, inr, Contains, flat_map, Bor, All}
+use Rattle.std.specs.Map.{values_of}
 use Rattle.std.proofs.lemmas.List.Concat.{flat_map-append}
 use Rattle.std.proofs.lemmas.List.Elements.{Contains-append_cases}
 use Rattle.pddl_formula.specs.TypedLists.{TypedValue}
+use Rattle.pddl_formula.specs.declared.type_names.Typed.{Typed}
 use Rattle.pddl_domain.specs.Declarations.{TypeValue}
 use Rattle.pddl_domain.specs.Actions.{ActionValue}
 use Rattle.pddl_domain.specs.Domains.{DomainValue}
@@ -14,13 +16,14 @@ use Rattle.pddl_task.specs.Linked.{fault_in, NoneStands}
 use Rattle.pddl_task.proofs.Lists.{nil_parts}
 use Rattle.pddl_task.proofs.DistinctNames.{firsts_have}
 use Rattle.pddl_task.proofs.LinkedTasks.{at_most_one}
-use Rattle.pddl_types.specs.KnownNames.{action_signature}
-use Rattle.pddl_types.specs.Told.{ToldValue, first_at, AreAt, AreTold, unknown_among}
+use Rattle.pddl_types.specs.KnownNames.{action_signature, object_in}
+use Rattle.pddl_types.specs.Told.{ToldValue, first_at, AreTold, unknown_among}
+use Rattle.pddl_types.specs.Objects.{IsObjectAt}
 use Rattle.pddl_types.specs.TypeSpans.{TypesValue, AreNumbered}
 use Rattle.pddl_names.specs.FaultParts.{part_rules}
 use Rattle.pddl_types.specs.Known.{IsDeclaredOnce}
 use Rattle.pddl_linked_task.proofs.OnceNamed.{once_declared}
-use Rattle.pddl_types.proofs.ListedObjects.{are_numbered}
+use Rattle.pddl_types.proofs.ObjectTables.{are_numbered}
 use Rattle.pddl_types.proofs.UnknownTypes.{unknown-append}
 
 -- the types of the parameters of actions are known where those of all that actions bind are
@@ -46,9 +49,9 @@ module _ (d : DomainValue) (p : ProblemValue) (named : NoneStands (map (fault_in
       action_types d.types d.actions (nil_parts _ _ (rw (unknown-append d.types) at typed.0)).1
 
   -- objects that are listed have types of one primitive, whose numbers are those of the types that are told
-  pub objects_numbered : {t : TypesValue} {told : ToldValue} {objects : List TypedValue} {types : List ℕ} → AreTold t told → AreAt told objects types → objects ≡ objects_of d p
-      → AreNumbered t objects (map (first_at told) types)
-  objects_numbered told_are at are = are_numbered told_are at (λ x there.
+  pub objects_numbered : {A : Type 0} {t : TypesValue} {told : ToldValue} (es : List (List ℕ × (Bor (Typed A) × ℕ))) → AreTold t told → All (IsObjectAt told) es → map object_in es ≡ objects_of d p
+      → AreNumbered t (map object_in es) (map (λ v. first_at told v.1) (values_of es))
+  objects_numbered es told_are each are = are_numbered told_are es each (λ x there.
       let few = nil_parts (object_types d.constants) (object_types p.objects) named.1.1.0 in
       elim (Contains-append_cases d.constants p.objects x (firsts_have (d.constants ++ p.objects) x (subst (λ xs. Contains xs x) are there))) as (λ _. length x.of ≤ 1) [
         | inl constant ↦ at_most_one d.constants x few.0 constant (nat_lt 1 (length x.of)) refl

@@ -248,7 +248,7 @@ impl<'m, 'a, A: Allocator, B: Allocator> Task<'m, 'a, A, B> {
         ensures { option_map (λ name. name.now) result ≡ slice_get (object_names (task_of_files self.now)) number }
     {
         match self.tables.known.listed.objects.get_index(number) {
-            Some((_, listed)) => Some(&listed.name),
+            Some((_, (listed, _))) => Some(&listed.name),
             None => None,
         }
     }

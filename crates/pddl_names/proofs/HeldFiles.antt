@@ -26,7 +26,7 @@ module _ {A B : Type 0} {d : DomainValue} {objects : List TypedValue} {k : Known
   -- where nothing is bound, the types of all that may be named are told
   pub nothing_bound : AreAllTold k told []
   nothing_bound =
-      record { types = are.types; predicates = are.predicates.slots; functions = are.functions.slots; objects = are.listed.types; variables = All-nil (λ e. IsAt told e.0.of e.1) }
+      record { types = are.types; predicates = are.predicates.slots; functions = are.functions.slots; objects = are.listed.each; variables = All-nil (λ e. IsAt told e.0.of e.1) }
 
   -- and it is known where they are told otherwise
   pub known_still : {after : ToldValue} {scope : List (TypedValue × ℕ)} → AreAllTold k after scope → AreKnown d objects k after
@@ -36,7 +36,7 @@ module _ {A B : Type 0} {d : DomainValue} {objects : List TypedValue} {k : Known
     predicates = record { first = are.predicates.first; slots = now.predicates };
     functions = record { first = are.functions.first; slots = now.functions };
     actions = are.actions;
-    listed = record { named = are.listed.named; objects = are.listed.objects; types = now.objects };
+    listed = record { objects = are.listed.objects; each = now.objects };
   }
 
   -- and with other objects, where more is told

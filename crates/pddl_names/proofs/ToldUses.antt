@@ -3,17 +3,18 @@ use Rattle.std.proofs.Common.{◌≡◌, ℕ, suc, true, false, cond, List, [], 
 use Rattle.std.specs.Slice.{IsItemAt}
 use Rattle.std.proofs.lemmas.List.Elements.{All-weaker, All-drop, All-cons, All-head}
 use Rattle.std.proofs.lemmas.Option.{slice_get_read}
+use Rattle.std.proofs.lemmas.Slice.Zip.{AllZip-left, AllZip-long}
 use Rattle.pddl_formula.specs.TypedLists.{TypedValue, typed_view}
 use Rattle.pddl_task.specs.Names.{Name, is_named}
 use Rattle.pddl_task.proofs.Lists.{some_at}
 use Rattle.pddl_search.specs.Scopes.{bound_in, entered}
-use Rattle.pddl_types.specs.Known.{objects_in}
 use Rattle.pddl_types.specs.declared.known.Known.{Known}
 use Rattle.pddl_types.specs.Told.{ToldValue, IsAt, AreAt, AreTold, AreKept}
 use Rattle.pddl_types.specs.Objects.{IsAtOf}
 use Rattle.pddl_types.specs.Signatures.{IsSlotsAt}
 use Rattle.pddl_types.specs.declared.signatures.Slots.{Slots}
-use Rattle.pddl_types.proofs.ToldTypes.{still_at, still_all, slots_still}
+use Rattle.pddl_types.proofs.ToldTypes.{still_at, slots_still}
+use Rattle.pddl_types.proofs.ObjectTables.{objects_still}
 use Rattle.pddl_names.specs.Uses.{AreAllTold}
 
 -- ---- variables
@@ -29,9 +30,7 @@ told_entered : (told : ToldValue) (xs : List TypedValue) (numbers : List ℕ) (s
     → All (λ e. IsAt told e.0.of e.1) (entered xs numbers scope)
 told_entered told [] numbers scope are all = all
 told_entered told (x ∷ xs) [] scope are all = all
-told_entered told (x ∷ xs) (n ∷ numbers) scope are all =
-    told_entered told xs numbers ((x, n) ∷ scope) (record { many = omega (arith, are.many); each = λ i m y at is. are.each (suc i) m y at is })
-    (All-cons (λ e. IsAt told e.0.of e.1) (x, n) scope (are.each 0 n x refl refl) all)
+told_entered told (x ∷ xs) (n ∷ numbers) scope are all = told_entered told xs numbers ((x, n) ∷ scope) are.1 (All-cons (λ e. IsAt told e.0.of e.1) (x, n) scope are.0 all)
 
 module _ {A B : Type 0} {k : Known A B} {told : ToldValue} {scope : List (TypedValue × ℕ)} where
   -- all is told still while more is told
@@ -40,7 +39,7 @@ module _ {A B : Type 0} {k : Known A B} {told : ToldValue} {scope : List (TypedV
     types = types;
     predicates = slots_still told new k.predicates.entries kept are.predicates;
     functions = slots_still told new k.functions.entries kept are.functions;
-    objects = still_all told new (objects_in k) k.listed.types.items kept are.objects;
+    objects = objects_still told new k.listed.objects.entries kept are.objects;
     variables = All-weaker (λ e. IsAt told e.0.of e.1) (λ e. IsAt new e.0.of e.1) (λ e. still_at told new e.0.of e.1 kept) scope are.variables;
   }
 
@@ -58,13 +57,16 @@ module _ {A B : Type 0} {k : Known A B} {told : ToldValue} {scope : List (TypedV
 -- ---- slots
 
 module _ {A B : Type 0} (told : ToldValue) (slots : Slots A B) (are : IsSlotsAt told slots) (i : ℕ) where
+  many : length slots.numbers.items ≡ length (map typed_view slots.parameters.now)
+  many = AllZip-long _ (map typed_view slots.parameters.now) slots.numbers.items are
+
   -- the slot of a number that is read, and its type
   pub slot_there : (n : Bor ℕ) → IsItemAt slots.numbers.items i (Some n) → (x : TypedValue) × (slice_get (map typed_view slots.parameters.now) i ≡ Some x) × IsAt told x.of n.now
   slot_there n item =
       let number = slice_get_read slots.numbers.items (length slots.numbers.items) i n.now refl item.3.0 item.1 in
-      let slot = some_at (map typed_view slots.parameters.now) i (omega (arith, item.3.0, are.many)) in
-      (slot.0, slot.1, are.each i n.now slot.0 slot.1 number)
+      let slot = some_at (map typed_view slots.parameters.now) i (omega (arith, item.3.0, many)) in
+      (slot.0, slot.1, rw (slot.1, number) at (AllZip-left (λ (x : TypedValue). IsAt told x.of) (map typed_view slots.parameters.now) slots.numbers.items are i))
 
   -- where none is read, there is none
   pub no_slot : IsItemAt slots.numbers.items i None → length (map typed_view slots.parameters.now) ≤ i
-  no_slot item = omega (arith, item.3, are.many)
+  no_slot item = omega (arith, item.3, many)

@@ -9,7 +9,8 @@ use Rattle.pddl_task.specs.Settings.{Setting}
 use Rattle.pddl_task.specs.Faults.{Use, variables_at, repeated_at, is_declared, signature_of, unknown_term, takes_others, has_misfit, unknown_at, arity_at, misfit_at, fraction_at}
 use Rattle.pddl_faults.specs.Found.{numbered}
 use Rattle.pddl_types.specs.KnownNames.{signature_in}
-use Rattle.pddl_types.specs.Told.{ToldValue, IsAt, AreAt, AreTold, unknown_among}
+use Rattle.pddl_types.specs.Told.{ToldValue, IsAt, AreTold, unknown_among}
+use Rattle.pddl_types.specs.Objects.{IsObjectAt}
 use Rattle.pddl_types.specs.Signatures.{AreSlotsAt}
 use Rattle.pddl_types.specs.Known.{objects_in}
 use Rattle.pddl_types.specs.declared.known.Known.{Known}
@@ -50,5 +51,5 @@ pub record AreAllTold {A B : Type 0} (k : Known A B) (told : ToldValue) (scope :
   pub types : AreTold k.types told
   pub predicates : AreSlotsAt told k.predicates.entries
   pub functions : AreSlotsAt told k.functions.entries
-  pub objects : AreAt told (objects_in k) k.listed.types.items
+  pub objects : All (IsObjectAt told) k.listed.objects.entries
   pub variables : All (λ e. IsAt told e.0.of e.1) scope

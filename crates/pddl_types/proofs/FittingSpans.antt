@@ -1,8 +1,9 @@
 -- What fits a type, by the numbers of objects and tops of the type.
-use Rattle.std.proofs.Common.{◌≡◌, ℕ, suc, ◌+◌, Bool, true, false, cond, List, [], ◌∷◌, ◌<◌, map, filter, length, take, refl, sym, ap, ◌∙◌, arith, inl, inr}
+use Rattle.std.proofs.Common.{◌≡◌, ℕ, suc, ◌+◌, Bool, true, false, Option, cond, List, [], ◌∷◌, ◌<◌, map, filter, length, take, refl, sym, ap, ◌∙◌, arith, inl, inr}
 use Rattle.std.specs.Prelude.{IsTrue, Some, None, slice_get}
 use Rattle.std.specs.List.{list_any}
-use Rattle.std.specs.Option.{option_map_or}
+use Rattle.std.specs.Option.{IsSomeAnd, MatchOption, option_map_or}
+use Rattle.std.proofs.lemmas.Slice.Zip.{AllZip-left, AllZip-right}
 use Rattle.std.proofs.Math.Bool.{and-true}
 use Rattle.std.proofs.lemmas.Bool.{cases_lt}
 use Rattle.std.proofs.lemmas.List.Filters.{length-filter_more}
@@ -18,14 +19,6 @@ use Rattle.pddl_task.proofs.Lists.{and_left, some_at}
 use Rattle.pddl_types.specs.TypeSpans.{TypesValue, span_of, IsTold, DoTell, are_types, IsNumberOf, AreNumbered}
 use Rattle.pddl_sizes.proofs.ListSums.{places_many}
 
--- the places of what passes a test in one list are those of what passes another in a second, where both agree at each place
-same_places : {X Y : Type 0} (p : X → Bool) (q : Y → Bool) (k : ℕ) (xs : List X) (ys : List Y) → length xs ≡ length ys → ((i : ℕ) (x : X) (y : Y) → slice_get xs i ≡ Some x → slice_get ys i ≡ Some y → p x ≡ q y)
-    → places_from k p xs ≡ places_from k q ys
-same_places p q k [] [] many same = refl
-same_places p q k [] (y ∷ ys) many same = absurd (omega (arith, many))
-same_places p q k (x ∷ xs) [] many same = absurd (omega (arith, many))
-same_places p q k (x ∷ xs) (y ∷ ys) many same = grind (arith, same_places p q (k + 1) xs ys (omega (arith, many)) (λ i. same (suc i)), same 0 x y refl refl)
-
 -- a type of a number fits where that is told of its one primitive
 pub number_fits : {t : TypesValue} {types : List Name} {number : ℕ} (slot : List Name) (fit : Bool) → IsNumberOf t types number
     → ((n : Name) → number ≡ (span_of t n).first → IsTrue (is_in (types_of t.declared) n) → fit ≡ list_any (is_under (pairs t.declared) n) slot) → fit ≡ fits (pairs t.declared) types slot
@@ -36,35 +29,40 @@ number_fits {t} {types} {number} slot fit is tells = one types is.one is.known
     one (n ∷ []) same known = tells n (cc) (and_left (is_in (types_of t.declared) n) true known) ∙ sym (and-true (list_any (is_under (pairs t.declared) n) slot))
     one (n ∷ m ∷ ns) two known = cc
 
-module _ {t : TypesValue} {objects : List TypedValue} {numbers : List ℕ} (slot : List Name) (are : AreNumbered t objects numbers) where
+module _ (t : TypesValue) (slot : List Name) where
   abbrev fit_slot : TypedValue → Bool
   fit_slot o = fits (pairs t.declared) o.of slot
 
   -- an object of a number
-  pub object_fits : (k number : ℕ) (fit : Bool) → slice_get numbers k ≡ Some number
+  pub object_fits : (objects : List TypedValue) (numbers : List ℕ) → AreNumbered t objects numbers → (k number : ℕ) (fit : Bool) → slice_get numbers k ≡ Some number
       → ((n : Name) → number ≡ (span_of t n).first → IsTrue (is_in (types_of t.declared) n) → fit ≡ list_any (is_under (pairs t.declared) n) slot) → fit ≡ option_map_or fit_slot (slice_get objects k) false
-  object_fits k number fit at tells =
-      let (x, there) = some_at objects k (omega (arith, slice_get_within numbers k number at, are.many)) in
-      rw there (number_fits slot fit (are.each k number x there at) tells)
+  object_fits objects numbers are k number fit at tells = one (slice_get objects k) (rw at at (AllZip-right (λ (o : TypedValue). IsNumberOf t o.of) objects numbers are k))
+    where
+      one : (o : Option TypedValue) → IsSomeAnd o (λ x. IsNumberOf t x.of number) → fit ≡ option_map_or fit_slot o false
+      one None none = absurd none
+      one (Some x) is = number_fits slot fit is tells
 
   -- past the last one there is none
-  pub none_fits : (k : ℕ) → slice_get numbers k ≡ None → false ≡ option_map_or fit_slot (slice_get objects k) false
-  none_fits k none =
-      elim (cases_lt k (length numbers)) as (λ _. false ≡ option_map_or fit_slot (slice_get objects k) false) [
-        | inl low ↦ let some = some_at numbers k low in cc (none, some.1)
-        | inr past ↦ rw (slice_get_past objects k (omega (arith, past, are.many))) refl
-      ]
+  pub none_fits : (objects : List TypedValue) (numbers : List ℕ) → AreNumbered t objects numbers → (k : ℕ) → slice_get numbers k ≡ None → false ≡ option_map_or fit_slot (slice_get objects k) false
+  none_fits objects numbers are k none = one (slice_get objects k) (rw none at (AllZip-left (λ (o : TypedValue). IsNumberOf t o.of) objects numbers are k))
+    where
+      one : (o : Option TypedValue) → MatchOption o (Unit {0}) (λ x. ⊥) → false ≡ option_map_or fit_slot o false
+      one None past = refl
+      one (Some x) there = absurd there
 
   module _ {tops : List Span} (tell : DoTell t) (told : IsTold t slot tops) where
     -- the objects that fit
-    pub fitting_places : places_from 0 (some_holds tops) numbers ≡ places_from 0 fit_slot objects
-    fitting_places =
-        same_places (some_holds tops) fit_slot 0 numbers objects are.many
-        (λ i number x here object. number_fits slot (some_holds tops number) (are.each i number x object here) (λ n is known. ap (some_holds tops) is ∙ tell n slot tops told known))
+    pub fitting_places : (k : ℕ) (objects : List TypedValue) (numbers : List ℕ) → AreNumbered t objects numbers → places_from k (some_holds tops) numbers ≡ places_from k fit_slot objects
+    fitting_places k [] [] are = refl
+    fitting_places k [] (n ∷ numbers) are = absurd are
+    fitting_places k (x ∷ objects) [] are = absurd are
+    fitting_places k (x ∷ objects) (n ∷ numbers) are =
+        let same = number_fits slot (some_holds tops n) are.0 (λ m is known. ap (some_holds tops) is ∙ tell m slot tops told known) in
+        grind (arith, fitting_places (k + 1) objects numbers are.1, same)
 
     -- so many do
-    pub fitting_many : length (filter (some_holds tops) numbers) ≡ fitting_count (pairs t.declared) objects slot
-    fitting_many = sym (places_many (some_holds tops) 0 numbers) ∙ ap length fitting_places ∙ places_many fit_slot 0 objects
+    pub fitting_many : (objects : List TypedValue) (numbers : List ℕ) → AreNumbered t objects numbers → length (filter (some_holds tops) numbers) ≡ fitting_count (pairs t.declared) objects slot
+    fitting_many objects numbers are = sym (places_many (some_holds tops) 0 numbers) ∙ ap length (fitting_places 0 objects numbers are) ∙ places_many fit_slot 0 objects
 
 -- one object more is looked at
 pub next_fits : {X : Type 0} (test : X → Bool) (xs : List X) (i : ℕ) (fit : Bool) → i < length xs → fit ≡ option_map_or test (slice_get xs i) false

@@ -1,7 +1,6 @@
 pub mod Lookups
 pub mod SignatureTables
 pub mod NamedSpans
-pub mod ListedObjects
 pub mod FittingSpans
 pub mod TopRows
 pub mod ToldTypes

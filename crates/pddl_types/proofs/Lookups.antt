@@ -57,14 +57,10 @@ is_symbol (e ∷ es) n = found_or (bytes_eq n e.0.now) e.1 (lookup (λ k. bytes_
 
 -- ---- numbers of names
 
--- the number of what is seen
-pub number_seen : {X Y : Type 0} (view : X → Y) (test : Y → Bool) (xs : List X) → position_or_len test (map view xs) ≡ position_or_len (λ x. test (view x)) xs
-number_seen view test [] = refl
-number_seen view test (x ∷ xs) = ap (λ i. cond (not (test (view x))) (1 + i) 0) (number_seen view test xs)
-
 -- a name that is lent has its number among the names
 pub number_lent : {V : Type 0} (es : List (Bor (List ℕ) × V)) (n : Name) → position_or_len (λ k. bytes_eq n k.now) (keys_of es) ≡ position_or_len (bytes_eq n) (map (λ e. e.0.now) es)
-number_lent {V} es n = number_seen (λ (e : Bor (List ℕ) × V). e.0) (λ k. bytes_eq n k.now) es ∙ sym (number_seen (λ (e : Bor (List ℕ) × V). e.0.now) (bytes_eq n) es)
+number_lent [] n = refl
+number_lent (e ∷ es) n = ap (λ i. cond (not (bytes_eq n e.0.now)) (1 + i) 0) (number_lent es n)
 
 -- and what is found for it stands there
 pub entry_at : {V : Type 0} (es : List (Bor (List ℕ) × V)) (n : Name) (v : V) → lookup (λ k. bytes_eq n k.now) es ≡ Some v

@@ -1,32 +1,35 @@
--- Names with their types, one after another, beside a table of each at its first place.
-use Rattle.std.proofs.Common.{◌≡◌, ℕ, ◌+◌, ◌<◌, ◌≤◌, ◌==◌, Bool, true, false, not, cond, List, [], ◌∷◌, ◌++◌, map, filter, length, get_or, drop, Some, None, Result, refl, ap, sym, ◌∙◌, subst, bytes_eq, position, arith}
-use Rattle.std.specs.Prelude.{find, is_some, slice_get}
+-- Names with their types, one after another, beside a table of each at its first place, with the number of its type.
+use Rattle.std.proofs.Common.{◌≡◌, ℕ, ◌+◌, ◌<◌, ◌≤◌, ◌==◌, Bool, true, false, not, cond, List, [], ◌∷◌, ◌++◌, map, filter, length, get_or, drop, Option, Some, None, Result, refl, ap, sym, ◌∙◌, subst, bytes_eq, position, arith}
+use Rattle.std.specs.Prelude.{Contains, option_map, find, is_some, slice_get}
 use Rattle.std.specs.Borrow.{Bor}
 use Rattle.std.specs.Cmp.Lexicographic.{nat_list_eq_equiv}
-use Rattle.std.specs.Map.{keys_of}
+use Rattle.std.specs.List.{All}
+use Rattle.std.specs.Map.{keys_of, lookup, values_of}
 use Rattle.std.specs.Option.{option_map_or}
-use Rattle.std.proofs.lemmas.List.{drop_all, take_all, length-map, map-append, map_push}
-use Rattle.std.proofs.lemmas.List.Elements.{filter-append}
-use Rattle.std.proofs.lemmas.List.Quantifiers.{position-Some}
-use Rattle.std.proofs.lemmas.Option.{slice_get_within, slice_get-get_or}
+use Rattle.std.proofs.lemmas.Bool.Decides.{nat_tests}
+use Rattle.std.proofs.lemmas.List.{drop_all, take_all, map-append, map_push}
+use Rattle.std.proofs.lemmas.List.Elements.{All-head, All-tail, All-push, All-weaker, filter-append}
+use Rattle.std.proofs.lemmas.Option.{slice_get_within, slice_get-map, slice_get-get_or}
+use Rattle.std.proofs.lemmas.Slice.Zip.{AllZip-left, AllZip-long}
 use Rattle.indexmap.specs.IndexMap.{insert_entry}
-use Rattle.indexmap.proofs.MapLemmas.{Missing-position, insert_entry-absent}
+use Rattle.indexmap.proofs.MapLemmas.{Found-position, Missing-position, insert_entry-absent}
+use Rattle.pddl_forest.specs.declared.spans.Span.{Span}
 use Rattle.pddl_formula.specs.TypedLists.{TypedValue, typed_view}
 use Rattle.pddl_formula.specs.declared.type_names.Typed.{Typed}
 use Rattle.pddl_task.specs.Names.{Name, same_names, is_in, item_of, is_named, firsts, word_if}
-use Rattle.pddl_task.proofs.Lists.{append-none, bytes_same, some_at}
+use Rattle.pddl_task.proofs.Lists.{append-none, bytes_same, some_at, has_first, has_later}
 use Rattle.pddl_faults.specs.declared.fault.LinkFault.{LinkFault}
 use Rattle.pddl_faults.specs.Found.{IsFound, numbered}
 use Rattle.pddl_faults.proofs.FoundFaults.{IsFoundUpTo, up_to_more, up_to_all}
 use Rattle.pddl_faults.proofs.ListTurns.{seen_more, views_drop}
 use Rattle.pddl_faults.proofs.SeenItems.{seen_at}
 use Rattle.pddl_faults.proofs.PutValues.{is_there}
-use Rattle.pddl_types.specs.KnownNames.{AreNamed, object_in}
-use Rattle.pddl_types.specs.Told.{ToldValue, IsAt, AreAt, AreDistinct, AreKept}
-use Rattle.pddl_types.specs.Objects.{AreSeen, is_off, off_types}
+use Rattle.pddl_types.specs.KnownNames.{object_in}
+use Rattle.pddl_types.specs.Told.{ToldValue, tops_at, first_at, IsAt, AreAt, AreDistinct, AreTold, AreKept}
+use Rattle.pddl_types.specs.Objects.{IsAtOf, IsObjectAt, AreSeen, is_off, off_types}
+use Rattle.pddl_types.specs.TypeSpans.{TypesValue, span_of, IsTold, AreNumbered}
 use Rattle.pddl_types.specs.declared.listed.Listed.{Listed}
-use Rattle.pddl_types.proofs.ListedObjects.{object_found, none_found}
-use Rattle.pddl_types.proofs.ToldTypes.{one_number, still_all}
+use Rattle.pddl_types.proofs.ToldTypes.{one_number, still_at, tops_there}
 
 -- ---- each name at its first place
 
@@ -46,56 +49,67 @@ find-firsts : (xs : List TypedValue) (n : Name) → find (is_named n) (firsts xs
 find-firsts [] n = refl
 find-firsts (x ∷ xs) n = grind (arith, find-others x.item (firsts xs) n, find-firsts xs n)
 
+-- ---- an object that is found by its name
+
+-- its type is told at the number that is held with it
+pub object_told : {A : Type 0} (told : ToldValue) (n : Name) (es : List (Name × (Bor (Typed A) × ℕ))) → All (IsObjectAt told) es → (found : Option (Bor (Typed A) × ℕ)) → found ≡ lookup (bytes_eq n) es
+    → IsAtOf told (find (is_named n) (map object_in es)) (option_map (λ v. v.1) found)
+object_told told n [] each found is = rw is tt
+object_told {A} told n (e ∷ es) each found is =
+    rw is (elim (bytes_eq n e.0) as (λ b. IsAtOf told (cond b (Some (object_in e)) (find (is_named n) (map object_in es))) (option_map (λ (v : Bor (Typed A) × ℕ). v.1) (cond b (Some e.1) (lookup (bytes_eq n) es)))) [
+      | true ↦ (All-head (IsObjectAt told) e es each).1
+      | false ↦ object_told told n es (All-tail (IsObjectAt told) e es each) _ refl
+    ])
+
 -- ---- one that is put into a table
 
-module _ {A : Type 0} (es : List (Name × Bor (Typed A))) (seen : List TypedValue) (x : TypedValue) (n : Name) (named : n ≡ x.item)
-    (same : map object_in es ≡ firsts seen) where
-  found_seen : find (is_named n) (map object_in es) ≡ find (is_named x.item) seen
-  found_seen = ap (find (is_named n)) same ∙ find-firsts seen n ∙ ap (λ m. find (is_named m) seen) named
+module _ {A B : Type 0} {told : ToldValue} (once : AreDistinct told) (seen : List TypedValue) {listed : Listed A B} (are : AreSeen told seen listed) (o : Bor (Typed A)) (number : ℕ)
+    (at : IsAt told o.now.types number) (k : Name) (named : k ≡ o.now.name) where
+  -- it is at odds where another number is found, and is a first of its name where none is
+  as_found : (y : Option TypedValue) (found : Option (Bor (Typed A) × ℕ)) → IsAtOf told y (option_map (λ v. v.1) found)
+      → (option_map_or (λ z. not (same_names z.of o.now.types)) y false ≡ option_map_or (λ v. not (v.1 == number)) found false) × (is_some y ≡ is_some found)
+  as_found None None typed = (refl, refl)
+  as_found None (Some v) typed = absurd typed
+  as_found (Some y) None typed = absurd typed
+  as_found (Some y) (Some v) typed = (ap not (sym (one_number told once y.of o.now.types v.1 number typed at)), refl)
 
-  pushed : (b : Bool) → is_some (find (is_named x.item) seen) ≡ b → firsts (seen ++ x ∷ []) ≡ firsts seen ++ cond b [] (x ∷ [])
-  pushed b is = firsts_push seen x ∙ ap (λ c. firsts seen ++ cond c [] (x ∷ [])) (sym (is_there seen x.item) ∙ is)
+  as_seen : (found : Option (Bor (Typed A) × ℕ)) → lookup (bytes_eq k) listed.objects.entries ≡ found
+      → (is_off seen (typed_view o.now) ≡ option_map_or (λ v. not (v.1 == number)) found false)
+      × (map object_in listed.objects.entries ++ cond (is_some found) [] (typed_view o.now ∷ []) ≡ firsts (seen ++ typed_view o.now ∷ []))
+  as_seen found is =
+      let x = typed_view o.now in
+      let typed = object_told told k listed.objects.entries are.each found (sym is) in
+      let (off, there) = as_found (find (is_named x.item) seen) found (rw (are.objects, find-firsts seen k, named) at typed) in
+      (off, rw (are.objects, firsts_push seen x, ← is_there seen x.item, there) refl)
 
-  -- a name that is there is at odds where its number is another, and nothing is put
-  pub seen_there : (told : ToldValue) (numbers : List ℕ) (number place : ℕ) → AreDistinct told → IsAt told x.of number → AreAt told (map object_in es) numbers
-      → position (bytes_eq n) (keys_of es) ≡ Some place
-      → (known : ℕ) × (slice_get numbers place ≡ Some known) × (is_off seen x ≡ not (known == number)) × (map object_in es ≡ firsts (seen ++ x ∷ []))
-  seen_there told numbers number place once at are is =
-      let low = (position-Some (bytes_eq n) (keys_of es) place [] is).0 in
-      let (y, there) = some_at (map object_in es) place (omega (arith, low, length-map es object_in, length-map es (λ e. e.0))) in
-      let (known, read) = some_at numbers place (omega (arith, low, length-map es object_in, length-map es (λ e. e.0), are.many)) in
-      let found : find (is_named x.item) seen ≡ Some y = sym found_seen ∙ object_found es n place is ∙ there in (
-        known,
-        read,
-        ap (λ o. option_map_or (λ (z : TypedValue). not (same_names z.of x.of)) o false) found ∙ ap not (sym (one_number told once y.of x.of known number (are.each place known y there read) at)),
-        same ∙ sym (append-none (firsts seen)) ∙ sym (pushed true (ap is_some found)),
-      )
+  -- of a name that is there nothing is put
+  pub put_there : {next : Listed A B} (place : ℕ) (right : Bool) → Some place ≡ position (bytes_eq k) (keys_of listed.objects.entries) → next.objects.entries ≡ listed.objects.entries
+      → right ≡ option_map_or (λ e. e.1.1 == number) (slice_get next.objects.entries place) false → (is_off seen (typed_view o.now) ≡ not right) × AreSeen told (seen ++ typed_view o.now ∷ []) next
+  put_there place right is same answer =
+      let es = listed.objects.entries in
+      let found = Found-position (bytes_eq k) es place (sym is) in
+      let (e, there) = some_at es place found.within in
+      let (off, objects) = as_seen (Some e.1) (found.value ∙ slice_get-map (λ d. d.1) es place ∙ ap (option_map (λ d. d.1)) there) in
+      (off ∙ ap not (sym (rw (same, there) at answer)), record { objects = rw same (sym (append-none _) ∙ objects); each = rw same are.each })
 
-  -- a new one is put last
-  pub seen_new : position (bytes_eq n) (keys_of es) ≡ None → (is_off seen x ≡ false) × (map object_in es ++ x ∷ [] ≡ firsts (seen ++ x ∷ []))
-  seen_new none =
-      let found : find (is_named x.item) seen ≡ None = sym found_seen ∙ none_found es n none in (
-        ap (λ o. option_map_or (λ (z : TypedValue). not (same_names z.of x.of)) o false) found,
-        ap (λ ys. ys ++ x ∷ []) same ∙ sym (pushed false (ap is_some found)),
-      )
-
--- ---- the entries of a map
-
--- a new key goes last, with its object
-pub put_last : {A : Type 0} (es next : List (Name × Bor (Typed A))) (k : Name) (v : Bor (Typed A)) → k ≡ v.now.name → next ≡ insert_entry bytes_eq es k v
-    → position (bytes_eq k) (keys_of es) ≡ None → (map object_in next ≡ map object_in es ++ typed_view v.now ∷ []) × (AreNamed es → AreNamed next)
-put_last {A} es next k v own put none =
-    let last : next ≡ es ++ (k, v) ∷ [] = put ∙ insert_entry-absent bytes_eq k v es (Missing-position (bytes_eq k) es none).absent in
-    let names = λ (e : Name × Bor (Typed A)). e.0 in
-    let own_names = λ (e : Name × Bor (Typed A)). e.1.now.name in
-    (rw (last, map_push object_in es (k, v), own) refl, λ are. rw (last, map_push own_names es (k, v), map_push names es (k, v), own) (ap (λ ns. ns ++ v.now.name ∷ []) are))
+  -- and one of a new name is put last
+  pub put_last : {next : Listed A B} → None ≡ position (bytes_eq k) (keys_of listed.objects.entries) → next.objects.entries ≡ insert_entry bytes_eq listed.objects.entries k (o, number)
+      → (is_off seen (typed_view o.now) ≡ false) × AreSeen told (seen ++ typed_view o.now ∷ []) next
+  put_last {next} is put =
+      let es = listed.objects.entries in
+      let none = Missing-position (bytes_eq k) es (sym is) in
+      let last : next.objects.entries ≡ es ++ (k, (o, number)) ∷ [] = put ∙ insert_entry-absent bytes_eq k (o, number) es none.absent in
+      let (off, objects) = as_seen None none.value in
+      (off, record { objects = rw (last, map_push object_in es (k, (o, number)), named) objects; each = rw last (All-push (IsObjectAt told) es (k, (o, number)) are.each (sym named, at)) })
 
 -- ---- a walk over what is listed
 
 -- the number of the type of an item
-pub number_at : (told : ToldValue) {items : List TypedValue} {numbers : List ℕ} (i d : ℕ) (x : TypedValue) → AreAt told items numbers → slice_get items i ≡ Some x
+pub number_at : (told : ToldValue) (items : List TypedValue) (numbers : List ℕ) (i d : ℕ) (x : TypedValue) → AreAt told items numbers → slice_get items i ≡ Some x
     → IsAt told x.of (get_or numbers i d)
-number_at told {items} {numbers} i d x are at = are.each i (get_or numbers i d) x at (slice_get-get_or numbers i d (omega (arith, slice_get_within items i x at, are.many)))
+number_at told items numbers i d x are at =
+    let low : i < length numbers = omega (arith, slice_get_within items i x at, AllZip-long _ items numbers are) in
+    rw (at, slice_get-get_or numbers i d low) at (AllZip-left (λ (y : TypedValue). IsAt told y.of) items numbers are i)
 
 -- in front of what is listed at a place, the table is that of those so far, and those at odds so far are found
 pub record PutUpTo {A B : Type 0} (told : ToldValue) (seen : List TypedValue) (xs : List (Typed A)) (i : ℕ) (listed : Listed A B) (found : Result (Unit {0}) LinkFault) : Type 0 where
@@ -130,6 +144,27 @@ module _ {A B : Type 0} {told : ToldValue} {seen : List TypedValue} {xs : List (
 
 -- ---- while more is told
 
+pub objects_still : {A : Type 0} (before after : ToldValue) (es : List (Name × (Bor (Typed A) × ℕ))) → AreKept before after → All (IsObjectAt before) es → All (IsObjectAt after) es
+objects_still before after es kept = All-weaker (IsObjectAt before) (IsObjectAt after) (λ e is. (is.0, still_at before after e.1.0.now.types e.1.1 kept is.1)) es
+
 pub seen_still : {A B : Type 0} {before after : ToldValue} {seen : List TypedValue} {listed : Listed A B} → AreKept before after → AreSeen before seen listed → AreSeen after seen listed
-seen_still {before = before} {after} {listed = listed} kept are =
-    record { named = are.named; objects = are.objects; types = still_all before after (map object_in listed.objects.entries) listed.types.items kept are.types }
+seen_still {before = before} {after} {listed = listed} kept are = record { objects = are.objects; each = objects_still before after listed.objects.entries kept are.each }
+
+-- ---- the numbers of types of one primitive
+
+-- such a type has the first number of its tops
+one_first : (t : TypesValue) (types : List Name) (tops : List Span) → IsTold t types tops → length types ≤ 1 → map (λ n. (span_of t n).first) types ≡ option_map_or (λ s. s.first) (slice_get tops 0) 0 ∷ []
+one_first t [] tops told few = absurd (omega (arith, told.some))
+one_first t (n ∷ m ∷ ns) tops told few = absurd (omega (arith, few))
+one_first t (n ∷ []) [] told few = let none = told.tops_are.all (span_of t n) (0, omega arith, refl) in cc
+one_first t (n ∷ []) (s ∷ tops) told few = grind (arith, nat_tests, told.tops_are.each s (0, omega arith, refl))
+
+pub are_numbered : {A : Type 0} {t : TypesValue} {told : ToldValue} → AreTold t told → (es : List (Name × (Bor (Typed A) × ℕ))) → All (IsObjectAt told) es
+    → ((x : TypedValue) → Contains (map object_in es) x → length x.of ≤ 1) → AreNumbered t (map object_in es) (map (λ v. first_at told v.1) (values_of es))
+are_numbered are [] each few = tt
+are_numbered {t = t} {told} are (e ∷ es) each few =
+    let types = e.1.0.now.types in
+    let (tops, known) = tops_there are types e.1.1 (All-head (IsObjectAt told) e es each).1 in (
+      record { one = one_first t types (tops_at told e.1.1) tops (few (object_in e) (has_first (object_in e) (map object_in es))); known = known },
+      are_numbered are es (All-tail (IsObjectAt told) e es each) (λ x there. few x (has_later (object_in e) (map object_in es) x there)),
+    )

@@ -1,9 +1,12 @@
 -- Tables of what is declared, as it is put into them one after another, and the types of parameters.
-use Rattle.std.proofs.Common.{◌≡◌, ◌≤◌, ℕ, true, false, cond, List, [], ◌∷◌, ◌++◌, map, length, Option, Some, None, refl, ap, sym, ◌∙◌, subst, bytes_eq, append_assoc, arith, is_some, slice_get, Bor}
-use Rattle.std.proofs.lemmas.List.{map-append}
+use Rattle.std.proofs.Common.{◌≡◌, ◌≤◌, ℕ, true, false, cond, List, [], ◌∷◌, ◌++◌, map, length, Option, Some, None, refl, ap, sym, ◌∙◌, subst, bytes_eq, append_assoc, arith, is_some, slice_get, Bor, Bool, find, IsSomeAnd}
+use Rattle.std.specs.Map.{lookup}
+use Rattle.std.specs.Option.{option_or}
+use Rattle.std.proofs.lemmas.List.{map-append, map_push}
 use Rattle.std.proofs.lemmas.List.Elements.{All-contains, All-push}
 use Rattle.std.proofs.lemmas.List.Folds.{find-append}
-use Rattle.std.proofs.lemmas.Option.{same_Some, slice_get_within}
+use Rattle.std.proofs.lemmas.Option.{same_Some}
+use Rattle.std.proofs.lemmas.Slice.Zip.{AllZip-left}
 use Rattle.indexmap.specs.IndexMap.{IndexMap, index_of, insert_entry}
 use Rattle.indexmap.proofs.MapLemmas.{Missing-position, insert_entry-absent, some_index}
 use Rattle.pddl_formula.specs.TypedLists.{TypedValue, typed_view}
@@ -114,8 +117,5 @@ module _ {A B : Type 0} (d : DomainValue) (told : ToldValue) (rows : Rows A B) (
         (All-contains (λ (f : Bor (List ℕ) × Slots A B). IsSlotsAt told f.1) rows e are.slots (at_place rows i e at))
 
     -- the type of each of them has a number
-    pub some_number : length e.1.numbers.items ≤ j → ⊥
-    some_number past = absurd (omega (arith, past, slice_get_within a.parameters j x there, parameters_told.many))
-
-    pub number_there : (n : ℕ) → slice_get e.1.numbers.items j ≡ Some n → IsAt told x.of n
-    number_there n is = parameters_told.each j n x there is
+    pub number_there : IsSomeAnd (slice_get e.1.numbers.items j) (IsAt told x.of)
+    number_there = rw there at (AllZip-left (λ (y : TypedValue). IsAt told y.of) a.parameters e.1.numbers.items parameters_told j)

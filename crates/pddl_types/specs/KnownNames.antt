@@ -16,9 +16,5 @@ abbrev pub action_signature : ActionValue → Signature
 action_signature a = record { name = a.name; parameters = a.parameters }
 
 -- a name that is lent with the type that is listed for it
-abbrev pub object_in : {A : _} → List ℕ × Bor (Typed A) → TypedValue
-object_in e = record { item = e.0; of = e.1.now.types }
-
--- each stands under the name that is listed
-abbrev pub AreNamed : {A : _} → List (List ℕ × Bor (Typed A)) → Type 0
-AreNamed es = map (λ e. e.1.now.name) es ≡ map (λ e. e.0) es
+abbrev pub object_in : {A : _} → List ℕ × (Bor (Typed A) × ℕ) → TypedValue
+object_in e = record { item = e.0; of = e.1.0.now.types }

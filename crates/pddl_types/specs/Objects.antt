@@ -1,10 +1,13 @@
 -- Objects by name, as they are listed one after another. Own.
 use Rattle.std.specs.Prelude.{◌≡◌, ℕ, Bool, false, not, List, Option, Some, None, ⊤, find, map}
 use Rattle.std.specs.Option.{option_map_or}
+use Rattle.std.specs.Borrow.{Bor}
+use Rattle.std.specs.List.{All}
 use Rattle.pddl_formula.specs.TypedLists.{TypedValue}
+use Rattle.pddl_formula.specs.declared.type_names.Typed.{Typed}
 use Rattle.pddl_task.specs.Names.{Name, item_of, is_named, same_names, firsts, wrong_words}
-use Rattle.pddl_types.specs.KnownNames.{AreNamed, object_in}
-use Rattle.pddl_types.specs.Told.{ToldValue, IsAt, AreAt}
+use Rattle.pddl_types.specs.KnownNames.{object_in}
+use Rattle.pddl_types.specs.Told.{ToldValue, IsAt}
 use Rattle.pddl_types.specs.declared.listed.Listed.{Listed}
 
 -- the type of what is typed, where there is one, is told at a number
@@ -21,8 +24,11 @@ is_off before x = option_map_or (λ y. not (same_names y.of x.of)) (find (is_nam
 abbrev pub off_types : List TypedValue → List TypedValue → List Name
 off_types = wrong_words is_off item_of
 
+-- an object stands under its name, and its type is told at the number that is held with it
+abbrev pub IsObjectAt : {A : _} → ToldValue → List ℕ × (Bor (Typed A) × ℕ) → Type 0
+IsObjectAt told e = (e.1.0.now.name ≡ e.0) × IsAt told e.1.0.now.types e.1.1
+
 -- of what was seen, each name is listed at its first place, with what it names and the number of its type
 pub record AreSeen {A B : Type 0} (told : ToldValue) (seen : List TypedValue) (listed : Listed A B) : Type 0 where
-  pub named : AreNamed listed.objects.entries
   pub objects : map object_in listed.objects.entries ≡ firsts seen
-  pub types : AreAt told (map object_in listed.objects.entries) listed.types.items
+  pub each : All (IsObjectAt told) listed.objects.entries

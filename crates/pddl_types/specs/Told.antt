@@ -1,7 +1,7 @@
 -- Types by the numbers at which they are told, with the tops of their primitives. Own.
-use Rattle.std.specs.Prelude.{◌≡◌, ◌<◌, ◌==◌, ◌&&◌, ℕ, Bool, IsTrue, List, [], ◌++◌, Some, map, filter, length, not, option_map, slice_get}
+use Rattle.std.specs.Prelude.{◌≡◌, ◌<◌, ◌==◌, ◌&&◌, ℕ, Bool, IsTrue, List, [], ◌++◌, Some, filter, length, not, option_map, slice_get}
 use Rattle.std.specs.Borrow.{Bor}
-use Rattle.std.specs.List.{All, IsDistinct, flat_map}
+use Rattle.std.specs.List.{All, AllZip, IsDistinct, flat_map}
 use Rattle.std.specs.Map.{keys_of, lookup}
 use Rattle.std.specs.Option.{option_map_or}
 use Rattle.pddl_forest.specs.Spans.{hold_all}
@@ -11,19 +11,15 @@ use Rattle.pddl_domain.specs.Declarations.{TypeValue}
 use Rattle.pddl_task.specs.Names.{Name, is_in, same_names}
 use Rattle.pddl_task.specs.Types.{types_of}
 use Rattle.pddl_task.specs.Faults.{primitives_of}
-use Rattle.pddl_types.specs.TypeSpans.{TypesValue, IsTold, HaveEach, are_types}
+use Rattle.pddl_types.specs.TypeSpans.{TypesValue, IsTold, are_types}
 
 -- of typed names and variables, the primitive types that are none of these types
 abbrev pub unknown_among : List TypeValue → List TypedValue → List Name
 unknown_among declared xs = filter (λ t. not (is_in (types_of declared) t)) (flat_map primitives_of xs)
 
--- types with their tops
-abbrev pub ToldValue : Type 0
-ToldValue = List (List Name × List Span)
-
 -- types that are lent, with their tops
-abbrev pub told_in : List (Bor (List Name) × List Span) → ToldValue
-told_in entries = map (λ e. (e.0.now, e.1)) entries
+abbrev pub ToldValue : Type 0
+ToldValue = List (Bor (List Name) × List Span)
 
 -- the tops of the type of a number
 abbrev pub tops_at : ToldValue → ℕ → List Span
@@ -35,26 +31,29 @@ first_at told number = option_map_or (λ s. s.first) (slice_get (tops_at told nu
 
 -- the type of a number
 abbrev pub IsAt : ToldValue → List Name → ℕ → Type 0
-IsAt told names number = option_map (λ e. e.0) (slice_get told number) ≡ Some names
+IsAt told names number = option_map (λ e. e.0.now) (slice_get told number) ≡ Some names
 
 -- the types of items have these numbers
 abbrev pub AreAt : ToldValue → List TypedValue → List ℕ → Type 0
-AreAt told items numbers = HaveEach (IsAt told) items numbers
+AreAt told items numbers = AllZip (λ x. IsAt told x.of) items numbers
 
 -- no type is told twice
 abbrev pub AreDistinct : ToldValue → Type 0
-AreDistinct told = IsDistinct same_names (keys_of told)
+AreDistinct told = IsDistinct (λ t u. same_names t.now u.now) (keys_of told)
 
 -- no type is told twice, the primitives of each are types, and these are their tops
 pub record AreTold (t : TypesValue) (told : ToldValue) : Type 0 where
   pub once : AreDistinct told
-  pub each : All (λ e. IsTold t e.0 e.1 × IsTrue (are_types t.declared e.0)) told
+  pub each : All (λ e. IsTold t e.0.now e.1 × IsTrue (are_types t.declared e.0.now)) told
 
 -- what was told is told still, at its number
 abbrev pub AreKept : ToldValue → ToldValue → Type 0
 AreKept before after = (more : ToldValue) × (after ≡ before ++ more)
 
--- a table tells of some pairs of numbers whether the tops of the second hold those of the first
+-- of two numbers of types, whether the tops of the second hold those of the first
+abbrev pub IsFit : ToldValue → ℕ × ℕ → Bool → Type 0
+IsFit told p fit = (p.0 < length told) × (p.1 < length told) × (fit ≡ hold_all (tops_at told p.1) (tops_at told p.0))
+
+-- a table says so of some pairs
 abbrev pub AreFitting : ToldValue → List ((ℕ × ℕ) × Bool) → Type 0
-AreFitting told table = (p : ℕ × ℕ) (fit : Bool) → lookup (λ q. (p.0 == q.0) && (p.1 == q.1)) table ≡ Some fit
-    → (p.0 < length told) × (p.1 < length told) × (fit ≡ hold_all (tops_at told p.1) (tops_at told p.0))
+AreFitting told table = (p : ℕ × ℕ) (fit : Bool) → lookup (λ q. (p.0 == q.0) && (p.1 == q.1)) table ≡ Some fit → IsFit told p fit

@@ -1,6 +1,8 @@
 -- Types by spans of numbers: what is under a type has its numbers in the type's span. Own.
+use mathlib.Core.HLevel.{×_prop, Unit-prop, ⊥_prop}
+use Rattle.std.proofs.Props.{props}
 use Rattle.std.specs.Prelude.{◌≡◌, ◌<◌, ℕ, Bool, IsTrue, List, [], ◌∷◌, Some, map, length, slice_get}
-use Rattle.std.specs.List.{list_any, list_all}
+use Rattle.std.specs.List.{AllZip, list_any, list_all}
 use Rattle.pddl_forest.specs.Spans.{some_holds, span_at, AreTops}
 use Rattle.pddl_forest.specs.declared.spans.Span.{Span}
 use Rattle.pddl_formula.specs.TypedLists.{TypedValue}
@@ -36,11 +38,6 @@ DoTell t = (n : Name) (slot : List Name) (tops : List Span) → IsTold t slot to
 
 -- ---- objects
 
--- each of some objects has a value, of which this holds with its type
-pub record HaveEach {T : Type 0} (Holds : List Name → T → Type 0) (objects : List TypedValue) (values : List T) : Type 0 where
-  pub many : length values ≡ length objects
-  pub each : (k : ℕ) (v : T) (x : TypedValue) → slice_get objects k ≡ Some x → slice_get values k ≡ Some v → Holds x.of v
-
 -- the type has one primitive, which is one of the domain's types, and has this number
 pub record IsNumberOf (t : TypesValue) (types : List Name) (number : ℕ) : Type 0 where
   pub one : map (λ n. (span_of t n).first) types ≡ number ∷ []
@@ -48,4 +45,10 @@ pub record IsNumberOf (t : TypesValue) (types : List Name) (number : ℕ) : Type
 
 -- each of some objects has a type of such a number
 abbrev pub AreNumbered : TypesValue → List TypedValue → List ℕ → Type 0
-AreNumbered t objects numbers = HaveEach (IsNumberOf t) objects numbers
+AreNumbered t objects numbers = AllZip (λ x. IsNumberOf t x.of) objects numbers
+
+pub AreNumbered-prop : (t : TypesValue) (objects : List TypedValue) (numbers : List ℕ) → IsProp (AreNumbered t objects numbers)
+AreNumbered-prop t [] [] = Unit-prop
+AreNumbered-prop t [] (n ∷ numbers) = ⊥_prop
+AreNumbered-prop t (x ∷ objects) [] = ⊥_prop
+AreNumbered-prop t (x ∷ objects) (n ∷ numbers) = ×_prop (Prim.hlevel props) (AreNumbered-prop t objects numbers)

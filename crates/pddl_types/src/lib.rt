@@ -14,7 +14,7 @@ mod type_table;
 mod types;
 
 pub use known::Known;
-pub use listed::{Listed, Objects};
+pub use listed::Listed;
 pub use signatures::{Declares, Signatures, Slots};
 pub use tables::Tables;
 pub use told::Told;

@@ -1,13 +1,15 @@
 //! Objects by name, each with its type.
 
-ghost use Rattle.std.specs.Prelude.{◌≡◌, ◌++◌, ◌∷◌, [], List, map, not, find, slice_get, IfOk};
+ghost use Rattle.std.specs.Prelude.{◌≡◌, ◌++◌, ◌∷◌, [], List, map, not, find, IfOk};
+ghost use Rattle.std.specs.List.{All};
+ghost use Rattle.std.specs.HashMap.{values};
 ghost use Rattle.pddl_formula.specs.TypedLists.{TypedValue, typed_view};
 ghost use Rattle.pddl_task.specs.Names.{is_named};
 ghost use Rattle.pddl_faults.specs.Passes.{Passes};
 ghost use Rattle.pddl_faults.specs.Found.{IsFound, numbered};
 ghost use Rattle.pddl_types.specs.KnownNames.{object_in};
-ghost use Rattle.pddl_types.specs.Told.{ToldValue, first_at, IsAt, AreAt, AreDistinct, AreTold, AreKept, unknown_among};
-ghost use Rattle.pddl_types.specs.Objects.{IsAtOf, AreSeen, is_off, off_types};
+ghost use Rattle.pddl_types.specs.Told.{ToldValue, first_at, IsAt, AreDistinct, AreTold, AreKept, unknown_among};
+ghost use Rattle.pddl_types.specs.Objects.{IsAtOf, IsObjectAt, AreSeen, is_off, off_types};
 
 use crate::entries::put_new;
 use crate::told::Told;
@@ -20,15 +22,10 @@ use pddl_sizes::ObjectOrder;
 use pddl_token::LentName;
 use std::alloc::{AllocError, Allocator};
 
-/// Objects by name, each as it is listed with its type.
-pub type Objects<'m, 'a, A, B> = IndexMap<LentName<'m>, &'m Typed<A>, Hashed, &'a B>;
-
-/// Constants and then objects by name, in the order in which they are listed, each at its first place, and for each the number at which its type is told,
-/// in four bytes.
+/// Constants and then objects by name, in the order in which they are listed, each at its first place, with the number at which its type is told.
 #[derive(Drop)]
 pub struct Listed<'m, 'a, A: Allocator, B: Allocator> {
-    pub objects: Objects<'m, 'a, A, B>,
-    pub types: Vec<u32, &'a B>,
+    pub objects: IndexMap<LentName<'m>, (&'m Typed<A>, usize), Hashed, &'a B>,
 }
 
 impl<'m, 'a, A: Allocator, B: Allocator> Listed<'m, 'a, A, B> {
@@ -38,32 +35,24 @@ impl<'m, 'a, A: Allocator, B: Allocator> Listed<'m, 'a, A, B> {
     {
         Listed {
             objects: IndexMap::with_hasher(alloc, hashed),
-            types: Vec::new(alloc),
         }
-    }
-
-    /// The number at which the type of the object of a number is told.
-    fn type_at(&self, object: usize) -> Option<usize>
-        ensures { result ≡ slice_get self.now.types.items object }
-    {
-        self.types.get(object).map(|number| *number as usize)
     }
 
     /// Adds an object whose type is told at a number, where its name is new. Answers whether the first of its name has this type.
     ///
-    /// Fails where memory for it is refused, or where no `u32` has its number.
+    /// Fails where memory for it is refused.
     fn put(&mut self, object: &'m Typed<A>, number: usize) -> Result<bool, AllocError>
         ensures { (told : ToldValue) (seen : List TypedValue) → AreDistinct told → IsAt told object.now.types number → AreSeen told seen self.old
             → IfOk result (λ right. (is_off seen (typed_view object.now) ≡ not right) × AreSeen told (seen ++ typed_view object.now ∷ []) self.new) }
     {
-        if let Some(place) = put_new(&mut self.objects, object.name.lent(), object)? {
-            return Ok(self.type_at(place) == Some(number));
-        }
-        let Ok(number) = u32::try_from(number) else {
-            return Err(AllocError);
+        let Some(place) = put_new(&mut self.objects, object.name.lent(), (object, number))? else {
+            return Ok(true);
         };
-        self.types.push(number)?;
-        Ok(true)
+        Ok(
+            self.objects
+                .get_index(place)
+                .is_some_and(|(_, first)| first.1 == number),
+        )
     }
 
     /// Adds constants or objects, and tells their types. Answers the fault of a name that is listed with two types.
@@ -84,9 +73,8 @@ impl<'m, 'a, A: Allocator, B: Allocator> Listed<'m, 'a, A, B> {
         ensures seen { (seen : List TypedValue) → AreSeen told.old seen self.old
             → IfOk result (λ found. IsFound (numbered 24 (off_types seen (map typed_view objects.now.items))) found × AreSeen told.new (seen ++ map typed_view objects.now.items) self.new) }
     {
-        let numbers = told.tell_all(*self.types.allocator(), types, objects)?;
+        let numbers = told.tell_all(*self.objects.allocator(), types, objects)?;
         self.objects.reserve(objects.len())?;
-        self.types.reserve(objects.len())?;
         let mut found = Ok(());
         for place in 0..objects.len() {
             let object = &objects[place];
@@ -98,23 +86,23 @@ impl<'m, 'a, A: Allocator, B: Allocator> Listed<'m, 'a, A, B> {
 
     /// The number at which the type of the object of this name is told.
     pub fn type_of(&self, name: &[u8]) -> Option<usize>
-        ensures { (told : ToldValue) → AreAt told (map object_in self.now.objects.entries) self.now.types.items
-            → IsAtOf told (find (is_named name.now) (map object_in self.now.objects.entries)) result }
+        ensures { (told : ToldValue) → All (IsObjectAt told) self.now.objects.entries → IsAtOf told (find (is_named name.now) (map object_in self.now.objects.entries)) result }
     {
-        let place = self.objects.get_index_of(&LentName::of(name))?;
-        self.type_at(place)
+        match self.objects.get(&LentName::of(name)) {
+            Some((_, number)) => Some(*number),
+            None => None,
+        }
     }
 
     /// The order of the objects by the first numbers of their types' tops.
     ///
     /// Fails where memory for it is refused.
     pub fn order(&self, told: &Told<'m, 'a, A, B>) -> Result<ObjectOrder<'a, B>, AllocError>
-        ensures { IfOk result (λ order. order.numbers.items ≡ map (first_at told.now) self.now.types.items) }
+        ensures { IfOk result (λ order. order.numbers.items ≡ map (λ v. first_at told.now v.1) (values self.now.objects)) }
     {
-        let types = self.types.as_slice();
-        let mut numbers = Vec::with_capacity(*self.types.allocator(), types.len())?;
-        for number in types {
-            numbers.push(told.first_at(*number as usize))?;
+        let mut numbers = Vec::with_capacity(*self.objects.allocator(), self.objects.len())?;
+        for (_, number) in self.objects.values() {
+            numbers.push(told.first_at(*number))?;
         }
         ObjectOrder::of(numbers)
     }

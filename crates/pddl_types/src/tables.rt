@@ -9,7 +9,7 @@ ghost use Rattle.pddl_forest.specs.Spans.{AreApart};
 ghost use Rattle.pddl_task.specs.Types.{pairs, fits};
 ghost use Rattle.pddl_task.specs.GroundSize.{fitting_count};
 ghost use Rattle.pddl_task.specs.Tasks.{places_from};
-ghost use Rattle.pddl_types.specs.TypeSpans.{TypesValue, IsTold, AreNumbered};
+ghost use Rattle.pddl_types.specs.TypeSpans.{TypesValue, IsTold, AreNumbered, AreNumbered-prop};
 ghost use Rattle.pddl_types.specs.Told.{AreTold};
 ghost use Rattle.pddl_types.specs.Known.{objects_in, AreAllKnown};
 
@@ -28,7 +28,7 @@ pub struct Tables<'m, 'a, A: Allocator, B: Allocator> {
     pub known: Known<'m, 'a, A, B>,
     pub told: Told<'m, 'a, A, B>,
     pub order: ObjectOrder<'a, B>,
-    ghost numbered: { AreNumbered known.types (objects_in known) order.numbers.items },
+    ghost numbered: { AreNumbered known.types (objects_in known) order.numbers.items } by { AreNumbered-prop known.types (objects_in known) order.numbers.items },
 }
 
 impl<'m, 'a, A: Allocator, B: Allocator> Tables<'m, 'a, A, B> {
@@ -118,7 +118,7 @@ impl<'m, 'a, A: Allocator, B: Allocator, N: Allocator> FittingCount<N> for Table
         match self
             .known
             .types
-            .tops(*self.known.listed.types.allocator(), types)
+            .tops(*self.known.listed.objects.allocator(), types)
         {
             Ok(tops) => self.order.count(&tops),
             Err(_) => self.count_each(types),

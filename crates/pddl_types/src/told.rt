@@ -1,19 +1,17 @@
 //! The types that are written in files, by number, with the tops of their primitives.
 
-ghost use Rattle.std.specs.Prelude.{◌≡◌, [], ℕ, List, map, filter, not, IfOk};
+ghost use Rattle.std.specs.Prelude.{◌≡◌, [], ℕ, List, map, filter, length, not, IfOk};
 ghost use Rattle.pddl_formula.specs.TypedLists.{typed_view};
 ghost use Rattle.pddl_task.specs.Names.{is_in};
 ghost use Rattle.pddl_task.specs.Types.{types_of, pairs, fits};
-ghost use Rattle.pddl_forest.specs.Spans.{hold_all};
 ghost use Rattle.pddl_faults.specs.Passes.{Passes};
 ghost use Rattle.pddl_types.specs.Told.{ToldValue, tops_at, first_at, IsAt, AreAt, AreTold, AreKept, AreFitting, unknown_among};
 
-use crate::entries::put_last;
 use crate::tops::Tops;
 use crate::types::Types;
 use indexmap::IndexMap;
 use pddl_faults::LinkFault;
-use pddl_forest::{Span, hold_all};
+use pddl_forest::Span;
 use pddl_formula::{TypeNames, TypedList};
 use pddl_hash::Hashed;
 use std::alloc::{AllocError, Allocator};
@@ -31,13 +29,13 @@ pub struct Told<'m, 'a, A: Allocator, B: Allocator> {
 }
 
 impl<'m, 'a, A: Allocator, B: Allocator> Model for Told<'m, 'a, A, B> {
-    ghost use Rattle.pddl_types.specs.Told.{ToldValue, told_in, AreFitting};
+    ghost use Rattle.pddl_types.specs.Told.{ToldValue, AreFitting};
 
     ghost Value = { ToldValue };
 
-    ghost view = { λ t. told_in t.types.entries };
+    ghost view = { λ t. t.types.entries };
 
-    ghost invariant = { λ t. AreFitting (told_in t.types.entries) t.fitting.entries };
+    ghost invariant = { λ t. AreFitting t.types.entries t.fitting.entries };
 }
 
 impl<'m, 'a, A: Allocator, B: Allocator> Told<'m, 'a, A, B> {
@@ -71,8 +69,10 @@ impl<'m, 'a, A: Allocator, B: Allocator> Told<'m, 'a, A, B> {
             Some(number) => Ok(number),
             None => {
                 types.known(names)?;
-                let tops = Tops::of(*self.types.allocator(), types, names);
-                Ok(put_last(&mut self.types, names, tops)?)
+                let tops = Tops::of(*self.types.allocator(), types, names)?;
+                let number = self.types.len();
+                self.types.insert(names, tops)?;
+                Ok(number)
             }
         }
     }
@@ -93,6 +93,7 @@ impl<'m, 'a, A: Allocator, B: Allocator> Told<'m, 'a, A, B> {
         ensures kept { AreKept self.old self.new }
         ensures passes { Passes 23 (unknown_among types.now.declared (map typed_view list.now.items)) result }
         ensures numbers { IfOk result (λ numbers. AreAt self.new (map typed_view list.now.items) numbers.items) }
+        ensures many { IfOk result (λ numbers. length numbers.items ≡ length (map typed_view list.now.items)) }
     {
         let mut numbers = Vec::with_capacity(alloc, list.len())?;
         let mut number = 0;
@@ -126,6 +127,7 @@ impl<'m, 'a, A: Allocator, B: Allocator> Told<'m, 'a, A, B> {
     /// fits. Where both have many tops, what is found is kept.
     ///
     /// Fails where memory for that is refused.
+    #[tactic(auto, using(crate::proofs::ToldTypes::none_there, crate::proofs::ToldTypes::apart_read))]
     pub fn fits(
         &mut self,
         types: &Types<'m, 'a, A, B>,
@@ -147,7 +149,7 @@ impl<'m, 'a, A: Allocator, B: Allocator> Told<'m, 'a, A, B> {
             return Ok(false);
         };
         if told.as_slice().len() < 8 || tops.as_slice().len() < 8 {
-            return Ok(hold_all(tops.as_slice(), told.as_slice()));
+            return tops.hold_all(told);
         }
         let pair = (number, slot);
         if let Some(fit) = self.fitting.get(&pair) {

@@ -43,7 +43,7 @@ returns-clause-numbered g c =
     let p = problem_in c.args.problem in
     let named = parts_verdict d p (Ok tt) c.in_ok-found.ensures.passes (c.in_ok-lower.ensures.found _ _ c.in_ok-found.ensures.found c.look_at_problem.ensures.found) in
     let held = c.in_ok-add_actions.ensures _ (ok_holds _ _ c.look_at_problem.result c.in_ok-lower.ensures.both.1 c.look_at_problem.ensures.known) (declared_once d p named) (parameters_known d p named) in
-    rw c.in_ok-order.ensures (objects_numbered d p named held.types held.listed.types held.listed.objects)
+    rw c.in_ok-order.ensures (objects_numbered d p named _ held.types held.listed.each held.listed.objects)
 
 pub returns-clause-verdict : goal.returns-clause-verdict
 returns-clause-verdict g c =

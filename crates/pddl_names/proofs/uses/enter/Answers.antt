@@ -17,4 +17,4 @@ returns-clause-told g c =
 
 pub returns-clause-bound : goal.returns-clause-bound
 returns-clause-bound g c =
-    rw c.in_ok-repeated.ensures.bound (entered_bound (map typed_view c.args.variables.now.items) c.deref.result.now c.args.scope.now (rw c.deref.ensures.value c.in_ok-numbers.ensures.numbers.many))
+    rw c.in_ok-repeated.ensures.bound (entered_bound (map typed_view c.args.variables.now.items) c.deref.result.now c.args.scope.now (rw c.deref.ensures.value c.in_ok-numbers.ensures.many))

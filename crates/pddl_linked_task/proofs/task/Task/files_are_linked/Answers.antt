@@ -1,7 +1,4 @@
-use Rattle.std.proofs.Common.{subst}
-use Rattle.pddl_task.specs.Linked.{IsLinked}
-use Rattle.pddl_linked_task.specs.LinkedTasks.{Files}
 use Rattle.pddl_linked_task.proofs.task.Task.files_are_linked.Goals as goal
 
 pub returns : goal.returns
-returns g c = subst (λ (f : Files). IsLinked f.domain f.problem) c.self.view_is c.self.invariant.linked
+returns g c = rw (← c.self.view_is) c.self.invariant.linked

@@ -9,12 +9,12 @@ returns-in-Some g c =
     rw (← c.self.view_is) (λ a x here there.
     let told = c.parameter_tops-tops.ensures.told _ _ a x h here there in
     rw (h.typed, h.listed.objects) at
-    (object_fits x.of t.numbered c.args.object c.in-Some.number c.is_under_tops.result (sym c.number.ensures ∙ c.in-Some.is) (λ n. c.is_under_tops.ensures x.of n told)))
+    (object_fits t.known.types x.of _ _ t.numbered c.args.object c.in-Some.number c.is_under_tops.result (sym c.number.ensures ∙ c.in-Some.is) (λ n. c.is_under_tops.ensures x.of n told)))
 
 pub returns-in-None : goal.returns-in-None
 returns-in-None g c =
     let h = c.self.invariant.known in
-    rw (← c.self.view_is) (λ a x here there. rw (h.typed, h.listed.objects) at (none_fits x.of c.self.inside.tables.numbered c.args.object (sym c.number.ensures ∙ c.in-None.is)))
+    rw (← c.self.view_is) (λ a x here there. rw (h.typed, h.listed.objects) at (none_fits c.self.inside.tables.known.types x.of _ _ c.self.inside.tables.numbered c.args.object (sym c.number.ensures ∙ c.in-None.is)))
 
 pub is_under_tops-requires : goal.is_under_tops-requires
 is_under_tops-requires g c = c.parameter_tops-tops.ensures.apart c.self.inside.tables.known.types c.self.invariant.known.types

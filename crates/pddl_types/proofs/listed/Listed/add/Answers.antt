@@ -1,4 +1,4 @@
-use Rattle.std.proofs.Common.{◌≡◌, ◌<◌, get_or, length, sym, ap, ◌∙◌, arith, rules}
+use Rattle.std.proofs.Common.{◌≡◌, ◌<◌, get_or, length, map, sym, ap, ◌∙◌, arith, rules}
 use Rattle.std.proofs.lemmas.Result.{err_from_is_err_and}
 use Rattle.pddl_formula.specs.TypedLists.{typed_view}
 use Rattle.pddl_task.specs.Names.{word_if}
@@ -25,7 +25,7 @@ loop-place-preserved g c = λ seen are.
     let is : x ≡ get_or xs i x = c.index-deref-place.is ∙ ap (λ ys. get_or ys i x) c.deref.ensures.value in
     let s = seen_at typed_view seen xs i in
     let before = c.loop-place.invariant seen are in
-    let at = number_at told i _ (typed_view x) c.in_ok-numbers.ensures.numbers (viewed_at typed_view xs i x low is) in
+    let at = number_at told (map typed_view xs) c.in_ok-numbers.numbers.items i _ (typed_view x) c.in_ok-numbers.ensures.numbers (viewed_at typed_view xs i x low is) in
     let put = c.in_ok-is_right.ensures told s c.in_ok-numbers.ensures.told.once (rw c.index.ensures at) before.are in
     put_more x c.once.result low is c.lower-found.ensures.found
     (passed_as 24 c.once.result (ap (λ b. word_if b c.as_bytes.result.now) (sym put.0) ∙ ap (word_if (is_off s (typed_view x))) c.as_bytes.ensures.value) c.once.ensures) put.1 before

@@ -6,4 +6,4 @@ use Rattle.pddl_types.proofs.tables.TablesFittingCount.fitting_count.Goals as go
 pub returns-in-Ok : goal.returns-in-Ok
 returns-in-Ok g c =
     let f = c.args.self.now in
-    c.count.ensures ∙ fitting_many c.args.types.now f.numbered c.in-Ok.ensures.tell (subst (IsTold f.known.types c.args.types.now) (sym c.deref.ensures.value) c.in-Ok.ensures.told)
+    c.count.ensures ∙ fitting_many f.known.types c.args.types.now c.in-Ok.ensures.tell (subst (IsTold f.known.types c.args.types.now) (sym c.deref.ensures.value) c.in-Ok.ensures.told) _ _ f.numbered

@@ -1,12 +1,13 @@
 use Rattle.std.proofs.Common.{◌≡◌, ◌<◌, ◌≤◌, map, length, slice_get, Some, refl, sym, ◌∙◌, subst, arith}
 use Rattle.std.proofs.lemmas.List.{length-map, drop_all, take_all}
+use Rattle.std.proofs.lemmas.Slice.Zip.{AllZip-long}
 use Rattle.std.proofs.lemmas.Result.{err_from_is_err_and}
 use Rattle.pddl_formula.specs.TypedLists.{TypedValue, typed_view}
 use Rattle.pddl_task.proofs.Lists.{some_at}
 use Rattle.pddl_faults.proofs.PassedParts.{pass_front}
 use Rattle.pddl_sizes.proofs.SharedTypes.{type_at}
 use Rattle.pddl_types.specs.Told.{AreTold, AreKept, IsAt}
-use Rattle.pddl_types.proofs.ToldTypes.{each_none, kept_self, kept_then, none_unknown, told_shared, told_next}
+use Rattle.pddl_types.proofs.ToldTypes.{kept_self, kept_then, none_unknown, told_shared, told_next}
 use Rattle.pddl_types.proofs.UnknownTypes.{typed_left}
 use Rattle.pddl_types.proofs.told.Told.tell_all.Goals as goal
 use Rattle.pddl_types.proofs.told.Told.tell_all.Goals.{then-not-shares+in_ok-number, else-not-shares}
@@ -15,12 +16,15 @@ pub loop-place-init : goal.loop-place-init
 loop-place-init g c = record {
   types = c.requires.told;
   kept = kept_self c.args.self.now;
-  told = record { each = rw c.in_ok-numbers.ensures.items (each_none (IsAt c.args.self.now)); last = λ x some. absurd (omega (arith, some)) };
+  told = record { each = rw c.in_ok-numbers.ensures.items tt; last = λ x some. absurd (omega (arith, some)) };
   left = refl;
 }
 
-pub returns-in_err-number : goal.returns-in_err-number
-returns-in_err-number g c =
+pub returns-in_err-number-clause-kept : goal.returns-in_err-number-clause-kept
+returns-in_err-number-clause-kept g c = kept_then c.args.self.now c.loop-place.self c.tell.new.self c.loop-place.invariant.kept c.tell.ensures.kept
+
+pub returns-in_err-number-clause-passes : goal.returns-in_err-number-clause-passes
+returns-in_err-number-clause-passes g c =
     let items = c.args.list.now.items in
     let place = c.loop-place.place in
     let low : place < length items = omega (arith, c.loop-place-test.true, c.len-place-end.ensures) in
@@ -28,22 +32,19 @@ returns-in_err-number g c =
     let own = type_at items c.deref.result.now place c.index-deref-place.result x c.deref.ensures.value low c.index-deref-place.is at in
     let left = typed_left c.args.types.now.declared (map typed_view items) place x at in
     let p = err_from_is_err_and c.from_residual-in_err-number.result c.from_residual-in_err-number.ensures.1 in
-    rw p.1 (record {
-      told = c.tell.ensures.told;
-      kept = kept_then c.args.self.now c.loop-place.self c.tell.new.self c.loop-place.invariant.kept c.tell.ensures.kept;
-      passes = rw p.2 (pass_front 23 _ _ _ c.in_err-number.field-0.0 (sym c.loop-place.invariant.left ∙ left) (rw own at c.in_err-number.ensures.passes));
-      numbers = tt;
-    })
+    rw (p.1, p.2) (pass_front 23 _ _ _ c.in_err-number.field-0.0 (sym c.loop-place.invariant.left ∙ left) (rw own at c.in_err-number.ensures.passes))
 
-pub returns-in_err-push : goal.returns-in_err-push
-returns-in_err-push g c =
-    let before = c.loop-place.invariant in
-    let p = err_from_is_err_and c.from_residual-in_err-push.result c.from_residual-in_err-push.ensures.1 in
-    elim c.if-not-shares.branch [
-      | then-not-shares+in_ok-number w ↦
-          rw (w.self-is, p.1) (record { told = w.tell.ensures.told; kept = kept_then c.args.self.now c.loop-place.self w.tell.new.self before.kept w.tell.ensures.kept; passes = rw p.2 tt; numbers = tt })
-      | else-not-shares w ↦ rw (w.self-is, p.1) (record { told = before.types; kept = before.kept; passes = rw p.2 tt; numbers = tt })
-    ]
+pub returns-in_err-push-clause-told : goal.returns-in_err-push-clause-told
+returns-in_err-push-clause-told g c = elim c.if-not-shares.branch [
+  | then-not-shares+in_ok-number w ↦ rw w.self-is w.tell.ensures.told
+  | else-not-shares w ↦ rw w.self-is c.loop-place.invariant.types
+]
+
+pub returns-in_err-push-clause-kept : goal.returns-in_err-push-clause-kept
+returns-in_err-push-clause-kept g c = elim c.if-not-shares.branch [
+  | then-not-shares+in_ok-number w ↦ rw w.self-is (kept_then c.args.self.now c.loop-place.self w.tell.new.self c.loop-place.invariant.kept w.tell.ensures.kept)
+  | else-not-shares w ↦ rw w.self-is c.loop-place.invariant.kept
+]
 
 pub loop-place-preserved : goal.loop-place-preserved
 loop-place-preserved g c =
@@ -81,9 +82,11 @@ returns g c =
     let list = map typed_view c.args.list.now.items in
     let past : length list ≤ c.loop-place.place = omega (arith, c.loop-place-test.false, c.len-place-end.ensures, length-map c.args.list.now.items typed_view) in
     let all = c.loop-place.invariant in
+    let numbers = rw (take_all c.loop-place.place list past) at all.told.each in
     record {
       told = all.types;
       kept = all.kept;
       passes = sym (rw (drop_all c.loop-place.place list past) at all.left);
-      numbers = rw (take_all c.loop-place.place list past) at all.told.each;
+      numbers = numbers;
+      many = AllZip-long _ list c.loop-place.numbers.items numbers;
     }
