@@ -37,19 +37,18 @@ behind_types d p r once none =
 pub order_behind_types-order-requires-clause-typed : goal.order_behind_types-order-requires-clause-typed
 order_behind_types-order-requires-clause-typed g c = rw c.of-known.ensures.types c.in_ok-types.ensures.types
 
-pub returns-in_err-tables-clause-verdict : goal.returns-in_err-tables-clause-verdict
-returns-in_err-tables-clause-verdict g c =
+pub returns-in_err-known-clause-verdict : goal.returns-in_err-known-clause-verdict
+returns-in_err-known-clause-verdict g c =
     let d = domain_view c.args.domain.now in
     let p = problem_in c.args.problem in
-    let q = err_from_is_err_and c.from_residual-in_err-tables.result c.from_residual-in_err-tables.ensures.1 in
-    let e = c.in_err-tables.field-0.0 in
+    let q = err_from_is_err_and c.from_residual-in_err-known.result c.from_residual-in_err-known.ensures.1 in
+    let e = c.in_err-known.field-0.0 in
     rw (q.1, q.2) (behind_types {T = Unit {0}} d p (Err e) c.in_ok-type_twice.ensures c.in_ok-types.ensures.cycle
-    (stage_first 33 (map (fault_in d p) part_rules) (map (fault_in d p) goal_rules) e refl refl (rw c.in_err-tables.ensures.failed at c.order_behind_types-order.ensures.verdict)))
+    (stage_first 33 (map (fault_in d p) part_rules) (map (fault_in d p) goal_rules) e refl refl (rw c.in_err-known.ensures.failed at c.order_behind_types-order.ensures.verdict)))
 
 pub look_at_goal-goal-requires : goal.look_at_goal-goal-requires
 look_at_goal-goal-requires g c =
-    rw (c.in_ok-tables.ensures.held.0, c.in_ok-tables.ensures.held.1)
-    (ok_holds c.order_behind_types-order.result _ c.in_ok-tables.ensures.made c.order_behind_types-order.ensures.known)
+    rw c.in_ok-known.ensures.made.0 (rw c.in_ok-known.ensures.made.1 at c.order_behind_types-order.ensures.known)
 
 -- what holds of what is given on
 held_on : {U T E : Type 0} (r : Result U E) (x : T) (P : T → Type 0) → P x → IfOk (result_and r (Ok x)) P
@@ -59,8 +58,7 @@ held_on (Err e) x P h = tt
 pub returns-clause-known : goal.returns-clause-known
 returns-clause-known g c =
     rw c.and.ensures
-    (held_on c.look_at_goal-goal.result _ _ (rw (c.in_ok-tables.ensures.held.0, c.in_ok-tables.ensures.held.1)
-    (ok_holds c.order_behind_types-order.result _ c.in_ok-tables.ensures.made c.order_behind_types-order.ensures.known)))
+    (held_on c.look_at_goal-goal.result _ _ (rw c.in_ok-known.ensures.made.0 (rw c.in_ok-known.ensures.made.1 at c.order_behind_types-order.ensures.known)))
 
 -- a verdict is that of what is given on
 given_on : {U T : Type 0} (fs : List Fault) (r : Result U LinkFault) (x : T) → Verdict fs r → Verdict fs (result_and r (Ok x))
@@ -75,5 +73,5 @@ returns-clause-verdict g c =
     let parts = map (fault_in d p) part_rules in
     rw c.and.ensures
     (behind_types d p _ c.in_ok-type_twice.ensures c.in_ok-types.ensures.cycle
-    (decided_after parts goals _ (ok_none parts c.order_behind_types-order.result c.in_ok-tables.ensures.made c.order_behind_types-order.ensures.verdict)
+    (decided_after parts goals _ (rw c.in_ok-known.ensures.made.1 at c.order_behind_types-order.ensures.verdict)
     (given_on goals c.look_at_goal-goal.result _ (alone_verdict 35 (large_goals d p) c.look_at_goal-goal.result c.look_at_goal-goal.ensures))))
