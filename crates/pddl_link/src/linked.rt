@@ -1,6 +1,6 @@
 //! Links a domain with a problem, or looks at a domain alone.
 
-ghost use Rattle.std.specs.Prelude.{◌≡◌, ◌++◌, [], map, drop, IfOk, OnOk};
+ghost use Rattle.std.specs.Prelude.{◌≡◌, ◌++◌, [], Ok, Err, map, drop, IfOk, IfErr, OnOk};
 ghost use Rattle.pddl_domain.specs.Domains.{domain_view};
 ghost use Rattle.pddl_problem.specs.Problems.{problem_view};
 ghost use Rattle.pddl_task.specs.Linked.{fault_in, domain_faults, faults, rules};
@@ -42,6 +42,15 @@ fn order_behind_types<'m, 'a, A: Allocator, B: Allocator>(
     Ok(known.listed.order(&*told)?)
 }
 
+/// A value with what was made beside it; where that was not made, the value is let go. It is of any type, since a check does much for letting go a value of
+/// which all is known.
+fn beside<V: Drop, T: Drop, E: Drop>(value: V, made: Result<T, E>) -> Result<(V, T), E>
+    ensures made { IfOk result (λ both. (both.0 ≡ value) × (made ≡ Ok both.1)) }
+    ensures failed { IfErr result (λ fault. made ≡ Err fault) }
+{
+    Ok((value, made?))
+}
+
 /// What a domain and a problem, or a domain alone, declare, where no fault from 21 on stands.
 fn link_files<'m, 'a, A: Allocator, B: Allocator>(
     alloc: &'a B,
@@ -55,9 +64,10 @@ fn link_files<'m, 'a, A: Allocator, B: Allocator>(
     type_twice(alloc, domain)?;
     let types = Types::of(alloc, hashed, &domain.types)?;
     let mut known = Known::of(types);
-    let mut told = Told::new(alloc, hashed);
+    let mut told = Told::new(&known.types);
     let order = order_behind_types(&mut known, &mut told, domain, problem);
-    let tables = Tables::of(known, told, order)?;
+    let (known, order) = beside(known, order)?;
+    let tables = Tables { known, told, order };
     let goal = look_at_goal(&tables, domain, problem);
     goal.and(Ok(tables))
 }

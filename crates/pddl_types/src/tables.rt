@@ -1,6 +1,6 @@
 //! What two files declare, and the objects that fit a type: how many, and which.
 
-ghost use Rattle.std.specs.Prelude.{◌≡◌, false, Some, Err, List, slice_get, IsOk, IfOk, IfErr, OnOk};
+ghost use Rattle.std.specs.Prelude.{◌≡◌, false, Some, List, slice_get, IfOk};
 ghost use Rattle.std.specs.Option.{option_map_or};
 ghost use Rattle.pddl_formula.specs.TypedLists.{TypedValue};
 ghost use Rattle.pddl_domain.specs.Actions.{ActionValue};
@@ -15,7 +15,6 @@ ghost use Rattle.pddl_types.specs.Known.{objects_in, AreAllKnown};
 
 use crate::known::Known;
 use crate::told::Told;
-use pddl_faults::LinkFault;
 use pddl_forest::Span;
 use pddl_formula::TypeNames;
 use pddl_sizes::{FittingCount, ObjectOrder};
@@ -32,27 +31,6 @@ pub struct Tables<'m, 'a, A: Allocator, B: Allocator> {
 }
 
 impl<'m, 'a, A: Allocator, B: Allocator> Tables<'m, 'a, A, B> {
-    /// What is known and told, with the order of objects, where that was made.
-    ///
-    /// # Errors
-    ///
-    /// The fault for which it was not.
-    pub fn of(
-        known: Known<'m, 'a, A, B>,
-        told: Told<'m, 'a, A, B>,
-        order: Result<ObjectOrder<'a, B>, LinkFault<'m>>,
-    ) -> Result<Tables<'m, 'a, A, B>, LinkFault<'m>>
-        requires numbered { IfOk order (λ o. AreNumbered known.types (objects_in known) o.numbers.items) }
-        ensures made { OnOk result (IsOk order.entry) }
-        ensures held { IfOk result (λ tables. (tables.known ≡ known.entry) × (tables.told ≡ told.entry)) }
-        ensures failed { IfErr result (λ fault. order.entry ≡ Err fault) }
-    {
-        match order {
-            Ok(order) => Ok(Tables { known, told, order }),
-            Err(fault) => Err(fault),
-        }
-    }
-
     /// The tops of the type of a parameter of an action, both by their numbers.
     pub fn parameter_tops(&self, action: usize, parameter: usize) -> &[Span]
         ensures apart { (t : TypesValue) → AreTold t self.now.told → AreApart result.now }

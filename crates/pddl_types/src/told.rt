@@ -39,10 +39,12 @@ impl<'m, 'a, A: Allocator, B: Allocator> Model for Told<'m, 'a, A, B> {
 }
 
 impl<'m, 'a, A: Allocator, B: Allocator> Told<'m, 'a, A, B> {
-    /// No types.
-    pub fn new(alloc: &'a B, hashed: Hashed) -> Told<'m, 'a, A, B>
+    /// No types, of those that are declared.
+    pub fn new(declared: &Types<'m, 'a, A, B>) -> Told<'m, 'a, A, B>
         ensures { result ≡ [] }
     {
+        let alloc = declared.allocator();
+        let hashed = declared.hashed();
         Told {
             types: IndexMap::with_hasher(alloc, hashed),
             fitting: IndexMap::with_hasher(alloc, hashed),

@@ -36,19 +36,18 @@ behind_types d p r once none =
 pub order_behind_types-order-requires-clause-typed : goal.order_behind_types-order-requires-clause-typed
 order_behind_types-order-requires-clause-typed g c = rw c.of-known.ensures.types c.in_ok-types.ensures.types
 
-pub returns-in_err-tables-clause-verdict : goal.returns-in_err-tables-clause-verdict
-returns-in_err-tables-clause-verdict g c =
+pub returns-in_err-known-clause-verdict : goal.returns-in_err-known-clause-verdict
+returns-in_err-known-clause-verdict g c =
     let d = domain_view c.args.domain.now in
     let p = problem_in c.args.problem in
-    let q = err_from_is_err_and c.from_residual-in_err-tables.result c.from_residual-in_err-tables.ensures.1 in
-    let e = c.in_err-tables.field-0.0 in
+    let q = err_from_is_err_and c.from_residual-in_err-known.result c.from_residual-in_err-known.ensures.1 in
+    let e = c.in_err-known.field-0.0 in
     rw (q.1, q.2) (behind_types {T = Unit {0}} d p (Err e) c.in_ok-type_twice.ensures c.in_ok-types.ensures.cycle
-    (stage_first 33 (map (fault_in d p) part_rules) (map (fault_in d p) goal_rules) e refl refl (rw c.in_err-tables.ensures.failed at c.order_behind_types-order.ensures.verdict)))
+    (stage_first 33 (map (fault_in d p) part_rules) (map (fault_in d p) goal_rules) e refl refl (rw c.in_err-known.ensures.failed at c.order_behind_types-order.ensures.verdict)))
 
 pub look_at_goal-goal-requires : goal.look_at_goal-goal-requires
 look_at_goal-goal-requires g c =
-    rw (c.in_ok-tables.ensures.held.0, c.in_ok-tables.ensures.held.1)
-    (ok_holds _ _ c.order_behind_types-order.result c.in_ok-tables.ensures.made c.order_behind_types-order.ensures.known)
+    rw c.in_ok-known.ensures.made.0 (rw c.in_ok-known.ensures.made.1 at c.order_behind_types-order.ensures.known)
 
 -- what holds where nothing is found holds of what is given on then
 given_on : {U T E : Type 0} (P : T → Type 0) (Q : E → Type 0) (r : Result U E) (x : T) → MatchResult r (λ _. P x) Q → MatchResult (result_and r (Ok x)) P Q
@@ -58,8 +57,7 @@ given_on P Q (Err e) x h = h
 pub returns-clause-known : goal.returns-clause-known
 returns-clause-known g c =
     rw c.and.ensures
-    (given_on _ _ c.look_at_goal-goal.result _ (holds_on c.look_at_goal-goal.result (rw (c.in_ok-tables.ensures.held.0, c.in_ok-tables.ensures.held.1)
-    (ok_holds _ _ c.order_behind_types-order.result c.in_ok-tables.ensures.made c.order_behind_types-order.ensures.known))))
+    (given_on _ _ c.look_at_goal-goal.result _ (holds_on c.look_at_goal-goal.result (rw c.in_ok-known.ensures.made.0 (rw c.in_ok-known.ensures.made.1 at c.order_behind_types-order.ensures.known))))
 
 pub returns-clause-verdict : goal.returns-clause-verdict
 returns-clause-verdict g c =
@@ -69,5 +67,5 @@ returns-clause-verdict g c =
     let parts = map (fault_in d p) part_rules in
     rw c.and.ensures
     (behind_types d p _ c.in_ok-type_twice.ensures c.in_ok-types.ensures.cycle
-    (decided_after parts goals _ (ok_holds _ _ c.order_behind_types-order.result c.in_ok-tables.ensures.made c.order_behind_types-order.ensures.verdict)
+    (decided_after parts goals _ (rw c.in_ok-known.ensures.made.1 at c.order_behind_types-order.ensures.verdict)
     (given_on _ _ c.look_at_goal-goal.result _ (alone_verdict 35 (large_goals d p) c.look_at_goal-goal.result c.look_at_goal-goal.ensures))))
