@@ -237,7 +237,7 @@ up_low ps within (suc n) i low = up_low ps within n (parent_of ps i) (within i l
 -- ---- what is left where all that was listed is peeled off
 
 module _ {ps left order : List ℕ} {spans : List Span} (peeling : ArePeeling ps left order spans (length order)) (within : (i : ℕ) → i < length ps → parent_of ps i < length ps) where
-  pub all_peeled : ArePeeled ps left order spans
+  all_peeled : ArePeeled ps left order spans
   all_peeled = rw (take_all (length order) order (omega arith)) at peeling.peeled
 
   -- a place is listed where no child of it is left
