@@ -1,7 +1,7 @@
 -- Places that are peeled off in turn, each once no child of it is left, and at which turn a place stands in their order. Those of which children are left where no more
 -- can be peeled off lie on ways that go round; where there are none, the others are in order.
-use Rattle.std.proofs.Common.{◌≡◌, ◌≢◌, ℕ, ◌<◌, ◌≤◌, eqb, ltb, not, List, [], ◌∷◌, ◌++◌, ◌∙◌, map, length, replicate, refl, sym, ap, subst, arith, ◌+◌, ◌-◌, cond, take, slice_set, ◌↔◌, zero, suc, Bool, true, false, true≢false, inl, inr}
-use Rattle.std.proofs.lemmas.Bool.{eqb-true, ne_eqb, eq-eqb, cases_Bool, cases_eq}
+use Rattle.std.proofs.Common.{◌≡◌, ◌≢◌, ℕ, ◌<◌, ◌≤◌, eqb, ltb, not, List, [], ◌∷◌, ◌++◌, ◌∙◌, map, length, replicate, refl, sym, ap, subst, arith, ◌+◌, ◌-◌, ◌&&◌, cond, take, slice_set, ◌↔◌, zero, suc, Bool, true, false, true≢false, inl, inr}
+use Rattle.std.proofs.lemmas.Bool.{eqb-true, eq-eqb, cases_Bool, cases_eq}
 use Rattle.std.proofs.lemmas.Bool.Decides.{nat_tests}
 use Rattle.std.proofs.lemmas.List.{get_or_append_left, get_or_push, length_push, get_or_default, get_or-replicate, length-replicate, get_or-set_same, get_or-set_other, length-set, take-append-le, take_more, get_or_past, take_all}
 use Rattle.std.proofs.lemmas.List.Folds.{sum_by-replicate, position_or_len_push, Any-from_list_any, list_any_at}
@@ -16,7 +16,7 @@ use Rattle.pddl_forest.specs.Forests.{number_at, parent_of, up}
 use Rattle.pddl_forest.specs.declared.spans.Span.{Span}
 use Rattle.pddl_forest.specs.Inner.{turn_of, AreCounted, ArePeeled, ArePeeling, left_under, put_under, GoRound, IsOrder}
 use Rattle.std.specs.Prelude.{IsTrue, MatchBool}
-use Rattle.pddl_forest.specs.Rounds.{GoesRound, IsOnRound, HasRound, AreRounds}
+use Rattle.pddl_forest.specs.Rounds.{GoesRound, HasRound, AreRounds}
 
 pub turn_few : (order : List ℕ) (i : ℕ) → turn_of order i ≤ length order
 turn_few order i = prefix_len-le-length (λ x. not (eqb i x)) order
@@ -41,14 +41,8 @@ few_apart n m f below apart =
     omega (
       arith,
       long,
-      length-le_from_distinct_below xs n
-          (IsDistinct-from_apart eqb xs (λ a b d less low.
-          let b_low : b < m = omega (arith, low, long) in
-          rw (at_low a d (omega (arith, less, b_low)), at_low b d b_low) (ne_eqb (f a) (f b) (apart a b less b_low))))
-          (λ x there.
-          let (k, y, inside, is, on) = Any-from_list_any (eqb x) xs there in
-          let low : k < m = omega (arith, inside, long) in
-          subst (λ z. z < n) (sym (at_low k y low) ∙ is ∙ sym (eqb-true x y on)) (below k low)),
+      length-le_from_distinct_below xs n (IsDistinct-from_apart eqb xs (λ a b d less low. grind (arith, nat_tests, at_low a d, at_low b d, apart a b less, less, low, long)))
+          (λ x there. let (k, y, inside, is, on) = Any-from_list_any (eqb x) xs there in grind (arith, nat_tests, at_low k y, is, on, below k, inside, long)),
     )
 
 -- one number more is counted
@@ -243,7 +237,7 @@ up_low ps within (suc n) i low = up_low ps within n (parent_of ps i) (within i l
 -- ---- what is left where all that was listed is peeled off
 
 module _ {ps left order : List ℕ} {spans : List Span} (peeling : ArePeeling ps left order spans (length order)) (within : (i : ℕ) → i < length ps → parent_of ps i < length ps) where
-  pub all_peeled : ArePeeled ps left order spans
+  all_peeled : ArePeeled ps left order spans
   all_peeled = rw (take_all (length order) order (omega arith)) at peeling.peeled
 
   -- a place is listed where no child of it is left
@@ -309,10 +303,9 @@ module _ {ps left order : List ℕ} {spans : List Span} (peeling : ArePeeling ps
 
     -- otherwise all places are listed, and a way from one to its parents has no end
     top : parent_of ps 0 ≡ 0
-    top = elim (cases_eq (parent_of ps 0) 0) as (λ _. parent_of ps 0 ≡ 0) [
-      | inl is ↦ is
-      | inr other ↦ let inside = listed (up ps (length order) 0) (up_low ps within (length order) 0 some) (λ _. other) in absurd (omega (arith, climbs (length order) 0 some inside, inside))
-    ]
+    top =
+        let inside = λ (other : parent_of ps 0 ≢ 0). listed (up ps (length order) 0) (up_low ps within (length order) 0 some) (λ _. other) in
+        grind (arith, inside, climbs (length order) 0 some)
 
     above : turn_of order 0 ≡ length order
     above = grind (arith, all_peeled.behind 0 some, ap (turn_of order) top, turn_few order 0)
@@ -338,18 +331,14 @@ module _ {ps left order : List ℕ} {spans : List Span} (peeling : ArePeeling ps
     }
 
 -- with the number 0 for place 0 where it is its own parent
-module _ {ps numbers : List ℕ} (h : GoRound ps numbers) where
-  pub with_top : parent_of ps 0 ≢ 0 → AreRounds ps numbers
-  with_top other = record { many = h.many; each = λ i low. (λ some. ((h.each i low).0 some, λ _. other), λ round. (h.each i low).1 round.0) }
-
-  pub without_top : 0 < length ps → parent_of ps 0 ≡ 0 → AreRounds ps (slice_set numbers 0 0)
-  without_top first own = record {
-    many = length-set numbers 0 0 ∙ h.many;
-    each = λ i low. elim (cases_eq i 0) as (λ _. (number_at (slice_set numbers 0 0) i ≢ 0) ↔ IsOnRound ps i) [
-      | inl is ↦ (λ some. absurd (some (ap (number_at (slice_set numbers 0 0)) is ∙ get_or-set_same numbers 0 0 0 (omega (arith, first, h.many)))), λ round. absurd (round.1 is own))
-      | inr other ↦ rw (get_or-set_other numbers 0 i 0 0 other) (λ some. ((h.each i low).0 some, λ is. absurd (other is)), λ round. (h.each i low).1 round.0)
-    ];
-  }
+pub without_top : {ps numbers after : List ℕ} → GoRound ps numbers → 0 < length ps → after ≡ cond (eqb (number_at ps 0) 0) (slice_set numbers 0 0) numbers → AreRounds ps after
+without_top {ps} {numbers} {after} h first is = record {
+  many = grind (arith, nat_tests, is, length-set numbers 0 0, h.many);
+  each = λ i low.
+      let same : parent_of ps 0 ≡ number_at ps 0 = get_or_default ps 0 0 0 first in
+      let here : number_at after i ≡ cond (eqb i 0 && eqb (parent_of ps 0) 0) 0 (number_at numbers i) = grind (arith, nat_tests, is, same, get_or-set_same numbers 0 0 0, get_or-set_other numbers 0 i 0 0, first, h.many) in
+      (λ some. ((h.each i low).0 (λ none. some (grind (arith, nat_tests, here, none))), λ top own. some (grind (arith, nat_tests, here, top, own))), λ round none. (h.each i low).1 round.0 (grind (arith, nat_tests, here, none, round.1)));
+}
 
 -- some number is other than 0 where some way goes round
 pub told_round : {ps numbers : List ℕ} (told : Bool) → AreRounds ps numbers → MatchBool told ((k : ℕ) × (k < length numbers) × HoldsAt (λ n. n ≢ 0) numbers k) (AllWithin (λ n. n ≡ 0) numbers 0 (length numbers))

@@ -79,12 +79,12 @@ fn first_cycle<'m, 'a, A: Allocator, B: Allocator>(
 pub(crate) fn spans_of<'m, 'a, A: Allocator, B: Allocator>(
     alloc: &'a B,
     table: &IndexMap<&'m [u8], usize, Hashed, &'a B>,
-    declared: &'m [DeclaredType<A>],
+    declared: &'m DeclaredTypes<A>,
 ) -> Result<Vec<Span, &'a B>, LinkFault<'m>>
-    requires { IsTypeTable (map type_view declared.now) table.now.entries }
+    requires { IsTypeTable (map type_view declared.now.items) table.now.entries }
     ensures short { IfOk result (λ spans. length spans.items < 2 ^ 32) }
     ensures spans { IfOk result (λ spans. AreSpans (parents_in table.now.entries) spans.items) }
-    ensures cycle { Passes 22 (cycle_in (map type_view declared.now)) result }
+    ensures cycle { Passes 22 (cycle_in (map type_view declared.now.items)) result }
 {
     let parents = parent_places(alloc, table)?;
     match forest_spans(alloc, &parents)? {

@@ -1,33 +1,17 @@
-use Rattle.std.proofs.Common.{ap, ◌∙◌, refl, inl, inr, arith}
+use Rattle.std.proofs.Common.{ap, arith}
 use Rattle.std.proofs.lemmas.List.{drop_all}
-use Rattle.pddl_sizes.proofs.Capped.{quantified}
 use denote.Param.Weighed.{most}
 use Rattle.pddl_effect.proofs.effect.Effect.TheLaws.{the_size}
 use Rattle.pddl_formula.proofs.Depths.{among}
 use Rattle.pddl_effect.proofs.Depths.{under_all}
 use Rattle.pddl_faults.proofs.ViewTurns.{effects-drop}
-use Rattle.pddl_effect.proofs.Views.{view_and, view_forall, view_when, view_add, view_del, view_increase}
+use Rattle.pddl_effect.proofs.Views.{view_and}
 use Rattle.pddl_sizes.proofs.size.+effect_ground_size.Goals as goal
 
 pub returns-after-loop-part : goal.returns-after-loop-part
 returns-after-loop-part g t c =
     let whole = rw (drop_all c.loop-part.part-index c.deref-part-items.result.now c.loop-part-test.false) at c.loop-part.invariant.whole in
     rw (c.in-And.is, view_and _, ← c.deref-part-items.ensures.value) (omega (arith, whole, c.loop-part.invariant.low))
-
-pub returns-in-Forall : goal.returns-in-Forall
-returns-in-Forall g t c =
-    rw (c.in-Forall.is, view_forall _ _, ← c.deref.ensures) (c.quantifier_size.ensures ∙ quantified _ _ _ _ c.effect_ground_size-in-Forall.ensures)
-
-pub returns-in-When : goal.returns-in-When
-returns-in-When g t c =
-    rw (c.in-When.is, view_when _ _, ← c.deref-in-When.ensures)
-    (omega (arith, c.sum-in-When.ensures, c.sum.ensures, c.ground_size-condition.ensures, c.effect_ground_size-inner.ensures))
-
-pub returns-in-Add : goal.returns-in-Add
-returns-in-Add g t c = elim c.in-Add.is [
-  | inl is ↦ rw (is.1, view_add _) refl
-  | inr is ↦ elim is [ inl is ↦ rw (is.1, view_del _) refl | inr is ↦ rw (is.1, view_increase _) refl ]
-]
 
 pub loop-part-preserved : goal.loop-part-preserved
 loop-part-preserved g t c =

@@ -1,6 +1,6 @@
-use Rattle.std.proofs.Common.{◌<◌, ◌≡◌, ◌-◌, length, get_or, slice_get, map, take, Some, [], ◌∷◌, List, sym, ap, ◌∙◌, subst, arith}
+use Rattle.std.proofs.Common.{◌<◌, ◌≡◌, ◌-◌, length, get_or, slice_get, map, take, Some, [], ◌∷◌, List, sym, ap, ◌∙◌, arith}
 use Rattle.std.proofs.lemmas.List.{take_all}
-use Rattle.pddl_domain.specs.Declarations.{TypeValue, type_view}
+use Rattle.pddl_domain.specs.Declarations.{type_view}
 use Rattle.pddl_task.specs.Types.{types_of}
 use Rattle.pddl_types.specs.TypeTables.{Row, StandsAt, IsTableOf}
 use Rattle.pddl_sizes.proofs.SharedTypes.{of_next}
@@ -40,12 +40,9 @@ loop-number-preserved g c =
     let over = c.if-not-shares.over in
     let child = c.as_bytes-in-loop-number.result in
     record {
-      table = subst (λ ds. IsTableOf (types_of ds) ds after) (sym (seen_more type_view [] xs l.number x low at))
+      table = rw (seen_more type_view [] xs l.number x low at)
           (put_under rows after child over c.in_ok-insert-2.ensures.entries c.in_ok-insert-2.ensures.unique told (type_view x) ready.0 (sym c.as_bytes-in-loop-number.ensures.value) ready.1);
-      last = λ j y next found.
-          let same : Some (type_view x) ≡ Some y = sym here ∙ ap (slice_get (map type_view xs)) (omega (arith, next)) ∙ found in
-          let one : type_view x ≡ y = cc in
-          subst (λ (v : TypeValue). StandsAt after over v.of) one (subst (λ rs. StandsAt rs over (type_view x).of) (sym c.in_ok-insert-2.ensures.entries) (stands_on rows child over over (type_view x).of ready.1));
+      last = λ j y next found. rw c.in_ok-insert-2.ensures.entries (grind (arith, here, found, next, stands_on rows child over over (type_view x).of ready.1));
     }
 
 pub returns : goal.returns
