@@ -1,16 +1,14 @@
 -- The faults of a predicate or a function with its terms.
-use Rattle.std.proofs.Common.{arith, ◌≡◌, ◌≤◌, ℕ, Bool, ◌||◌, true, false, not, ◌∷◌, refl, List, [], ◌++◌, map, length, drop, ◌==◌, Option, Some, None, Result, Err, ap, sym, ◌∙◌, bytes_eq, Contains, is_some, option_map, flat_map, Bor}
+use Rattle.std.proofs.Common.{arith, ◌≡◌, ◌≤◌, ℕ, Bool, ◌||◌, true, false, not, ◌∷◌, refl, List, [], ◌++◌, map, length, drop, ◌==◌, Some, None, Result, Err, ap, sym, ◌∙◌, bytes_eq, Contains, is_some, option_map, flat_map, Bor}
 use Rattle.std.specs.Map.{lookup}
-use Rattle.std.proofs.lemmas.Option.{same_Some}
 use Rattle.std.proofs.Math.Bool.{or-false}
 use Rattle.std.proofs.lemmas.List.{drop_all}
 use Rattle.std.proofs.lemmas.List.Elements.{All-contains}
 use Rattle.pddl_formula.specs.Terms.{TermValue}
 use Rattle.pddl_formula.specs.TypedLists.{TypedValue, typed_view}
-use Rattle.pddl_domain.specs.Declarations.{Signature}
 use Rattle.pddl_task.specs.Names.{Name, word_if}
 use Rattle.pddl_task.specs.Settings.{Setting}
-use Rattle.pddl_task.specs.Faults.{Use, is_declared, signature_of, unknown_term, takes_others, some_misfit, has_misfit}
+use Rattle.pddl_task.specs.Faults.{Use, is_declared, signature_of, unknown_term, some_misfit}
 use Rattle.pddl_task.proofs.Lists.{at_place, bytes_same, has_first}
 use Rattle.pddl_faults.specs.declared.fault.LinkFault.{LinkFault}
 use Rattle.pddl_faults.specs.declared.fault.LinkFault.TheVariants as link
