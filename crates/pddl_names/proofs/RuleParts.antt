@@ -5,6 +5,7 @@ use Rattle.std.proofs.lemmas.Bool.Decides.{nat_tests}
 use Rattle.std.proofs.lemmas.List.{map-append}
 use Rattle.std.proofs.lemmas.List.Concat.{flat_map-append}
 use Rattle.std.proofs.lemmas.List.Elements.{filter-append}
+use Rattle.std.proofs.lemmas.List.Folds.{list_all-append}
 use Rattle.pddl_domain.specs.Declarations.{TypeValue}
 use Rattle.pddl_domain.specs.Actions.{ActionValue}
 use Rattle.pddl_domain.specs.Domains.{DomainValue}
@@ -21,7 +22,6 @@ use Rattle.pddl_faults.specs.Found.{IsLowestOf, IsFound, numbered}
 use Rattle.pddl_types.specs.Told.{unknown_among}
 use Rattle.pddl_types.specs.Objects.{off_types}
 use Rattle.pddl_types.specs.Known.{declared_typed}
-use Rattle.std.proofs.lemmas.List.Folds.{list_all-append}
 use Rattle.pddl_types.proofs.UnknownTypes.{unknown-append}
 use Rattle.pddl_names.specs.Uses.{place_faults}
 use Rattle.pddl_names.specs.FaultParts.{joined, action_faults, domain_parts, problem_parts, part_rules}

@@ -24,13 +24,6 @@ use Rattle.pddl_types.proofs.Lookups.{is_symbol, entry_at}
 use Rattle.pddl_names.specs.Uses.{faults_of_use}
 use Rattle.pddl_names.proofs.FoundParts.{from_parts, passed_first}
 
--- names that are not known, another number of terms, and terms that do not fit
-abbrev in_turn : List Name → List Name → List Name → List (ℕ × Name)
-in_turn xs ys zs = numbered 26 xs ++ (numbered 27 ys ++ numbered 28 zs)
-
-first_found : (xs ys zs : List Name) (e : LinkFault) → Passes {T = Unit {0}} 26 xs (Err e) → IsFound {T = Unit {0}} (in_turn xs ys zs) (Err e)
-first_found xs ys zs e h = passed_first 26 xs (numbered 27 ys ++ numbered 28 zs) e h (simp from_parts)
-
 -- the signature of a name, where its slots are found
 signature_here : {A B : Type 0} (es : Rows A B) (n : Name)
     → signature_among (map signature_in es) n ≡ option_map (λ (v : Slots A B). record { name = n; parameters = map typed_view v.parameters.now }) (lookup (λ k. bytes_eq n k.now) es)
@@ -45,7 +38,7 @@ module _ {A B : Type 0} (s : Setting) (b : List TypedValue) (ts : List TermValue
   pub undeclared_found : None ≡ lookup (λ k. bytes_eq w.now k.now) es → IsFound {T = Unit {0}} (faults_of_use s b used) (Err (link.UnknownName w))
   undeclared_found at =
       let none : is_declared used ≡ false = sym (is_symbol es w.now) ∙ ap is_some (sym at) in
-      rw none (first_found (w.now ∷ flat_map (unknown_term s b) ts) _ _ (link.UnknownName w) (refl, has_first w.now _))
+      rw none (passed_first 26 (w.now ∷ flat_map (unknown_term s b) ts) _ (link.UnknownName w) (refl, has_first w.now _) (simp from_parts))
 
   module _ (slots : Slots A B) (at : Some slots ≡ lookup (λ k. bytes_eq w.now k.now) es) where
     abbrev words : List Name
@@ -61,7 +54,8 @@ module _ {A B : Type 0} (s : Setting) (b : List TypedValue) (ts : List TermValue
         All-contains (λ (e : Bor (List ℕ) × Slots A B). IsSlotsAt told e.1) es (k, slots) are (at_place es _ (k, slots) there)
 
     -- its faults are these
-    declared_is : faults_of_use s b used ≡ in_turn words (word_if (not (length ts == length xs)) w.now) (word_if (some_misfit s b ts xs) w.now)
+    declared_is : faults_of_use s b used
+        ≡ numbered 26 words ++ (numbered 27 (word_if (not (length ts == length xs)) w.now) ++ numbered 28 (word_if (some_misfit s b ts xs) w.now))
     declared_is =
         let on : is_declared used ≡ true = sym (is_symbol es w.now) ∙ ap is_some (sym at) in
         let found : signature_of used ≡ Some (record { name = w.now; parameters = xs }) = signature_here es w.now ∙ ap (option_map _) (sym at) in
@@ -69,7 +63,7 @@ module _ {A B : Type 0} (s : Setting) (b : List TypedValue) (ts : List TermValue
 
     -- a term is not known
     pub unknown_found : (v : Bor Name) → Contains words v.now → IsFound {T = Unit {0}} (faults_of_use s b used) (Err (link.UnknownName v))
-    unknown_found v has = rw declared_is (first_found words _ _ (link.UnknownName v) (refl, has))
+    unknown_found v has = rw declared_is (passed_first 26 words _ (link.UnknownName v) (refl, has) (simp from_parts))
 
     -- all are known, as far as they go
     module _ (i : ℕ) (past : length ts ≤ i) (left : flat_map (unknown_term s b) (drop i ts) ≡ words) where

@@ -3,9 +3,9 @@ use denote.Param.Weighed.{most}
 use Rattle.std.proofs.lemmas.List.Concat.{flat_map-append}
 use Rattle.std.proofs.lemmas.Result.{err_from_is_err_and}
 use Rattle.pddl_formula.specs.TypedLists.{typed_view}
+use Rattle.pddl_formula.proofs.Depths.{among}
 use Rattle.pddl_effect.specs.Effects.{effect_view, effects_of, amount_view}
 use Rattle.pddl_effect.proofs.effect.Effect.TheLaws.{the_size}
-use Rattle.pddl_formula.proofs.Depths.{among}
 use Rattle.pddl_effect.proofs.Depths.{under_all}
 use Rattle.pddl_effect.proofs.Views.{view_and, view_add, view_del, view_when, view_forall, view_increase}
 use Rattle.pddl_task.specs.Places.{at, calls, bare, total_cost, amount_part, effect_places, effects_places, binding}

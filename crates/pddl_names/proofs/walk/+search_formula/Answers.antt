@@ -7,8 +7,8 @@ use Rattle.pddl_formula.specs.Formulas.{formula_view, formulas_of}
 use Rattle.pddl_formula.specs.declared.type_names.Typed.{Typed}
 use Rattle.pddl_formula.specs.declared.formula.Formula.{Formula}
 use Rattle.pddl_formula.specs.declared.formula.Formula.TheVariants.{Exists, Forall}
-use Rattle.pddl_formula.proofs.formula.Formula.TheLaws.{the_size}
 use Rattle.pddl_formula.specs.declared.formula.Formula.TheFolds as folds
+use Rattle.pddl_formula.proofs.formula.Formula.TheLaws.{the_size}
 use Rattle.pddl_formula.proofs.Depths.{among}
 use Rattle.pddl_formula.proofs.Views.{view_atom, view_equal, view_imply, view_and, view_or, view_exists, view_forall}
 use Rattle.pddl_task.specs.Places.{at, binds, places_in, places_in_all, binding}
