@@ -178,13 +178,7 @@ module _ (d : DomainValue) (p : ProblemValue) where
   }
     where
       others : (xs q f a ys pl vs zs : List Name) → (xs ++ ys ≡ [] → vs ++ zs ≡ []) → (((xs ++ q) ++ f) ++ a) ++ (ys ++ pl) ≡ [] → (((vs ++ q) ++ f) ++ a) ++ (zs ++ pl) ≡ []
-      others xs q f a ys pl vs zs same none =
-          let (front, back) = nil_parts (((xs ++ q) ++ f) ++ a) (ys ++ pl) none in
-          let (first, acts) = nil_parts ((xs ++ q) ++ f) a front in
-          let (symbols, functions) = nil_parts (xs ++ q) f first in
-          let (own, predicates) = nil_parts xs q symbols in
-          let (objects, places) = nil_parts ys pl back in
-          rw (predicates, functions, acts, places) (simp append-none (same (both_nil xs ys own objects)))
+      others xs q f a ys pl vs zs same none = grind (arith, nil_parts, both_nil, same)
 
   pub parts_verdict : (r : Result (Unit {0}) LinkFault) → IsFound all_parts r → Verdict (map (fault_in d p) part_rules) r
   parts_verdict r h =
