@@ -174,11 +174,8 @@ module _ (d : DomainValue) (p : ProblemValue) where
     stands = λ w c.
         within_both _ _ _ _ w (within_both _ _ _ _ w (within_both _ _ _ _ w (within_both _ _ _ _ w (off_within [] d.constants w) (λ c. c)) (λ c. c)) (λ c. c))
         (within_both _ _ _ _ w (off_within d.constants p.objects w) (λ c. c)) (subst (λ ws. Contains ws w) is c);
-    none = λ none. others (off_types [] d.constants) _ _ _ (off_types d.constants p.objects) _ _ _ (none_retyped d.constants p.objects) (sym is ∙ none);
+    none = λ none. grind (arith, nil_parts, both_nil, none_retyped d.constants p.objects, sym is ∙ none);
   }
-    where
-      others : (xs q f a ys pl vs zs : List Name) → (xs ++ ys ≡ [] → vs ++ zs ≡ []) → (((xs ++ q) ++ f) ++ a) ++ (ys ++ pl) ≡ [] → (((vs ++ q) ++ f) ++ a) ++ (zs ++ pl) ≡ []
-      others xs q f a ys pl vs zs same none = grind (arith, nil_parts, both_nil, same)
 
   pub parts_verdict : (r : Result (Unit {0}) LinkFault) → IsFound all_parts r → Verdict (map (fault_in d p) part_rules) r
   parts_verdict r h =
