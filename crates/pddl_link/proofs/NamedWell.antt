@@ -20,11 +20,11 @@ use Rattle.pddl_types.specs.KnownNames.{action_signature, object_in}
 use Rattle.pddl_types.specs.Told.{ToldValue, first_at, AreTold, unknown_among}
 use Rattle.pddl_types.specs.Objects.{IsObjectAt}
 use Rattle.pddl_types.specs.TypeSpans.{TypesValue, AreNumbered}
-use Rattle.pddl_names.specs.FaultParts.{part_rules}
 use Rattle.pddl_types.specs.Known.{IsDeclaredOnce}
-use Rattle.pddl_linked_task.proofs.OnceNamed.{once_declared}
 use Rattle.pddl_types.proofs.ObjectTables.{are_numbered}
 use Rattle.pddl_types.proofs.UnknownTypes.{unknown-append}
+use Rattle.pddl_names.specs.FaultParts.{part_rules}
+use Rattle.pddl_linked_task.proofs.OnceNamed.{once_declared}
 
 -- the types of the parameters of actions are known where those of all that actions bind are
 action_types : (ts : List TypeValue) (acts : List ActionValue) → unknown_among ts (flat_map variables_at (flat_map action_places acts)) ≡ [] → unknown_among ts (flat_map parameters_of (map action_signature acts)) ≡ []

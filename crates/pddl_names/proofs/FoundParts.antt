@@ -8,7 +8,7 @@ use Rattle.pddl_task.proofs.Lists.{all_found, append-none}
 use Rattle.pddl_faults.specs.declared.fault.LinkFault.{LinkFault}
 use Rattle.pddl_faults.specs.Passes.{Passes}
 use Rattle.pddl_faults.specs.Found.{IsFound, numbered}
-use Rattle.pddl_faults.proofs.FoundFaults.{number_is, found_first, found_same, passed_as, passed_found}
+use Rattle.pddl_faults.proofs.FoundFaults.{number_is, found_first, passed_found}
 use Rattle.pddl_names.specs.FaultParts.{joined}
 
 -- a pass for one fault alone

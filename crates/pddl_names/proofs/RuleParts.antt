@@ -5,6 +5,7 @@ use Rattle.std.proofs.lemmas.Bool.Decides.{nat_tests}
 use Rattle.std.proofs.lemmas.List.{map-append}
 use Rattle.std.proofs.lemmas.List.Concat.{flat_map-append}
 use Rattle.std.proofs.lemmas.List.Elements.{filter-append}
+use Rattle.std.proofs.lemmas.List.Folds.{list_all-append}
 use Rattle.pddl_domain.specs.Declarations.{TypeValue}
 use Rattle.pddl_domain.specs.Actions.{ActionValue}
 use Rattle.pddl_domain.specs.Domains.{DomainValue}
@@ -21,7 +22,6 @@ use Rattle.pddl_faults.specs.Found.{IsLowestOf, IsFound, numbered}
 use Rattle.pddl_types.specs.Told.{unknown_among}
 use Rattle.pddl_types.specs.Objects.{off_types}
 use Rattle.pddl_types.specs.Known.{declared_typed}
-use Rattle.std.proofs.lemmas.List.Folds.{list_all-append}
 use Rattle.pddl_types.proofs.UnknownTypes.{unknown-append}
 use Rattle.pddl_names.specs.Uses.{place_faults}
 use Rattle.pddl_names.specs.FaultParts.{joined, action_faults, domain_parts, problem_parts, part_rules}
@@ -174,17 +174,8 @@ module _ (d : DomainValue) (p : ProblemValue) where
     stands = λ w c.
         within_both _ _ _ _ w (within_both _ _ _ _ w (within_both _ _ _ _ w (within_both _ _ _ _ w (off_within [] d.constants w) (λ c. c)) (λ c. c)) (λ c. c))
         (within_both _ _ _ _ w (off_within d.constants p.objects w) (λ c. c)) (subst (λ ws. Contains ws w) is c);
-    none = λ none. others (off_types [] d.constants) _ _ _ (off_types d.constants p.objects) _ _ _ (none_retyped d.constants p.objects) (sym is ∙ none);
+    none = λ none. grind (arith, nil_parts, both_nil, none_retyped d.constants p.objects, sym is ∙ none);
   }
-    where
-      others : (xs q f a ys pl vs zs : List Name) → (xs ++ ys ≡ [] → vs ++ zs ≡ []) → (((xs ++ q) ++ f) ++ a) ++ (ys ++ pl) ≡ [] → (((vs ++ q) ++ f) ++ a) ++ (zs ++ pl) ≡ []
-      others xs q f a ys pl vs zs same none =
-          let (front, back) = nil_parts (((xs ++ q) ++ f) ++ a) (ys ++ pl) none in
-          let (first, acts) = nil_parts ((xs ++ q) ++ f) a front in
-          let (symbols, functions) = nil_parts (xs ++ q) f first in
-          let (own, predicates) = nil_parts xs q symbols in
-          let (objects, places) = nil_parts ys pl back in
-          rw (predicates, functions, acts, places) (simp append-none (same (both_nil xs ys own objects)))
 
   pub parts_verdict : (r : Result (Unit {0}) LinkFault) → IsFound all_parts r → Verdict (map (fault_in d p) part_rules) r
   parts_verdict r h =

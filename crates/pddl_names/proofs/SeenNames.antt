@@ -1,5 +1,5 @@
 -- Names that are seen one after another, and a set of them.
-use Rattle.std.proofs.Common.{◌≡◌, ℕ, Bool, true, false, ◌||◌, not, cond, List, [], ◌∷◌, ◌++◌, map, drop, Result, refl, ap, sym, ◌∙◌, bytes_eq, arith, Bor}
+use Rattle.std.proofs.Common.{◌≡◌, ℕ, Bool, true, false, ◌||◌, not, cond, List, [], ◌∷◌, ◌++◌, map, drop, Result, refl, bytes_eq, arith, Bor}
 use Rattle.std.specs.List.{list_any}
 use Rattle.std.proofs.Math.Bool.{not-not}
 use Rattle.pddl_domain.specs.declared.domain.Action.{Action}

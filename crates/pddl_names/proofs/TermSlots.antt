@@ -1,5 +1,5 @@
 -- Terms and their slots, in turn.
-use Rattle.std.proofs.Common.{◌≡◌, ℕ, ◌+◌, ◌<◌, ◌≤◌, Bool, false, not, ◌&&◌, ◌||◌, List, [], ◌∷◌, ◌++◌, length, get_or, drop, Option, Some, None, refl, ap, sym, ◌∙◌, arith, Contains, is_some, slice_get, flat_map}
+use Rattle.std.proofs.Common.{◌≡◌, ℕ, ◌+◌, ◌<◌, ◌≤◌, Bool, false, not, ◌&&◌, ◌||◌, List, [], ◌∷◌, length, get_or, drop, Option, Some, None, refl, ap, sym, ◌∙◌, arith, Contains, is_some, slice_get, flat_map}
 use Rattle.std.proofs.lemmas.List.{drop_all}
 use Rattle.std.proofs.lemmas.Option.{slice_get_within, get_or_from_slice_get}
 use Rattle.pddl_formula.specs.Terms.{TermValue, name, variable}
@@ -10,9 +10,9 @@ use Rattle.pddl_task.specs.Types.{fits}
 use Rattle.pddl_task.specs.Settings.{Setting}
 use Rattle.pddl_task.specs.Faults.{typed_term, unknown_term, is_misfit, some_misfit}
 use Rattle.pddl_task.proofs.Lists.{has_first}
-use Rattle.pddl_search.specs.Parts.{term_name}
 use Rattle.pddl_faults.proofs.PutValues.{is_there}
 use Rattle.pddl_faults.proofs.ListTurns.{rest_is}
+use Rattle.pddl_search.specs.Parts.{term_name}
 use Rattle.pddl_types.specs.Told.{ToldValue, IsAt}
 use Rattle.pddl_types.specs.Objects.{IsAtOf}
 

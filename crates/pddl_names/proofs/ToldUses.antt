@@ -1,5 +1,5 @@
 -- What is told of the types of terms and of slots, and of what is bound.
-use Rattle.std.proofs.Common.{◌≡◌, ℕ, suc, true, false, cond, List, [], ◌∷◌, map, length, drop, ◌≤◌, Some, None, refl, arith, option_map, find, slice_get, Bor, All}
+use Rattle.std.proofs.Common.{◌≡◌, ℕ, suc, List, [], ◌∷◌, map, length, drop, ◌≤◌, Some, None, refl, arith, option_map, find, slice_get, Bor, All}
 use Rattle.std.specs.Slice.{IsItemAt}
 use Rattle.std.proofs.lemmas.List.Elements.{All-weaker, All-drop, All-cons, All-head}
 use Rattle.std.proofs.lemmas.Option.{slice_get_read}
@@ -51,8 +51,8 @@ module _ {A B : Type 0} {k : Known A B} {told : ToldValue} {scope : List (TypedV
   pub told_inside : (xs : List TypedValue) (numbers : List ℕ) → AreAt told xs numbers → AreAllTold k told scope → AreAllTold k told (entered xs numbers scope)
   told_inside xs numbers at are = told_with (entered xs numbers scope) (told_entered told xs numbers scope at are.variables) are
 
-  pub told_outside : (many : ℕ) → AreAllTold k told scope → AreAllTold k told (drop many scope)
-  told_outside many are = told_with (drop many scope) (All-drop (λ e. IsAt told e.0.of e.1) many scope are.variables) are
+  pub told_outside : (many : ℕ) (now : List (TypedValue × ℕ)) → now ≡ drop many scope → AreAllTold k told scope → AreAllTold k told now
+  told_outside many now is are = told_with now (rw is (All-drop (λ e. IsAt told e.0.of e.1) many scope are.variables)) are
 
 -- ---- slots
 

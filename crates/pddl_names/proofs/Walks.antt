@@ -1,5 +1,5 @@
 -- A walk over places, part by part, and what is found at the places so far.
-use Rattle.std.proofs.Common.{◌≡◌, ℕ, ◌+◌, ◌<◌, ◌≤◌, List, [], ◌∷◌, ◌++◌, map, length, get_or, drop, Result, Err, ap, ◌∙◌, subst, flat_map}
+use Rattle.std.proofs.Common.{◌≡◌, ℕ, ◌+◌, ◌<◌, ◌≤◌, List, [], ◌∷◌, ◌++◌, map, length, get_or, drop, Result, Err, refl, flat_map}
 use Rattle.std.proofs.lemmas.List.{drop_all, append_assoc}
 use Rattle.std.proofs.lemmas.List.Concat.{flat_map-append}
 use Rattle.pddl_formula.specs.TypedLists.{TypedValue}
@@ -43,10 +43,8 @@ module _ {X : Type 0} (sought : Place → List (ℕ × Name)) (places : List X �
   pub one_more : {both : Result (Unit {0}) LinkFault} (one : Result (Unit {0}) LinkFault) (own : List Place) (x : X) → i < length xs → x ≡ get_or xs i x → ((rest : List X) → places (x ∷ rest) ≡ own ++ places rest)
       → Lowers r one both → IsFound (flat_map sought own) one → FoundBefore sought places xs i r → FoundBefore sought places xs (i + 1) both
   one_more one own x low is front lower here so_far =
-      let rest = drop (i + 1) xs in
-      up_to_more (flat_map sought own) one (ap (λ ys. flat_map sought (places ys)) (rest_is xs i x low is) ∙ ap (flat_map sought) (front rest) ∙ flat_map-append sought own (places rest)) lower here so_far
+      up_to_more (flat_map sought own) one (rw (rest_is xs i x low is, front (drop (i + 1) xs)) (flat_map-append sought own (places (drop (i + 1) xs)))) lower here so_far
 
   -- no item is left
   pub at_end : {all : List X} → length xs ≤ i → places [] ≡ [] → xs ≡ all → FoundBefore sought places xs i r → IsFound (flat_map sought (places all)) r
-  at_end past none same so_far =
-      subst (λ (ys : List X). IsFound (flat_map sought (places ys)) r) same (up_to_all (ap (λ ys. flat_map sought (places ys)) (drop_all i xs past) ∙ ap (flat_map sought) none) so_far)
+  at_end past none same so_far = rw (← same) (up_to_all (rw (drop_all i xs past, none) refl) so_far)

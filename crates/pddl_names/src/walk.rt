@@ -27,7 +27,7 @@ use pddl_types::{Known, Told};
 use std::alloc::Allocator;
 
 /// Searches a formula.
-#[tactic(auto, using(pddl_formula::specs::declared::formula::Formula::TheFolds::the_lemmas, pddl_faults::proofs::FoundFaults::up_to_none))]
+#[tactic(auto, using(pddl_formula::specs::declared::formula::Formula::TheFolds::the_lemmas, pddl_faults::proofs::FoundFaults::up_to_none, crate::proofs::ToldUses::told_outside))]
 fn search_formula<'m, 'a, A: Allocator, B: Allocator>(
     known: &Known<'m, 'a, A, B>,
     told: &mut Told<'m, 'a, A, B>,
@@ -64,7 +64,7 @@ fn search_formula<'m, 'a, A: Allocator, B: Allocator>(
 }
 
 /// Searches an effect.
-#[tactic(auto, using(pddl_effect::specs::declared::effect::Effect::TheFolds::the_lemmas))]
+#[tactic(auto, using(pddl_effect::specs::declared::effect::Effect::TheFolds::the_lemmas, crate::proofs::ToldUses::told_outside))]
 fn search_effect<'m, 'a, A: Allocator, B: Allocator>(
     known: &Known<'m, 'a, A, B>,
     told: &mut Told<'m, 'a, A, B>,
@@ -103,6 +103,7 @@ fn search_effect<'m, 'a, A: Allocator, B: Allocator>(
 }
 
 /// Searches an action: its parameters, its precondition and its effect.
+#[tactic(auto, using(crate::proofs::ToldUses::told_outside))]
 fn search_action<'m, 'a, A: Allocator, B: Allocator>(
     known: &Known<'m, 'a, A, B>,
     told: &mut Told<'m, 'a, A, B>,

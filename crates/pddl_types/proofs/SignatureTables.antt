@@ -88,10 +88,9 @@ module _ {A B S : Type 0} (m : IndexMap (Bor (List ℕ)) (Slots A B) S) {before 
   put_where_new v next (Some i) is put parameters at =
       let there = seen_there (Some i) is in (there, rw put (record { first = first_still have.first g there; slots = (have_still kept have).slots }))
   put_where_new v next None is put parameters at =
-      let new = seen_there None is in
       let last = put ∙ insert_entry-absent (λ a b. bytes_eq a.now b.now) k v m.entries (Missing-position (λ j. bytes_eq k.now j.now) m.entries (sym is)).absent in
       let own : signature_in (k, v) ≡ g = rw (name, parameters) refl in (
-        new,
+        seen_there None is,
         rw last (record {
           first = rw (map-append, own) (first_more have.first g);
           slots = All-push (λ e. IsSlotsAt after e.1) m.entries (k, v) (have_still kept have).slots at;

@@ -1,4 +1,3 @@
-use Rattle.std.proofs.Common.{refl}
 use Rattle.pddl_faults.proofs.FoundFaults.{passed_found}
 use Rattle.pddl_names.proofs.FoundParts.{passed_part}
 use Rattle.pddl_names.proofs.HeldFiles.{known_faults, nothing_bound, known_still}

@@ -1,4 +1,3 @@
-use Rattle.std.proofs.Common.{refl}
 use Rattle.std.proofs.lemmas.Result.{err_from_is_err_and}
 use Rattle.pddl_faults.proofs.FoundFaults.{passed_found}
 use Rattle.pddl_names.proofs.FoundParts.{from_parts, passed_first, passed_part, holds_on}

@@ -1,4 +1,4 @@
-use Rattle.std.proofs.Common.{[], not, refl, ap, sym, ◌∙◌, subst}
+use Rattle.std.proofs.Common.{[], not, refl, ap, sym, ◌∙◌}
 use Rattle.std.proofs.lemmas.List.{drop_all}
 use Rattle.std.proofs.lemmas.Simd.{map-map}
 use Rattle.pddl_domain.specs.Declarations.{type_view}

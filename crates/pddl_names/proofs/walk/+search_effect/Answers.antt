@@ -3,9 +3,9 @@ use denote.Param.Weighed.{most}
 use Rattle.std.proofs.lemmas.List.Concat.{flat_map-append}
 use Rattle.std.proofs.lemmas.Result.{err_from_is_err_and}
 use Rattle.pddl_formula.specs.TypedLists.{typed_view}
+use Rattle.pddl_formula.proofs.Depths.{among}
 use Rattle.pddl_effect.specs.Effects.{effect_view, effects_of, amount_view}
 use Rattle.pddl_effect.proofs.effect.Effect.TheLaws.{the_size}
-use Rattle.pddl_formula.proofs.Depths.{among}
 use Rattle.pddl_effect.proofs.Depths.{under_all}
 use Rattle.pddl_effect.proofs.Views.{view_and, view_add, view_del, view_when, view_forall, view_increase}
 use Rattle.pddl_task.specs.Places.{at, calls, bare, total_cost, amount_part, effect_places, effects_places, binding}
@@ -13,7 +13,6 @@ use Rattle.pddl_task.proofs.Lists.{append-none}
 use Rattle.pddl_faults.proofs.FoundFaults.{up_to_none}
 use Rattle.pddl_search.specs.Scopes.{bound_in}
 use Rattle.pddl_names.specs.Uses.{faults_by}
-use Rattle.pddl_names.proofs.ToldUses.{told_outside}
 use Rattle.pddl_names.proofs.Walks.{stopped, in_turn, one_more, at_end}
 use Rattle.pddl_names.proofs.walk.+search_effect.Goals as goal
 
@@ -50,9 +49,6 @@ returns-in_ok-repeated-in-Forall-clause-found g t c =
     let entered = c.in_ok-repeated-in-Forall.ensures in
     rw (c.in-Forall.is, view_forall _ _, entered.passes, append-none)
     (c.lower.ensures.found _ _ entered.found (rw (c.deref.ensures, entered.bound) at c.search_effect-found.ensures.found))
-
-pub returns-in_ok-repeated-in-Forall-clause-told : goal.returns-in_ok-repeated-in-Forall-clause-told
-returns-in_ok-repeated-in-Forall-clause-told g t c = rw c.leave.ensures (told_outside c.len.result c.search_effect-found.ensures.told)
 
 pub loop-part-init : goal.loop-part-init
 loop-part-init g t c = record { told = c.requires; kept = refl; so_far = up_to_none }

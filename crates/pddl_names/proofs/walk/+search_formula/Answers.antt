@@ -7,15 +7,14 @@ use Rattle.pddl_formula.specs.Formulas.{formula_view, formulas_of}
 use Rattle.pddl_formula.specs.declared.type_names.Typed.{Typed}
 use Rattle.pddl_formula.specs.declared.formula.Formula.{Formula}
 use Rattle.pddl_formula.specs.declared.formula.Formula.TheVariants.{Exists, Forall}
-use Rattle.pddl_formula.proofs.formula.Formula.TheLaws.{the_size}
 use Rattle.pddl_formula.specs.declared.formula.Formula.TheFolds as folds
+use Rattle.pddl_formula.proofs.formula.Formula.TheLaws.{the_size}
 use Rattle.pddl_formula.proofs.Depths.{among}
 use Rattle.pddl_formula.proofs.Views.{view_atom, view_equal, view_imply, view_and, view_or, view_exists, view_forall}
 use Rattle.pddl_task.specs.Places.{at, binds, places_in, places_in_all, binding}
 use Rattle.pddl_task.proofs.Lists.{append-none}
 use Rattle.pddl_search.specs.Scopes.{bound_in}
 use Rattle.pddl_names.specs.Uses.{faults_by}
-use Rattle.pddl_names.proofs.ToldUses.{told_outside}
 use Rattle.pddl_names.proofs.Walks.{stopped, one_more, at_end}
 use Rattle.pddl_names.proofs.walk.+search_formula.Goals as goal
 
@@ -50,9 +49,6 @@ returns-in_ok-repeated-in-Exists-clause-found g t c =
     let entered = c.in_ok-repeated-in-Exists.ensures in
     rw (quantified _ _ _ _ c.in-Exists.is, entered.passes, append-none)
     (c.lower-in-Exists.ensures.found _ _ entered.found (rw (c.deref-in-Exists.ensures, entered.bound) at c.search_formula-found.ensures.found))
-
-pub returns-in_ok-repeated-in-Exists-clause-told : goal.returns-in_ok-repeated-in-Exists-clause-told
-returns-in_ok-repeated-in-Exists-clause-told g t c = rw c.leave.ensures (told_outside c.len.result c.search_formula-found.ensures.told)
 
 pub loop-part-preserved : goal.loop-part-preserved
 loop-part-preserved g t c =

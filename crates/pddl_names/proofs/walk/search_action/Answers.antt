@@ -6,7 +6,6 @@ use Rattle.pddl_effect.specs.Effects.{effect_view}
 use Rattle.pddl_task.specs.Places.{places_in, effect_places, binding}
 use Rattle.pddl_task.proofs.Lists.{append-none}
 use Rattle.pddl_names.specs.Uses.{faults_by}
-use Rattle.pddl_names.proofs.ToldUses.{told_outside}
 use Rattle.pddl_names.proofs.Walks.{stopped, in_turn}
 use Rattle.pddl_names.proofs.walk.search_action.Goals as goal
 
@@ -27,6 +26,3 @@ returns-clause-found g c =
     (c.lower-2.ensures.found _ _ entered.found
     (in_turn (faults_by c.args.known.now) (places_in (formula_view a.precondition) bound) (effect_places (effect_view a.effect) bound) _ _ _ c.lower.ensures.found (rw (entered.bound, c.requires.empty) at c.search_formula-precondition.ensures.found)
     (rw (c.search_formula-precondition.ensures.kept, entered.bound, c.requires.empty) at c.search_effect-effect.ensures.found)))
-
-pub returns-clause-told : goal.returns-clause-told
-returns-clause-told g c = rw c.leave.ensures (told_outside c.len.result c.search_effect-effect.ensures.told)

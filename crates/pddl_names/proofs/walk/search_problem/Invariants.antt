@@ -1,4 +1,4 @@
-use Rattle.std.proofs.Common.{◌≡◌, map, flat_map}
+use Rattle.std.proofs.Common.{map, flat_map}
 use Rattle.pddl_problem.specs.Inits.{init_view}
 use Rattle.pddl_task.specs.Places.{init_places}
 use Rattle.pddl_names.specs.Uses.{faults_by, AreAllTold}

@@ -1,18 +1,18 @@
 use Rattle.std.proofs.Common.{◌≡◌, ◌++◌, List, [], map, refl, flat_map}
 use Rattle.std.proofs.lemmas.Result.{err_from_is_err_and}
+use Rattle.pddl_formula.specs.TypedLists.{typed_view}
 use Rattle.pddl_domain.specs.Declarations.{TypeValue, predicate_view, function_view}
 use Rattle.pddl_domain.specs.declared.domain.Domain.{Domain}
 use Rattle.pddl_domain.specs.Domains.{domain_view}
 use Rattle.pddl_task.specs.Names.{item_of}
 use Rattle.pddl_task.specs.Settings.{parameters_of}
 use Rattle.pddl_faults.proofs.PassedParts.{pass_front}
+use Rattle.pddl_types.specs.Told.{unknown_among}
+use Rattle.pddl_types.specs.Known.{declared_typed}
 use Rattle.pddl_types.proofs.ObjectTables.{seen_still}
 use Rattle.pddl_types.proofs.ToldTypes.{kept_then, told_none}
 use Rattle.pddl_types.proofs.SignatureTables.{have_still}
-use Rattle.pddl_types.specs.Told.{unknown_among}
-use Rattle.pddl_types.specs.Known.{declared_typed}
 use Rattle.pddl_types.proofs.UnknownTypes.{unknown-append}
-use Rattle.pddl_formula.specs.TypedLists.{typed_view}
 use Rattle.pddl_types.proofs.Lookups.{seen_of}
 use Rattle.pddl_types.proofs.known.Known.add_domain.Goals as goal
 
