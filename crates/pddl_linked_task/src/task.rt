@@ -254,6 +254,7 @@ impl<'m, 'a, A: Allocator, B: Allocator> Task<'m, 'a, A, B> {
     }
 
     /// The number of the object of a name, or `None` where there is none.
+    #[tactic(auto, using(pddl_types::proofs::TaskNames::object_number))]
     pub fn object_number(&self, name: &[u8]) -> Option<usize>
         ensures { result ≡ position (bytes_eq name.now) (object_names (task_of_files self.now)) }
     {
@@ -262,6 +263,7 @@ impl<'m, 'a, A: Allocator, B: Allocator> Task<'m, 'a, A, B> {
     }
 
     /// The number of the predicate of a name, or `None` where there is none.
+    #[tactic(auto, using(pddl_types::proofs::TaskNames::signature_number))]
     pub fn predicate_number(&self, name: &[u8]) -> Option<usize>
         ensures { result ≡ position (bytes_eq name.now) (predicate_names (task_of_files self.now)) }
     {
@@ -269,6 +271,7 @@ impl<'m, 'a, A: Allocator, B: Allocator> Task<'m, 'a, A, B> {
     }
 
     /// The number of the function of a name, or `None` where there is none.
+    #[tactic(auto, using(pddl_types::proofs::TaskNames::signature_number))]
     pub fn function_number(&self, name: &[u8]) -> Option<usize>
         ensures { result ≡ position (bytes_eq name.now) (function_names (task_of_files self.now)) }
     {

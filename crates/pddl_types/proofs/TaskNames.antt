@@ -1,5 +1,5 @@
 -- Names of predicates and objects by number, as tables have them.
-use Rattle.std.proofs.Common.{◌≡◌, ℕ, cond, List, map, length, nat_lt, bytes_eq, Option, refl, sym, ap, ◌∙◌}
+use Rattle.std.proofs.Common.{◌≡◌, ℕ, List, map, bytes_eq, Option, refl, sym, ap, ◌∙◌}
 use Rattle.std.specs.Prelude.{Some, None, option_map, position}
 use Rattle.std.specs.Borrow.{Bor}
 use Rattle.std.specs.List.{All, slice_get}

@@ -109,6 +109,7 @@ impl<'m, 'a, A: Allocator, B: Allocator> Told<'m, 'a, A, B> {
     }
 
     /// The tops of the type of a number, or none where no type has it.
+    #[tactic(auto, using(crate::proofs::ToldTypes::tops_read))]
     pub fn at(&self, number: usize) -> &[Span]
         ensures { result.now ≡ tops_at self.now number }
     {

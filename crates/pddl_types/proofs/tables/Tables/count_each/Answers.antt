@@ -1,19 +1,11 @@
-use Rattle.std.proofs.Common.{ℕ, ◌<◌, Bool, cond, length, map, take, ap, arith}
-use Rattle.std.proofs.lemmas.List.{length-map, length-take}
+use Rattle.std.proofs.Common.{ℕ, ◌<◌, Bool, cond, length, map, ap, arith}
+use Rattle.std.proofs.lemmas.List.{length-map}
 use Rattle.pddl_formula.specs.TypedLists.{TypedValue}
 use Rattle.pddl_task.specs.Types.{pairs, fits}
 use Rattle.pddl_types.specs.KnownNames.{object_in}
-use Rattle.pddl_types.specs.Known.{objects_in}
 use Rattle.pddl_types.proofs.FittingSpans.{next_fits}
-use Rattle.pddl_sizes.proofs.ListSums.{few_pass}
 use Rattle.pddl_types.proofs.tables.Tables.count_each.Goals as goal
 use Rattle.pddl_types.proofs.tables.Tables.count_each.Goals.{then-fits, else-fits}
-
-pub overflow_add-count : goal.overflow_add-count
-overflow_add-count g c =
-    let objects = take c.loop-number.number (objects_in c.args.self.now.known) in
-    let few = few_pass (λ (o : TypedValue). fits (pairs c.args.self.now.known.types.declared) o.of c.args.slot.now) objects in
-    omega (arith, few, length-take c.loop-number.number (objects_in c.args.self.now.known), c.loop-number.invariant, c.loop-number-test.true, c.len-number-end.type_inv)
 
 pub loop-number-preserved : goal.loop-number-preserved
 loop-number-preserved g c =
@@ -22,6 +14,6 @@ loop-number-preserved g c =
     let next = next_fits (λ (o : TypedValue). fits (pairs c.args.self.now.known.types.declared) o.of c.args.slot.now) (map object_in entries) c.loop-number.number c.fits.result low c.fits.ensures in
     let one : Bool → ℕ = λ fit. cond fit 1 0 in
     elim c.if-fits.branch [
-      | then-fits w ↦ omega (arith, w.count-is, c.loop-number.invariant, next, ap one w.if-fits.true)
-      | else-fits w ↦ omega (arith, w.count-is, c.loop-number.invariant, next, ap one w.if-fits.false)
+      | then-fits w ↦ record { few = omega (arith, w.count-is); many = omega (arith, w.count-is, c.loop-number.invariant.many, next, ap one w.if-fits.true) }
+      | else-fits w ↦ record { few = omega (arith, w.count-is); many = omega (arith, w.count-is, c.loop-number.invariant.many, next, ap one w.if-fits.false) }
     ]

@@ -1,4 +1,4 @@
-use Rattle.std.proofs.Common.{sym, subst, ap, ◌∙◌}
+use Rattle.std.proofs.Common.{sym, subst, ◌∙◌}
 use Rattle.pddl_types.specs.Told.{IsAt}
 use Rattle.pddl_types.proofs.ToldTypes.{apart_read, decided_there, own_fits, tops_read, fitting_more}
 use Rattle.pddl_types.proofs.told.Told.fits.Goals as goal
