@@ -1,5 +1,5 @@
 -- What is known where none of the faults from 23 to 33 stands: nothing is declared twice, types of parameters are known, and objects have one primitive.
-use Rattle.std.proofs.Common.{◌≡◌, ◌≤◌, ℕ, nat_lt, List, [], ◌∷◌, ◌++◌, map, drop, length, refl, sym, ap, ◌∙◌, subst, inl, inr, Contains, flat_map, Bor, All}
+use Rattle.std.proofs.Common.{arith, ◌≡◌, ◌≤◌, ℕ, nat_lt, List, [], ◌∷◌, ◌++◌, map, length, refl, subst, inl, inr, Contains, flat_map, Bor, All}
 use Rattle.std.specs.Map.{values_of}
 use Rattle.std.proofs.lemmas.List.Concat.{flat_map-append}
 use Rattle.std.proofs.lemmas.List.Elements.{Contains-append_cases}
@@ -29,13 +29,7 @@ use Rattle.pddl_linked_task.proofs.OnceNamed.{once_declared}
 -- the types of the parameters of actions are known where those of all that actions bind are
 action_types : (ts : List TypeValue) (acts : List ActionValue) → unknown_among ts (flat_map variables_at (flat_map action_places acts)) ≡ [] → unknown_among ts (flat_map parameters_of (map action_signature acts)) ≡ []
 action_types ts [] none = refl
-action_types ts (a ∷ rest) none =
-    let places = action_places a in
-    let more = flat_map action_places rest in
-    let all = nil_parts (unknown_among ts (flat_map variables_at places)) (unknown_among ts (flat_map variables_at more))
-    (sym (unknown-append ts (flat_map variables_at places) (flat_map variables_at more)) ∙ ap (unknown_among ts) (sym (flat_map-append variables_at places more)) ∙ none) in
-    let own = nil_parts (unknown_among ts a.parameters) (unknown_among ts (flat_map variables_at (drop 1 places))) (sym (unknown-append ts a.parameters (flat_map variables_at (drop 1 places))) ∙ all.0) in
-    rw (unknown-append, own.0) (action_types ts rest all.1)
+action_types ts (a ∷ rest) none = grind (arith, unknown-append, flat_map-append, nil_parts, action_types ts rest, none)
 
 module _ (d : DomainValue) (p : ProblemValue) (named : NoneStands (map (fault_in d p) part_rules)) where
   -- nothing is declared twice

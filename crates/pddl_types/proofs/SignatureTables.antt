@@ -16,7 +16,6 @@ use Rattle.pddl_domain.specs.Domains.{DomainValue}
 use Rattle.pddl_task.specs.Names.{Name, is_in, word_if, repeated}
 use Rattle.pddl_task.specs.Settings.{symbol_of}
 use Rattle.pddl_task.proofs.Lists.{append-none, at_place, bytes_same, nil_parts}
-use Rattle.pddl_task.proofs.DistinctNames.{word_none}
 use Rattle.pddl_types.specs.KnownNames.{signature_in, action_signature}
 use Rattle.pddl_types.specs.Told.{ToldValue, IsAt, AreAt, AreKept}
 use Rattle.pddl_types.specs.Signatures.{Rows, IsSlotsAt, signature_among, AreFirst, HaveFirst, HaveSignatures}
@@ -41,16 +40,11 @@ is_among (g ∷ gs) n = grind (arith, is_among gs n)
 -- ---- what is seen of signatures is held of them, and so with one more
 
 module _ {held seen : List Signature} (are : AreFirst held seen) (g : Signature) where
-  once_before : repeated [] (map symbol_of (seen ++ g ∷ [])) ≡ [] → (repeated [] (map symbol_of seen) ≡ []) × (is_in (map symbol_of seen) g.name ≡ false)
-  once_before once =
-      let parts = nil_parts (repeated [] (map symbol_of seen)) (word_if (is_in (map symbol_of seen) g.name) g.name) (rw (map-append, repeated_more) at once) in
-      (parts.0, word_none (is_in (map symbol_of seen) g.name) g.name parts.1)
-
   -- where it is put there
   first_more : AreFirst (held ++ g ∷ []) (seen ++ g ∷ [])
   first_more = record {
     first = λ n. simp (find-append, are.first n);
-    all = λ once. ap (λ gs. gs ++ g ∷ []) (are.all (once_before once).0);
+    all = λ once. grind (arith, nil_parts, repeated_more [] (map symbol_of seen) g.name, are.all, rw map-append at once);
   }
 
   -- or not, as its name was seen
@@ -59,7 +53,7 @@ module _ {held seen : List Signature} (are : AreFirst held seen) (g : Signature)
     first = λ n.
         let there = λ (is : bytes_eq n g.name ≡ true). is_among seen n ∙ ap (is_in (map symbol_of seen)) (bytes_same n g.name is) ∙ old in
         grind (arith, are.first n, find-append (λ s. bytes_eq n s.name) seen (g ∷ []), there);
-    all = λ once. cc (once_before once).1;
+    all = λ once. grind (arith, nil_parts, repeated_more [] (map symbol_of seen) g.name, old, rw map-append at once);
   }
 
 -- ---- what is declared
