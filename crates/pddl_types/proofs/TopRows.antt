@@ -1,5 +1,5 @@
 -- Rows of the bits of numbers that spans begin at and hold: set in turn, and what they say of others.
-use Rattle.std.proofs.Common.{◌≡◌, ◌↔◌, ℕ, ◌+◌, ◌<◌, ◌≤◌, ◌==◌, ◌&&◌, ◌||◌, Bool, true, false, List, get_or, ltb, refl, sym, ap, ◌∙◌, arith}
+use Rattle.std.proofs.Common.{◌≡◌, ◌↔◌, ℕ, ◌==◌, ◌&&◌, Bool, true, List, get_or, ltb, refl, sym, ap, ◌∙◌}
 use Rattle.std.proofs.lemmas.Bool.{eq-eqb, eqb-true}
 use Rattle.std.proofs.lemmas.List.Folds.{list_any_at, Any-from_list_any}
 use Rattle.std.proofs.lemmas.List.Sums.{AllPass-from_list_all, list_all-from_AllPass}
@@ -13,19 +13,6 @@ use Rattle.pddl_types.specs.TopRows.{AreRowsOf}
 -- the numbers of a span that are below another
 abbrev pub below : Span → ℕ → ℕ → Bool
 below s n i = holds s i && ltb i n
-
-module _ (s : Span) (i : ℕ) where
-  -- below its first there is none
-  pub below_first : below s s.first i ≡ false
-  below_first = grind arith
-
-  -- with the next one, beside another answer
-  pub below_next : (n : ℕ) (b : Bool) → s.first ≤ n → n ≤ s.last → ((i == n) || (below s n i || b)) ≡ (below s (n + 1) i || b)
-  below_next n b from to = grind arith
-
-  -- behind its last, all
-  pub below_end : (n : ℕ) → s.last < n → below s n i ≡ holds s i
-  below_end n past = grind arith
 
 -- all numbers are held that others begin at
 pub all_held : {begun row others others_held : List ℕ} {outer inner : List Span} → AreRowsOf begun row outer → AreRowsOf others others_held inner

@@ -57,6 +57,7 @@ fn set_span<'a, B: Allocator>(row: &mut Vec<u64, &'a B>, span: Span) -> Result<(
 /// The rows of some tops, where these are eight or more and on the average not more than 128 numbers apart: they take four words for each at most.
 ///
 /// Fails where memory for them is refused.
+#[tactic(auto, using(pddl_bit_rows::proofs::RowBits::no_bits))]
 fn rows_of<'a, B: Allocator>(
     alloc: &'a B,
     spans: &[Span],
