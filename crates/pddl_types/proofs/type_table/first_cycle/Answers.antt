@@ -3,7 +3,6 @@ use Rattle.std.proofs.lemmas.List.{length-map, drop_all}
 use Rattle.pddl_domain.specs.Declarations.{type_view}
 use Rattle.pddl_task.specs.Names.{item_of}
 use Rattle.pddl_task.specs.Faults.{first_alone}
-use Rattle.pddl_types.specs.TypeTables.{Row}
 use Rattle.pddl_types.proofs.TypeTables.{some_cycle, stands, told_at}
 use Rattle.pddl_types.proofs.type_table.first_cycle.Goals as goal
 
@@ -25,6 +24,3 @@ unreachable-requires-2 g c =
     let declared = map type_view c.args.declared.now in
     let past = drop_all c.loop-declared_type.declared_type-index (map item_of declared) (omega (arith, c.loop-declared_type-test.false, length-map c.args.declared.now type_view, length-map declared item_of)) in
     some_cycle declared c.args.table.now.entries c.requires.table c.requires.round (ap first_alone (sym (rw past at c.loop-declared_type.invariant)))
-
-pub bounds-numbers-place : goal.bounds-numbers-place
-bounds-numbers-place g c = omega (arith, c.requires.numbers.many, length-map c.args.table.now.entries (λ (r : Row). r.1), c.in-Some.ensures.within)

@@ -1,19 +1,12 @@
-use Rattle.std.proofs.Common.{◌<◌, ◌≡◌, ◌-◌, length, get_or, slice_get, map, take, Some, [], ◌∷◌, List, sym, ap, ◌∙◌, arith}
-use Rattle.std.proofs.lemmas.List.{take_all}
+use Rattle.std.proofs.Common.{◌<◌, ◌≡◌, ◌-◌, length, get_or, slice_get, map, take, Some, [], ◌∷◌, sym, ap, ◌∙◌, arith}
 use Rattle.pddl_domain.specs.Declarations.{type_view}
 use Rattle.pddl_task.specs.Types.{types_of}
-use Rattle.pddl_types.specs.TypeTables.{Row, StandsAt, IsTableOf}
+use Rattle.pddl_types.specs.TypeTables.{StandsAt, IsTableOf}
 use Rattle.pddl_sizes.proofs.SharedTypes.{of_next}
-use Rattle.pddl_types.proofs.TypeTables.{put, stands_on, again, root_alone, put_under, parent_put}
+use Rattle.pddl_types.proofs.TypeTables.{stands_on, again, put_under, parent_put}
 use Rattle.pddl_faults.proofs.ListTurns.{seen_more, viewed_at}
 use Rattle.pddl_types.proofs.type_table.put_types.Goals.{then-not-shares+in_ok-put_new, else-not-shares}
 use Rattle.pddl_types.proofs.type_table.put_types.Goals as goal
-
-pub loop-number-init : goal.loop-number-init
-loop-number-init g c = record {
-  table = root_alone c.as_slice.result c.insert.new.self.entries c.as_slice.ensures (c.in_ok-insert.ensures.entries ∙ ap (λ (rows : List Row). put rows c.as_slice.result 0) c.requires);
-  last = λ j x next. absurd (omega (arith, next));
-}
 
 pub loop-number-preserved : goal.loop-number-preserved
 loop-number-preserved g c =
@@ -44,6 +37,3 @@ loop-number-preserved g c =
           (put_under rows after child over c.in_ok-insert-2.ensures.entries c.in_ok-insert-2.ensures.unique told (type_view x) ready.0 (sym c.as_bytes-in-loop-number.ensures.value) ready.1);
       last = λ j y next found. rw c.in_ok-insert-2.ensures.entries (grind (arith, here, found, next, stands_on rows child over over (type_view x).of ready.1));
     }
-
-pub returns : goal.returns
-returns g c = rw (take_all c.loop-number.number c.args.declared.now.items (omega (arith, c.loop-number-test.false, c.len-number-end.ensures))) at c.loop-number.invariant.table

@@ -1,15 +1,9 @@
 use Rattle.std.proofs.Common.{◌≡◌, true, not, refl, ap, sym, subst, ◌∙◌, arith}
 use Rattle.std.specs.Prelude.{Contains}
-use Rattle.std.proofs.lemmas.List.{drop_all}
 use Rattle.pddl_task.specs.Names.{is_in}
 use Rattle.pddl_task.specs.Types.{types_of}
 use Rattle.pddl_faults.proofs.ListTurns.{rest_is}
 use Rattle.pddl_types.proofs.types.Types.known.Goals as goal
-
-pub loop-primitive-preserved : goal.loop-primitive-preserved
-loop-primitive-preserved g c =
-    let left = rw (rest_is c.as_slice-primitives.result.now c.loop-primitive.primitive-index c.primitive-item.result c.loop-primitive-test.true c.primitive-item.is) at c.loop-primitive.invariant in
-    grind (arith, left, c.as_bytes-name.ensures.value, c.contains.ensures, c.if-not-contains.false)
 
 pub returns-then-not-contains : goal.returns-then-not-contains
 returns-then-not-contains g c =
@@ -17,6 +11,3 @@ returns-then-not-contains g c =
     let own : not (known c.primitive-item.result) ≡ true = ap (λ n. not (known n)) (sym c.as_bytes-name.ensures.value) ∙ ap not (sym c.contains.ensures) ∙ ap not c.if-not-contains.true in
     let left = rw (rest_is c.as_slice-primitives.result.now c.loop-primitive.primitive-index c.primitive-item.result c.loop-primitive-test.true c.primitive-item.is, own) at c.loop-primitive.invariant in
     (refl, subst (λ ns. Contains ns c.as_bytes-name.result.now) left (0, omega arith, sym c.as_bytes-name.ensures.value))
-
-pub returns : goal.returns
-returns g c = sym (rw (drop_all c.loop-primitive.primitive-index c.as_slice-primitives.result.now c.loop-primitive-test.false) at c.loop-primitive.invariant)

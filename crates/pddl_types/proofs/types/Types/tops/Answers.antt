@@ -1,18 +1,8 @@
-use Rattle.std.proofs.Common.{arith, [], take, sym, ap, ◌∙◌}
+use Rattle.std.proofs.Common.{arith, take}
 use Rattle.std.proofs.lemmas.Bool.Decides.{nat_tests}
 use Rattle.std.proofs.lemmas.List.{take_all}
-use Rattle.pddl_faults.proofs.ListTurns.{seen_more}
-use Rattle.pddl_types.specs.TypeSpans.{span_of}
 use Rattle.pddl_types.proofs.NamedSpans.{in_table, all_some, do_tell}
 use Rattle.pddl_types.proofs.types.Types.tops.Goals as goal
-
-pub loop-primitive-preserved : goal.loop-primitive-preserved
-loop-primitive-preserved g c =
-    let view = span_of c.args.self.now in
-    let x = c.primitive-item.result in
-    let span = c.span.ensures ∙ ap view c.as_bytes.ensures.value in
-    let front = seen_more view [] c.as_slice-primitives.result.now c.loop-primitive.primitive-index x c.loop-primitive-test.true c.primitive-item.is in
-    rw (c.in_ok-push.ensures.items, c.loop-primitive.invariant, span) (sym front)
 
 pub keep_tops-requires : goal.keep_tops-requires
 keep_tops-requires g c =
