@@ -1,7 +1,5 @@
 -- What is found where a value was put at a name.
-use Rattle.std.proofs.Common.{◌≡◌, ℕ, Bool, ◌||◌, cond, List, [], ◌∷◌, map, Option, Some, refl, bytes_eq, arith}
-use Rattle.std.specs.Prelude.{is_some, find}
-use Rattle.std.specs.Borrow.{Bor}
+use Rattle.std.proofs.Common.{◌≡◌, ℕ, Bool, ◌||◌, cond, List, [], ◌∷◌, map, Option, Some, refl, bytes_eq, arith, is_some, find, Bor}
 use Rattle.std.specs.Map.{lookup}
 use Rattle.std.specs.Cmp.Lexicographic.{nat_list_eq_equiv}
 use Rattle.std.proofs.lemmas.Grind.{common_steps}

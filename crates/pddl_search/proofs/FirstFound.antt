@@ -1,7 +1,5 @@
 -- The words of a fault that is looked for in a list, told by the first item that is found.
-use Rattle.std.proofs.Common.{◌≡◌, Bool, List, [], ◌∷◌, map, filter, Option, refl, arith}
-use Rattle.std.specs.Prelude.{Contains, MatchOption, find, option_map}
-use Rattle.std.specs.Borrow.{Bor}
+use Rattle.std.proofs.Common.{◌≡◌, Bool, List, [], ◌∷◌, map, filter, Option, refl, arith, Contains, MatchOption, find, option_map, Bor}
 use Rattle.std.specs.Fn.{CalledAt}
 use Rattle.std.specs.Iterator.{FindsItem}
 use Rattle.std.proofs.lemmas.Iterator.{YieldsList}

@@ -1,7 +1,5 @@
 -- Variables in scope and their depths by name.
-use Rattle.std.proofs.Common.{◌≡◌, ℕ, ◌+◌, ◌<◌, ◌≤◌, not, ◌==◌, cond, List, [], ◌∷◌, ◌++◌, map, length, drop, Some, None, Result, Ok, refl, ap, sym, ◌∙◌, subst, bytes_eq, get_or, drop-cons, add-one, arith}
-use Rattle.std.specs.Prelude.{find, option_map, unwrap_or, nat_le}
-use Rattle.std.specs.Borrow.{Bor}
+use Rattle.std.proofs.Common.{◌≡◌, ℕ, ◌+◌, ◌<◌, ◌≤◌, not, ◌==◌, cond, List, [], ◌∷◌, ◌++◌, map, length, drop, Some, None, Result, Ok, refl, ap, sym, ◌∙◌, subst, bytes_eq, get_or, drop-cons, add-one, arith, find, option_map, unwrap_or, nat_le, Bor}
 use Rattle.std.specs.Map.{lookup}
 use Rattle.std.proofs.lemmas.Bool.Decides.{nat_tests}
 use Rattle.std.proofs.lemmas.List.{length-map, length-drop, map-append}

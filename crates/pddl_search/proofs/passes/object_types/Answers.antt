@@ -1,5 +1,4 @@
-use Rattle.std.proofs.Common.{length, Some, None, refl, rules, tests}
-use Rattle.std.specs.Prelude.{nat_lt}
+use Rattle.std.proofs.Common.{length, Some, None, refl, rules, tests, nat_lt}
 use Rattle.std.proofs.lemmas.Iterator.{YieldsList-from_slice}
 use Rattle.pddl_formula.specs.TypedLists.{typed_view}
 use Rattle.pddl_search.proofs.FirstFound.{found_tells}

@@ -1,5 +1,4 @@
-use Rattle.std.proofs.Common.{◌≡◌, drop, map}
-use Rattle.std.specs.Prelude.{reverse}
+use Rattle.std.proofs.Common.{◌≡◌, drop, map, reverse}
 use Rattle.pddl_search.specs.Scopes.{entry_of, IsScope}
 use Rattle.pddl_search.proofs.scope.Scope.leave.Given as goal
 

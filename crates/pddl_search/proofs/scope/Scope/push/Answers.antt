@@ -1,5 +1,4 @@
-use Rattle.std.proofs.Common.{[], ◌∷◌, ◌+◌, arith}
-use Rattle.std.specs.Prelude.{reverse}
+use Rattle.std.proofs.Common.{[], ◌∷◌, ◌+◌, arith, reverse}
 use Rattle.std.proofs.lemmas.List.{reverse-append, length-reverse}
 use Rattle.pddl_search.specs.declared.scope.Bound.{Bound}
 use Rattle.pddl_search.proofs.Scopes.{scope_more}
