@@ -206,17 +206,6 @@ of_types same h = record { once = h.once; first = h.first; has = λ t. h.has t �
 pub again : (types : List Name) (told : List TypeValue) (rows : List Row) (i : ℕ) (n : Name) → StandsAt rows i n → IsTableOf types told rows → IsTableOf (n ∷ types) told rows
 again types told rows i n at h = of_types (λ t. grind (arith, bytes_same t n, h.has n, (beside rows n i h.once at).1)) h
 
--- `object` alone
-pub root_alone : (k : Bor (List ℕ)) (after : List Row) → k.now ≡ root → after ≡ put [] k 0 → IsTableOf (types_of []) [] after
-unfolding IsDistinct
-root_alone k after is put_there =
-    subst (IsTableOf (types_of []) []) (sym put_there) (record {
-      once = (tt, tt);
-      first = ap Some is;
-      has = λ t. found_or (bytes_eq t k.now) 0 (parent_place [] t) ∙ ap (λ n. bytes_eq t n || false) is;
-      parents = λ t i here. grind (arith, here, is);
-    })
-
 module _ (rows after : List Row) (k : Bor (List ℕ)) (p : ℕ) (put_there : after ≡ put rows k p) (once : IsDistinct (λ x y. bytes_eq x.now y.now) (keys_of after)) where
   -- a type that is put beside the place of its parent, where those of the others stay
   put_in : (types : List Name) (told next : List TypeValue) → IsTableOf types told rows → StandsAt rows p (parent_in next k.now) → ((t : Name) → bytes_eq t k.now ≡ false → parent_in told t ≡ parent_in next t)
