@@ -1,6 +1,6 @@
 -- Places that are peeled off in turn, each once no child of it is left, and at which turn a place stands in their order. Those of which children are left where no more
 -- can be peeled off lie on ways that go round; where there are none, the others are in order.
-use Rattle.std.proofs.Common.{◌≡◌, ◌≢◌, ℕ, ◌<◌, ◌≤◌, eqb, ltb, not, List, [], ◌∷◌, ◌++◌, ◌∙◌, map, length, replicate, refl, sym, ap, subst, arith, ◌+◌, ◌-◌, ◌&&◌, cond, take, slice_set, ◌↔◌, zero, suc, Bool, true, false, true≢false, inl, inr}
+use Rattle.std.proofs.Common.{◌≡◌, ◌≢◌, ℕ, ◌<◌, ◌≤◌, eqb, ltb, not, List, [], ◌∷◌, ◌++◌, ◌∙◌, map, length, replicate, refl, sym, ap, subst, arith, ◌+◌, ◌-◌, ◌&&◌, cond, take, slice_set, ◌↔◌, zero, suc, Bool, true, false, true≢false, inl, inr, IsTrue, MatchBool}
 use Rattle.std.proofs.lemmas.Bool.{eqb-true, eq-eqb, cases_Bool, cases_eq}
 use Rattle.std.proofs.lemmas.Bool.Decides.{nat_tests}
 use Rattle.std.proofs.lemmas.List.{get_or_append_left, get_or_push, length_push, get_or_default, get_or-replicate, length-replicate, get_or-set_same, get_or-set_other, length-set, take-append-le, take_more, get_or_past, take_all}
@@ -15,7 +15,6 @@ use Rattle.pddl_forest.specs.Spans.{at}
 use Rattle.pddl_forest.specs.Forests.{number_at, parent_of, up}
 use Rattle.pddl_forest.specs.declared.spans.Span.{Span}
 use Rattle.pddl_forest.specs.Inner.{turn_of, AreCounted, ArePeeled, ArePeeling, left_under, put_under, GoRound, IsOrder}
-use Rattle.std.specs.Prelude.{IsTrue, MatchBool}
 use Rattle.pddl_forest.specs.Rounds.{GoesRound, HasRound, AreRounds}
 
 pub turn_few : (order : List ℕ) (i : ℕ) → turn_of order i ≤ length order

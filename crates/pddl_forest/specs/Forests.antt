@@ -1,6 +1,5 @@
 -- Places that each have a parent's place, and which are under which. Own.
-use Rattle.std.specs.Prelude.{◌≡◌, ℕ, zero, suc, List}
-use Rattle.std.specs.List.{slice_index_or}
+use Rattle.std.specs.Prelude.{◌≡◌, ℕ, zero, suc, List, slice_index_or}
 
 -- the place of a place's parent
 abbrev pub parent_of : List ℕ → ℕ → ℕ

@@ -1,6 +1,5 @@
 -- The cost of a function of objects, as `:init` is looked through.
-use Rattle.std.proofs.Common.{◌≡◌, ◌<◌, ℕ, ◌+◌, ◌/◌, Bool, cond, List, ◌∷◌, Bor, map, drop, get_or, length, Option, Some, refl, sym, ap, ◌∙◌}
-use Rattle.std.specs.List.{filter_map}
+use Rattle.std.proofs.Common.{◌≡◌, ◌<◌, ℕ, ◌+◌, ◌/◌, Bool, cond, List, ◌∷◌, Bor, map, drop, get_or, length, Option, Some, refl, sym, ap, ◌∙◌, filter_map}
 use Rattle.std.specs.Map.{lookup}
 use Rattle.std.proofs.lemmas.List.{at_drop_more}
 use Rattle.pddl_problem.specs.declared.problem.GroundFunction.{GroundFunction}

@@ -1,7 +1,6 @@
 //! Objects in the order of the numbers of their types.
 
-ghost use Rattle.std.specs.Prelude.{◌≡◌, ℕ, filter, length, slice_get, IfOk};
-ghost use Rattle.std.specs.List.{sum_by};
+ghost use Rattle.std.specs.Prelude.{◌≡◌, ℕ, filter, length, slice_get, IfOk, sum_by};
 ghost use Rattle.pddl_forest.specs.Forests.{number_at};
 ghost use Rattle.pddl_forest.specs.Spans.{holds, some_holds, AreApart};
 ghost use Rattle.pddl_task.specs.Tasks.{places_from};

@@ -1,6 +1,5 @@
 -- What fits a type, by the numbers of objects and tops of the type.
-use Rattle.std.proofs.Common.{◌≡◌, ℕ, ◌+◌, Bool, true, false, Option, cond, List, [], ◌∷◌, ◌<◌, map, filter, length, take, refl, sym, ap, ◌∙◌, arith}
-use Rattle.std.specs.Prelude.{IsTrue, Some, None, slice_get}
+use Rattle.std.proofs.Common.{◌≡◌, ℕ, ◌+◌, Bool, true, false, Option, cond, List, [], ◌∷◌, ◌<◌, map, filter, length, take, refl, sym, ap, ◌∙◌, arith, IsTrue, Some, None, slice_get}
 use Rattle.std.specs.List.{list_any}
 use Rattle.std.specs.Option.{IsSomeAnd, MatchOption, option_map_or}
 use Rattle.std.proofs.lemmas.Slice.Zip.{AllZip-left, AllZip-right}

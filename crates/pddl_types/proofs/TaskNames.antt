@@ -1,8 +1,5 @@
 -- Names of predicates and objects by number, as tables have them.
-use Rattle.std.proofs.Common.{◌≡◌, ℕ, List, map, bytes_eq, Option, refl, sym, ap, ◌∙◌}
-use Rattle.std.specs.Prelude.{Some, None, option_map, position}
-use Rattle.std.specs.Borrow.{Bor}
-use Rattle.std.specs.List.{All, slice_get}
+use Rattle.std.proofs.Common.{◌≡◌, ℕ, List, map, bytes_eq, Option, refl, sym, ap, ◌∙◌, Some, None, option_map, position, Bor, All, slice_get}
 use Rattle.std.specs.Map.{keys_of}
 use Rattle.std.proofs.lemmas.List.{length-map}
 use Rattle.std.proofs.lemmas.List.Elements.{All-contains}

@@ -1,12 +1,9 @@
 -- Types that are told by number, with their tops, the numbers of items' types, and what is found of pairs of them.
-use Rattle.std.proofs.Common.{◌≡◌, ℕ, ◌+◌, ◌-◌, ◌<◌, ◌==◌, ◌&&◌, cond, Bool, true, not, List, [], ◌∷◌, ◌++◌, filter, length, take, Option, Some, None, position, refl, sym, ap, ◌∙◌, subst, arith, append-nil, append_assoc, map}
-use Rattle.std.specs.Prelude.{IsTrue, Contains, option_map, slice_get}
-use Rattle.std.specs.Borrow.{Bor}
+use Rattle.std.proofs.Common.{◌≡◌, ℕ, ◌+◌, ◌-◌, ◌<◌, ◌==◌, ◌&&◌, cond, Bool, true, not, List, [], ◌∷◌, ◌++◌, filter, length, take, Option, Some, None, position, refl, sym, ap, ◌∙◌, subst, arith, append-nil, append_assoc, map, IsTrue, Contains, option_map, slice_get, Bor, eqb-true, eq-eqb}
 use Rattle.std.specs.Cmp.Lexicographic.{bytes_decides, pointwise_decides}
 use Rattle.std.specs.List.{IsDistinct, list_all, list_any, position_or_len}
 use Rattle.std.specs.Map.{keys_of, lookup}
 use Rattle.std.proofs.lemmas.Bool.Decides.{nat_tests}
-use Rattle.std.proofs.lemmas.Bool.{eqb-true, eq-eqb}
 use Rattle.std.proofs.lemmas.Cmp.{nat_list_eq_equiv, lists_equiv, on_equiv}
 use Rattle.std.proofs.lemmas.List.{length-append, take_more}
 use Rattle.std.proofs.lemmas.List.Elements.{All-nil, All-weaker, All-push, All-contains}

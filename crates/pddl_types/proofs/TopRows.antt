@@ -1,9 +1,7 @@
 -- Rows of the bits of numbers that spans begin at and hold: set in turn, and what they say of others.
-use Rattle.std.proofs.Common.{◌≡◌, ◌↔◌, ℕ, ◌==◌, ◌&&◌, Bool, true, List, get_or, ltb, refl, sym, ap, ◌∙◌}
-use Rattle.std.proofs.lemmas.Bool.{eq-eqb, eqb-true}
+use Rattle.std.proofs.Common.{◌≡◌, ◌↔◌, ℕ, ◌==◌, ◌&&◌, Bool, true, List, get_or, ltb, refl, sym, ap, ◌∙◌, eq-eqb, eqb-true, IsTrue}
 use Rattle.std.proofs.lemmas.List.Folds.{list_any_at, Any-from_list_any}
 use Rattle.std.proofs.lemmas.List.Sums.{AllPass-from_list_all, list_all-from_AllPass}
-use Rattle.std.specs.Prelude.{IsTrue}
 use Rattle.pddl_bit_rows.specs.BitRows.{has_bit}
 use Rattle.pddl_forest.specs.Spans.{holds, some_holds, hold_all}
 use Rattle.pddl_forest.specs.declared.spans.Span.{Span}

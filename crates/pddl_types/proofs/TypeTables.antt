@@ -1,7 +1,5 @@
 -- Types with their parents, as they are declared; the rows of their table, by place and by name, and how it grows; which places are under which, and ways that go round.
-use Rattle.std.proofs.Common.{◌≡◌, ℕ, zero, suc, ◌<◌, ◌||◌, Bool, true, false, cond, List, [], ◌∷◌, ◌++◌, length, map, refl, sym, ap, ◌∙◌, subst, arith, bytes_eq, ◌≢◌, ◌+◌, filter, get_or, drop, true≢false, not, ◌&&◌, fold, inl, inr}
-use Rattle.std.specs.Prelude.{Option, Some, None, is_some, unwrap_or, slice_get, ◌↔◌, IsTrue, Contains}
-use Rattle.std.specs.Borrow.{Bor}
+use Rattle.std.proofs.Common.{◌≡◌, ℕ, zero, suc, ◌<◌, ◌||◌, Bool, true, false, cond, List, [], ◌∷◌, ◌++◌, length, map, refl, sym, ap, ◌∙◌, subst, arith, bytes_eq, ◌≢◌, ◌+◌, filter, get_or, drop, true≢false, not, ◌&&◌, fold, inl, inr, Option, Some, None, is_some, unwrap_or, slice_get, ◌↔◌, IsTrue, Contains, Bor}
 use Rattle.std.specs.Cmp.{IsEquivalence, on_equiv}
 use Rattle.std.specs.List.{position, IsDistinct, slice_index_or}
 use Rattle.std.specs.Map.{keys_of}

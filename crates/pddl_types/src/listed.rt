@@ -1,7 +1,6 @@
 //! Objects by name, each with its type.
 
-ghost use Rattle.std.specs.Prelude.{◌≡◌, ◌++◌, ◌∷◌, [], List, map, not, find, IfOk};
-ghost use Rattle.std.specs.List.{All};
+ghost use Rattle.std.specs.Prelude.{◌≡◌, ◌++◌, ◌∷◌, [], List, map, not, find, IfOk, All};
 ghost use Rattle.std.specs.HashMap.{values};
 ghost use Rattle.pddl_formula.specs.TypedLists.{TypedValue, typed_view};
 ghost use Rattle.pddl_task.specs.Names.{is_named};

@@ -1,7 +1,5 @@
-use Rattle.std.proofs.Common.{◌≡◌, cond, eqb, length, refl, arith}
-use Rattle.std.proofs.lemmas.Bool.{ne_eqb}
+use Rattle.std.proofs.Common.{◌≡◌, cond, eqb, length, refl, arith, ne_eqb, take_all, length-take-le}
 use Rattle.std.proofs.lemmas.Bool.Decides.{nat_tests}
-use Rattle.std.proofs.lemmas.List.{take_all, length-take-le}
 use Rattle.std.proofs.lemmas.List.Sums.{sum_by_push}
 use Rattle.pddl_forest.proofs.Peels.{counted_more, none_peeled, low, some, few, peeled_more, put_fits}
 use Rattle.pddl_forest.proofs.peeling.peel_off.Goals.{then-left-place-eq0+in_ok-push, else-left-place-eq0, then-fewer-eq0+in_ok-push-2, else-fewer-eq0}

@@ -1,4 +1,4 @@
-use Rattle.std.specs.Prelude.{None}
+use Rattle.std.proofs.Common.{None}
 use Rattle.pddl_types.proofs.TaskNames.{item_at}
 use Rattle.pddl_linked_task.proofs.task.Task.object_name.Goals as goal
 

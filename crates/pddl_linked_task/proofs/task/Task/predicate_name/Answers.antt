@@ -1,5 +1,4 @@
-use Rattle.std.proofs.Common.{length, map, ap, refl, sym}
-use Rattle.std.proofs.lemmas.Bool.{ltb-true, ltb-false}
+use Rattle.std.proofs.Common.{length, map, ap, refl, sym, ltb-true, ltb-false}
 use Rattle.std.proofs.lemmas.Option.{slice_get_read, slice_get_past}
 use Rattle.pddl_domain.specs.Declarations.{predicate_view}
 use Rattle.pddl_types.proofs.TaskNames.{symbol_at}

@@ -1,5 +1,4 @@
-use Rattle.std.proofs.Common.{◌+◌, take, ◌∙◌, arith}
-use Rattle.std.proofs.lemmas.List.{take_all}
+use Rattle.std.proofs.Common.{◌+◌, take, ◌∙◌, arith, take_all}
 use Rattle.pddl_forest.specs.Spans.{some_holds}
 use Rattle.pddl_task.specs.Tasks.{places_from}
 use Rattle.pddl_sizes.proofs.ListSums.{sum_ones, few_pass, places_many, none_under, next_top}

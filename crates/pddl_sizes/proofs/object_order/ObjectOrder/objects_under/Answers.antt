@@ -1,6 +1,4 @@
-use Rattle.std.proofs.Common.{ap, ◌∙◌, arith}
-use Rattle.std.specs.List.{sum_by}
-use Rattle.std.proofs.lemmas.List.{take_all}
+use Rattle.std.proofs.Common.{ap, ◌∙◌, arith, sum_by, take_all}
 use Rattle.std.proofs.lemmas.List.Sorted.{sum_by-IsPermutation, IsNonDecreasingBy-from_sort}
 use Rattle.std.proofs.lemmas.List.Sums.{sum_by-append}
 use Rattle.pddl_forest.specs.Spans.{some_holds}

@@ -1,5 +1,4 @@
-use Rattle.std.proofs.Common.{◌≡◌, ℕ}
-use Rattle.std.specs.List.{sum_by}
+use Rattle.std.proofs.Common.{◌≡◌, ℕ, sum_by}
 use Rattle.pddl_sizes.proofs.ListSums.{sum_under}
 use Rattle.pddl_sizes.proofs.object_order.ObjectOrder.objects_under.Given as goal
 

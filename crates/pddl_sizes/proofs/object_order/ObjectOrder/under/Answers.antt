@@ -1,5 +1,4 @@
-use Rattle.std.proofs.Common.{◌-◌, ℕ, length, take, drop, ltb, leb, ap, ◌∙◌, rules}
-use Rattle.std.specs.List.{sum_by}
+use Rattle.std.proofs.Common.{◌-◌, ℕ, length, take, drop, ltb, leb, ap, ◌∙◌, rules, sum_by}
 use Rattle.std.proofs.lemmas.List.{take_rest}
 use Rattle.std.proofs.lemmas.List.Sorted.{IsNonDecreasingBy-drop, IsNonDecreasingBy-take, IsPartitionedBy-leb, IsPartitionedBy-ltb, IsPartitionPoint-from_clause}
 use Rattle.pddl_forest.specs.Forests.{number_at}

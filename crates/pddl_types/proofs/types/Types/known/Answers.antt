@@ -1,5 +1,4 @@
-use Rattle.std.proofs.Common.{◌≡◌, true, not, refl, ap, sym, subst, ◌∙◌, arith}
-use Rattle.std.specs.Prelude.{Contains}
+use Rattle.std.proofs.Common.{◌≡◌, true, not, refl, ap, sym, subst, ◌∙◌, arith, Contains}
 use Rattle.pddl_task.specs.Names.{is_in}
 use Rattle.pddl_task.specs.Types.{types_of}
 use Rattle.pddl_faults.proofs.ListTurns.{rest_is}

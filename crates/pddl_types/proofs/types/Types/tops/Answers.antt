@@ -1,6 +1,5 @@
-use Rattle.std.proofs.Common.{arith, take}
+use Rattle.std.proofs.Common.{arith, take, take_all}
 use Rattle.std.proofs.lemmas.Bool.Decides.{nat_tests}
-use Rattle.std.proofs.lemmas.List.{take_all}
 use Rattle.pddl_types.proofs.NamedSpans.{in_table, all_some, do_tell}
 use Rattle.pddl_types.proofs.types.Types.tops.Goals as goal
 
