@@ -33,9 +33,6 @@ behind_types : {T : Type 0} (d : DomainValue) (p : ProblemValue) (r : Result T L
 behind_types d p r once none =
     decided_after (fault 21 (types_twice d ++ []) ∷ fault 22 (type_cycles d ++ []) ∷ []) (map (fault_in d p) (drop 3 rules)) r (append-none (types_twice d) ∙ once, (append-none (type_cycles d) ∙ none, tt))
 
-pub order_behind_types-order-requires-clause-typed : goal.order_behind_types-order-requires-clause-typed
-order_behind_types-order-requires-clause-typed g c = rw c.of-known.ensures.types c.in_ok-types.ensures.types
-
 pub returns-in_err-known-clause-verdict : goal.returns-in_err-known-clause-verdict
 returns-in_err-known-clause-verdict g c =
     let d = domain_view c.args.domain.now in
