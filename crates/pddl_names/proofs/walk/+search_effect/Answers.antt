@@ -21,21 +21,6 @@ returns-in-When-clause-found g t c =
     rw (c.in-When.is, view_when _ _, flat_map-append)
     (c.lower-in-When.ensures.found _ _ c.search_formula-condition.ensures.found (rw (c.deref-in-When.ensures, c.search_formula-condition.ensures.kept) at c.search_effect-in-When.ensures.found))
 
-pub returns-in-Add-clause-found : goal.returns-in-Add-clause-found
-returns-in-Add-clause-found g t c =
-    let found = rw c.of_atom.ensures at c.look-in-Add.ensures.found in
-    elim c.in-Add.is [
-      | inl here ↦ rw (here, view_add _) found
-      | inr here ↦ rw (here, view_del _) found
-    ]
-
-pub returns-in-Increase-clause-found : goal.returns-in-Increase-clause-found
-returns-in-Increase-clause-found g t c =
-    let b = bound_in c.args.scope.now in
-    rw (c.in-Increase.is, view_increase _)
-    (in_turn (faults_by c.args.known.now) (at b (calls (bare total_cost)) ∷ []) (at b (amount_part (amount_view c.in-Increase.amount)) ∷ []) _ _ _ c.lower-in-Increase.ensures.found
-    (rw c.total_cost.ensures at c.look-cost.ensures.found) (rw c.of_amount.ensures at c.look.ensures.found))
-
 pub returns-in_err-repeated-in-Forall-clause-found : goal.returns-in_err-repeated-in-Forall-clause-found
 returns-in_err-repeated-in-Forall-clause-found g t c =
     let p = err_from_is_err_and c.from_residual.result c.from_residual.ensures.1 in

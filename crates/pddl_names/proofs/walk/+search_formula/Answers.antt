@@ -24,12 +24,6 @@ returns-in-Imply-clause-found g t c =
     (c.lower.ensures.found _ _ (rw c.deref-in-Imply.ensures at c.search_formula-first.ensures.found)
     (rw (c.deref-in-Imply-2.ensures, c.search_formula-first.ensures.kept) at c.search_formula-in-Imply.ensures.found))
 
-pub returns-in-Atom-clause-found : goal.returns-in-Atom-clause-found
-returns-in-Atom-clause-found g t c = rw (c.in-Atom.is, view_atom _) (rw c.of_atom.ensures at c.look.ensures.found)
-
-pub returns-in-Equal-clause-found : goal.returns-in-Equal-clause-found
-returns-in-Equal-clause-found g t c = rw (c.in-Equal.is, view_equal _ _) c.look-in-Equal.ensures.found
-
 -- a quantifier's place, and those behind it
 quantified : {A : Type 0} (f : Formula A) (v : Vec (Typed A) A) (p : Box (Formula A) A) (b : List TypedValue) → (f ≡ Exists v p) ⊎ (f ≡ Forall v p)
     → places_in (formula_view f) b ≡ at b (binds (map typed_view v.items)) ∷ places_in (formula_view p.value) (binding (map typed_view v.items) b)
