@@ -1,13 +1,10 @@
 -- The cost of a function of objects, as `:init` is looked through.
-use Rattle.std.proofs.Common.{◌≡◌, ◌<◌, ℕ, ◌+◌, ◌/◌, Bool, cond, List, ◌∷◌, Bor, map, drop, get_or, length, Option, Some, refl, sym, ap, ◌∙◌}
+use Rattle.std.proofs.Common.{ℕ, List, Bor, map, Option}
 use Rattle.std.specs.List.{filter_map}
 use Rattle.std.specs.Map.{lookup}
-use Rattle.std.proofs.lemmas.List.{at_drop_more}
-use Rattle.pddl_problem.specs.declared.problem.GroundFunction.{GroundFunction}
 use Rattle.pddl_problem.specs.declared.problem.InitItem.{InitItem}
-use Rattle.pddl_problem.specs.declared.problem.InitItem.TheVariants as items
-use Rattle.pddl_problem.specs.Inits.{GroundValue, function_view, init_view}
-use Rattle.pddl_task.specs.Faults.{same_ground, billion}
+use Rattle.pddl_problem.specs.Inits.{GroundValue, init_view}
+use Rattle.pddl_task.specs.Faults.{same_ground}
 use Rattle.pddl_task.specs.Tasks.{cost_in}
 
 -- a function of objects that is asked for by lent names

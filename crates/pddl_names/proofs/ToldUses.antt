@@ -1,5 +1,5 @@
 -- What is told of the types of terms and of slots, and of what is bound.
-use Rattle.std.proofs.Common.{◌≡◌, ℕ, suc, List, [], ◌∷◌, map, length, drop, ◌≤◌, Some, None, refl, arith, option_map, find, slice_get, Bor, All}
+use Rattle.std.proofs.Common.{◌≡◌, ℕ, List, [], ◌∷◌, map, length, drop, ◌≤◌, Some, None, refl, arith, option_map, find, slice_get, Bor, All}
 use Rattle.std.specs.Slice.{IsItemAt}
 use Rattle.std.proofs.lemmas.List.Elements.{All-weaker, All-drop, All-cons, All-head}
 use Rattle.std.proofs.lemmas.Option.{slice_get_read}

@@ -1,19 +1,19 @@
-use Rattle.std.proofs.Common.{[], ◌∷◌, ◌∙◌, map, refl, ap, inl, inr, arith}
+use Rattle.std.proofs.Common.{◌∙◌, map, refl, ap, arith}
 use denote.Param.Weighed.{most}
 use Rattle.std.proofs.lemmas.List.Concat.{flat_map-append}
 use Rattle.std.proofs.lemmas.Result.{err_from_is_err_and}
 use Rattle.pddl_formula.specs.TypedLists.{typed_view}
 use Rattle.pddl_formula.proofs.Depths.{among}
-use Rattle.pddl_effect.specs.Effects.{effect_view, effects_of, amount_view}
+use Rattle.pddl_effect.specs.Effects.{effect_view, effects_of}
 use Rattle.pddl_effect.proofs.effect.Effect.TheLaws.{the_size}
 use Rattle.pddl_effect.proofs.Depths.{under_all}
-use Rattle.pddl_effect.proofs.Views.{view_and, view_add, view_del, view_when, view_forall, view_increase}
-use Rattle.pddl_task.specs.Places.{at, calls, bare, total_cost, amount_part, effect_places, effects_places, binding}
+use Rattle.pddl_effect.proofs.Views.{view_and, view_when, view_forall}
+use Rattle.pddl_task.specs.Places.{effect_places, effects_places, binding}
 use Rattle.pddl_task.proofs.Lists.{append-none}
 use Rattle.pddl_faults.proofs.FoundFaults.{up_to_none}
 use Rattle.pddl_search.specs.Scopes.{bound_in}
 use Rattle.pddl_names.specs.Uses.{faults_by}
-use Rattle.pddl_names.proofs.Walks.{stopped, in_turn, one_more, at_end}
+use Rattle.pddl_names.proofs.Walks.{stopped, one_more, at_end}
 use Rattle.pddl_names.proofs.walk.+search_effect.Goals as goal
 
 pub returns-in-When-clause-found : goal.returns-in-When-clause-found

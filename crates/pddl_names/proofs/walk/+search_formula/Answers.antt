@@ -10,7 +10,7 @@ use Rattle.pddl_formula.specs.declared.formula.Formula.TheVariants.{Exists, Fora
 use Rattle.pddl_formula.specs.declared.formula.Formula.TheFolds as folds
 use Rattle.pddl_formula.proofs.formula.Formula.TheLaws.{the_size}
 use Rattle.pddl_formula.proofs.Depths.{among}
-use Rattle.pddl_formula.proofs.Views.{view_atom, view_equal, view_imply, view_and, view_or, view_exists, view_forall}
+use Rattle.pddl_formula.proofs.Views.{view_imply, view_and, view_or, view_exists, view_forall}
 use Rattle.pddl_task.specs.Places.{at, binds, places_in, places_in_all, binding}
 use Rattle.pddl_task.proofs.Lists.{append-none}
 use Rattle.pddl_search.specs.Scopes.{bound_in}
