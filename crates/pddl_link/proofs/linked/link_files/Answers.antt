@@ -42,6 +42,9 @@ returns-in_err-known-clause-verdict g c =
     rw (q.1, q.2) (behind_types {T = Unit {0}} d p (Err e) c.in_ok-type_twice.ensures c.in_ok-types.ensures.cycle
     (stage_first 33 (map (fault_in d p) part_rules) (map (fault_in d p) goal_rules) e refl refl (rw c.in_err-known.ensures.failed at c.order_behind_types-order.ensures.verdict)))
 
+pub invariant_of-tables : goal.invariant_of-tables
+invariant_of-tables g c = record { numbered = rw c.in_ok-known.ensures.made.0 (rw c.in_ok-known.ensures.made.1 at c.order_behind_types-order.ensures.numbered) }
+
 pub look_at_goal-goal-requires : goal.look_at_goal-goal-requires
 look_at_goal-goal-requires g c =
     rw c.in_ok-known.ensures.made.0 (rw c.in_ok-known.ensures.made.1 at c.order_behind_types-order.ensures.known)
