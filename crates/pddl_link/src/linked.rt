@@ -85,9 +85,7 @@ pub fn check_domain<'d, 'a, A: Allocator, B: Allocator>(
 ) -> Result<(), LinkFault<'d>>
     ensures { Verdict (domain_faults (domain_view domain.now)) result }
 {
-    let alone = link_files(alloc, domain, None, domain.hashed)?;
-    drop(alone);
-    Ok(())
+    link_files(alloc, domain, None, domain.hashed).and(Ok(()))
 }
 
 /// Links a domain and a problem: the task that they make.

@@ -11,7 +11,7 @@ use Rattle.pddl_faults.specs.Passes.{Verdict}
 use Rattle.pddl_faults.proofs.Verdicts.{found_at, decided_after}
 use Rattle.pddl_names.specs.FaultParts.{problem_in, part_rules, goal_rules}
 use Rattle.pddl_names.proofs.FoundParts.{holds_on}
-use Rattle.pddl_link.proofs.Stages.{ok_holds, stage_first, alone_verdict}
+use Rattle.pddl_link.proofs.Stages.{stage_first, alone_verdict}
 use Rattle.pddl_link.proofs.linked.link_files.Goals as goal
 
 pub returns-in_err-type_twice-clause-verdict : goal.returns-in_err-type_twice-clause-verdict
