@@ -14,16 +14,16 @@ use Rattle.pddl_faults.specs.Found.{IsLowestOf, IsFound, numbered}
 low_both : (xs ys : List (ℕ × Name)) (f : ℕ × Name) → Contains (xs ++ ys) f → ((g : ℕ × Name) → Contains xs g → f.0 ≤ g.0) → ((g : ℕ × Name) → Contains ys g → f.0 ≤ g.0) → IsLowestOf (xs ++ ys) f
 low_both xs ys f has front back = record { stands = has; lowest = λ g c. grind (arith, Contains-append_cases xs ys g c, front g, back g) }
 
--- both have one, and that of the first is not above the other's
-front_low : (xs ys : List (ℕ × Name)) (o p : Option (ℕ × Name)) → option_map_or (λ f. f.0) o 0 ≤ option_map_or (λ f. f.0) p 0 → (option_map_or (λ f. f.0) o 0 ≡ 0 → o ≡ None)
-    → IfSome o (IsLowestOf xs) → IfSome p (IsLowestOf ys) → IfSome o (IsLowestOf (xs ++ ys))
-front_low xs ys None p le some h k = tt
-front_low xs ys (Some f) None le some h k = let none = some (omega arith) in cc
-front_low xs ys (Some f) (Some g) le some h k = low_both xs ys f (Contains-append_left xs ys f h.stands) h.lowest (λ other c. let m = k.lowest other c in omega arith)
-
+-- that of the first, where the second's is not lower
 pub lower_front : (xs ys : List (ℕ × Name)) (e d : LinkFault) → option_map_or (λ f. f.0) (fault_of e) 0 ≤ option_map_or (λ f. f.0) (fault_of d) 0
     → IfSome (fault_of e) (IsLowestOf xs) → IfSome (fault_of d) (IsLowestOf ys) → IfSome (fault_of e) (IsLowestOf (xs ++ ys))
-lower_front xs ys e d le h k = front_low xs ys (fault_of e) (fault_of d) le (λ zero. grind (arith, zero)) h k
+lower_front xs ys e d le h k = at (fault_of e) (fault_of d) le (λ zero. grind (arith, zero)) h k
+  where
+    at : (o p : Option (ℕ × Name)) → option_map_or (λ f. f.0) o 0 ≤ option_map_or (λ f. f.0) p 0 → (option_map_or (λ f. f.0) o 0 ≡ 0 → o ≡ None) → IfSome o (IsLowestOf xs) → IfSome p (IsLowestOf ys)
+        → IfSome o (IsLowestOf (xs ++ ys))
+    at None p le some h k = tt
+    at (Some f) None le some h k = let none = some (omega arith) in cc
+    at (Some f) (Some g) le some h k = low_both xs ys f (Contains-append_left xs ys f h.stands) h.lowest (λ other c. let m = k.lowest other c in omega arith)
 
 -- or that of the second is lower
 pub lower_back : (xs ys : List (ℕ × Name)) (o p : Option (ℕ × Name)) → option_map_or (λ f. f.0) p 0 < option_map_or (λ f. f.0) o 0
@@ -40,14 +40,11 @@ number_is n words g c =
     let m = mapped_is (λ w. (n, w)) words g c in
     rw (← m.2) (refl, m.1)
 
-pub is_numbered : (n : ℕ) (words : List Name) (g : ℕ × Name) → g.0 ≡ n → Contains words g.1 → Contains (numbered n words) g
-is_numbered n words g is c = rw is (is_mapped (λ w. (n, w)) words g.1 c)
-
 -- what a pass for one fault finds
 pub passed_found : {T : Type 0} (n : ℕ) (words : List Name) (r : Result T LinkFault) → Passes n words r → IsFound (numbered n words) r
 passed_found n words (Ok v) h = ap (numbered n) h
 passed_found n words (Err e) h =
-    IfSome_then (fault_of e) h (λ f here. record { stands = is_numbered n words f here.0 here.1; lowest = λ g c. let m = number_is n words g c in omega (arith, here.0, m.0) })
+    IfSome_then (fault_of e) h (λ f here. record { stands = rw here.0 (is_mapped (λ w. (n, w)) words f.1 here.1); lowest = λ g c. let m = number_is n words g c in omega (arith, here.0, m.0) })
 
 -- a pass for one fault, whose words may be told otherwise
 pub passed_as : {T : Type 0} (n : ℕ) {words told : List Name} (r : Result T LinkFault) → words ≡ told → Passes n words r → IsFound (numbered n told) r

@@ -2,10 +2,7 @@
 #![tactic(auto)]
 
 mod numbering;
-mod peeling;
 mod spans;
-mod tops;
 
 pub use numbering::forest_spans;
-pub use spans::{Span, hold_all};
-pub use tops::keep_tops;
+pub use spans::{Span, hold_all, keep_tops};

@@ -1,7 +1,10 @@
 //! Spans of numbers, and what they hold.
 
-ghost use Rattle.std.specs.Prelude.{◌≡◌, ◌+◌, ◌<◌, ◌≤◌, ℕ, length};
-ghost use Rattle.pddl_forest.specs.Spans.{holds, hold_all, AreApart, at};
+ghost use Rattle.std.specs.Prelude.{◌≡◌, ◌+◌, ◌<◌, ◌≤◌, ℕ, length, Contains};
+ghost use Rattle.pddl_forest.specs.Spans.{holds, hold_all, AreApart, AreTops, at};
+ghost use Rattle.pddl_forest.specs.declared.spans.Span.{Span};
+
+use std::alloc::Allocator;
 
 /// The numbers from a first to a last, in four bytes each.
 #[derive(Clone, Copy)]
@@ -102,4 +105,14 @@ pub fn hold_all(outer: &[Span], inner: &[Span]) -> bool
     } else {
         hold_each(outer, inner)
     }
+}
+
+/// Keeps the tops of spans, of which two hold no number together unless one holds the first of the other, each behind the one before: those of which the first
+/// number is in no other.
+pub fn keep_tops<'a, B: Allocator>(spans: &mut Vec<Span, &'a B>)
+    requires { (s : Span) → Contains spans.old.items s → s.first ≤ s.last }
+    ensures { AreTops spans.old.items spans.new.items }
+{
+    spans.sort_unstable_by_key(|span| span.first);
+    spans.dedup_by(|next, before| next.first <= before.last);
 }

@@ -15,19 +15,18 @@ use Rattle.pddl_forest.specs.Spans.{holds, some_holds, AreApart}
 use Rattle.pddl_forest.specs.declared.spans.Span.{Span}
 use Rattle.pddl_sizes.specs.ObjectOrders.{IsOrderOf}
 use Rattle.std.proofs.lemmas.List.FromFn.{get_or-range_with_len, length-range_with_len}
-use Rattle.std.proofs.lemmas.List.Filters.{length-filter_both}
 use Rattle.std.proofs.lemmas.List.Kept.{IsNonDecreasingBy-filter}
 use Rattle.std.proofs.lemmas.List.Sums.{sum_by-cons, sum_by-le, sum_by-take-drop, get_or-le-sum_by}
 
 -- ---- sums
 
--- a number, if a test is passed
-abbrev if_passes : Bool → ℕ → ℕ
-if_passes b n = cond b n 0
+-- a sum over what passes a test
+abbrev pub sum_if : {X : Type 0} → (X → Bool) → (X → ℕ) → List X → ℕ
+sum_if test f = sum_by (λ x. cond (test x) (f x) 0)
 
-sum_filter : {X : Type 0} (test : X → Bool) (f : X → ℕ) (xs : List X) → sum_by f (filter test xs) ≡ sum_by (λ x. if_passes (test x) (f x)) xs
+sum_filter : {X : Type 0} (test : X → Bool) (f : X → ℕ) (xs : List X) → sum_by f (filter test xs) ≡ sum_if test f xs
 sum_filter test f [] = refl
-sum_filter test f (x ∷ xs) = grind (arith, sum_filter test f xs, sum_by-cons f x (filter test xs), sum_by-cons (λ y. if_passes (test y) (f y)) x xs)
+sum_filter test f (x ∷ xs) = grind (arith, sum_filter test f xs, sum_by-cons f x (filter test xs), sum_by-cons (λ y. cond (test y) (f y) 0) x xs)
 
 sum_two : {X : Type 0} (f g h : X → ℕ) → ((x : X) → h x ≡ f x + g x) → (xs : List X) → sum_by h xs ≡ sum_by f xs + sum_by g xs
 sum_two f g h is [] = refl
@@ -37,15 +36,12 @@ pub sum_ones : {X : Type 0} (xs : List X) → sum_by (λ _. 1) xs ≡ length xs
 sum_ones [] = refl
 sum_ones (x ∷ xs) = omega (arith, sum_ones xs, sum_by-cons (λ _. 1) x xs)
 
-pub few_pass : {X : Type 0} (test : X → Bool) (xs : List X) → length (filter test xs) ≤ length xs
-few_pass test xs = omega (arith, length-filter_both test (λ x. not (test x)) (λ x. refl) xs)
-
 -- ---- lists that rise
 
 -- where all sums are the same, the first number of the one is not past that of the other
 not_past : (x y : ℕ) (xs ys : List ℕ) → IsNonDecreasingBy (λ n. n) (x ∷ xs) → ((f : ℕ → ℕ) → sum_by f (x ∷ xs) ≡ sum_by f (y ∷ ys)) → x ≤ y
 not_past x y xs ys up same =
-    let f : ℕ → ℕ = λ n. if_passes (leb n y) 1 in
+    let f : ℕ → ℕ = λ n. cond (leb n y) 1 0 in
     let none : y < x → sum_by f (x ∷ xs) ≡ 0 = λ past. omega (arith, sum_by-le f 0 (x ∷ xs) (λ i d low. grind (arith, nat_tests, up 0 i d (omega arith) low, past))) in
     grind (arith, nat_tests, none, get_or-le-sum_by f (y ∷ ys) 0 y (omega arith), same f)
 
@@ -87,34 +83,24 @@ places_many test k (x ∷ xs) = grind (arith, places_many test (k + 1) xs)
 
 -- ---- objects under tops
 
-module _ (numbers : List ℕ) where
-  abbrev all : List ℕ
-  all = range_with_len 0 (length numbers)
-
-  abbrev sum_if : (ℕ → Bool) → (ℕ → ℕ) → List ℕ → ℕ
-  sum_if test f = sum_by (λ o. if_passes (test (number_at numbers o)) (f o))
-
-  sum_places : (test : ℕ → Bool) (f : ℕ → ℕ) → sum_by f (places_from 0 test numbers) ≡ sum_if test f all
-  sum_places test f = rw (← places_are test numbers 0) (sum_filter (λ o. test (number_at numbers o)) f all)
-
+module _ (numbers order : List ℕ) where
   -- all objects stand in an order once
-  pub in_order : (order : List ℕ) (test : ℕ → Bool) (f : ℕ → ℕ) → ∥ IsOrderOf numbers order ∥₁ → sum_if test f order ≡ sum_by f (places_from 0 test numbers)
-  in_order order test f ordered =
-      ∥∥₁_elim ordered (hlevel ℕ_set) (λ is. sum_by-IsPermutation (λ o. if_passes (test (number_at numbers o)) (f o)) all order is.all) ∙ sym (sum_places test f)
+  pub in_order : (test : ℕ → Bool) (f : ℕ → ℕ) → ∥ IsOrderOf numbers order ∥₁ → sum_if (λ o. test (number_at numbers o)) f order ≡ sum_by f (places_from 0 test numbers)
+  in_order test f ordered =
+      let all = range_with_len 0 (length numbers) in
+      ∥∥₁_elim ordered (hlevel ℕ_set) (λ is. sum_by-IsPermutation (λ o. cond (test (number_at numbers o)) (f o) 0) all order is.all) ∙ sym (rw (← places_are test numbers 0) (sum_filter (λ o. test (number_at numbers o)) f all))
 
   -- their types have numbers that do not fall
-  pub rising : (order : List ℕ) → ∥ IsOrderOf numbers order ∥₁ → IsNonDecreasingBy (number_at numbers) order
-  rising order ordered = λ i j d le low. ∥∥₁_elim ordered (hlevel le_prop) (λ is. is.rising i j d le low)
+  pub rising : ∥ IsOrderOf numbers order ∥₁ → IsNonDecreasingBy (number_at numbers) order
+  rising ordered = λ i j d le low. ∥∥₁_elim ordered (hlevel le_prop) (λ is. is.rising i j d le low)
 
   module _ (tops : List Span) where
     -- over those that are under so many tops
     abbrev pub sum_under : (ℕ → ℕ) → ℕ → ℕ
-    sum_under f i = sum_by f (places_from 0 (some_holds (take i tops)) numbers)
+    sum_under f i = sum_if (λ o. some_holds (take i tops) (number_at numbers o)) f order
 
     pub none_under : (f : ℕ → ℕ) → 0 ≡ sum_under f 0
-    none_under f =
-        let g : ℕ → ℕ = λ o. if_passes (some_holds (take 0 tops) (number_at numbers o)) (f o) in
-        omega (arith, sum_two g g g (λ o. refl) all, sum_places (some_holds (take 0 tops)) f)
+    none_under f = let zero : ℕ → ℕ = λ o. 0 in omega (arith, sum_two zero zero zero (λ o. refl) order)
 
     module _ (apart : AreApart tops) (i : ℕ) (low : i < length tops) where
       abbrev none : Span
@@ -131,14 +117,8 @@ module _ (numbers : List ℕ) where
           let at : slice_index_or tops k none ≡ s = sym (get_or-take i tops k none (omega (arith, k_low, few))) ∙ get_or_default (take i tops) k none s k_low ∙ s_is in
           grind (arith, nat_tests, on, here, past, at)
 
-      one_of : (n m : ℕ) → if_passes (some_holds (take (i + 1) tops) n) m ≡ if_passes (some_holds (take i tops) n) m + if_passes (holds top n) m
-      one_of n m = grind (arith, list_any_more (λ t. holds t n) tops i none low, no_other n)
-
-      pub next_top : (f : ℕ → ℕ) → sum_under f (i + 1) ≡ sum_under f i + sum_by f (places_from 0 (holds top) numbers)
-      next_top f =
-          let both = sum_two (λ o. if_passes (some_holds (take i tops) (number_at numbers o)) (f o)) (λ o. if_passes (holds top (number_at numbers o)) (f o)) (λ o. if_passes (some_holds (take (i + 1) tops) (number_at numbers o)) (f o))
-          (λ o. one_of (number_at numbers o) (f o)) all in
-          omega (arith, both, sum_places (some_holds (take (i + 1) tops)) f, sum_places (some_holds (take i tops)) f, sum_places (holds top) f)
+      pub next_top : (f : ℕ → ℕ) → sum_under f (i + 1) ≡ sum_under f i + sum_if (λ o. holds top (number_at numbers o)) f order
+      next_top f = sum_two _ _ _ (λ o. grind (arith, list_any_more (λ t. holds t (number_at numbers o)) tops i none low, no_other (number_at numbers o))) order
 
 -- ---- a part of an order
 
@@ -150,10 +130,10 @@ module _ {X : Type 0} (n : X → ℕ) (top : Span) where
   abbrev IsEnd : List X → ℕ → Type 0
   IsEnd = IsPartitionPoint (λ x. leb (n x) top.last ≡ true) (λ x. leb (n x) top.last ≡ false)
 
-  pub part_sum : (f : X → ℕ) (xs rest : List X) (start many : ℕ) → rest ≡ drop start xs → IsStart xs start → IsEnd rest many → sum_by f (take many rest) ≡ sum_by (λ x. if_passes (holds top (n x)) (f x)) xs
+  pub part_sum : (f : X → ℕ) (xs rest : List X) (start many : ℕ) → rest ≡ drop start xs → IsStart xs start → IsEnd rest many → sum_by f (take many rest) ≡ sum_if (λ x. holds top (n x)) f xs
   part_sum f xs rest start many same from to =
-      let on : X → ℕ = λ x. if_passes (holds top (n x)) (f x) in
-      let off : X → ℕ = λ x. if_passes (not (holds top (n x))) (f x) in
+      let on : X → ℕ = λ x. cond (holds top (n x)) (f x) 0 in
+      let off : X → ℕ = λ x. cond (not (holds top (n x))) (f x) 0 in
       let front = sum_by-le on 0 (take start xs) (λ i d low. grind (arith, nat_tests, from.0 i d, get_or-take start xs i d, length-take start xs, low)) in
       let middle = sum_by-le off 0 (take many rest) (λ i d low. grind (arith, nat_tests, from.1 (start + i) d, to.0 i d, get_or-take many rest i d, same, get_or-drop start xs i d, length-take many rest, length-drop start xs, low)) in
       let back = sum_by-le on 0 (drop many rest) (λ i d low. grind (arith, nat_tests, to.1 (many + i) d, get_or-drop many rest i d, length-drop many rest, low)) in

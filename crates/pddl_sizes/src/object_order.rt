@@ -1,6 +1,6 @@
 //! Objects in the order of the numbers of their types.
 
-ghost use Rattle.std.specs.Prelude.{◌≡◌, ℕ, filter, length, slice_get, IfOk, sum_by};
+ghost use Rattle.std.specs.Prelude.{◌≡◌, ℕ, filter, length, slice_get, IfOk, sum_by, cond};
 ghost use Rattle.pddl_forest.specs.Forests.{number_at};
 ghost use Rattle.pddl_forest.specs.Spans.{holds, some_holds, AreApart};
 ghost use Rattle.pddl_task.specs.Tasks.{places_from};
@@ -32,7 +32,8 @@ impl<'a, B: Allocator> ObjectOrder<'a, B> {
         ensures { IfOk result (λ order. order.numbers.items ≡ numbers.entry.items) }
     {
         let mut objects: Vec<usize, &'a B> = (0..numbers.len()).collect(*numbers.allocator())?;
-        objects.sort_unstable_by_key(|object| type_number(&numbers, *object));
+        let held = numbers.as_slice();
+        objects.sort_unstable_by_key(|object| type_number(held, *object));
         Ok(ObjectOrder { numbers, objects })
     }
 
@@ -45,7 +46,7 @@ impl<'a, B: Allocator> ObjectOrder<'a, B> {
 
     /// The objects whose types have numbers in a span.
     fn under(&self, top: Span) -> &[usize]
-        ensures { (f : ℕ → ℕ) → sum_by f result.now ≡ sum_by f (places_from 0 (holds top) self.now.numbers.items) }
+        ensures { (f : ℕ → ℕ) → sum_by f result.now ≡ sum_by (λ o. cond (holds top (number_at self.now.numbers.items o)) (f o) 0) self.now.objects.items }
     {
         let numbers = self.numbers.as_slice();
         let objects = self.objects.as_slice();

@@ -50,7 +50,7 @@ fn quantifier_size<A: Allocator, C: FittingCount<A>>(
 }
 
 /// The ground size of a formula, or 1,000,001 where it is more than 1,000,000.
-#[tactic(auto, using(pddl_formula::specs::declared::formula::Formula::TheFolds::the_lemmas, crate::proofs::Capped::quantified))]
+#[tactic(auto, using(pddl_formula::specs::declared::formula::Formula::TheFolds::the_lemmas))]
 pub fn ground_size<A: Allocator, C: FittingCount<A>>(counts: &C, formula: &Formula<A>) -> u32
     ensures { result ≡ capped (formula_size (C.count counts.now) (formula_view formula.now)) }
 {
@@ -76,7 +76,7 @@ pub fn ground_size<A: Allocator, C: FittingCount<A>>(counts: &C, formula: &Formu
 }
 
 /// The ground size of an effect, or 1,000,001 where it is more than 1,000,000.
-#[tactic(auto, using(pddl_effect::specs::declared::effect::Effect::TheFolds::the_lemmas, crate::proofs::Capped::quantified))]
+#[tactic(auto, using(pddl_effect::specs::declared::effect::Effect::TheFolds::the_lemmas))]
 pub fn effect_ground_size<A: Allocator, C: FittingCount<A>>(counts: &C, effect: &Effect<A>) -> u32
     ensures { result ≡ capped (effect_size (C.count counts.now) (effect_view effect.now)) }
 {

@@ -2,7 +2,7 @@ use Rattle.std.proofs.Common.{rules}
 use Rattle.std.proofs.lemmas.Fn.{dedup_same}
 use Rattle.std.proofs.lemmas.List.Sorted.{IsNonDecreasingBy-from_sort_by_key}
 use Rattle.pddl_forest.proofs.ApartSpans.{within, are_tops}
-use Rattle.pddl_forest.proofs.tops.keep_tops.Goals as goal
+use Rattle.pddl_forest.proofs.spans.keep_tops.Goals as goal
 
 pub returns : goal.returns
 returns g c =
