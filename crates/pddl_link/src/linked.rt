@@ -15,7 +15,7 @@ use pddl_domain::Domain;
 use pddl_faults::{LinkFault, lower};
 use pddl_hash::Hashed;
 use pddl_linked_task::Task;
-use pddl_names::{look_at_domain, look_at_goal, look_at_problem, type_twice};
+use pddl_names::{look_at_domain, look_at_goal, look_at_problem};
 use pddl_problem::Problem;
 use pddl_search::domain_name;
 use pddl_sizes::ObjectOrder;
@@ -61,7 +61,6 @@ fn link_files<'m, 'a, A: Allocator, B: Allocator>(
     ensures known { IfOk result (HaveAll (domain_view domain.now) (problem_in problem.entry)) }
     ensures verdict { Verdict (map (fault_in (domain_view domain.now) (problem_in problem.entry)) (drop 1 rules)) result }
 {
-    type_twice(alloc, domain)?;
     let types = Types::of(alloc, hashed, &domain.types)?;
     let mut known = Known::of(types);
     let mut told = Told::new(&known.types);

@@ -4,7 +4,7 @@ use Rattle.pddl_domain.specs.Domains.{DomainValue}
 use Rattle.pddl_problem.specs.Problems.{ProblemValue}
 use Rattle.pddl_task.specs.Linked.{IsLinked}
 use Rattle.pddl_types.specs.Known.{AreAllKnown}
-use Rattle.pddl_types.specs.declared.tables.Tables.{Tables}
+use Rattle.pddl_types.specs.declared.known.Tables.{Tables}
 
 -- all that a domain and a problem declare is known
 abbrev pub HaveAll : {A B : _} → DomainValue → ProblemValue → Tables A B → Type 0

@@ -4,9 +4,7 @@
 #![tactic(auto)]
 
 mod files;
-mod repeats;
 mod uses;
 mod walk;
 
 pub use files::{look_at_domain, look_at_goal, look_at_problem};
-pub use repeats::type_twice;

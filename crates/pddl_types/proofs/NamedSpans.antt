@@ -1,5 +1,5 @@
 -- Types by their spans: what is under a type is what has its first number in the type's span.
-use Rattle.std.proofs.Common.{◌≡◌, ℕ, ◌^◌, ◌<◌, ◌≤◌, Bool, true, false, ◌&&◌, eqb, List, map, length, refl, sym, ap, ◌∙◌, subst, arith, ◌↔◌, IsTrue, Contains}
+use Rattle.std.proofs.Common.{◌-◌, ◌≡◌, ℕ, ◌^◌, ◌<◌, ◌≤◌, Bool, true, false, ◌&&◌, eqb, List, map, length, refl, sym, ap, ◌∙◌, subst, arith, ◌↔◌, IsTrue, Contains}
 use Rattle.std.specs.Cmp.{both_ways}
 use Rattle.std.specs.List.{list_any}
 use Rattle.std.proofs.lemmas.Bool.Decides.{nat_tests}
@@ -43,7 +43,7 @@ module _ (t : TypesValue) (h : AreInTable t) where
   behind : (n : Name) → is_type n ≡ false → ((span_of t n).first ≡ length t.spans) × ((span_of t n).last ≡ length t.spans)
   behind n off =
       let past = ap (λ ns. number_in ns n) h.1 ∙ number_past h.0 n (h.2.1.has n ∙ off) in
-      let span = get_or_past t.spans (number n) (record { first = length t.spans; last = length t.spans }) (omega (arith, past, h.3.many, length-map h.0 (λ (r : Row). r.1))) in
+      let span = get_or_past t.spans (number n) (record { first = length t.spans; last = length t.spans }) (omega (arith, past, h.3.many, length-map h.0 (λ (r : Row). r.1 - 1))) in
       (ap (λ (s : Span). s.first) span, ap (λ (s : Span). s.last) span)
 
   within : (n : Name) → is_type n ≡ true → ((span_of t n).first ≤ (span_of t n).last) × ((span_of t n).last < length t.spans)

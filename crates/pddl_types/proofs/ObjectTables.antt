@@ -1,15 +1,14 @@
 -- Names with their types, one after another, beside a table of each at its first place, with the number of its type.
-use Rattle.std.proofs.Common.{◌≡◌, ℕ, ◌+◌, ◌<◌, ◌≤◌, ◌==◌, Bool, true, false, not, cond, List, [], ◌∷◌, ◌++◌, map, filter, length, get_or, drop, Option, Some, None, Result, refl, ap, sym, ◌∙◌, subst, bytes_eq, position, arith, Contains, option_map, find, is_some, slice_get, Bor, All}
+use Rattle.std.proofs.Common.{MatchOption, ◌≡◌, ℕ, ◌+◌, ◌<◌, ◌≤◌, ◌==◌, Bool, true, false, not, cond, List, [], ◌∷◌, ◌++◌, map, filter, length, get_or, drop, Option, Some, None, Result, refl, ap, sym, ◌∙◌, subst, bytes_eq, position, arith, Contains, option_map, find, is_some, slice_get, Bor, All}
 use Rattle.std.specs.Cmp.Lexicographic.{nat_list_eq_equiv}
+use Rattle.std.specs.List.{position_or_len}
 use Rattle.std.specs.Map.{keys_of, lookup, values_of}
 use Rattle.std.specs.Option.{option_map_or}
 use Rattle.std.proofs.lemmas.Bool.Decides.{nat_tests}
 use Rattle.std.proofs.lemmas.List.{drop_all, take_all, map-append, map_push}
 use Rattle.std.proofs.lemmas.List.Elements.{All-head, All-tail, All-push, All-weaker, filter-append}
-use Rattle.std.proofs.lemmas.Option.{slice_get_within, slice_get-map, slice_get-get_or}
-use Rattle.std.proofs.lemmas.Slice.Zip.{AllZip-left, AllZip-long}
-use Rattle.indexmap.specs.IndexMap.{insert_entry}
-use Rattle.indexmap.proofs.MapLemmas.{Found-position, Missing-position, insert_entry-absent}
+use Rattle.std.proofs.lemmas.Option.{slice_get-map}
+use Rattle.indexmap.proofs.MapLemmas.{Found-position, Missing-position, or_len-absent}
 use Rattle.pddl_forest.specs.declared.spans.Span.{Span}
 use Rattle.pddl_formula.specs.TypedLists.{TypedValue, typed_view}
 use Rattle.pddl_formula.specs.declared.type_names.Typed.{Typed}
@@ -22,10 +21,11 @@ use Rattle.pddl_faults.proofs.ListTurns.{seen_more, views_drop}
 use Rattle.pddl_faults.proofs.SeenItems.{seen_at}
 use Rattle.pddl_faults.proofs.PutValues.{is_there}
 use Rattle.pddl_types.specs.KnownNames.{object_in}
-use Rattle.pddl_types.specs.Told.{ToldValue, tops_at, first_at, IsAt, AreAt, AreDistinct, AreTold, AreKept}
+use Rattle.pddl_types.specs.Told.{ToldValue, tops_at, first_at, IsAt, AreDistinct, AreTold, AreKept}
 use Rattle.pddl_types.specs.Objects.{IsAtOf, IsObjectAt, AreSeen, is_off, off_types}
 use Rattle.pddl_types.specs.TypeSpans.{TypesValue, span_of, IsTold, AreNumbered}
 use Rattle.pddl_types.specs.declared.listed.Listed.{Listed}
+use Rattle.pddl_types.proofs.Lookups.{at_end}
 use Rattle.pddl_types.proofs.ToldTypes.{one_number, still_at, tops_there}
 
 -- ---- each name at its first place
@@ -79,34 +79,24 @@ module _ {A B : Type 0} {told : ToldValue} (once : AreDistinct told) (seen : Lis
       let (off, there) = as_found (find (is_named x.item) seen) found (rw (are.objects, find-firsts seen k, named) at typed) in
       (off, rw (are.objects, firsts_push seen x, ← is_there seen x.item, there) refl)
 
-  -- of a name that is there nothing is put
-  pub put_there : {next : Listed A B} (place : ℕ) (right : Bool) → Some place ≡ position (bytes_eq k) (keys_of listed.objects.entries) → next.objects.entries ≡ listed.objects.entries
+  -- a new name is put last, and of one that is there nothing is; the first has the number where it is not at odds
+  pub put_object : {next : Listed A B} (o' : Option ℕ) (place : ℕ) (right : Bool) → o' ≡ position (bytes_eq k) (keys_of listed.objects.entries)
+      → place ≡ position_or_len (bytes_eq k) (keys_of listed.objects.entries) → MatchOption o' (next.objects.entries ≡ listed.objects.entries ++ (k, (o, number)) ∷ []) (λ _. next.objects.entries ≡ listed.objects.entries)
       → right ≡ option_map_or (λ e. e.1.1 == number) (slice_get next.objects.entries place) false → (is_off seen (typed_view o.now) ≡ not right) × AreSeen told (seen ++ typed_view o.now ∷ []) next
-  put_there place right is same answer =
+  put_object (Some i) place right is first same answer =
       let es = listed.objects.entries in
-      let found = Found-position (bytes_eq k) es place (sym is) in
-      let (e, there) = some_at es place found.within in
-      let (off, objects) = as_seen (Some e.1) (found.value ∙ slice_get-map (λ d. d.1) es place ∙ ap (option_map (λ d. d.1)) there) in
-      (off ∙ ap not (sym (rw (same, there) at answer)), record { objects = rw same (sym (append-none _) ∙ objects); each = rw same are.each })
-
-  -- and one of a new name is put last
-  pub put_last : {next : Listed A B} → None ≡ position (bytes_eq k) (keys_of listed.objects.entries) → next.objects.entries ≡ insert_entry bytes_eq listed.objects.entries k (o, number)
-      → (is_off seen (typed_view o.now) ≡ false) × AreSeen told (seen ++ typed_view o.now ∷ []) next
-  put_last {next} is put =
+      let found = Found-position (bytes_eq k) es i (sym is) in
+      let (e, there) = some_at es i found.within in
+      let (off, objects) = as_seen (Some e.1) (found.value ∙ slice_get-map (λ d. d.1) es i ∙ ap (option_map (λ d. d.1)) there) in
+      (off ∙ ap not (sym (rw (same, first, found.or_len, there) at answer)), record { objects = rw same (sym (append-none _) ∙ objects); each = rw same are.each })
+  put_object {next} None place right is first last answer =
       let es = listed.objects.entries in
       let none = Missing-position (bytes_eq k) es (sym is) in
-      let last : next.objects.entries ≡ es ++ (k, (o, number)) ∷ [] = put ∙ insert_entry-absent bytes_eq k (o, number) es none.absent in
       let (off, objects) = as_seen None none.value in
-      (off, record { objects = rw (last, map_push object_in es (k, (o, number)), named) objects; each = rw last (All-push (IsObjectAt told) es (k, (o, number)) are.each (sym named, at)) })
+      let right : right ≡ true = answer ∙ rw (last, first, or_len-absent (bytes_eq k) es none.absent, at_end es (k, (o, number))) (grind (arith, nat_tests)) in
+      (off ∙ ap not (sym right), record { objects = rw (last, map_push object_in es (k, (o, number)), named) objects; each = rw last (All-push (IsObjectAt told) es (k, (o, number)) are.each (sym named, at)) })
 
 -- ---- a walk over what is listed
-
--- the number of the type of an item
-pub number_at : (told : ToldValue) (items : List TypedValue) (numbers : List ℕ) (i d : ℕ) (x : TypedValue) → AreAt told items numbers → slice_get items i ≡ Some x
-    → IsAt told x.of (get_or numbers i d)
-number_at told items numbers i d x are at =
-    let low : i < length numbers = omega (arith, slice_get_within items i x at, AllZip-long _ items numbers are) in
-    rw (at, slice_get-get_or numbers i d low) at (AllZip-left (λ (y : TypedValue). IsAt told y.of) items numbers are i)
 
 -- in front of what is listed at a place, the table is that of those so far, and those at odds so far are found
 pub record PutUpTo {A B : Type 0} (told : ToldValue) (seen : List TypedValue) (xs : List (Typed A)) (i : ℕ) (listed : Listed A B) (found : Result (Unit {0}) LinkFault) : Type 0 where

@@ -1,12 +1,13 @@
 -- Tables of what is declared, as it is put into them one after another, and the types of parameters.
-use Rattle.std.proofs.Common.{◌≡◌, ℕ, true, false, cond, List, [], ◌∷◌, ◌++◌, map, Option, Some, None, refl, ap, sym, ◌∙◌, subst, bytes_eq, append_assoc, arith, is_some, slice_get, Bor, IsSomeAnd}
+use Rattle.std.proofs.Common.{◌≡◌, ℕ, ◌==◌, true, false, not, length, MatchOption, List, [], ◌∷◌, ◌++◌, map, Option, Some, None, refl, ap, sym, ◌∙◌, subst, bytes_eq, append_assoc, arith, is_some, slice_get, Bor, IsSomeAnd}
+use Rattle.std.proofs.lemmas.Bool.Decides.{nat_tests}
 use Rattle.std.proofs.lemmas.List.{map-append}
 use Rattle.std.proofs.lemmas.List.Elements.{All-contains, All-push}
 use Rattle.std.proofs.lemmas.List.Folds.{find-append}
 use Rattle.std.proofs.lemmas.Option.{same_Some}
 use Rattle.std.proofs.lemmas.Slice.Zip.{AllZip-left}
-use Rattle.indexmap.specs.IndexMap.{IndexMap, index_of, insert_entry}
-use Rattle.indexmap.proofs.MapLemmas.{Missing-position, insert_entry-absent, some_index}
+use Rattle.indexmap.specs.IndexMap.{IndexMap, index_of, insert_index}
+use Rattle.indexmap.proofs.MapLemmas.{Found-position, Missing-position, or_len-absent, some_index}
 use Rattle.pddl_formula.specs.TypedLists.{TypedValue, typed_view}
 use Rattle.pddl_domain.specs.Actions.{ActionValue}
 use Rattle.pddl_domain.specs.Declarations.{Signature}
@@ -73,19 +74,21 @@ module _ {A B S : Type 0} (m : IndexMap (Bor (List ℕ)) (Slots A B) S) {before 
       rw (← name)
       (cc (is_among seen k.now, have.first.first k.now, is_among (map signature_in m.entries) k.now, is_symbol m.entries k.now, is, some_index (λ j. bytes_eq k.now j.now) m.entries))
 
-  -- a new name comes last
-  pub put_where_new : (v : Slots A B) (next : Rows A B) (place : Option ℕ) → place ≡ index_of (λ a b. bytes_eq a.now b.now) m k
-      → next ≡ cond (is_some place) m.entries (insert_entry (λ a b. bytes_eq a.now b.now) m.entries k v) → map typed_view v.parameters.now ≡ g.parameters → IsSlotsAt after v
-      → (is_in (map symbol_of seen) g.name ≡ is_some place) × HaveFirst after next (seen ++ g ∷ [])
-  put_where_new v next (Some i) is put parameters at =
-      let there = seen_there (Some i) is in (there, rw put (record { first = first_still have.first g there; slots = (have_still kept have).slots }))
-  put_where_new v next None is put parameters at =
-      let last = put ∙ insert_entry-absent (λ a b. bytes_eq a.now b.now) k v m.entries (Missing-position (λ j. bytes_eq k.now j.now) m.entries (sym is)).absent in
-      let own : signature_in (k, v) ≡ g = rw (name, parameters) refl in (
-        seen_there None is,
-        rw last (record {
+  -- a new name comes last, and its place is not among those before
+  pub put_where_new : (v : Slots A B) (next : Rows A B) (place : ℕ) (o : Option ℕ) → o ≡ index_of (λ a b. bytes_eq a.now b.now) m k → place ≡ insert_index (λ a b. bytes_eq a.now b.now) m k
+      → MatchOption o (next ≡ m.entries ++ (k, v) ∷ []) (λ _. next ≡ m.entries) → (map typed_view v.parameters.now ≡ g.parameters) × AreAt after g.parameters v.numbers.items
+      → (is_in (map symbol_of seen) g.name ≡ not (place == length m.entries)) × HaveFirst after next (seen ++ g ∷ [])
+  put_where_new v next place (Some i) is at put made =
+      let there = seen_there (Some i) is in
+      let found = Found-position (λ j. bytes_eq k.now j.now) m.entries i (sym is) in
+      (there ∙ grind (arith, nat_tests, at, found.or_len, found.within), rw put (record { first = first_still have.first g there; slots = (have_still kept have).slots }))
+  put_where_new v next place None is at put made =
+      let absent = (Missing-position (λ j. bytes_eq k.now j.now) m.entries (sym is)).absent in
+      let own : signature_in (k, v) ≡ g = rw (name, made.0) refl in (
+        seen_there None is ∙ grind (arith, nat_tests, at, or_len-absent (λ j. bytes_eq k.now j.now) m.entries absent),
+        rw put (record {
           first = rw (map-append, own) (first_more have.first g);
-          slots = All-push (λ e. IsSlotsAt after e.1) m.entries (k, v) (have_still kept have).slots at;
+          slots = All-push (λ e. IsSlotsAt after e.1) m.entries (k, v) (have_still kept have).slots (rw made.0 made.1);
         }),
       )
 

@@ -1,7 +1,7 @@
 -- Types with their parents, as they are declared; the rows of their table, by place and by name, and how it grows; which places are under which, and ways that go round.
-use Rattle.std.proofs.Common.{◌≡◌, ℕ, zero, suc, ◌<◌, ◌||◌, Bool, true, false, cond, List, [], ◌∷◌, ◌++◌, length, map, refl, sym, ap, ◌∙◌, subst, arith, bytes_eq, ◌≢◌, ◌+◌, filter, get_or, drop, true≢false, not, ◌&&◌, fold, inl, inr, Option, Some, None, is_some, unwrap_or, slice_get, ◌↔◌, IsTrue, Contains, Bor}
+use Rattle.std.proofs.Common.{◌-◌, ◌==◌, MatchOption, ◌≡◌, ℕ, zero, suc, ◌<◌, ◌||◌, Bool, true, false, cond, List, [], ◌∷◌, ◌++◌, length, map, refl, sym, ap, ◌∙◌, subst, arith, bytes_eq, ◌≢◌, ◌+◌, filter, get_or, drop, true≢false, not, ◌&&◌, fold, inl, inr, Option, Some, None, is_some, unwrap_or, slice_get, ◌↔◌, IsTrue, Contains, Bor}
 use Rattle.std.specs.Cmp.{IsEquivalence, on_equiv}
-use Rattle.std.specs.List.{position, IsDistinct, slice_index_or}
+use Rattle.std.specs.List.{position, position_or_len, IsDistinct, slice_index_or}
 use Rattle.std.specs.Map.{keys_of}
 use Rattle.std.proofs.lemmas.Cmp.{nat_list_eq_equiv}
 use Rattle.std.proofs.lemmas.List.{length-map, map-append}
@@ -27,9 +27,11 @@ use Rattle.pddl_task.specs.Faults.{first_alone}
 use Rattle.pddl_task.proofs.Subtypes.{is_under_decides, is_cyclic_decides, under_through}
 use Rattle.pddl_task.proofs.TypeCycles.{cycle_is_fault}
 use Rattle.pddl_faults.proofs.ListTurns.{rest_is, viewed_at}
+use Rattle.pddl_faults.proofs.SeenItems.{any_more}
 use Rattle.std.proofs.lemmas.List.Elements.{Contains-append_left, Contains-append_right, Contains-append_cases, All-from_recursion}
 use Rattle.std.proofs.lemmas.Map.Keys.{IsDistinct-head, IsDistinct-tail}
-use Rattle.std.proofs.Math.Bool.{and-true}
+use Rattle.std.proofs.Math.Bool.{and-true, or-false}
+use Rattle.std.proofs.lemmas.Bool.Decides.{nat_tests}
 use Rattle.pddl_task.proofs.DistinctNames.{no_repetition}
 
 -- ---- names that are in a list
@@ -145,7 +147,7 @@ module _ (declared : List TypeValue) (once : repeated [] (map item_of declared) 
 -- ---- by place
 
 pub below : (rows : List Row) (i : ℕ) (n : Name) → StandsAt rows i n → i < length (parents_in rows)
-below rows i n at = omega (arith, slice_get_within (names_in rows) i n at, length-map rows (λ (r : Row). r.0.now), length-map rows (λ (r : Row). r.1))
+below rows i n at = omega (arith, slice_get_within (names_in rows) i n at, length-map rows (λ (r : Row). r.0.now), length-map rows (λ (r : Row). r.1 - 1))
 
 pub one_name : (rows : List Row) (i j : ℕ) (t u : Name) → i ≡ j → StandsAt rows i t → StandsAt rows j u → t ≡ u
 one_name rows i j t u same at there = same_Some t u (sym at ∙ ap (slice_get (names_in rows)) same ∙ there)
@@ -170,14 +172,16 @@ module _ (rows : List Row) (t : Name) where
   pub number_past : is_some (parent_place rows t) ≡ false → number_in (names_in rows) t ≡ length rows
   number_past h = sym (number_lent rows t) ∙ or_len-absent (λ k. bytes_eq t k.now) rows (absent_from_lookup (λ k. bytes_eq t k.now) rows (none_found (parent_place rows t) h))
 
-  -- a name that stands at a place has that number, and beside it the place of its parent
+  -- a name that stands at a place has that number, and beside it stands the place of its parent
   pub beside : (i : ℕ) → IsDistinct (λ x y. bytes_eq x.now y.now) (keys_of rows) → StandsAt rows i t
-      → (number_in (names_in rows) t ≡ i) × (parent_place rows t ≡ Some (parent_of (parents_in rows) i))
+      → (number_in (names_in rows) t ≡ i) × (p : ℕ) × (parent_place rows t ≡ Some p) × (parent_of (parents_in rows) i ≡ p - 1)
   beside i once at =
       let (r, here, named) = entry_seen (λ (s : Row). s.0.now) rows i t at in
-      subst (λ n. (number_in (names_in rows) n ≡ i) × (parent_place rows n ≡ Some (parent_of (parents_in rows) i))) named (
+      subst (λ n. (number_in (names_in rows) n ≡ i) × (p : ℕ) × (parent_place rows n ≡ Some p) × (parent_of (parents_in rows) i ≡ p - 1)) named (
         sym (number_lent rows r.0.now) ∙ or_len-first (λ k. bytes_eq r.0.now k.now) rows i (own_first (λ x y. bytes_eq x.now y.now) equiv rows i r.0 r.1 once here),
-        lookup_from_place equiv rows i r.0 r.1 once here ∙ ap Some (sym (get_or_from_slice_get (parents_in rows) i r.1 i (seen_entry (λ (s : Row). s.1) rows i r here))),
+        r.1,
+        lookup_from_place equiv rows i r.0 r.1 once here,
+        get_or_from_slice_get (parents_in rows) i (r.1 - 1) i (seen_entry (λ (s : Row). s.1 - 1) rows i r here),
       )
     where
       equiv : IsEquivalence (λ (x y : Bor (List ℕ)). bytes_eq x.now y.now)
@@ -198,59 +202,67 @@ stands_on (r ∷ rows) k p (suc i) n at = elim (bytes_eq k.now r.0.now) as (λ b
 
 -- the same types
 of_types : {types others : List Name} {told : List TypeValue} {rows : List Row} → ((t : Name) → is_in types t ≡ is_in others t) → IsTableOf types told rows → IsTableOf others told rows
-of_types same h = record { once = h.once; first = h.first; has = λ t. h.has t ∙ same t; parents = h.parents }
+of_types same h = record { once = h.once; first = h.first; has = λ t. h.has t ∙ same t; declared = h.declared; parents = h.parents }
 
 -- one that stands there already
 pub again : (types : List Name) (told : List TypeValue) (rows : List Row) (i : ℕ) (n : Name) → StandsAt rows i n → IsTableOf types told rows → IsTableOf (n ∷ types) told rows
-again types told rows i n at h = of_types (λ t. grind (arith, bytes_same t n, h.has n, (beside rows n i h.once at).1)) h
+again types told rows i n at h = of_types (λ t. let (_, p, here, _) = beside rows n i h.once at in grind (arith, bytes_same t n, h.has n, here)) h
 
-module _ (rows after : List Row) (k : Bor (List ℕ)) (p : ℕ) (put_there : after ≡ put rows k p) (once : IsDistinct (λ x y. bytes_eq x.now y.now) (keys_of after)) where
-  -- a type that is put beside the place of its parent, where those of the others stay
-  put_in : (types : List Name) (told next : List TypeValue) → IsTableOf types told rows → StandsAt rows p (parent_in next k.now) → ((t : Name) → bytes_eq t k.now ≡ false → parent_in told t ≡ parent_in next t)
-      → IsTableOf (k.now ∷ types) next after
-  put_in types told next h at others = record {
-    once = once;
-    first = subst (λ rs. StandsAt rs 0 root) (sym put_there) (stands_on rows k p 0 root h.first);
-    has = λ t. ap is_some (place t) ∙ found_or (bytes_eq t k.now) p (parent_place rows t) ∙ ap (λ b. bytes_eq t k.now || b) (h.has t);
-    parents = λ t i is.
-        let stays = stands_on rows k p i (parent_in next t) in
-        rw put_there (grind (arith, place t, is, bytes_same t k.now, stays, others t, h.parents t i, at));
-  }
-    where
-      place : (t : Name) → parent_place after t ≡ cond (bytes_eq t k.now) (Some p) (parent_place rows t)
-      place t = ap (λ rs. parent_place rs t) put_there ∙ lookup_put rows k p t
+-- a type that is put beside the place of its parent, where those of the others stay
+put_in : (rows after : List Row) (k : Bor (List ℕ)) (p : ℕ) → after ≡ put rows k p → IsDistinct (λ x y. bytes_eq x.now y.now) (keys_of after)
+    → (types : List Name) (told next : List TypeValue) → IsTableOf types told rows → StandsAt rows (p - 1) (parent_in next k.now) → not (p == 0) ≡ is_in (map item_of next) k.now
+    → ((t : Name) → bytes_eq t k.now ≡ false → (parent_in told t ≡ parent_in next t) × (is_in (map item_of told) t ≡ is_in (map item_of next) t)) → IsTableOf (k.now ∷ types) next after
+put_in rows after k p put_there once types told next h at own others = record {
+  once = once;
+  first = subst (λ rs. StandsAt rs 0 root) (sym put_there) (stands_on rows k p 0 root h.first);
+  has = λ t. ap is_some (place t) ∙ found_or (bytes_eq t k.now) p (parent_place rows t) ∙ ap (λ b. bytes_eq t k.now || b) (h.has t);
+  declared = λ t. rw (place t) (grind (arith, nat_tests, own, h.declared t, others t, bytes_same t k.now));
+  parents = λ t i is.
+      let stays = stands_on rows k p (i - 1) (parent_in next t) in
+      rw put_there (grind (arith, place t, is, bytes_same t k.now, stays, others t, h.parents t i, at));
+}
+  where
+    place : (t : Name) → parent_place after t ≡ cond (bytes_eq t k.now) (Some p) (parent_place rows t)
+    place t = ap (λ rs. parent_place rs t) put_there ∙ lookup_put rows k p t
 
-  -- a declared type goes under its parent, which stands at a place
-  pub put_under : (told : List TypeValue) (d : TypeValue) → IsTableOf (d.of ∷ types_of told) told rows → d.item ≡ k.now → StandsAt rows p d.of → IsTableOf (types_of (told ++ d ∷ [])) (told ++ d ∷ []) after
-  put_under told d h item at =
-      of_types types_more (put_in (d.of ∷ types_of told) told (told ++ d ∷ []) h (subst (StandsAt rows p) (sym (parent_more k.now ∙ ap (λ b. cond b d.of (parent_in told k.now)) (same_bytes k.now d.item (sym item)))) at)
-      (λ t other. sym (parent_more t ∙ ap (λ b. cond b d.of (parent_in told t)) (ap (bytes_eq t) item ∙ other))))
-    where
-      parent_more : (t : Name) → parent_in (told ++ d ∷ []) t ≡ cond (bytes_eq t d.item) d.of (parent_in told t)
-      parent_more t = fold_push (told_over t) root told d
+-- a declared type goes under its parent, which stands at a place
+pub put_under : (rows after : List Row) (k : Bor (List ℕ)) (p : ℕ) → after ≡ put rows k (p + 1) → IsDistinct (λ x y. bytes_eq x.now y.now) (keys_of after)
+    → (told : List TypeValue) (d : TypeValue) → IsTableOf (d.of ∷ types_of told) told rows → d.item ≡ k.now → StandsAt rows p d.of → IsTableOf (types_of (told ++ d ∷ [])) (told ++ d ∷ []) after
+put_under rows after k p put_there once told d h item at =
+    of_types types_more (put_in rows after k (p + 1) put_there once (d.of ∷ types_of told) told (told ++ d ∷ []) h
+    (rw (parent_more k.now, ← item, same_bytes d.item d.item refl) (subst (λ i. StandsAt rows i d.of) (omega arith) at))
+    (rw (named_more k.now, ← item, same_bytes d.item d.item refl) (grind (arith, nat_tests)))
+    (λ t other. (rw (parent_more t, item, other) refl, rw (named_more t, item, other) (sym (or-false _)))))
+  where
+    parent_more : (t : Name) → parent_in (told ++ d ∷ []) t ≡ cond (bytes_eq t d.item) d.of (parent_in told t)
+    parent_more t = fold_push (told_over t) root told d
 
-      types_more : (t : Name) → is_in (k.now ∷ d.of ∷ types_of told) t ≡ is_in (types_of (told ++ d ∷ [])) t
-      types_more t =
-          let is = bytes_eq t in
-          let items = map item_of told in
-          rw (← item, map-append item_of told (d ∷ []), map-append declared_parent told (d ∷ []), list_any-append is (items ++ d.item ∷ []) (map declared_parent told ++ d.of ∷ []), list_any-append is items (map declared_parent told), list_any-append is items (d.item ∷ []), list_any-append is (map declared_parent told) (d.of ∷ []))
-          (grind arith)
+    named_more : (t : Name) → is_in (map item_of (told ++ d ∷ [])) t ≡ is_in (map item_of told) t || bytes_eq t d.item
+    named_more t = rw (map-append item_of told (d ∷ [])) (any_more (bytes_eq t) (map item_of told) d.item)
+
+    types_more : (t : Name) → is_in (k.now ∷ d.of ∷ types_of told) t ≡ is_in (types_of (told ++ d ∷ [])) t
+    types_more t =
+        let is = bytes_eq t in
+        let items = map item_of told in
+        rw (← item, map-append item_of told (d ∷ []), map-append declared_parent told (d ∷ []), list_any-append is (items ++ d.item ∷ []) (map declared_parent told ++ d.of ∷ []), list_any-append is items (map declared_parent told), list_any-append is items (d.item ∷ []), list_any-append is (map declared_parent told) (d.of ∷ []))
+        (grind arith)
 
 -- a parent that does not stand there goes under `object`, behind all others; so its place is known
-pub parent_put : (told : List TypeValue) (rows after : List Row) (k : Bor (List ℕ)) (place : Option ℕ) → IsTableOf (types_of told) told rows → place ≡ position (λ x. bytes_eq k.now x.now) (keys_of rows)
-    → after ≡ cond (is_some place) rows (put rows k 0) → IsDistinct (λ x y. bytes_eq x.now y.now) (keys_of after)
-    → IsTableOf (k.now ∷ types_of told) told after × StandsAt after (unwrap_or place (length rows)) k.now
-parent_put told rows after k (Some i) h is put_there once = let at = found_place rows k.now i (sym is) in rw put_there (again (types_of told) told rows i k.now at h, at)
-parent_put told rows after k None h is put_there once = (
-  put_in rows after k 0 put_there once (types_of told) told told h (subst (StandsAt rows 0) (sym untold) h.first) (λ t _. refl),
-  rw (put_there, last) (seen_entry (λ (r : Row). r.0.now) (rows ++ (k, 0) ∷ []) (length rows) (k, 0) (at_end rows (k, 0))),
-)
+pub parent_put : (told : List TypeValue) (rows after : List Row) (k : Bor (List ℕ)) (place : ℕ) (o : Option ℕ) → o ≡ position (λ x. bytes_eq k.now x.now) (keys_of rows) → IsTableOf (types_of told) told rows
+    → place ≡ position_or_len (λ x. bytes_eq k.now x.now) (keys_of rows) → MatchOption o (after ≡ rows ++ (k, 0) ∷ []) (λ _. after ≡ rows) → IsDistinct (λ x y. bytes_eq x.now y.now) (keys_of after)
+    → IsTableOf (k.now ∷ types_of told) told after × StandsAt after place k.now
+parent_put told rows after k place (Some i) is h at put_there once =
+    let here = found_place rows k.now i (sym is) in
+    rw (put_there, at, (Found-position (λ x. bytes_eq k.now x.now) rows i (sym is)).or_len) (again (types_of told) told rows i k.now here h, here)
+parent_put told rows after k place None is h at put_there once =
+    let absent = (Missing-position (λ x. bytes_eq k.now x.now) rows (sym is)).absent in (
+      put_in rows after k 0 (put_there ∙ sym (insert_entry-absent (λ x y. bytes_eq x.now y.now) k 0 rows absent)) once (types_of told) told told h
+          (subst (StandsAt rows 0) (sym (parent_undeclared told k.now root untold)) h.first) (sym untold) (λ t _. (refl, refl)),
+      rw (put_there, at, or_len-absent (λ x. bytes_eq k.now x.now) rows absent) (seen_entry (λ (r : Row). r.0.now) (rows ++ (k, 0) ∷ []) (length rows) (k, 0) (at_end rows (k, 0))),
+    )
   where
-    last : put rows k 0 ≡ rows ++ (k, 0) ∷ []
-    last = insert_entry-absent (λ x y. bytes_eq x.now y.now) k 0 rows (Missing-position (λ x. bytes_eq k.now x.now) rows (sym is)).absent
-
-    untold : parent_in told k.now ≡ root
-    untold = grind (arith, parent_undeclared told k.now root, list_any-append (bytes_eq k.now) (map item_of told) (map declared_parent told), h.has k.now, no_place rows k.now (sym is))
+    untold : is_in (map item_of told) k.now ≡ false
+    untold = sym (h.declared k.now) ∙ ap (λ (o : Option ℕ). not (unwrap_or o 0 == 0)) (none_found (parent_place rows k.now) (no_place rows k.now (sym is)))
 
 -- ---- which places are under which, and ways that go round
 
@@ -271,17 +283,17 @@ module _ (declared : List TypeValue) (rows : List Row) (h : IsTypeTable declared
 
   -- and what has one is a type
   type_at : (i : ℕ) (t : Name) → StandsAt rows i t → is_in (types_of declared) t ≡ true
-  type_at i t at = sym (h.1.has t) ∙ ap is_some (beside rows t i h.1.once at).1
+  type_at i t at = sym (h.1.has t) ∙ ap is_some (beside rows t i h.1.once at).2
 
   -- each place has its parent's
   parent_at : (i : ℕ) (t : Name) → StandsAt rows i t → StandsAt rows (parent_of ps i) (parent_in declared t)
-  parent_at i t at = h.1.parents t (parent_of ps i) (beside rows t i h.1.once at).1
+  parent_at i t at = let (_, p, here, is) = beside rows t i h.1.once at in rw is (h.1.parents t p here)
 
   pair_at : (e : TypeValue) (i : ℕ) (t : Name) → Contains (pairs declared) e → t ≡ e.item → StandsAt rows i t → StandsAt rows (parent_of ps i) e.of
   pair_at e i t has named at = subst (StandsAt rows (parent_of ps i)) (ap (parent_in declared) named ∙ (pair_is declared h.0 e has).2) (parent_at i t at)
 
   name_at : (i : ℕ) → i < length ps → (t : Name) × StandsAt rows i t
-  name_at i low = some_at (names_in rows) i (omega (arith, low, length-map rows (λ (r : Row). r.0.now), length-map rows (λ (r : Row). r.1)))
+  name_at i low = some_at (names_in rows) i (omega (arith, low, length-map rows (λ (r : Row). r.0.now), length-map rows (λ (r : Row). r.1 - 1)))
 
   -- each parent's place is one of them
   pub parents_within : (i : ℕ) → i < length ps → parent_of ps i < length ps

@@ -50,6 +50,10 @@ pub record AreTold (t : TypesValue) (told : ToldValue) : Type 0 where
 abbrev pub AreKept : ToldValue → ToldValue → Type 0
 AreKept before after = (more : ToldValue) × (after ≡ before ++ more)
 
+-- a type has this number, with these tops
+abbrev pub HasTops : ToldValue → ℕ → List Span → Type 0
+HasTops told number tops = (number < length told) × (tops ≡ tops_at told number)
+
 -- of two numbers of types, whether the tops of the second hold those of the first
 abbrev pub IsFit : ToldValue → ℕ × ℕ → Bool → Type 0
 IsFit told p fit = (p.0 < length told) × (p.1 < length told) × (fit ≡ hold_all (tops_at told p.1) (tops_at told p.0))

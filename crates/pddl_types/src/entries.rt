@@ -2,32 +2,40 @@
 //!
 //! Their values are of any type here: a check does little for a value of which nothing is known, wherever memory is refused.
 
-ghost use Rattle.std.specs.Prelude.{◌≡◌, is_some, if◌then◌else◌, IfOk, OnOk};
-ghost use Rattle.indexmap.specs.IndexMap.{index_of, insert_entry, IsUnique};
+ghost use Rattle.std.specs.Prelude.{◌≡◌, ◌<◌, ◌^◌, ◌++◌, ◌∷◌, [], IfOk, IfErr, OnOk, MatchOption, MatchResult};
+ghost use Rattle.indexmap.specs.IndexMap.{index_of, insert_index, IsUnique};
+ghost use Rattle.pddl_faults.specs.declared.fault.LinkFault.TheVariants.{Memory};
 
 use indexmap::IndexMap;
 use indexmap::map::Entry;
+use pddl_faults::LinkFault;
 use pddl_hash::Hashed;
-use std::alloc::{AllocError, Allocator};
+use std::alloc::Allocator;
 use std::hash::Hash;
 
-/// Puts a value under a key where the key is new. Answers the place of the entry that the key has already, or `None` where it is new.
+/// Puts a value last, under a key, where the key is new. Answers the place of the key's entry.
 ///
-/// Fails where memory for the entry is refused.
-pub(crate) fn put_new<K: Eq + Hash + Drop, V: Drop, B: Allocator>(
+/// # Errors
+///
+/// `LinkFault::Memory` where memory for the entry is refused.
+pub(crate) fn put_new<'m, K: Eq + Hash + Drop, V: Drop, B: Allocator>(
     table: &mut IndexMap<K, V, Hashed, B>,
     key: K,
     value: V,
-) -> Result<Option<usize>, AllocError>
-    ensures place { IfOk result (λ place. place ≡ index_of K.eq table.old key) }
-    ensures entries { IfOk result (λ place. table.new.entries ≡ (if is_some place then table.old.entries else insert_entry K.eq table.old.entries key value)) }
+) -> Result<usize, LinkFault<'m>>
+    ensures place { IfOk result (λ place. (place ≡ insert_index K.eq table.old key) × (place < 2 ^ 63)) }
+    ensures entries { MatchResult result
+        (λ _. MatchOption (index_of K.eq table.old key) (table.new.entries ≡ table.old.entries ++ (key, value) ∷ []) (λ _. table.new.entries ≡ table.old.entries))
+        (λ _. table.new.entries ≡ table.old.entries) }
     ensures unique { OnOk result (IsUnique K.eq table.new) }
+    ensures memory { IfErr result (λ fault. fault ≡ Memory) }
 {
+    let last = table.len();
     match table.entry(key)? {
-        Entry::Occupied(first) => Ok(Some(first.index())),
+        Entry::Occupied(first) => Ok(first.index()),
         Entry::Vacant(new) => {
             new.insert(value);
-            Ok(None)
+            Ok(last)
         }
     }
 }

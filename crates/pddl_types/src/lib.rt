@@ -7,15 +7,11 @@ mod entries;
 mod known;
 mod listed;
 mod signatures;
-mod tables;
 mod told;
-mod tops;
-mod type_table;
 mod types;
 
-pub use known::Known;
+pub use known::{Known, Tables};
 pub use listed::Listed;
 pub use signatures::{Declares, Signatures, Slots};
-pub use tables::Tables;
 pub use told::Told;
 pub use types::Types;

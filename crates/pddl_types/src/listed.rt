@@ -1,13 +1,13 @@
 //! Objects by name, each with its type.
 
-ghost use Rattle.std.specs.Prelude.{◌≡◌, ◌++◌, ◌∷◌, [], List, map, not, find, IfOk, All};
+ghost use Rattle.std.specs.Prelude.{◌≡◌, ◌++◌, ◌∷◌, [], List, map, not, find, length, IfOk, All};
 ghost use Rattle.std.specs.HashMap.{values};
 ghost use Rattle.pddl_formula.specs.TypedLists.{TypedValue, typed_view};
 ghost use Rattle.pddl_task.specs.Names.{is_named};
 ghost use Rattle.pddl_faults.specs.Passes.{Passes};
 ghost use Rattle.pddl_faults.specs.Found.{IsFound, numbered};
 ghost use Rattle.pddl_types.specs.KnownNames.{object_in};
-ghost use Rattle.pddl_types.specs.Told.{ToldValue, first_at, IsAt, AreDistinct, AreTold, AreKept, unknown_among};
+ghost use Rattle.pddl_types.specs.Told.{ToldValue, first_at, IsAt, AreAt, AreDistinct, AreTold, AreKept, unknown_among};
 ghost use Rattle.pddl_types.specs.Objects.{IsAtOf, IsObjectAt, AreSeen, is_off, off_types};
 
 use crate::entries::put_new;
@@ -39,19 +39,45 @@ impl<'m, 'a, A: Allocator, B: Allocator> Listed<'m, 'a, A, B> {
 
     /// Adds an object whose type is told at a number, where its name is new. Answers whether the first of its name has this type.
     ///
-    /// Fails where memory for it is refused.
-    fn put(&mut self, object: &'m Typed<A>, number: usize) -> Result<bool, AllocError>
-        ensures { (told : ToldValue) (seen : List TypedValue) → AreDistinct told → IsAt told object.now.types number → AreSeen told seen self.old
+    /// # Errors
+    ///
+    /// `LinkFault::Memory` where memory for it is refused.
+    fn put(&mut self, object: &'m Typed<A>, number: usize) -> Result<bool, LinkFault<'m>>
+        ensures memory { Passes 23 [] result }
+        ensures seen { (told : ToldValue) (seen : List TypedValue) → AreDistinct told → IsAt told object.now.types number → AreSeen told seen self.old
             → IfOk result (λ right. (is_off seen (typed_view object.now) ≡ not right) × AreSeen told (seen ++ typed_view object.now ∷ []) self.new) }
     {
-        let Some(place) = put_new(&mut self.objects, object.name.lent(), (object, number))? else {
-            return Ok(true);
-        };
+        let place = put_new(&mut self.objects, object.name.lent(), (object, number))?;
         Ok(
             self.objects
                 .get_index(place)
                 .is_some_and(|(_, first)| first.1 == number),
         )
+    }
+
+    /// Adds constants or objects whose types are told at these numbers. Answers the fault of a name that is listed with two types.
+    ///
+    /// # Errors
+    ///
+    /// `LinkFault::Memory` where memory for the objects is refused.
+    fn put_all(
+        &mut self,
+        objects: &'m TypedList<A>,
+        numbers: &[usize],
+    ) -> Result<Result<(), LinkFault<'m>>, LinkFault<'m>>
+        requires { length numbers.now ≡ length objects.now.items }
+        ensures memory { Passes 23 [] result }
+        ensures seen { (told : ToldValue) (seen : List TypedValue) → AreDistinct told → AreAt told (map typed_view objects.now.items) numbers.now → AreSeen told seen self.old
+            → IfOk result (λ found. IsFound (numbered 24 (off_types seen (map typed_view objects.now.items))) found × AreSeen told (seen ++ map typed_view objects.now.items) self.new) }
+    {
+        self.objects.reserve(objects.len())?;
+        let mut found = Ok(());
+        for place in 0..objects.len() {
+            let object = &objects[place];
+            let is_right = self.put(object, numbers[place])?;
+            found = lower(found, once(is_right, object.name.as_bytes()));
+        }
+        Ok(found)
     }
 
     /// Adds constants or objects, and tells their types. Answers the fault of a name that is listed with two types.
@@ -73,14 +99,7 @@ impl<'m, 'a, A: Allocator, B: Allocator> Listed<'m, 'a, A, B> {
             → IfOk result (λ found. IsFound (numbered 24 (off_types seen (map typed_view objects.now.items))) found × AreSeen told.new (seen ++ map typed_view objects.now.items) self.new) }
     {
         let numbers = told.tell_all(*self.objects.allocator(), types, objects)?;
-        self.objects.reserve(objects.len())?;
-        let mut found = Ok(());
-        for place in 0..objects.len() {
-            let object = &objects[place];
-            let is_right = self.put(object, numbers[place])?;
-            found = lower(found, once(is_right, object.name.as_bytes()));
-        }
-        Ok(found)
+        self.put_all(objects, &numbers)
     }
 
     /// The number at which the type of the object of this name is told.

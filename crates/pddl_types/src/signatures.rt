@@ -91,7 +91,6 @@ pub type Signatures<'m, 'a, A, B> = IndexMap<&'m [u8], Slots<'m, 'a, A, B>, Hash
 /// # Errors
 ///
 /// `LinkFault::UnknownType`; `Memory` where memory for the table is refused.
-#[tactic(auto, using(crate::proofs::ToldTypes::kept_then))]
 pub(crate) fn put<'m, 'a, A: Allocator, B: Allocator, D: Declares<A>>(
     types: &Types<'m, 'a, A, B>,
     told: &mut Told<'m, 'a, A, B>,
@@ -115,8 +114,9 @@ pub(crate) fn put<'m, 'a, A: Allocator, B: Allocator, D: Declares<A>>(
             parameters: parameters.as_slice(),
             numbers,
         };
-        let is_new = put_new(table, name, slots)?.is_none();
-        found = lower(found, once(is_new, name));
+        let count = table.len();
+        let place = put_new(table, name, slots)?;
+        found = lower(found, once(place == count, name));
     }
     Ok(found)
 }

@@ -1,24 +1,118 @@
 //! The types of a domain with their parents, looked up by name.
 
-ghost use Rattle.std.specs.Prelude.{◌≡◌, List, [], ℕ, IsTrue, map, not, filter, IfOk, OnOk};
+ghost use Rattle.std.specs.Prelude.{◌≡◌, ◌<◌, ◌^◌, ◌-◌, ◌∷◌, List, [], ℕ, IsTrue, length, map, not, filter, Contains, IfOk, OnOk};
 ghost use Rattle.std.specs.List.{list_any};
 ghost use Rattle.pddl_domain.specs.Declarations.{type_view};
 ghost use Rattle.pddl_task.specs.Names.{is_in, repeated, item_of};
 ghost use Rattle.pddl_task.specs.Types.{types_of, pairs, is_under, is_subtype, fits};
-ghost use Rattle.pddl_forest.specs.Spans.{AreApart, hold_all};
-ghost use Rattle.pddl_faults.specs.Passes.{Passes};
-ghost use Rattle.pddl_types.specs.TypeTables.{cycle_in};
+ghost use Rattle.pddl_task.specs.Linked.{fault};
+ghost use Rattle.pddl_forest.specs.Rounds.{HasRound, AreRounds};
+ghost use Rattle.pddl_forest.specs.Spans.{AreApart, AreSpans, hold_all};
+ghost use Rattle.pddl_faults.specs.Passes.{Passes, Verdict};
+ghost use Rattle.pddl_types.specs.TypeTables.{parents_in, IsTableOf, IsTypeTable, cycle_in};
 ghost use Rattle.pddl_types.specs.TypeSpans.{span_of, IsTold, DoTell, are_types};
 
-use crate::type_table::{put_types, spans_of};
+use crate::entries::put_new;
 use indexmap::IndexMap;
 use pddl_domain::{DeclaredType, DeclaredTypes};
 use pddl_faults::LinkFault;
-use pddl_forest::{Span, hold_all, keep_tops};
+use pddl_forest::{Span, forest_spans, hold_all, keep_tops};
 use pddl_formula::TypeNames;
 use pddl_hash::Hashed;
 use std::alloc::{AllocError, Allocator};
 use std::marker::Model;
+
+/// Types by name, each with the place of its parent, counted from 1, once it is declared, and else with 0: it is `object`, or stands as a parent so far, under
+/// `object`, which has the first place.
+type Parents<'m, 'a, B> = IndexMap<&'m [u8], usize, Hashed, &'a B>;
+
+/// Puts `object` and the declared types into an empty table, with their parents, which are looked up once for each group, and put there where they do not stand yet.
+///
+/// # Errors
+///
+/// `LinkFault::TypeTwice` of the first type that stands twice; `Memory` where memory for the table is refused.
+fn put_types<'m, 'a, A: Allocator, B: Allocator>(
+    parents: &mut Parents<'m, 'a, B>,
+    declared: &'m DeclaredTypes<A>,
+) -> Result<(), LinkFault<'m>>
+    requires { parents.old.entries ≡ [] }
+    ensures once { Passes 21 (repeated [] (map item_of (map type_view declared.now.items))) result }
+    ensures table { OnOk result (IsTableOf (types_of (map type_view declared.now.items)) (map type_view declared.now.items) parents.new.entries) }
+{
+    parents.insert(b"object".as_slice(), 0)?;
+    let mut over = 0;
+    for number in 0..declared.len() {
+        let declared_type = &declared[number];
+        if !declared.shares(number) {
+            over = put_new(parents, declared_type.parent.as_bytes(), 0)?;
+        }
+        let name = declared_type.name.as_bytes();
+        if parents.insert(name, over + 1)?.unwrap_or(0) != 0 {
+            return Err(LinkFault::TypeTwice(name));
+        }
+    }
+    Ok(())
+}
+
+/// The places of the parents, in the table's order.
+///
+/// Fails where memory for them is refused.
+fn parent_places<'m, 'a, B: Allocator>(
+    alloc: &'a B,
+    table: &Parents<'m, 'a, B>,
+) -> Result<Vec<usize, &'a B>, AllocError>
+    ensures { IfOk result (λ places. places.items ≡ parents_in table.now.entries) }
+{
+    table
+        .values()
+        .map(|over| over.saturating_sub(1))
+        .collect(alloc)
+}
+
+/// The first declared type that is above itself: through whose place a way goes round from parent to parent, where one goes round.
+fn first_cycle<'m, 'a, A: Allocator, B: Allocator>(
+    table: &Parents<'m, 'a, B>,
+    numbers: &[usize],
+    declared: &'m [DeclaredType<A>],
+) -> &'m [u8]
+    requires table { IsTypeTable (map type_view declared.now) table.now.entries }
+    requires numbers { AreRounds (parents_in table.now.entries) numbers.now }
+    requires round { HasRound (parents_in table.now.entries) }
+    ensures { Contains (cycle_in (map type_view declared.now)) result.now }
+{
+    for declared_type in declared {
+        let name = declared_type.name.as_bytes();
+        let Some(place) = table.get_index_of(name) else {
+            unreachable!()
+        };
+        if numbers[place] != 0 {
+            return name;
+        }
+    }
+    unreachable!()
+}
+
+/// The spans of the types that are declared, which are put into an empty table, or the lowest fault of these.
+///
+/// # Errors
+///
+/// `LinkFault::TypeTwice`, `LinkFault::TypeCycle`; `Memory` where memory for table and spans is refused.
+fn spans_of<'m, 'a, A: Allocator, B: Allocator>(
+    alloc: &'a B,
+    table: &mut Parents<'m, 'a, B>,
+    declared: &'m DeclaredTypes<A>,
+) -> Result<Vec<Span, &'a B>, LinkFault<'m>>
+    requires { table.old.entries ≡ [] }
+    ensures table { IfOk result (λ spans. IsTypeTable (map type_view declared.now.items) table.new.entries × AreSpans (parents_in table.new.entries) spans.items × (length spans.items < 2 ^ 32)) }
+    ensures verdict { Verdict (fault 21 (repeated [] (map item_of (map type_view declared.now.items))) ∷ fault 22 (cycle_in (map type_view declared.now.items)) ∷ []) result }
+{
+    put_types(table, declared)?;
+    let parents = parent_places(alloc, table)?;
+    match forest_spans(alloc, &parents)? {
+        Ok(spans) => Ok(spans),
+        Err(numbers) => Err(LinkFault::TypeCycle(first_cycle(table, &numbers, declared))),
+    }
+}
 
 /// The types of a domain without a cycle, `object` first, each with the place of its parent in the table and the span of its numbers: what is under a type
 /// has its own number within that, so a test for a subtype is two comparisons.
@@ -27,7 +121,7 @@ use std::marker::Model;
 #[derive(Drop)]
 pub struct Types<'m, 'a, A: Allocator, B: Allocator> {
     declared: &'m [DeclaredType<A>],
-    parents: IndexMap<&'m [u8], usize, Hashed, &'a B>,
+    parents: Parents<'m, 'a, B>,
     spans: Vec<Span, &'a B>,
 }
 
@@ -46,28 +140,29 @@ impl<'m, 'a, A: Allocator, B: Allocator> Model for Types<'m, 'a, A, B> {
 }
 
 impl<'m, 'a, A: Allocator, B: Allocator> Types<'m, 'a, A, B> {
-    /// The types that are declared, each once, or a fault where one is above itself: the first in their order that is. Tables of what files say of them hash so.
+    /// The types that are declared, or a fault where one stands twice or is above itself: the first in their order that does. Tables of what files say of them
+    /// hash so.
     ///
     /// # Errors
     ///
-    /// `LinkFault::TypeCycle`; `Memory` where memory for the table is refused.
+    /// `LinkFault::TypeTwice`, and where none does `LinkFault::TypeCycle`; `Memory` where memory for the table is refused.
     pub fn of(
         alloc: &'a B,
         hashed: Hashed,
         declared: &'m DeclaredTypes<A>,
     ) -> Result<Types<'m, 'a, A, B>, LinkFault<'m>>
-        requires { repeated [] (map item_of (map type_view declared.now.items)) ≡ [] }
         ensures types { IfOk result (λ types. types.declared ≡ map type_view declared.now.items) }
-        ensures cycle { Passes 22 (cycle_in (map type_view declared.now.items)) result }
+        ensures verdict { Verdict (fault 21 (repeated [] (map item_of (map type_view declared.now.items))) ∷ fault 22 (cycle_in (map type_view declared.now.items)) ∷ []) result }
     {
         let mut parents = IndexMap::with_hasher(alloc, hashed);
-        put_types(&mut parents, declared)?;
-        let spans = spans_of(alloc, &parents, declared)?;
-        Ok(Types {
-            declared: declared.as_slice(),
-            parents,
-            spans,
-        })
+        match spans_of(alloc, &mut parents, declared) {
+            Ok(spans) => Ok(Types {
+                declared: declared.as_slice(),
+                parents,
+                spans,
+            }),
+            Err(fault) => Err(fault),
+        }
     }
 
     /// How tables of what the files say hash.

@@ -1,8 +1,8 @@
-use Rattle.std.proofs.Common.{◌≡◌, ◌<◌, ◌≤◌, map, length, slice_get, Some, refl, sym, ◌∙◌, subst, arith}
-use Rattle.std.proofs.lemmas.List.{length-map, drop_all, take_all}
+use Rattle.std.proofs.Common.{◌<◌, ◌≤◌, map, length, refl, sym, ◌∙◌, subst, arith}
+use Rattle.std.proofs.lemmas.List.{length-map, length-take, drop_all, take_all}
 use Rattle.std.proofs.lemmas.Slice.Zip.{AllZip-long}
 use Rattle.std.proofs.lemmas.Result.{err_from_is_err_and}
-use Rattle.pddl_formula.specs.TypedLists.{TypedValue, typed_view}
+use Rattle.pddl_formula.specs.TypedLists.{typed_view}
 use Rattle.pddl_task.proofs.Lists.{some_at}
 use Rattle.pddl_faults.proofs.PassedParts.{pass_front}
 use Rattle.pddl_sizes.proofs.SharedTypes.{type_at}
@@ -10,18 +10,18 @@ use Rattle.pddl_types.specs.Told.{AreTold, AreKept, IsAt}
 use Rattle.pddl_types.proofs.ToldTypes.{kept_self, kept_then, none_unknown, told_shared, told_next}
 use Rattle.pddl_types.proofs.UnknownTypes.{typed_left}
 use Rattle.pddl_types.proofs.told.Told.tell_all.Goals as goal
-use Rattle.pddl_types.proofs.told.Told.tell_all.Goals.{then-not-shares+in_ok-number, else-not-shares}
+use Rattle.pddl_types.proofs.told.Told.tell_all.Goals.{then-shares, else-shares+in_ok-number}
 
 pub loop-place-init : goal.loop-place-init
-loop-place-init g c = record {
-  types = c.requires.told;
-  kept = kept_self c.args.self.now;
-  told = record { each = rw c.in_ok-numbers.ensures.items tt; last = λ x some. absurd (omega (arith, some)) };
-  left = refl;
-}
+loop-place-init g c = record { types = c.requires.told; kept = kept_self c.args.self.now; numbers = rw c.in_ok-numbers.ensures.items tt; left = refl }
+
+pub index-requires : goal.index-requires
+index-requires g c =
+    let list = map typed_view c.args.list.now.items in
+    omega (arith, c.shares.ensures.later c.if-shares.true, c.loop-place-test.true, c.len-place-end.ensures, AllZip-long _ _ _ c.loop-place.invariant.numbers, length-take c.loop-place.place list, length-map c.args.list.now.items typed_view, c.loop-place.numbers.ok)
 
 pub returns-in_err-number-clause-kept : goal.returns-in_err-number-clause-kept
-returns-in_err-number-clause-kept g c = kept_then c.args.self.now c.loop-place.self c.tell.new.self c.loop-place.invariant.kept c.tell.ensures.kept
+returns-in_err-number-clause-kept g c = kept_then _ _ _ c.loop-place.invariant.kept c.tell.ensures.kept
 
 pub returns-in_err-number-clause-passes : goal.returns-in_err-number-clause-passes
 returns-in_err-number-clause-passes g c =
@@ -35,15 +35,15 @@ returns-in_err-number-clause-passes g c =
     rw (p.1, p.2) (pass_front 23 _ _ _ c.in_err-number.field-0.0 (sym c.loop-place.invariant.left ∙ left) (rw own at c.in_err-number.ensures.passes))
 
 pub returns-in_err-push-clause-told : goal.returns-in_err-push-clause-told
-returns-in_err-push-clause-told g c = elim c.if-not-shares.branch [
-  | then-not-shares+in_ok-number w ↦ rw w.self-is w.tell.ensures.told
-  | else-not-shares w ↦ rw w.self-is c.loop-place.invariant.types
+returns-in_err-push-clause-told g c = elim c.if-shares.branch [
+  | then-shares w ↦ rw w.self-is c.loop-place.invariant.types
+  | else-shares+in_ok-number w ↦ rw w.self-is w.tell.ensures.told
 ]
 
 pub returns-in_err-push-clause-kept : goal.returns-in_err-push-clause-kept
-returns-in_err-push-clause-kept g c = elim c.if-not-shares.branch [
-  | then-not-shares+in_ok-number w ↦ rw w.self-is (kept_then c.args.self.now c.loop-place.self w.tell.new.self c.loop-place.invariant.kept w.tell.ensures.kept)
-  | else-not-shares w ↦ rw w.self-is c.loop-place.invariant.kept
+returns-in_err-push-clause-kept g c = elim c.if-shares.branch [
+  | then-shares w ↦ rw w.self-is c.loop-place.invariant.kept
+  | else-shares+in_ok-number w ↦ rw w.self-is (kept_then _ _ _ c.loop-place.invariant.kept w.tell.ensures.kept)
 ]
 
 pub loop-place-preserved : goal.loop-place-preserved
@@ -53,28 +53,21 @@ loop-place-preserved g c =
     let list = map typed_view items in
     let place = c.loop-place.place in
     let held = c.loop-place.self in
-    let new = c.if-not-shares.self in
+    let new = c.if-shares.self in
     let before = c.loop-place.invariant in
     let low : place < length items = omega (arith, c.loop-place-test.true, c.len-place-end.ensures) in
     let (x, at) = some_at list place (omega (arith, low, length-map items typed_view)) in
-    let (types, kept, told) : AreTold t new × AreKept held new × ((y : TypedValue) → slice_get list place ≡ Some y → IsAt new y.of c.if-not-shares.number) =
-    elim c.if-not-shares.branch [
-      | then-not-shares+in_ok-number w ↦ rw (w.self-is, w.number-is) (
-        w.tell.ensures.told,
-        w.tell.ensures.kept,
-        λ y there.
-            let own = type_at items w.deref.result.now place w.index-deref-place.result y w.deref.ensures.value low w.index-deref-place.is there in
-            subst (λ names. IsAt w.tell.new.self names w.in_ok-number.number) own w.in_ok-number.ensures.number,
-      )
-      | else-not-shares w ↦
-          let shared = told_shared before.told (c.shares.ensures.later w.if-not-shares.false) (c.shares.ensures.same w.if-not-shares.false) in
-          rw (w.self-is, w.number-is) (before.types, kept_self held, shared)
+    let (types, kept, number) : AreTold t new × AreKept held new × IsAt new x.of c.if-shares.number =
+    elim c.if-shares.branch [
+      | then-shares w ↦ rw (w.self-is, w.number-is) (before.types, kept_self held, subst (IsAt held x.of) (sym w.index.ensures) (told_shared held list place c.loop-place.numbers.items before.numbers w.index.result.now (c.shares.ensures.later w.if-shares.true) (c.shares.ensures.same w.if-shares.true) x at))
+      | else-shares+in_ok-number w ↦
+          rw (w.self-is, w.number-is) (w.tell.ensures.told, w.tell.ensures.kept, subst (λ names. IsAt w.tell.new.self names w.in_ok-number.number) (type_at items w.deref.result.now place w.index-deref-place.result x w.deref.ensures.value low w.index-deref-place.is at) w.in_ok-number.ensures.number)
     ] in
     record {
       types = types;
       kept = kept_then c.args.self.now held new before.kept kept;
-      told = told_next before.told kept (omega (arith, low, length-map items typed_view)) told c.in_ok-push.ensures.items;
-      left = rw (typed_left t.declared list place x at, none_unknown types x.of c.if-not-shares.number (told x at)) at before.left;
+      numbers = rw c.in_ok-push.ensures.items (told_next held list place c.loop-place.numbers.items before.numbers new c.if-shares.number x kept at number);
+      left = rw (typed_left t.declared list place x at, none_unknown types x.of c.if-shares.number number) at before.left;
     }
 
 pub returns : goal.returns
@@ -82,7 +75,7 @@ returns g c =
     let list = map typed_view c.args.list.now.items in
     let past : length list ≤ c.loop-place.place = omega (arith, c.loop-place-test.false, c.len-place-end.ensures, length-map c.args.list.now.items typed_view) in
     let all = c.loop-place.invariant in
-    let numbers = rw (take_all c.loop-place.place list past) at all.told.each in
+    let numbers = rw (take_all c.loop-place.place list past) at all.numbers in
     record {
       told = all.types;
       kept = all.kept;
