@@ -10,11 +10,10 @@ ghost use Rattle.pddl_types.specs.Known.{declared_typed, IsNothing, AreKnown, Ar
 ghost use Rattle.pddl_names.specs.FaultParts.{problem_in, joined, domain_parts, problem_parts};
 
 use crate::walk::{search_actions, search_problem};
-use indexmap::IndexSet;
 use pddl_domain::Domain;
 use pddl_faults::{LinkFault, lower};
 use pddl_problem::Problem;
-use pddl_search::{Scope, contradictions, cost_values, metric, object_fluents, object_types};
+use pddl_search::{contradictions, cost_values, metric, object_fluents, object_types};
 use pddl_sizes::ground_size;
 use pddl_types::{Known, Tables, Told};
 use std::alloc::Allocator;
@@ -38,11 +37,7 @@ pub fn look_at_domain<'m, 'a, A: Allocator, B: Allocator>(
     ensures known { IfOk result (λ _. AreKnown (domain_view domain.now) (domain_view domain.now).constants known.new told.new) }
 {
     let names = known.add_domain(told, domain)?;
-    let alloc = known.types.allocator();
-    let hashed = known.types.hashed();
-    let mut seen = IndexSet::with_hasher(alloc, hashed);
-    let mut scope = Scope::new(alloc, hashed);
-    let actions = search_actions(&*known, told, &mut scope, &mut seen, &domain.actions);
+    let actions = search_actions(&*known, told, &domain.actions);
     let others = lower(object_types(&domain.constants), object_fluents(domain));
     Ok(lower(names, lower(actions, others)))
 }
@@ -66,9 +61,13 @@ pub fn look_at_problem<'m, 'a, A: Allocator, B: Allocator>(
             let costs = cost_values(alloc, hashed, &problem.init);
             let others = lower(object_types(&problem.objects), metric(&problem.metric));
             let alone = lower(literals, lower(costs, others));
-            let objects = known.listed.add(&known.types, told, &problem.objects)?;
-            let places = search_problem(&*known, told, problem);
-            lower(objects, lower(places, alone))
+            match known.listed.add(&known.types, told, &problem.objects) {
+                Ok(objects) => {
+                    let places = search_problem(&*known, told, problem);
+                    lower(objects, lower(places, alone))
+                }
+                Err(fault) => Err(fault),
+            }
         }
         None => Ok(()),
     }

@@ -27,7 +27,6 @@ use pddl_types::{Known, Told};
 use std::alloc::Allocator;
 
 /// Searches a formula.
-#[tactic(auto, using(pddl_formula::specs::declared::formula::Formula::TheFolds::the_lemmas, pddl_faults::proofs::FoundFaults::up_to_none, crate::proofs::ToldUses::told_outside))]
 fn search_formula<'m, 'a, A: Allocator, B: Allocator>(
     known: &Known<'m, 'a, A, B>,
     told: &mut Told<'m, 'a, A, B>,
@@ -55,16 +54,19 @@ fn search_formula<'m, 'a, A: Allocator, B: Allocator>(
             found
         }
         Formula::Exists(variables, inner) | Formula::Forall(variables, inner) => {
-            let repeated = enter(known, told, scope, variables)?;
-            let found = search_formula(known, told, scope, inner);
-            scope.leave(variables.len());
-            lower(repeated, found)
+            match enter(known, told, scope, variables) {
+                Ok(repeated) => {
+                    let found = search_formula(known, told, scope, inner);
+                    scope.leave(variables.len());
+                    lower(repeated, found)
+                }
+                Err(fault) => Err(fault),
+            }
         }
     }
 }
 
 /// Searches an effect.
-#[tactic(auto, using(pddl_effect::specs::declared::effect::Effect::TheFolds::the_lemmas, crate::proofs::ToldUses::told_outside))]
 fn search_effect<'m, 'a, A: Allocator, B: Allocator>(
     known: &Known<'m, 'a, A, B>,
     told: &mut Told<'m, 'a, A, B>,
@@ -85,10 +87,14 @@ fn search_effect<'m, 'a, A: Allocator, B: Allocator>(
             found
         }
         Effect::Forall(variables, inner) => {
-            let repeated = enter(known, told, scope, variables)?;
-            let found = search_effect(known, told, scope, inner);
-            scope.leave(variables.len());
-            lower(repeated, found)
+            match enter(known, told, scope, variables) {
+                Ok(repeated) => {
+                    let found = search_effect(known, told, scope, inner);
+                    scope.leave(variables.len());
+                    lower(repeated, found)
+                }
+                Err(fault) => Err(fault),
+            }
         }
         Effect::When(condition, inner) => {
             let condition = search_formula(known, told, scope, condition);
@@ -116,16 +122,20 @@ fn search_action<'m, 'a, A: Allocator, B: Allocator>(
     ensures kept { scope.new ≡ scope.old }
     ensures found { IsFound (flat_map (faults_by known.now) (action_places (action_view action.now))) result }
 {
-    let repeated = enter(known, told, scope, &action.parameters)?;
-    let precondition = search_formula(known, told, scope, &action.precondition);
-    let effect = search_effect(known, told, scope, &action.effect);
-    scope.leave(action.parameters.len());
-    lower(repeated, lower(precondition, effect))
+    match enter(known, told, scope, &action.parameters) {
+        Ok(repeated) => {
+            let precondition = search_formula(known, told, scope, &action.precondition);
+            let effect = search_effect(known, told, scope, &action.effect);
+            scope.leave(action.parameters.len());
+            lower(repeated, lower(precondition, effect))
+        }
+        Err(fault) => Err(fault),
+    }
 }
 
 /// Searches actions in turn, and looks for names that stand twice, for which they are put into an empty set.
 #[tactic(auto, using(std::proofs::lemmas::Result::err_from_is_err_and))]
-pub(crate) fn search_actions<'m, 'a, A: Allocator, B: Allocator>(
+fn search_in_turn<'m, 'a, A: Allocator, B: Allocator>(
     known: &Known<'m, 'a, A, B>,
     told: &mut Told<'m, 'a, A, B>,
     scope: &mut Scope<'m, 'a, A, B>,
@@ -146,6 +156,21 @@ pub(crate) fn search_actions<'m, 'a, A: Allocator, B: Allocator>(
         found = lower(found, lower(once(is_new, name), own));
     }
     found
+}
+
+/// Searches actions, where nothing is in scope, and looks for names that stand twice.
+pub(crate) fn search_actions<'m, 'a, A: Allocator, B: Allocator>(
+    known: &Known<'m, 'a, A, B>,
+    told: &mut Told<'m, 'a, A, B>,
+    actions: &'m [Action<A>],
+) -> Result<(), LinkFault<'m>>
+    requires { AreAllTold known.now told.old [] }
+    ensures told { (scope : _) × AreAllTold known.now told.new scope }
+    ensures found { IsFound (action_faults (faults_by known.now) [] (map action_view actions.now)) result }
+{
+    let mut scope = Scope::new(known.types.allocator(), known.types.hashed());
+    let mut seen = IndexSet::with_hasher(known.types.allocator(), known.types.hashed());
+    search_in_turn(known, told, &mut scope, &mut seen, actions)
 }
 
 /// Searches an item of `:init`; a literal that fails is looked at like one that holds.

@@ -1,114 +1,118 @@
 -- What is claimed in `:init`, one item after another, beside a table of what was claimed so far.
-use Rattle.std.proofs.Common.{◌≡◌, ℕ, ◌+◌, ◌<◌, Bool, true, false, ◌&&◌, ◌||◌, ◌==◌, not, cond, List, [], ◌∷◌, ◌++◌, map, length, get_or, Some, refl, sym, ◌∙◌, subst, arith, Contains, unwrap_or, slice_get}
-use Rattle.std.specs.List.{list_any, position_or_len}
+use Rattle.std.proofs.Common.{◌≡◌, ℕ, ◌+◌, ◌<◌, Bool, true, false, ◌&&◌, ◌||◌, ◌==◌, not, cond, List, [], ◌∷◌, ◌++◌, map, length, get_or, Some, refl, ap, sym, ◌∙◌, arith, Contains, unwrap_or, Bor, bytes_eq}
+use Rattle.std.specs.Cmp.{IsEquivalence, and_equiv, on_equiv}
+use Rattle.std.specs.Cmp.Lexicographic.{bytes_decides, pointwise_decides, lists_equiv, nat_list_eq_equiv}
+use Rattle.std.specs.List.{list_any}
 use Rattle.std.specs.Map.{lookup}
-use Rattle.std.proofs.Math.Bool.{beq, or-false}
+use Rattle.std.proofs.Math.Bool.{beq}
 use Rattle.std.proofs.lemmas.Bool.Decides.{nat_tests}
-use Rattle.std.proofs.lemmas.Grind.{common_steps}
-use Rattle.indexmap.specs.IndexSet.{insert_key}
-use Rattle.pddl_problem.specs.Inits.{InitValue}
+use Rattle.pddl_problem.specs.Inits.{GroundValue, InitValue}
 use Rattle.pddl_task.specs.Names.{Name, wrong_words}
-use Rattle.pddl_task.specs.Faults.{same_ground, contradicts, revalues, starts_above_zero, init_name, clashing}
+use Rattle.pddl_task.specs.Places.{total_cost}
+use Rattle.pddl_task.specs.Faults.{same_ground, contradicts, starts_above_zero, init_name, clashing}
 use Rattle.pddl_task.proofs.Lists.{none_of, any_none}
-use Rattle.pddl_search.specs.Claims.{is_value, wrong_in, is_failure}
-use Rattle.pddl_search.specs.Grounds.{ClaimValue, claim_of, same_claimed, claimed_equiv, ground_is}
+use Rattle.pddl_search.specs.Claims.{claim_of, claim_in, ground_in, clash_in, wrong_in, is_failure}
 use Rattle.pddl_faults.proofs.ListTurns.{seen_more}
 use Rattle.pddl_faults.proofs.SeenItems.{any_more, seen_at, AreLeft, seen_bad, seen_good}
 
--- ---- which claims clash
+abbrev Key : Type 0
+Key = Bor Name × Bor (List Name)
+
+abbrev same_key : Key → Key → Bool
+same_key g h = same_ground (ground_in g) (ground_in h)
 
 -- two different numbers
 abbrev unequal : ℕ → ℕ → Bool
 unequal m n = not (m == n)
 
--- which items clash, of functions of objects or of atoms
-abbrev clash_in : Bool → InitValue → InitValue → Bool
-clash_in true = revalues
-clash_in false = contradicts
+-- ---- which claims clash
 
-clash_is : (of_values : Bool) (i j : InitValue) → is_value i ≡ of_values → is_value j ≡ of_values → clash_in of_values i j ≡ same_claimed (claim_of i) (claim_of j) && unequal (claim_of i).1 (claim_of j).1
+clash_is : (of_values : Bool) (i j : InitValue) → (claim_of i).is_value ≡ of_values → (claim_of j).is_value ≡ of_values
+    → clash_in of_values i j ≡ same_ground (claim_of i).ground (claim_of j).ground && unequal (claim_of i).number (claim_of j).number
 clash_is of_values i j h k = grind (arith, h, k)
 
--- one of each does not
-clash_none : (of_values : Bool) (i j : InitValue) → is_value i ≡ not (is_value j) → clash_in of_values i j ≡ false
-clash_none of_values i j h = grind (arith, h)
+-- one of the other kind clashes with none, and is not wrong
+clash_other : (of_values : Bool) (i j : InitValue) → (claim_of i).is_value ≡ not of_values → clash_in of_values j i ≡ false
+clash_other of_values i j h = grind (arith, h)
 
--- an item of that kind is wrong alone, or clashes with one before it
-wrong_is : (of_values : Bool) (seen : List InitValue) (x : InitValue) → is_value x ≡ of_values → wrong_in of_values seen x ≡ list_any (clash_in of_values x) seen || starts_above_zero x
-wrong_is of_values seen x is = grind (arith, is)
+wrong_other : (of_values : Bool) (seen : List InitValue) (i : InitValue) → (claim_of i).is_value ≡ not of_values → wrong_in of_values seen i ≡ false
+wrong_other of_values [] i h = grind (arith, h)
+wrong_other of_values (j ∷ seen) i h = grind (arith, wrong_other of_values seen i h, h)
 
--- and another one is not wrong
-wrong_none : (of_values : Bool) (seen : List InitValue) (x : InitValue) → is_value x ≡ not of_values → wrong_in of_values seen x ≡ false
-wrong_none of_values [] x other = grind (arith, other)
-wrong_none of_values (y ∷ seen) x other = grind (arith, wrong_none of_values seen x other, other)
+-- one of this kind may start above zero
+zero_is : (of_values : Bool) (i : InitValue) → (claim_of i).is_value ≡ of_values
+    → (of_values && starts_above_zero i) ≡ ((of_values && bytes_eq (claim_of i).ground.name total_cost) && not ((claim_of i).number == 0))
+zero_is of_values i h = grind (arith, h)
 
-name_is : (i : InitValue) → (claim_of i).0.name ≡ init_name i
+name_is : (i : InitValue) → (claim_of i).ground.name ≡ init_name i
 name_is i = grind arith
 
 -- ---- a table of claims
 
--- the number that a table has of what is claimed, or that of the claim where it has none
-abbrev told_of : List ClaimValue → ClaimValue → ℕ
-told_of es c = unwrap_or (lookup (same_ground c.0) es) c.1
-
--- what stands at the place of a claim that is put in
-told_at : (es : List ClaimValue) (c d : ClaimValue) → slice_get (insert_key same_claimed es c) (position_or_len (same_claimed c) es) ≡ Some d → d.1 ≡ told_of es c
-told_at [] c d at = grind (arith, at)
-told_at (e ∷ es) c d at = grind (arith, common_steps, told_at es c d, at)
-
-told_put : (es : List ClaimValue) (c d : ClaimValue) → told_of (insert_key same_claimed es c) d ≡ cond (same_claimed c d) (told_of es c) (told_of es d)
-told_put [] c d = grind (arith, claimed_equiv.symm d c)
-told_put (e ∷ es) c d = grind (arith, common_steps, told_put es c d, claimed_equiv.symm, claimed_equiv.congr)
-
--- the table tells of each claim whether it disagrees with one of those seen
-abbrev TellsClaims : Bool → List ClaimValue → List InitValue → Type 0
-TellsClaims of_values es seen = (i : InitValue) → is_value i ≡ of_values → list_any (clash_in of_values i) seen ≡ unequal (claim_of i).1 (told_of es (claim_of i))
-
--- In front of item i, a table tells what was claimed so far, and the words of the whole are those of what is left.
-pub record Checked {X : Type 0} (view : X → InitValue) (of_values : Bool) (xs : List X) (i : ℕ) (es : List ClaimValue) : Type 0 where
-  pub told : TellsClaims of_values es (seen_at view [] xs i)
+-- In front of item i, a table tells of each claim whether it disagrees with one of those seen, and the words of the whole are those of what is left.
+pub record Checked {X : Type 0} (view : X → InitValue) (of_values : Bool) (xs : List X) (i : ℕ) (es : List (Key × ℕ)) : Type 0 where
+  pub told : (j : InitValue) (k : Key) (n : ℕ) → claim_in (of_values, k, n) ≡ claim_of j
+      → list_any (clash_in of_values j) (seen_at view [] xs i) ≡ unequal n (unwrap_or (lookup (same_key k) es) n)
   pub rest : AreLeft view init_name (wrong_in of_values) [] xs i
 
-pub checked_start : {X : Type 0} {view : X → InitValue} {of_values : Bool} {xs : List X} (es : List ClaimValue) → es ≡ [] → Checked view of_values xs 0 es
-checked_start es empty = record { told = λ i is. rw empty (grind (arith, nat_tests)); rest = refl }
+pub checked_start : {X : Type 0} {view : X → InitValue} {of_values : Bool} {xs : List X} (es : List (Key × ℕ)) → es ≡ [] → Checked view of_values xs 0 es
+checked_start es empty = record { told = λ j k n is. rw empty (grind (arith, nat_tests)); rest = refl }
 
-module _ {X : Type 0} {view : X → InitValue} {of_values : Bool} {xs : List X} {i : ℕ} {x : X} {es : List ClaimValue} (h : i < length xs) (at : x ≡ get_or xs i x) (l : Checked view of_values xs i es) where
+same_is : (f g : GroundValue) → same_ground f g ≡ true → f ≡ g
+same_is f g h =
+    let names : f.name ≡ g.name = (bytes_decides f.name g.name).0 (grind (arith, h)) in
+    let objects : f.objects ≡ g.objects = (pointwise_decides bytes_decides f.objects g.objects).0 (grind (arith, h)) in
+    λ i. record { name = names i; objects = objects i }
+
+same_equiv : IsEquivalence same_ground
+same_equiv = and_equiv (on_equiv (λ (f : GroundValue). f.name) nat_list_eq_equiv) (on_equiv (λ (f : GroundValue). f.objects) (lists_equiv nat_list_eq_equiv))
+
+-- with the number that stands first under the key of a claim, where it is that of the claim
+agree_more : (es : List (Key × ℕ)) (j k : Key) (m n first : ℕ) → first ≡ unwrap_or (lookup (same_key k) es) n → unequal n first ≡ false
+    → (unequal m (unwrap_or (lookup (same_key j) es) m) || same_key j k && unequal m n) ≡ unequal m (unwrap_or (cond (same_key k j) (Some first) (lookup (same_key j) es)) m)
+agree_more es j k m n first is agrees =
+    let alike = λ (same : same_key k j ≡ true). ap (λ g. lookup (λ l. same_ground g (ground_in l)) es) (same_is (ground_in k) (ground_in j) same) in
+    grind (arith, nat_tests, same_equiv.symm (ground_in k) (ground_in j), alike, is, agrees)
+
+module _ {X : Type 0} {view : X → InitValue} {of_values : Bool} {xs : List X} {i : ℕ} {x : X} {es : List (Key × ℕ)} (h : i < length xs) (at : x ≡ get_or xs i x) (l : Checked view of_values xs i es)
+    (claim : Bool × Key × ℕ) (claimed : claim_in claim ≡ claim_of (view x)) where
   abbrev so_far : List InitValue
   so_far = seen_at view [] xs i
 
-  abbrev c : ClaimValue
-  c = claim_of (view x)
-
   -- one more item that is right
-  pass : (next : List ClaimValue) → TellsClaims of_values next (so_far ++ view x ∷ []) → wrong_in of_values so_far (view x) ≡ false → Checked view of_values xs (i + 1) next
-  pass next tells fine = record { told = subst (TellsClaims of_values next) (sym (seen_more view [] xs i x h at)) tells; rest = seen_good view init_name (wrong_in of_values) [] xs i x h at l.rest fine }
+  pass : (next : List (Key × ℕ)) → wrong_in of_values so_far (view x) ≡ false
+      → ((j : InitValue) (k : Key) (n : ℕ) → claim_in (of_values, k, n) ≡ claim_of j → list_any (clash_in of_values j) so_far || clash_in of_values j (view x) ≡ unequal n (unwrap_or (lookup (same_key k) next) n))
+      → Checked view of_values xs (i + 1) next
+  pass next fine tells = record {
+    told = λ j k n is. rw (seen_more view [] xs i x h at, any_more) (tells j k n is);
+    rest = seen_good view init_name (wrong_in of_values) [] xs i x h at l.rest fine;
+  }
 
   -- an item of the other kind
-  pub checked_other : (own : Bool) → own ≡ is_value (view x) → beq own of_values ≡ false → Checked view of_values xs (i + 1) es
-  checked_other own own_is apart =
-      let other : is_value (view x) ≡ not of_values = grind (arith, own_is, apart) in
-      pass es (λ q is. rw (any_more, clash_none of_values q (view x) (grind (arith, is, other)), or-false) (l.told q is)) (wrong_none of_values so_far (view x) other)
+  pub checked_other : beq claim.0 of_values ≡ false → Checked view of_values xs (i + 1) es
+  checked_other apart =
+      let other : (claim_of (view x)).is_value ≡ not of_values = grind (arith, claimed, apart) in
+      pass es (wrong_other of_values so_far (view x) other) (λ j k n is. grind (arith, clash_other of_values (view x) j other, l.told j k n is))
 
   -- one of this kind, where the table says the same of what it claims or something else
-  module _ {own : Bool} {number before : ℕ} {d : ClaimValue} {next : List ClaimValue} {place : ℕ} (own_is : own ≡ is_value (view x)) (alike : beq own of_values ≡ true)
-      (number_is : number ≡ c.1) (before_is : before ≡ d.1)
-      (put : next ≡ insert_key same_claimed es c) (put_at : place ≡ position_or_len (same_claimed c) es) (stands : slice_get next place ≡ Some d) where
-    is : is_value (view x) ≡ of_values
-    is = grind (arith, own_is, alike)
+  module _ (first : ℕ) (alike : beq claim.0 of_values ≡ true) (is : first ≡ unwrap_or (lookup (same_key claim.1) es) claim.2) where
+    own : claim_in (of_values, claim.1, claim.2) ≡ claim_of (view x)
+    own = rw (← claimed) (grind (arith, alike))
 
-    told_is : unequal c.1 (told_of es c) ≡ unequal number before
-    told_is = let told = told_at es c d ((λ j. slice_get (sym put j) (sym put_at j)) ∙ stands) in cc
+    abbrev is_wrong : Bool
+    is_wrong = ((of_values && bytes_eq claim.1.0.now total_cost) && not (claim.2 == 0)) || unequal claim.2 first
 
-    wrong_here : wrong_in of_values so_far (view x) ≡ unequal number before || starts_above_zero (view x)
-    wrong_here = rw (wrong_is of_values so_far (view x) is, l.told (view x) is, told_is) refl
+    wrong_here : wrong_in of_values so_far (view x) ≡ is_wrong
+    wrong_here = rw (l.told (view x) claim.1 claim.2 own, is, zero_is of_values (view x) (ap (λ d. d.is_value) (sym own)), ← own) refl
 
-    pub checked_wrong : (w : Name) → w ≡ c.0.name → unequal number before || starts_above_zero (view x) ≡ true → Contains (wrong_words (wrong_in of_values) init_name [] (map view xs)) w
-    checked_wrong w named bad = rw (named ∙ name_is (view x)) (seen_bad view init_name (wrong_in of_values) [] xs i x h at l.rest (wrong_here ∙ bad))
+    pub checked_wrong : is_wrong ≡ true → Contains (wrong_words (wrong_in of_values) init_name [] (map view xs)) claim.1.0.now
+    checked_wrong bad = rw (ap (λ d. d.ground.name) claimed ∙ name_is (view x)) (seen_bad view init_name (wrong_in of_values) [] xs i x h at l.rest (wrong_here ∙ bad))
 
-    pub checked_more : unequal number before || starts_above_zero (view x) ≡ false → Checked view of_values xs (i + 1) next
-    checked_more fine =
-        let agrees : unequal c.1 (told_of es c) ≡ false = grind (arith, told_is, fine) in
-        pass next (λ q of_q. rw (any_more, clash_is of_values q (view x) of_q is, l.told q of_q, put) (grind (arith, nat_tests, told_put es c (claim_of q), claimed_equiv.symm (claim_of q) c, ground_is c.0 (claim_of q).0, agrees))) (wrong_here ∙ fine)
+    pub checked_more : (next : List (Key × ℕ)) → ((k : Key) → lookup (same_key k) next ≡ cond (same_key claim.1 k) (Some first) (lookup (same_key k) es))
+        → is_wrong ≡ false → Checked view of_values xs (i + 1) next
+    checked_more next put fine =
+        pass next (wrong_here ∙ fine) (λ j k n here.
+        rw (l.told j k n here, put k, ← agree_more es k claim.1 n claim.2 first is (grind (arith, fine))) (grind (arith, clash_is of_values j (view x), here, own)))
 
 -- ---- where no atom fails, none holds and fails
 

@@ -1,3 +1,2 @@
 pub mod Scopes
 pub mod InitClaims
-pub mod FirstFound

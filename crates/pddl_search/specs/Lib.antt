@@ -1,4 +1,3 @@
 pub mod Parts
 pub mod Scopes
-pub mod Grounds
 pub mod Claims

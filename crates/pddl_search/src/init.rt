@@ -1,99 +1,50 @@
 //! Atoms that hold and fail in `:init`, and functions of objects that have two values there.
 
-ghost use Rattle.std.specs.Prelude.{◌≡◌, [], ◌++◌, map};
-ghost use Rattle.std.specs.Cmp.{partial_equiv_from_equiv};
-ghost use Rattle.std.proofs.Common.{ap};
-ghost use Rattle.pddl_token.specs.Names.{fed_name};
+ghost use Rattle.std.specs.Prelude.{◌≡◌, [], cond, map, unwrap_or, IfOk};
+ghost use Rattle.indexmap.specs.IndexMap.{get};
 ghost use Rattle.pddl_problem.specs.Inits.{init_view};
 ghost use Rattle.pddl_task.specs.Names.{wrong_words};
-ghost use Rattle.pddl_task.specs.Faults.{contradicts, init_name, clashing, wrong_values, starts_above_zero};
+ghost use Rattle.pddl_task.specs.Faults.{contradicts, init_name, clashing, wrong_values};
 ghost use Rattle.pddl_faults.specs.Passes.{Passes};
-ghost use Rattle.pddl_search.specs.Claims.{is_value, wrong_in, fault_number, is_failure};
-ghost use Rattle.pddl_search.specs.Grounds.{same_claimed, claimed_equiv, ground_is};
+ghost use Rattle.pddl_search.specs.Claims.{claim_of, claim_in, wrong_in, fault_number, is_failure};
 
-use indexmap::IndexSet;
+use indexmap::IndexMap;
 use pddl_faults::LinkFault;
 use pddl_hash::Hashed;
 use pddl_problem::{InitItem, ObjectNames};
-use std::alloc::Allocator;
-use std::hash::{Hash, Hasher};
-use std::marker::Model;
+use pddl_token::Name;
+use std::alloc::{AllocError, Allocator};
+use std::hash::Hash;
 
-/// What an item claims, as a key of a table, which is no more than the item lent. Two are equal where the names of their predicates or functions and of their
-/// objects are, whatever is claimed.
-#[derive(Drop)]
-struct Claim<'d, A: Allocator> {
-    item: &'d InitItem<A>,
-}
+/// A ground atom, or a function of objects, lent: its name and its objects.
+type Ground<'d, A> = (&'d Name<A>, &'d ObjectNames<A>);
 
-impl<'d, A: Allocator> Model for Claim<'d, A> {
-    ghost use Rattle.pddl_problem.specs.Inits.{init_view};
-    ghost use Rattle.pddl_search.specs.Grounds.{ClaimValue, claim_of};
-
-    ghost Value = { ClaimValue };
-
-    ghost view = { λ c. claim_of (init_view c.item.now) };
-}
-
-impl<'d, A: Allocator> PartialEq for Claim<'d, A> {
-    ghost eq = { same_claimed };
-
-    ghost laws = { partial_equiv_from_equiv claimed_equiv };
-
-    fn eq(&self, other: &Claim<'d, A>) -> bool {
-        let (name, objects, _) = self.parts();
-        let (other_name, other_objects, _) = other.parts();
-        name == other_name && objects == other_objects
-    }
-}
-
-impl<'d, A: Allocator> Eq for Claim<'d, A> {
-    ghost laws = { claimed_equiv };
-}
-
-impl<'d, A: Allocator> Hash for Claim<'d, A> {
-    ghost hash_input = { λ c. fed_name c.0.name ++ c.0.objects };
-
-    ghost respects_eq = { λ c d same. ap (λ g. fed_name g.name ++ g.objects) (ground_is c.0 d.0 same) };
-
-    fn hash<H: Hasher>(&self, state: &mut H) {
-        let (name, objects, _) = self.parts();
-        state.write(name);
-        objects.hash(state);
-    }
-}
-
-impl<'d, A: Allocator> Claim<'d, A> {
-    /// The name of its predicate or function, its objects, and its number: 1 of an atom that holds, 0 of one that fails, or the value of a function of objects
-    /// in billionths.
-    fn parts(&self) -> (&'d [u8], &'d ObjectNames<A>, u64)
-        ensures name { result.0.now ≡ self.now.0.name }
-        ensures objects { result.1.now ≡ self.now.0.objects }
-        ensures number { result.2 ≡ self.now.1 }
-    {
-        match self.item {
-            InitItem::Holds(fact) => (fact.predicate.as_bytes(), &fact.objects, 1),
-            InitItem::Fails(fact) => (fact.predicate.as_bytes(), &fact.objects, 0),
-            InitItem::Value(call, amount) => {
-                (call.function.as_bytes(), &call.objects, amount.billionths())
-            }
+/// Whether an item is of a function of objects, of what it claims a number, and the number: 1 of an atom that holds, 0 of one that fails, or the value of
+/// a function of objects in billionths.
+fn claim_of<'d, A: Allocator>(item: &'d InitItem<A>) -> (bool, Ground<'d, A>, u64)
+    ensures { claim_in result ≡ claim_of (init_view item.now) }
+{
+    match item {
+        InitItem::Holds(fact) => (false, (fact.predicate.as_name(), &fact.objects), 1),
+        InitItem::Fails(fact) => (false, (fact.predicate.as_name(), &fact.objects), 0),
+        InitItem::Value(call, amount) => {
+            (true, (&call.function, &call.objects), amount.billionths())
         }
     }
 }
 
-/// Whether an item gives `total-cost` a value other than 0.
-fn starts_above_zero<A: Allocator>(item: &InitItem<A>) -> bool
-    ensures { result ≡ starts_above_zero (init_view item.now) }
+/// The first number under a key, which is this one where the key is new.
+///
+/// Fails where memory for the key is refused.
+fn first_number<K: Eq + Hash + Drop, B: Allocator>(
+    table: &mut IndexMap<K, u64, Hashed, B>,
+    key: K,
+    number: u64,
+) -> Result<u64, AllocError>
+    ensures first { IfOk result (λ first. first ≡ unwrap_or (get K.eq table.old key) number) }
+    ensures put { IfOk result (λ first. (other : K) → get K.eq table.new other ≡ cond (K.eq key other) (Some first) (get K.eq table.old other)) }
 {
-    matches!(item, InitItem::Value(call, amount)
-        if call.function.as_bytes() == b"total-cost".as_slice() && amount.billionths() != 0)
-}
-
-/// Whether an item gives a function of objects a value.
-fn is_value<A: Allocator>(item: &InitItem<A>) -> bool
-    ensures { result ≡ is_value (init_view item.now) }
-{
-    matches!(item, InitItem::Value(..))
+    Ok(*table.entry(key)?.or_insert(number))
 }
 
 /// Whether an item says of an atom that it fails.
@@ -103,23 +54,23 @@ fn is_failure<A: Allocator>(item: &InitItem<A>) -> bool
     matches!(item, InitItem::Fails(_))
 }
 
-/// Of functions of objects, or of atoms: no item claims another number than one before it, and none a total cost above 0.
-fn claims_agree<'d, 'a, A: Allocator, B: Allocator>(
-    alloc: &'a B,
-    hashed: Hashed,
+/// Of functions of objects, or of atoms: no item claims another number than one before it, and none a total cost above 0. What is claimed is put into an empty
+/// table.
+fn agree_in<'d, 'a, A: Allocator, B: Allocator>(
+    claims: &mut IndexMap<Ground<'d, A>, u64, Hashed, &'a B>,
     init: &'d [InitItem<A>],
     of_values: bool,
 ) -> Result<(), LinkFault<'d>>
+    requires { claims.old.entries ≡ [] }
     ensures { Passes (fault_number of_values) (wrong_words (wrong_in of_values) init_name [] (map init_view init.now)) result }
 {
-    let mut claims: IndexSet<Claim<'d, A>, Hashed, &'a B> = IndexSet::with_hasher(alloc, hashed);
     for item in init {
-        if is_value(item) == of_values {
-            let claim = Claim { item };
-            let (name, _, number) = claim.parts();
-            let (place, _) = claims.insert_full(claim)?;
-            let (_, _, before) = claims[place].parts();
-            if (number != before) | starts_above_zero(item) {
+        let (is_value, ground, number) = claim_of(item);
+        if is_value == of_values {
+            let name = ground.0.as_bytes();
+            let is_cost = name == b"total-cost".as_slice();
+            let before = first_number(claims, ground, number)?;
+            if (of_values & is_cost & (number != 0)) | (number != before) {
                 return Err(if of_values {
                     LinkFault::CostValue(name)
                 } else {
@@ -129,6 +80,18 @@ fn claims_agree<'d, 'a, A: Allocator, B: Allocator>(
         }
     }
     Ok(())
+}
+
+/// Of functions of objects, or of atoms: what is claimed agrees.
+fn claims_agree<'d, 'a, A: Allocator, B: Allocator>(
+    alloc: &'a B,
+    hashed: Hashed,
+    init: &'d [InitItem<A>],
+    of_values: bool,
+) -> Result<(), LinkFault<'d>>
+    ensures { Passes (fault_number of_values) (wrong_words (wrong_in of_values) init_name [] (map init_view init.now)) result }
+{
+    agree_in(&mut IndexMap::with_hasher(alloc, hashed), init, of_values)
 }
 
 /// No atom holds and fails. Where no atom fails, nothing is looked up.

@@ -35,34 +35,34 @@ pub fn domain_name<'d, A: Allocator, B: Allocator>(
 pub fn object_types<'d, A: Allocator>(objects: &'d [Typed<A>]) -> Result<(), LinkFault<'d>>
     ensures { Passes 25 (object_types (map typed_view objects.now)) result }
 {
-    match objects
-        .iter()
-        .find(|object| object.types.as_slice().len() > 1)
-    {
-        Some(object) => Err(LinkFault::ObjectTypes(object.name.as_bytes())),
-        None => Ok(()),
+    for object in objects {
+        if object.types.as_slice().len() > 1 {
+            return Err(LinkFault::ObjectTypes(object.name.as_bytes()));
+        }
     }
+    Ok(())
 }
 
 /// Whether a result's type is `number`.
 fn is_number<A: Allocator>(types: &TypeNames<A>) -> bool
     ensures { result ≡ same_names types.now number }
 {
-    matches!(types.as_slice(), [name] if name.as_bytes() == b"number".as_slice())
+    match types.as_slice() {
+        [name] => name.as_bytes() == b"number".as_slice(),
+        _ => false,
+    }
 }
 
 /// Each declared function gives a number.
 pub fn object_fluents<'d, A: Allocator>(domain: &'d Domain<A>) -> Result<(), LinkFault<'d>>
     ensures { Passes 32 (object_fluents (domain_view domain.now)) result }
 {
-    match domain
-        .functions
-        .iter()
-        .find(|function| !is_number(&function.result))
-    {
-        Some(function) => Err(LinkFault::ObjectFluent(function.name.as_bytes())),
-        None => Ok(()),
+    for function in &domain.functions {
+        if !is_number(&function.result) {
+            return Err(LinkFault::ObjectFluent(function.name.as_bytes()));
+        }
     }
+    Ok(())
 }
 
 /// Whether a metric is `minimize` of `total-cost` without arguments.

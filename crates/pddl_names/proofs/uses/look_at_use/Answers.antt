@@ -1,4 +1,4 @@
-use Rattle.std.proofs.Common.{[], ◌<◌, length, map, Ok, Err, refl, ◌∙◌, arith}
+use Rattle.std.proofs.Common.{[], ◌<◌, length, map, Ok, Err, refl, sym, ◌∙◌, arith}
 use Rattle.std.proofs.lemmas.List.{length-map}
 use Rattle.pddl_formula.specs.TypedLists.{typed_view}
 use Rattle.pddl_task.proofs.Lists.{has_first}
@@ -22,7 +22,7 @@ returns-in_default-type_of-clause-found g c =
     let ts = terms_in c.args.terms.now in
     let typed = rw c.in_default-type_of.is at c.type_of.ensures c.args.told.now c.requires.told in
     unknown_found s b ts c.args.declared.now.entries c.args.symbol c.in-Some.slots.now c.in-Some.ensures.value c.name.result (rw c.name.ensures
-    (unknown_here s b ts c.loop-i.i _ (omega (arith, c.len-i-end.ensures)) c.at-term.ensures _ _ c.loop-i.invariant.unknown (known_term s b _ c.args.told.now _ typed)))
+    (unknown_here s b ts c.loop-i.i _ (rw c.len-i-end.ensures at c.loop-i-test.true) c.at-term.ensures _ _ c.loop-i.invariant.unknown (known_term s b _ c.args.told.now _ typed)))
 
 pub loop-i-preserved : goal.loop-i-preserved
 loop-i-preserved g c =
@@ -35,7 +35,7 @@ loop-i-preserved g c =
     let xs = map typed_view slots.parameters.now in
     let i = c.loop-i.i in
     let before = c.loop-i.invariant in
-    let low : i < length all = omega (arith, c.len-i-end.ensures) in
+    let low : i < length all = rw c.len-i-end.ensures at c.loop-i-test.true in
     let typed = c.in-Some-type_of.ensures told c.requires.told in
     let known = known_here s b all i _ low c.at-term.ensures _ before.unknown (known_term s b _ told _ typed) in
     let item = rw c.deref.ensures.value at c.get-in-loop-i.ensures.lookup in
@@ -58,19 +58,19 @@ loop-i-preserved g c =
 pub returns-then-len-slots-clause-found : goal.returns-then-len-slots-clause-found
 returns-then-len-slots-clause-found g c =
     let slots = c.in-Some.slots.now in
-    others_found (setting_of c.args.known.now) _ (terms_in c.args.terms.now) c.args.declared.now.entries c.args.symbol slots c.in-Some.ensures.value c.loop-i.i (omega (arith, c.len-i-end.ensures)) c.loop-i.invariant.unknown
+    others_found (setting_of c.args.known.now) _ (terms_in c.args.terms.now) c.args.declared.now.entries c.args.symbol slots c.in-Some.ensures.value c.loop-i.i (rw c.len-i-end.ensures at c.loop-i-test.false) c.loop-i.invariant.unknown
     (λ is. omega (arith, is, c.len.ensures, length-map slots.parameters.now typed_view, c.if-len-slots.true))
 
 pub returns-else-all_fit-clause-found : goal.returns-else-all_fit-clause-found
 returns-else-all_fit-clause-found g c =
     let slots = c.in-Some.slots.now in
     let same = length-map slots.parameters.now typed_view in
-    misfit_found (setting_of c.args.known.now) _ (terms_in c.args.terms.now) c.args.declared.now.entries c.args.symbol slots c.in-Some.ensures.value c.loop-i.i (omega (arith, c.len-i-end.ensures)) c.loop-i.invariant.unknown
-    c.loop-i.all_fit (Err (link.ArgumentType c.args.symbol)) (omega (arith, c.len.ensures, same, c.if-len-slots.false)) c.loop-i.invariant.misfit (rw c.if-all_fit.false (refl, has_first c.args.symbol.now []))
+    misfit_found (setting_of c.args.known.now) _ (terms_in c.args.terms.now) c.args.declared.now.entries c.args.symbol slots c.in-Some.ensures.value c.loop-i.i (rw c.len-i-end.ensures at c.loop-i-test.false) c.loop-i.invariant.unknown
+    c.loop-i.all_fit (Err (link.ArgumentType c.args.symbol)) (sym c.len.ensures ∙ c.if-len-slots.false ∙ sym same) c.loop-i.invariant.misfit (rw c.if-all_fit.false (refl, has_first c.args.symbol.now []))
 
 pub returns-then-all_fit-clause-found : goal.returns-then-all_fit-clause-found
 returns-then-all_fit-clause-found g c =
     let slots = c.in-Some.slots.now in
     let same = length-map slots.parameters.now typed_view in
-    misfit_found (setting_of c.args.known.now) _ (terms_in c.args.terms.now) c.args.declared.now.entries c.args.symbol slots c.in-Some.ensures.value c.loop-i.i (omega (arith, c.len-i-end.ensures)) c.loop-i.invariant.unknown
-    c.loop-i.all_fit (Ok tt) (omega (arith, c.len.ensures, same, c.if-len-slots.false)) c.loop-i.invariant.misfit (rw c.if-all_fit.true refl)
+    misfit_found (setting_of c.args.known.now) _ (terms_in c.args.terms.now) c.args.declared.now.entries c.args.symbol slots c.in-Some.ensures.value c.loop-i.i (rw c.len-i-end.ensures at c.loop-i-test.false) c.loop-i.invariant.unknown
+    c.loop-i.all_fit (Ok tt) (sym c.len.ensures ∙ c.if-len-slots.false ∙ sym same) c.loop-i.invariant.misfit (rw c.if-all_fit.true refl)

@@ -1,19 +1,18 @@
-use Rattle.std.proofs.Common.{◌∙◌, map, refl, ap, arith}
+use Rattle.std.proofs.Common.{[], ◌∷◌, inl, inr, ◌∙◌, map, refl, ap, arith}
 use denote.Param.Weighed.{most}
 use Rattle.std.proofs.lemmas.List.Concat.{flat_map-append}
-use Rattle.std.proofs.lemmas.Result.{err_from_is_err_and}
 use Rattle.pddl_formula.specs.TypedLists.{typed_view}
 use Rattle.pddl_formula.proofs.Depths.{among}
-use Rattle.pddl_effect.specs.Effects.{effect_view, effects_of}
+use Rattle.pddl_effect.specs.Effects.{amount_view, effect_view, effects_of}
 use Rattle.pddl_effect.proofs.effect.Effect.TheLaws.{the_size}
 use Rattle.pddl_effect.proofs.Depths.{under_all}
-use Rattle.pddl_effect.proofs.Views.{view_and, view_when, view_forall}
-use Rattle.pddl_task.specs.Places.{effect_places, effects_places, binding}
+use Rattle.pddl_effect.proofs.Views.{view_add, view_del, view_increase, view_and, view_when, view_forall}
+use Rattle.pddl_task.specs.Places.{at, calls, bare, total_cost, amount_part, effect_places, effects_places, binding}
 use Rattle.pddl_task.proofs.Lists.{append-none}
 use Rattle.pddl_faults.proofs.FoundFaults.{up_to_none}
 use Rattle.pddl_search.specs.Scopes.{bound_in}
 use Rattle.pddl_names.specs.Uses.{faults_by}
-use Rattle.pddl_names.proofs.Walks.{stopped, one_more, at_end}
+use Rattle.pddl_names.proofs.Walks.{stopped, in_turn, one_more, at_end}
 use Rattle.pddl_names.proofs.walk.+search_effect.Goals as goal
 
 pub returns-in-When-clause-found : goal.returns-in-When-clause-found
@@ -21,19 +20,16 @@ returns-in-When-clause-found g t c =
     rw (c.in-When.is, view_when _ _, flat_map-append)
     (c.lower-in-When.ensures.found _ _ c.search_formula-condition.ensures.found (rw (c.deref-in-When.ensures, c.search_formula-condition.ensures.kept) at c.search_effect-in-When.ensures.found))
 
-pub returns-in_err-repeated-in-Forall-clause-found : goal.returns-in_err-repeated-in-Forall-clause-found
-returns-in_err-repeated-in-Forall-clause-found g t c =
-    let p = err_from_is_err_and c.from_residual.result c.from_residual.ensures.1 in
-    let stop = c.in_err-repeated-in-Forall in
+pub returns-in-Err-clause-found : goal.returns-in-Err-clause-found
+returns-in-Err-clause-found g t c =
     let xs = map typed_view c.in-Forall.variables.items in
-    rw (p.1, p.2, c.in-Forall.is, view_forall _ _)
-    (stopped c.args.known.now xs (effect_places (effect_view c.in-Forall.inner.value) (binding xs (bound_in c.args.scope.now))) stop.field-0.0 stop.ensures.passes)
+    rw (c.in-Forall.is, view_forall _ _)
+    (stopped c.args.known.now xs (effect_places (effect_view c.in-Forall.inner.value) (binding xs (bound_in c.args.scope.now))) c.in-Err.fault c.in-Err.ensures.passes)
 
-pub returns-in_ok-repeated-in-Forall-clause-found : goal.returns-in_ok-repeated-in-Forall-clause-found
-returns-in_ok-repeated-in-Forall-clause-found g t c =
-    let entered = c.in_ok-repeated-in-Forall.ensures in
-    rw (c.in-Forall.is, view_forall _ _, entered.passes, append-none)
-    (c.lower.ensures.found _ _ entered.found (rw (c.deref.ensures, entered.bound) at c.search_effect-found.ensures.found))
+pub returns-in-Ok-clause-found : goal.returns-in-Ok-clause-found
+returns-in-Ok-clause-found g t c =
+    rw (c.in-Forall.is, view_forall _ _, c.in-Ok.ensures.passes, append-none)
+    (c.lower.ensures.found _ _ c.in-Ok.ensures.found (rw (c.deref.ensures, c.in-Ok.ensures.bound) at c.search_effect-found.ensures.found))
 
 pub loop-part-init : goal.loop-part-init
 loop-part-init g t c = record { told = c.requires; kept = refl; so_far = up_to_none }
@@ -61,3 +57,15 @@ search_effect-requires g t c κs lives =
     let same = ap (most depth) c.deref-part-items.ensures.value in
     let less = among depth c.deref-part-items.result.now c.loop-part.part-index c.part-item.result c.loop-part-test.true c.part-item.is in
     (omega (arith, less, same, under_all g.row.A g.A.Allocator g.A.laws c.args.effect.now c.in-And.parts c.in-And.is, c.decreases), (lives.0, (lives.1, c.loop-part.invariant.told)))
+
+pub returns-in-Add-clause-found : goal.returns-in-Add-clause-found
+returns-in-Add-clause-found g t c =
+    let found = rw c.of_atom.ensures at c.look-in-Add.ensures.found in
+    elim c.in-Add.is [ inl here ↦ rw (here, view_add _) found | inr here ↦ rw (here, view_del _) found ]
+
+pub returns-in-Increase-clause-found : goal.returns-in-Increase-clause-found
+returns-in-Increase-clause-found g t c =
+    let b = bound_in c.args.scope.now in
+    rw (c.in-Increase.is, view_increase _)
+    (in_turn (faults_by c.args.known.now) (at b (calls (bare total_cost)) ∷ []) (at b (amount_part (amount_view c.in-Increase.amount)) ∷ []) _ _ _ c.lower-in-Increase.ensures.found
+    (rw c.total_cost.ensures at c.look-cost.ensures.found) (rw c.of_amount.ensures at c.look.ensures.found))

@@ -1,7 +1,6 @@
 use Rattle.std.proofs.Common.{◌≡◌, ap, ◌∙◌, ◌∷◌, ◌⊎◌, List, Vec, Box, map, refl, inl, inr, arith}
 use denote.Param.Weighed.{most}
 use Rattle.std.proofs.lemmas.List.Concat.{flat_map-append}
-use Rattle.std.proofs.lemmas.Result.{err_from_is_err_and}
 use Rattle.pddl_formula.specs.TypedLists.{TypedValue, typed_view}
 use Rattle.pddl_formula.specs.Formulas.{formula_view, formulas_of}
 use Rattle.pddl_formula.specs.declared.type_names.Typed.{Typed}
@@ -10,13 +9,22 @@ use Rattle.pddl_formula.specs.declared.formula.Formula.TheVariants.{Exists, Fora
 use Rattle.pddl_formula.specs.declared.formula.Formula.TheFolds as folds
 use Rattle.pddl_formula.proofs.formula.Formula.TheLaws.{the_size}
 use Rattle.pddl_formula.proofs.Depths.{among}
-use Rattle.pddl_formula.proofs.Views.{view_imply, view_and, view_or, view_exists, view_forall}
+use Rattle.pddl_formula.proofs.Views.{view_atom, view_equal, view_not, view_imply, view_and, view_or, view_exists, view_forall}
 use Rattle.pddl_task.specs.Places.{at, binds, places_in, places_in_all, binding}
 use Rattle.pddl_task.proofs.Lists.{append-none}
 use Rattle.pddl_search.specs.Scopes.{bound_in}
 use Rattle.pddl_names.specs.Uses.{faults_by}
 use Rattle.pddl_names.proofs.Walks.{stopped, one_more, at_end}
 use Rattle.pddl_names.proofs.walk.+search_formula.Goals as goal
+
+pub returns-in-Atom-clause-found : goal.returns-in-Atom-clause-found
+returns-in-Atom-clause-found g t c = rw (c.in-Atom.is, view_atom _) (rw c.of_atom.ensures at c.look.ensures.found)
+
+pub returns-in-Equal-clause-found : goal.returns-in-Equal-clause-found
+returns-in-Equal-clause-found g t c = rw (c.in-Equal.is, view_equal _ _) c.look-in-Equal.ensures.found
+
+pub returns-in-Not-clause-found : goal.returns-in-Not-clause-found
+returns-in-Not-clause-found g t c = rw (c.in-Not.is, view_not _) (rw c.deref.ensures at c.search_formula.ensures.found)
 
 pub returns-in-Imply-clause-found : goal.returns-in-Imply-clause-found
 returns-in-Imply-clause-found g t c =
@@ -30,19 +38,16 @@ quantified : {A : Type 0} (f : Formula A) (v : Vec (Typed A) A) (p : Box (Formul
 quantified f v p b (inl is) = rw (is, view_exists v p) refl
 quantified f v p b (inr is) = rw (is, view_forall v p) refl
 
-pub returns-in_err-repeated-in-Exists-clause-found : goal.returns-in_err-repeated-in-Exists-clause-found
-returns-in_err-repeated-in-Exists-clause-found g t c =
-    let p = err_from_is_err_and c.from_residual.result c.from_residual.ensures.1 in
-    let stop = c.in_err-repeated-in-Exists in
+pub returns-in-Err-clause-found : goal.returns-in-Err-clause-found
+returns-in-Err-clause-found g t c =
     let xs = map typed_view c.in-Exists.variables.items in
-    rw (p.1, p.2, quantified _ _ _ _ c.in-Exists.is)
-    (stopped c.args.known.now xs (places_in (formula_view c.in-Exists.inner.value) (binding xs (bound_in c.args.scope.now))) stop.field-0.0 stop.ensures.passes)
+    rw (quantified _ _ _ _ c.in-Exists.is)
+    (stopped c.args.known.now xs (places_in (formula_view c.in-Exists.inner.value) (binding xs (bound_in c.args.scope.now))) c.in-Err.fault c.in-Err.ensures.passes)
 
-pub returns-in_ok-repeated-in-Exists-clause-found : goal.returns-in_ok-repeated-in-Exists-clause-found
-returns-in_ok-repeated-in-Exists-clause-found g t c =
-    let entered = c.in_ok-repeated-in-Exists.ensures in
-    rw (quantified _ _ _ _ c.in-Exists.is, entered.passes, append-none)
-    (c.lower-in-Exists.ensures.found _ _ entered.found (rw (c.deref-in-Exists.ensures, entered.bound) at c.search_formula-found.ensures.found))
+pub returns-in-Ok-clause-found : goal.returns-in-Ok-clause-found
+returns-in-Ok-clause-found g t c =
+    rw (quantified _ _ _ _ c.in-Exists.is, c.in-Ok.ensures.passes, append-none)
+    (c.lower-in-Ok.ensures.found _ _ c.in-Ok.ensures.found (rw (c.deref-in-Ok.ensures, c.in-Ok.ensures.bound) at c.search_formula-found.ensures.found))
 
 pub loop-part-preserved : goal.loop-part-preserved
 loop-part-preserved g t c =

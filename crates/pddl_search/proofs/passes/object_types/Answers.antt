@@ -1,15 +1,19 @@
-use Rattle.std.proofs.Common.{length, Some, None, refl, rules, tests, nat_lt}
-use Rattle.std.proofs.lemmas.Iterator.{YieldsList-from_slice}
-use Rattle.pddl_formula.specs.TypedLists.{typed_view}
-use Rattle.pddl_search.proofs.FirstFound.{found_tells}
+use Rattle.std.proofs.Common.{◌≡◌, true, false, length, refl, sym, arith, nat_lt}
+use Rattle.std.proofs.lemmas.List.{drop_all}
+use Rattle.pddl_task.proofs.Lists.{has_first}
+use Rattle.pddl_faults.proofs.ListTurns.{rest_is}
 use Rattle.pddl_search.proofs.passes.object_types.Goals as goal
 
-pub returns-in-Some : goal.returns-in-Some
-returns-in-Some g c = (
-  refl,
-  rw c.as_bytes.ensures.value
-      (found_tells typed_view (λ x. nat_lt 1 (length x.of)) (λ x. x.item) c.find.new.self _ (Some c.in-Some.object) c.in-Some.ensures.ran (YieldsList-from_slice c.args.objects.now cc) (λ x b q k. search (rules, tests))),
-)
+pub returns-then-as_slice-gt1 : goal.returns-then-as_slice-gt1
+returns-then-as_slice-gt1 g c =
+    let several : nat_lt 1 (length c.object-item.result.types) ≡ true = grind arith in
+    rw (c.as_bytes.ensures.value, ← c.loop-object.invariant, rest_is c.args.objects.now c.loop-object.object-index c.object-item.result c.loop-object-test.true c.object-item.is, several)
+    (refl, has_first c.object-item.result.name _)
 
-pub returns-in-None : goal.returns-in-None
-returns-in-None g c = found_tells typed_view (λ x. nat_lt 1 (length x.of)) (λ x. x.item) _ _ None c.in-None.ensures.ran (YieldsList-from_slice c.args.objects.now cc) (λ x b q k. search (rules, tests))
+pub loop-object-preserved : goal.loop-object-preserved
+loop-object-preserved g c =
+    let one : nat_lt 1 (length c.object-item.result.types) ≡ false = grind arith in
+    rw (rest_is c.args.objects.now c.loop-object.object-index c.object-item.result c.loop-object-test.true c.object-item.is, one) at c.loop-object.invariant
+
+pub returns : goal.returns
+returns g c = sym (rw (drop_all c.loop-object.object-index c.args.objects.now c.loop-object-test.false) at c.loop-object.invariant)

@@ -1,7 +1,7 @@
 use Rattle.std.proofs.Common.{◌≡◌, []}
 use Rattle.pddl_names.specs.Uses.{faults_by, AreAllTold}
 use Rattle.pddl_names.proofs.SeenNames.{ActionsUpTo}
-use Rattle.pddl_names.proofs.walk.search_actions.Given as goal
+use Rattle.pddl_names.proofs.walk.search_in_turn.Given as goal
 
 abbrev pub invariant-loop-action : goal.invariant-loop-action
 invariant-loop-action g l = record {

@@ -6,7 +6,7 @@ use Rattle.pddl_faults.proofs.ListTurns.{views_drop}
 use Rattle.pddl_names.specs.FaultParts.{action_faults}
 use Rattle.pddl_names.specs.Uses.{faults_by}
 use Rattle.pddl_names.proofs.SeenNames.{has, put_seen}
-use Rattle.pddl_names.proofs.walk.search_actions.Goals as goal
+use Rattle.pddl_names.proofs.walk.search_in_turn.Goals as goal
 
 pub loop-action-init : goal.loop-action-init
 loop-action-init g c = record {
