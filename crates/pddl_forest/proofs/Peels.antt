@@ -1,19 +1,19 @@
 -- Places that are peeled off in turn, each once no child of it is left, and at which turn a place stands in their order. Those of which children are left where no more
 -- can be peeled off lie on ways that go round; where there are none, the others are in order.
-use Rattle.std.proofs.Common.{◌≡◌, ◌≢◌, sum, ℕ, ◌<◌, ◌≤◌, eqb, ltb, not, List, [], ◌∷◌, ◌++◌, ◌∙◌, map, length, replicate, refl, sym, ap, arith, ◌+◌, ◌-◌, ◌&&◌, cond, take, slice_set, slice_index_or, zero, suc, true, false, true≢false, inl, inr}
-use Rattle.std.proofs.lemmas.Bool.{eqb-true, eq-eqb, cases_Bool}
+use Rattle.std.proofs.Common.{◌≡◌, ◌≢◌, sum, ℕ, ◌<◌, ◌≤◌, eqb, ltb, not, List, [], ◌∷◌, ◌++◌, ◌∙◌, map, length, refl, sym, ap, arith, ◌+◌, ◌-◌, ◌&&◌, cond, take, slice_set, slice_index_or, zero, suc, true, false, inl, inr}
+use Rattle.std.proofs.lemmas.Bool.{eqb-true, cases_Bool}
 use Rattle.std.proofs.lemmas.Bool.Decides.{nat_tests}
-use Rattle.std.proofs.lemmas.List.{get_or_default, get_or-replicate, length-replicate, get_or-set_same, get_or-set_other, length-set, length_push}
-use Rattle.std.proofs.lemmas.List.Folds.{sum_by-replicate, position_or_len_push, Any-from_list_any, list_any_at}
+use Rattle.std.proofs.lemmas.List.{get_or_default, get_or-set_same, get_or-set_other, length-set, length_push, take_more_set, get_or_push, get_or_append_left}
+use Rattle.std.proofs.lemmas.List.Folds.{position_or_len_push, Any-from_list_any, list_any_at}
 use Rattle.std.proofs.lemmas.List.FromFn.{get_or-map-range_with_len, length-map-range_with_len, get_or-range_with_len, length-range_with_len}
-use Rattle.std.proofs.lemmas.List.Sums.{sum_by-cons, sum_by_push, passes_at_first, prefix_len-le-length, count_by_more_no, count_by_more_yes, get_or-le-sum_by, sum_by-set}
+use Rattle.std.proofs.lemmas.List.Sums.{sum_by-cons, passes_at_first, prefix_len-le-length, get_or-le-sum_by, sum_by-le, sum_by-set}
 use Rattle.std.proofs.lemmas.Map.Keys.{IsDistinct-from_apart}
 use Rattle.std.proofs.lemmas.Map.Steps.{length-le_from_distinct_below}
 use Rattle.std.specs.List.{range_with_len, count_by, sum_by, list_any}
 use Rattle.pddl_forest.specs.Spans.{at}
 use Rattle.pddl_forest.specs.Forests.{number_at, parent_of, up}
 use Rattle.pddl_forest.specs.declared.spans.Span.{Span}
-use Rattle.pddl_forest.specs.Inner.{turn_of, AreParents, AreCounted, ArePeeled, left_under, IsOrder, ArePeeling}
+use Rattle.pddl_forest.specs.Inner.{turn_of, AreParents, ArePeeled, left_under, IsOrder, ArePeeling}
 use Rattle.pddl_forest.specs.Rounds.{GoesRound, HasRound, AreRounds}
 
 pub turn_few : (order : List ℕ) (i : ℕ) → turn_of order i ≤ length order
@@ -27,72 +27,40 @@ turn_counts : (order : List ℕ) (i : ℕ) → ltb (turn_of order i) (length ord
 turn_counts [] i = refl
 turn_counts (x ∷ xs) i = grind (arith, nat_tests, sum_by-cons (λ y. cond (eqb i y) 1 0) x xs, turn_counts xs i)
 
--- one that is counted once stands at its turn alone
-once_at : (order : List ℕ) (u : ℕ) → u < length order → count_by (eqb (number_at order u)) order ≤ 1 → turn_of order (number_at order u) ≡ u
-once_at [] u low once = absurd (omega (arith, low))
-once_at (x ∷ xs) zero low once = grind (arith, nat_tests)
-once_at (x ∷ xs) (suc u) low once =
-    let i : ℕ = number_at xs u in
-    grind (arith, nat_tests, sum_by-cons (λ y. cond (eqb i y) 1 0) x xs, once_at xs u, get_or-le-sum_by (λ y. cond (eqb i y) 1 0) xs u 0, low, once)
-
 pub at_set : {X : Type 0} (xs : List X) (i k : ℕ) (y d : X) → i < length xs → slice_index_or (slice_set xs i y) k d ≡ cond (eqb k i) y (slice_index_or xs k d)
 at_set xs i k y d low = grind (arith, nat_tests, get_or-set_same xs i y d, get_or-set_other xs i k y d, low)
 
 abbrev pub nothing : Span
 nothing = record { first = 0; last = 0 }
 
--- none is counted at first, then one number more
-pub none_counted : (many : ℕ) → AreCounted (replicate many 0) [] many
-none_counted many = record { long = length-replicate many 0; each = λ i low. get_or-replicate many i 0 0 low }
-
-pub counted_more : {left : List ℕ} (numbers : List ℕ) {many : ℕ} (k q : ℕ) → AreCounted left (take k numbers) many → k < length numbers → number_at numbers k ≡ q → q < many
-    → AreCounted (slice_set left q (number_at left q + 1)) (take (k + 1) numbers) many
-counted_more {left} numbers {many} k q h low is q_low = record {
-  long = length-set left q _ ∙ h.long;
-  each = λ i i_low. grind (arith, nat_tests, at_set left q i (number_at left q + 1) 0, q_low, h.long, count_by_more_yes (eqb i) numbers k 0 low, count_by_more_no (eqb i) numbers k 0 low, h.each i i_low, is);
-}
-
--- nothing is peeled off at first, nor put under a place
-pub none_peeled : {ps left : List ℕ} → AreCounted left ps (length ps) → ArePeeled ps left [] (replicate (length ps) nothing)
-none_peeled {ps} counted = record {
-  kept = ps;
-  long = refl;
-  counted = counted;
-  each = λ i low. rw (at_first i low) refl;
-  once = λ i. omega arith;
-  behind = λ i _ low. absurd (omega (arith, low));
-  under = record {
-    long = length-replicate (length ps) _;
-    total = omega (arith, sum_by-replicate left_under (length ps) nothing);
-    put = λ i low. rw (at_first i low) refl;
-    within = λ i low begun. absurd (omega (arith, begun, ap (λ s. s.first) (at_first i low)));
-    apart = λ i j low _ _ _ begun. absurd (omega (arith, begun, ap (λ s. s.first) (at_first i low)));
-  };
-}
-  where
-    at_first : (i : ℕ) → i < length ps → at (replicate (length ps) nothing) i ≡ nothing
-    at_first i low = get_or-replicate (length ps) i nothing nothing low
-
 -- ---- one place is peeled off
 
 -- On the way up from a place, those before it of which no child is left are peeled off, and the place itself, but for one that the way has come to.
-pub record ArePeeledTo (ps left order : List ℕ) (spans : List Span) (start place : ℕ) : Type 0 where
+pub record ArePeeledTo (ps left slots : List ℕ) (turns : ℕ) (spans : List Span) (start place : ℕ) : Type 0 where
   pub low : place < length ps
-  pub parent : number_at ps place < length ps
-  pub in_left : length left ≡ length ps
-  pub in_spans : length spans ≡ length ps
-  pub peeled : ArePeeled ps left order spans
+  pub long : length slots ≡ length ps
+  pub rest : turns + sum left ≡ length ps
+  pub peeled : ArePeeled ps left (take turns slots) spans
   pub past : (i : ℕ) → i < length ps → number_at left i ≡ 0 → (at spans i).first ≡ 0 → i ≢ place → start < i
 
-pub started : {ps left order : List ℕ} {spans : List Span} {place : ℕ} → AreParents ps → ArePeeling ps left order spans place → place < length ps → ArePeeledTo ps left order spans place place
-started a so low = record { low = low; parent = a.within _ low; in_left = so.peeled.counted.long; in_spans = so.peeled.under.long; peeled = so.peeled; past = λ i i_low none new other. omega (arith, so.past i i_low none new, other) }
+pub started : {ps left slots : List ℕ} {turns : ℕ} {spans : List Span} {place : ℕ} → AreParents ps → ArePeeling ps left slots turns spans place → place < length ps → ArePeeledTo ps left slots turns spans place place
+started a so low = record {
+  low = low;
+  long = so.long;
+  rest = so.rest;
+  peeled = so.peeled;
+  past = λ i i_low none new other. omega (arith, so.past i i_low none new, other);
+}
 
-module _ {ps left order : List ℕ} {spans : List Span} {start place : ℕ} (a : AreParents ps) (to : ArePeeledTo ps left order spans start place) where
+module _ {ps left slots : List ℕ} {turns : ℕ} {spans : List Span} {start place : ℕ} (a : AreParents ps) (to : ArePeeledTo ps left slots turns spans start place) where
+  abbrev order : List ℕ
+  order = take turns slots
+
   abbrev h : ArePeeled ps left order spans
   h = to.peeled
 
-  pub stopped : (number_at left place ≡ 0 → (at spans place).first ≡ 0 → ⊥) → ArePeeling ps left order spans (start + 1)
-  stopped ends = record { peeled = h; past = λ i low none new. omega (arith, to.past i low none new (λ is. ends (rw (← is) none) (rw (← is) new))) }
+  pub stopped : (number_at left place ≡ 0 → (at spans place).first ≡ 0 → ⊥) → ArePeeling ps left slots turns spans (start + 1)
+  stopped ends = record { long = to.long; rest = to.rest; peeled = h; past = λ i low none new. omega (arith, to.past i low none new (λ is. ends (rw (← is) none) (rw (← is) new))) }
 
   abbrev parent : ℕ
   parent = number_at ps place
@@ -134,8 +102,8 @@ module _ {ps left order : List ℕ} {spans : List Span} {start place : ℕ} (a :
     apart : place ≢ parent
     apart is = omega (arith, some, none, ap (number_at left) is)
 
-    turns : (i : ℕ) → turn_of next i ≡ cond (ltb (turn_of order i) (length order)) (turn_of order i) (length order + cond (eqb i place) 0 1)
-    turns i = grind (arith, nat_tests, position_or_len_push (eqb i) order place, turn_few order i)
+    turn_next : (i : ℕ) → turn_of next i ≡ cond (ltb (turn_of order i) (length order)) (turn_of order i) (length order + cond (eqb i place) 0 1)
+    turn_next i = grind (arith, nat_tests, position_or_len_push (eqb i) order place, turn_few order i)
 
     -- ---- what is under it is put behind what is under its parent
 
@@ -166,29 +134,33 @@ module _ {ps left order : List ℕ} {spans : List Span} {start place : ℕ} (a :
         each = λ i i_low. grind (arith, nat_tests, at_set left parent i (number_at left parent - 1) 0, h.counted.long, low, counts i i_low);
       };
       each = λ i i_low. grind (arith, nat_tests, at_next i, parent_new, at_set h.kept place i (length ps) 0, to.low, h.long, h.each i i_low);
-      once = λ i. grind (arith, nat_tests, sum_by_push (λ q. cond (eqb i q) 1 0) order place, turn_counts order place, h.under.put place to.low, new, h.once i, to.low);
-      behind = λ i i_low. grind (arith, nat_tests, turns i, turns (number_at ps i), length_push order place, h.behind i i_low, child_before i i_low);
+      once = λ u u_low.
+          let here = h.under.put place to.low in
+          let last = get_or_push order place 0 u in
+          let before = get_or_append_left order (place ∷ []) 0 u in
+          let all = length_push order place in
+          (grind (arith, nat_tests, last, before, all, h.once u, to.low, u_low), grind (arith, nat_tests, last, before, all, h.once u, u_low, turn_next (number_at next u), turn_next place, here, new));
+      behind = λ i i_low. grind (arith, nat_tests, turn_next i, turn_next (number_at ps i), length_push order place, h.behind i i_low, child_before i i_low);
       under = record {
         long = long_spans;
         total = total;
-        put = λ i i_low. grind (arith, nat_tests, turns i, length_push order place, at_next i, h.under.put i i_low, parent_new);
+        put = λ i i_low. grind (arith, nat_tests, turn_next i, length_push order place, at_next i, h.under.put i i_low, parent_new);
         within = λ i i_low. grind (arith, nat_tests, at_next i, at_next (number_at ps i), apart, h.under.within i i_low, parent_new, new);
         apart = λ i j i_low j_low differ same. grind (arith, nat_tests, at_next i, at_next j, h.under.within i i_low, h.under.within j j_low, h.under.apart i j i_low j_low differ same, same, differ, parent_new, new);
       };
     }
 
-    pub peeled_more : ArePeeledTo ps fewer next next_spans start (number_at ps place)
+    pub one_less : sum fewer + 1 ≡ sum left
+    one_less = omega (arith, sum_by-set (λ x. x) left parent (number_at left parent - 1) 0 (omega (arith, low, h.counted.long)), some)
+
+    pub peeled_more : ArePeeledTo ps fewer (slice_set slots turns place) (turns + 1) next_spans start (number_at ps place)
     peeled_more = record {
       low = low;
-      parent = a.within parent low;
-      in_left = more.counted.long;
-      in_spans = long_spans;
-      peeled = more;
+      long = length-set slots turns place ∙ to.long;
+      rest = omega (arith, one_less, to.rest);
+      peeled = rw (take_more_set slots turns place (omega (arith, one_less, to.rest, to.long))) more;
       past = λ i i_low ends begins other. grind (arith, nat_tests, to.past i i_low, at_next i, get_or-set_other left parent i (number_at left parent - 1) 0, ends, begins, other);
     }
-
-    pub peeled_smaller : sum fewer < sum left
-    peeled_smaller = omega (arith, sum_by-set (λ x. x) left parent (number_at left parent - 1) 0 (omega (arith, low, h.counted.long)), some)
 
 -- ---- ways from parent to parent
 
@@ -208,19 +180,19 @@ few_apart n m f below apart =
 
 -- ---- what is left where all places without children are peeled off; for place 0, where it is its own parent, nothing is
 
-module _ {ps left order : List ℕ} {spans : List Span} {many : ℕ} (a : AreParents ps) (all : ArePeeling ps left order spans many) (enough : length ps ≤ many) {after : List ℕ}
+module _ {ps left slots : List ℕ} {turns : ℕ} {spans : List Span} {many : ℕ} (a : AreParents ps) (all : ArePeeling ps left slots turns spans many) (enough : length ps ≤ many) {after : List ℕ}
     (set : after ≡ cond (eqb (number_at ps 0) 0) (slice_set left 0 0) left) where
-  abbrev done : ArePeeled ps left order spans
+  abbrev peels : List ℕ
+  peels = take turns slots
+
+  abbrev done : ArePeeled ps left peels spans
   done = all.peeled
 
   same : (i : ℕ) → i < length ps → parent_of ps i ≡ number_at ps i
   same i low = get_or_default ps i i 0 low
 
-  above : (i : ℕ) → i < length ps → parent_of ps i < length ps
-  above i low = rw (same i low) (a.within i low)
-
   -- a place stands in the order where no child of it is left
-  none_left : (i : ℕ) → i < length ps → number_at left i ≡ 0 → turn_of order i < length order
+  none_left : (i : ℕ) → i < length ps → number_at left i ≡ 0 → turn_of peels i < length peels
   none_left i low none = grind (arith, nat_tests, all.past i, enough, done.under.put i low, low, none)
 
   -- and one that does not has a child that does not
@@ -253,16 +225,14 @@ module _ {ps left order : List ℕ} {spans : List Span} {many : ℕ} (a : ArePar
             let n : ℕ = b - (a + 1) in
             let e : a + suc n ≡ b = omega (arith, less) in
             let round = ap (up ps (suc n)) (sym (way a).3) ∙ up_more ps (suc n) a (way a).0 ∙ ap (λ k. up ps k (way a).0) e ∙ ap (up ps b) same ∙ (way b).3 in
-            let at_n = get_or-range_with_len 0 (length ps) n 0 (omega (arith, e, inside)) in
-            let at_n : number_at steps n ≡ n = omega (arith, at_n) in
-            true≢false (sym (list_any_at comes steps n 0 (omega (arith, e, inside, length-range_with_len 0 (length ps))) (ap comes at_n ∙ eq-eqb _ i round)) ∙ none)) in
+            absurd (grind (arith, nat_tests, list_any_at comes steps n 0, get_or-range_with_len 0 (length ps) n 0, length-range_with_len 0 (length ps), round, e, inside, none))) in
             absurd (omega (arith, few))
       ]
 
   -- a place above which one is in the order comes before it
-  climbs : (n i : ℕ) → i < length ps → turn_of order (up ps n i) < length order → turn_of order i + n ≤ turn_of order (up ps n i)
+  climbs : (n i : ℕ) → i < length ps → turn_of peels (up ps n i) < length peels → turn_of peels i + n ≤ turn_of peels (up ps n i)
   climbs zero i low inside = omega arith
-  climbs (suc n) i low inside = let more = climbs n (parent_of ps i) (above i low) inside in omega (arith, more, rw (← same i low) at (done.behind i low), inside)
+  climbs (suc n) i low inside = let more = climbs n (parent_of ps i) (rw (same i low) (a.within i low)) inside in omega (arith, more, rw (← same i low) at (done.behind i low), inside)
 
   here : (i : ℕ) → number_at after i ≡ cond (eqb i 0 && eqb (parent_of ps 0) 0) 0 (number_at left i)
   here i = grind (arith, nat_tests, set, same 0 a.some, at_set left 0 i 0 0, a.some, done.counted.long)
@@ -274,43 +244,40 @@ module _ {ps left order : List ℕ} {spans : List Span} {many : ℕ} (a : ArePar
       λ some. (on_round i low (λ none. some (grind (arith, nat_tests, here i, none))), λ top own. some (grind (arith, nat_tests, here i, top, own))),
       λ ((n, round), other) none.
           let inside = none_left i low (grind (arith, nat_tests, here i, none, other)) in
-          omega (arith, climbs (suc n) i low (omega (arith, ap (turn_of order) round, inside)), ap (turn_of order) round),
+          omega (arith, climbs (suc n) i low (omega (arith, ap (turn_of peels) round, inside)), ap (turn_of peels) round),
     );
   }
 
-  pub some_round : list_any (λ n. not (eqb n 0)) after ≡ true → HasRound ps
-  some_round some =
-      let (i, n, low, is, on) = Any-from_list_any (λ n. not (eqb n 0)) after some in
-      let low : i < length ps = omega (arith, low, are_rounds.many) in
-      (i, low, (are_rounds.each i low).0 (λ none. grind (arith, nat_tests, get_or_default after i n 0, are_rounds.many, low, is, on, none)))
+  pub some_round : ltb 0 (sum after) ≡ true → HasRound ps
+  some_round more = elim (cases_Bool (list_any (ltb 0) after)) as (λ _. HasRound ps) [
+    | inl there ↦
+        let (i, n, low, is, on) = Any-from_list_any (ltb 0) after there in
+        let low : i < length ps = omega (arith, low, are_rounds.many) in
+        (i, low, (are_rounds.each i low).0 (λ none. grind (arith, nat_tests, get_or_default after i n 0, are_rounds.many, low, is, on, none)))
+    | inr none ↦ absurd (grind (arith, nat_tests, sum_by-le (λ x. x) 0 after (λ i d low. grind (arith, nat_tests, list_any_at (ltb 0) after i d low, none)), more))
+  ]
 
-  module _ (nowhere : list_any (λ n. not (eqb n 0)) after ≡ false) where
+  module _ (nowhere : ltb 0 (sum after) ≡ false) where
     none : (i : ℕ) → i < length ps → number_at after i ≡ 0
-    none i low = grind (arith, nat_tests, list_any_at (λ n. not (eqb n 0)) after i 0, are_rounds.many, low, nowhere)
+    none i low = grind (arith, nat_tests, get_or-le-sum_by (λ x. x) after i 0, are_rounds.many, low, nowhere)
 
     pub no_round : HasRound ps → ⊥
     no_round (i, low, round) = (are_rounds.each i low).1 round (none i low)
 
-    listed : (i : ℕ) → i < length ps → (i ≡ 0 → parent_of ps 0 ≢ 0) → turn_of order i < length order
+    listed : (i : ℕ) → i < length ps → (i ≡ 0 → parent_of ps 0 ≢ 0) → turn_of peels i < length peels
     listed i low other = none_left i low (grind (arith, nat_tests, here i, none i low, other))
-
-    once : (u : ℕ) → u < length order → (number_at order u < length ps) × (turn_of order (number_at order u) ≡ u)
-    once u low =
-        let i : ℕ = number_at order u in
-        let counted = get_or-le-sum_by (λ q. cond (eqb i q) 1 0) order u 0 low in
-        (grind (arith, nat_tests, done.once i, counted), once_at order u low (grind (arith, nat_tests, done.once i)))
 
     -- otherwise all places are in it, and the parent of the last one is behind it
     top : number_at ps 0 ≡ 0
     top =
-        let last : ℕ = number_at order (length order - 1) in
+        let last : ℕ = number_at peels (length peels - 1) in
         let inside = λ (other : parent_of ps 0 ≢ 0) (i : ℕ) (low : i < length ps). listed i low (λ _. other) in
-        grind (arith, same 0 a.some, inside, a.some, once (length order - 1), a.within last, done.behind last)
+        grind (arith, same 0 a.some, inside, a.some, done.once (length peels - 1), a.within last, done.behind last)
 
-    pub in_order : IsOrder ps order
+    pub in_order : IsOrder ps peels
     in_order = record {
-      once = once;
+      once = done.once;
       top = top;
-      above = grind (arith, done.behind 0 a.some, ap (turn_of order) top, turn_few order 0);
-      ahead = λ i low other. grind (arith, done.behind i low, listed i low (λ is. absurd (other is)), turn_few order (number_at ps i));
+      above = grind (arith, done.behind 0 a.some, ap (turn_of peels) top, turn_few peels 0);
+      ahead = λ i low other. grind (arith, done.behind i low, listed i low (λ is. absurd (other is)), turn_few peels (number_at ps i));
     }

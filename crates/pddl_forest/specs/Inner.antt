@@ -1,6 +1,6 @@
 -- What the code and the proofs go by: the places of a forest in an order in which each comes before its parent, how they are found and what is numbered in it.
 -- No public contract names these.
-use Rattle.std.specs.Prelude.{◌≡◌, ◌≢◌, ◌+◌, ◌^◌, ◌≤◌, ◌<◌, cond, eqb, ltb, ℕ, List, length}
+use Rattle.std.specs.Prelude.{◌≡◌, ◌≢◌, ◌+◌, ◌^◌, ◌≤◌, ◌<◌, cond, eqb, ltb, ℕ, List, length, take, sum}
 use Rattle.std.specs.List.{count_by, position_or_len, sum_by}
 use Rattle.pddl_forest.specs.Forests.{number_at}
 use Rattle.pddl_forest.specs.Spans.{at}
@@ -48,11 +48,14 @@ pub record ArePeeled (ps left order : List ℕ) (spans : List Span) : Type 0 whe
   pub long : length kept ≡ length ps
   pub counted : AreCounted left kept (length ps)
   pub each : (i : ℕ) → i < length ps → number_at kept i ≡ cond (ltb 0 (at spans i).first) (length ps) (number_at ps i)
-  pub once : (i : ℕ) → count_by (eqb i) order ≤ cond (ltb i (length ps)) 1 0
+  pub once : (u : ℕ) → u < length order → (number_at order u < length ps) × (turn_of order (number_at order u) ≡ u)
   pub behind : (i : ℕ) → i < length ps → turn_of order (number_at ps i) < length order → turn_of order i < turn_of order (number_at ps i)
   pub under : AreUnder ps order spans
 
--- and of the places before one all of which no child is left
-pub record ArePeeling (ps left order : List ℕ) (spans : List Span) (many : ℕ) : Type 0 where
-  pub peeled : ArePeeled ps left order spans
+-- So many are peeled off, and stand in front in the slots of an order; with the children that are left they are as many as all places. Of the places before one,
+-- those of which no child is left are peeled off.
+pub record ArePeeling (ps left slots : List ℕ) (turns : ℕ) (spans : List Span) (many : ℕ) : Type 0 where
+  pub long : length slots ≡ length ps
+  pub rest : turns + sum left ≡ length ps
+  pub peeled : ArePeeled ps left (take turns slots) spans
   pub past : (i : ℕ) → i < length ps → number_at left i ≡ 0 → (at spans i).first ≡ 0 → many ≤ i
