@@ -1,5 +1,5 @@
 -- Sums over what passes a test, lists that rise, and the objects under tops that are apart: by sums over their places, and as parts of an order of all.
-use Rattle.std.proofs.Common.{◌≡◌, ℕ, suc, ◌+◌, ◌<◌, ◌≤◌, Bool, true, false, ltb, leb, List, [], ◌∷◌, filter, length, take, drop, refl, sym, ap, ◌∙◌, subst, arith, slice_index_or, not, cond}
+use Rattle.std.proofs.Common.{◌≡◌, ℕ, suc, ◌+◌, ◌-◌, ◌<◌, ◌≤◌, Bool, true, false, ltb, leb, List, [], ◌∷◌, filter, length, take, drop, refl, sym, ap, ◌∙◌, subst, arith, slice_index_or, not, cond}
 use Rattle.std.proofs.Math.Nat.{ℕ_set}
 use Rattle.std.specs.Coded.{le_prop}
 use Rattle.std.specs.List.{sum_by, range_with_len}
@@ -123,18 +123,19 @@ module _ (numbers order : List ℕ) where
 -- ---- a part of an order
 
 -- behind the numbers below a span, as far as the numbers are not past it, are those in the span
-module _ {X : Type 0} (n : X → ℕ) (top : Span) where
-  abbrev IsStart : List X → ℕ → Type 0
-  IsStart = IsPartitionPoint (λ x. ltb (n x) top.first ≡ true) (λ x. ltb (n x) top.first ≡ false)
+module _ (n : ℕ → ℕ) (top : Span) (some : top.first ≤ top.last) where
+  abbrev IsBelow : ℕ → List ℕ → ℕ → Type 0
+  IsBelow number = IsPartitionPoint (λ x. ltb (n x) number ≡ true) (λ x. ltb (n x) number ≡ false)
 
-  abbrev IsEnd : List X → ℕ → Type 0
-  IsEnd = IsPartitionPoint (λ x. leb (n x) top.last ≡ true) (λ x. leb (n x) top.last ≡ false)
-
-  pub part_sum : (f : X → ℕ) (xs rest : List X) (start many : ℕ) → rest ≡ drop start xs → IsStart xs start → IsEnd rest many → sum_by f (take many rest) ≡ sum_if (λ x. holds top (n x)) f xs
-  part_sum f xs rest start many same from to =
-      let on : X → ℕ = λ x. cond (holds top (n x)) (f x) 0 in
-      let off : X → ℕ = λ x. cond (not (holds top (n x))) (f x) 0 in
+  pub part_sum : (f : ℕ → ℕ) (xs : List ℕ) (start end : ℕ) → start ≤ length xs → IsBelow top.first xs start → IsBelow (top.last + 1) xs end
+      → sum_by f (take (end - start) (drop start xs)) ≡ sum_if (λ x. holds top (n x)) f xs
+  part_sum f xs start end within from to =
+      let ordered : start ≤ end = grind (arith, nat_tests, from.0 end 0, to.1 end 0, some, within) in
+      let rest = drop start xs in
+      let many = end - start in
+      let on : ℕ → ℕ = λ x. cond (holds top (n x)) (f x) 0 in
+      let off : ℕ → ℕ = λ x. cond (not (holds top (n x))) (f x) 0 in
       let front = sum_by-le on 0 (take start xs) (λ i d low. grind (arith, nat_tests, from.0 i d, get_or-take start xs i d, length-take start xs, low)) in
-      let middle = sum_by-le off 0 (take many rest) (λ i d low. grind (arith, nat_tests, from.1 (start + i) d, to.0 i d, get_or-take many rest i d, same, get_or-drop start xs i d, length-take many rest, length-drop start xs, low)) in
-      let back = sum_by-le on 0 (drop many rest) (λ i d low. grind (arith, nat_tests, to.1 (many + i) d, get_or-drop many rest i d, length-drop many rest, low)) in
-      omega (arith, front, middle, back, sum_by-take-drop on xs start, ap (sum_by on) same, sum_by-take-drop on rest many, sum_two on off f (λ x. grind (arith, nat_tests)) (take many rest))
+      let middle = sum_by-le off 0 (take many rest) (λ i d low. grind (arith, nat_tests, from.1 (start + i) d, to.0 (start + i) d, get_or-take many rest i d, get_or-drop start xs i d, length-take many rest, length-drop start xs, low)) in
+      let back = sum_by-le on 0 (drop many rest) (λ i d low. grind (arith, nat_tests, to.1 (start + (many + i)) d, get_or-drop many rest i d, get_or-drop start xs (many + i) d, length-drop many rest, length-drop start xs, low, ordered)) in
+      omega (arith, front, middle, back, sum_by-take-drop on xs start, sum_by-take-drop on rest many, sum_two on off f (λ x. grind (arith, nat_tests)) (take many rest))

@@ -1,6 +1,7 @@
 //! Objects in the order of the numbers of their types.
 
-ghost use Rattle.std.specs.Prelude.{◌≡◌, ℕ, filter, length, slice_get, IfOk, sum_by, cond};
+ghost use Rattle.std.specs.Prelude.{◌≡◌, ◌≤◌, ℕ, true, false, ltb, filter, length, slice_get, IfOk, sum_by, cond};
+ghost use Rattle.std.specs.List.Sorted.{IsPartitionPoint};
 ghost use Rattle.pddl_forest.specs.Forests.{number_at};
 ghost use Rattle.pddl_forest.specs.Spans.{holds, some_holds, AreApart};
 ghost use Rattle.pddl_task.specs.Tasks.{places_from};
@@ -21,7 +22,10 @@ pub struct ObjectOrder<'a, B: Allocator> {
 fn type_number(numbers: &[u32], object: usize) -> u32
     ensures { result ≡ number_at numbers.now object }
 {
-    numbers.get(object).map_or(0, |number| *number)
+    match numbers.get(object) {
+        Some(number) => *number,
+        None => 0,
+    }
 }
 
 impl<'a, B: Allocator> ObjectOrder<'a, B> {
@@ -44,16 +48,24 @@ impl<'a, B: Allocator> ObjectOrder<'a, B> {
         self.numbers.get(object).copied()
     }
 
-    /// The objects whose types have numbers in a span.
-    fn under(&self, top: Span) -> &[usize]
-        ensures { (f : ℕ → ℕ) → sum_by f result.now ≡ sum_by (λ o. cond (holds top (number_at self.now.numbers.items o)) (f o) 0) self.now.objects.items }
+    /// How many objects have types whose numbers are below one: these stand in front.
+    fn below(&self, number: usize) -> usize
+        ensures within { result ≤ length self.now.objects.items }
+        ensures point { IsPartitionPoint (λ o. ltb (number_at self.now.numbers.items o) number ≡ true) (λ o. ltb (number_at self.now.numbers.items o) number ≡ false) self.now.objects.items result }
     {
         let numbers = self.numbers.as_slice();
         let objects = self.objects.as_slice();
-        let start = objects.partition_point(|object| type_number(numbers, *object) < top.first);
-        let from = &objects[start..];
-        let many = from.partition_point(|object| type_number(numbers, *object) <= top.last);
-        &from[..many]
+        objects.partition_point(|object| (type_number(numbers, *object) as usize) < number)
+    }
+
+    /// The objects whose types have numbers in a span.
+    fn under(&self, top: Span) -> &[usize]
+        requires { top.first ≤ top.last }
+        ensures { (f : ℕ → ℕ) → sum_by f result.now ≡ sum_by (λ o. cond (holds top (number_at self.now.numbers.items o)) (f o) 0) self.now.objects.items }
+    {
+        let start = self.below(top.first as usize);
+        let end = self.below(top.last as usize + 1);
+        &self.objects[start..end]
     }
 
     /// How many objects have types whose numbers are in some of these spans.

@@ -5,7 +5,7 @@ use Rattle.pddl_effect.proofs.effect.Effect.TheLaws.{the_size}
 use Rattle.pddl_formula.proofs.Depths.{among}
 use Rattle.pddl_effect.proofs.Depths.{under_all}
 use Rattle.pddl_faults.proofs.ViewTurns.{effects-drop}
-use Rattle.pddl_effect.proofs.Views.{view_and, view_when, view_forall}
+use Rattle.pddl_effect.proofs.Views.{view_and, view_forall}
 use Rattle.pddl_sizes.proofs.Capped.{quantified}
 use Rattle.pddl_sizes.proofs.size.+effect_ground_size.Goals as goal
 
@@ -25,10 +25,6 @@ effect_ground_size-requires g t c κs within =
     let less = under_all g.row.A g.A.Allocator g.A.laws c.args.effect.now c.in-And.parts c.in-And.is in
     let parts = ap (most size) c.deref-part-items.ensures.value in
     (omega (arith, less, parts, among size c.deref-part-items.result.now c.loop-part.part-index c.part-item.result c.loop-part-test.true c.part-item.is, c.decreases), within)
-
-pub returns-in-When : goal.returns-in-When
-returns-in-When g t c =
-    rw (c.in-When.is, view_when _ _, ← c.deref-in-When.ensures) (omega (arith, c.sum-in-When.ensures, c.sum.ensures, c.ground_size-condition.ensures, c.effect_ground_size-inner.ensures))
 
 pub returns-in-Forall : goal.returns-in-Forall
 returns-in-Forall g t c = rw (c.in-Forall.is, view_forall _ _, ← c.deref.ensures) (c.quantifier_size.ensures ∙ quantified _ _ _ _ c.effect_ground_size-in-Forall.ensures)

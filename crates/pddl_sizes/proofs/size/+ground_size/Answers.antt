@@ -2,7 +2,7 @@ use Rattle.std.proofs.Common.{◌<◌, ◌∙◌, inl, inr, arith}
 use Rattle.std.proofs.lemmas.List.{drop_all}
 use Rattle.pddl_faults.proofs.ViewTurns.{formulas-drop}
 use Rattle.pddl_formula.proofs.formula.Formula.TheLaws.{the_size}
-use Rattle.pddl_formula.proofs.Views.{view_and, view_or, view_not, view_imply, view_exists, view_forall}
+use Rattle.pddl_formula.proofs.Views.{view_and, view_or, view_exists, view_forall}
 use Rattle.pddl_formula.proofs.Depths.{among, under_and, under_or}
 use denote.Param.Weighed.{most}
 use Rattle.pddl_sizes.proofs.Capped.{quantified}
@@ -31,14 +31,6 @@ ground_size-requires-in-loop-part g t c κs within =
       | inr is ↦ under_or g.row.A g.A.Allocator g.A.laws f parts _ is c.deref-part-items.ensures.value
     ] in
     (omega (arith, less, among size parts c.loop-part.part-index c.part-item.result c.loop-part-test.true c.part-item.is, c.decreases), within)
-
-pub returns-in-Not : goal.returns-in-Not
-returns-in-Not g t c = rw (c.in-Not.is, view_not _, ← c.deref.ensures) (omega (arith, c.sum.ensures, c.ground_size.ensures))
-
-pub returns-in-Imply : goal.returns-in-Imply
-returns-in-Imply g t c =
-    rw (c.in-Imply.is, view_imply _ _, ← c.deref-in-Imply.ensures, ← c.deref-in-Imply-2.ensures)
-    (omega (arith, c.sum-in-Imply-2.ensures, c.sum-in-Imply.ensures, c.ground_size-first.ensures, c.ground_size-second.ensures))
 
 pub returns-in-Exists : goal.returns-in-Exists
 returns-in-Exists g t c =
