@@ -1,41 +1,21 @@
--- Verdicts in turn: what is found among the parts of a domain and a problem is the verdict on the rules from 23 to 33, and rules follow one another by rising numbers.
-use Rattle.std.proofs.Common.{◌≡◌, ◌≤◌, ℕ, Bool, true, List, [], ◌∷◌, ◌++◌, map, drop, Result, Ok, Err, IfSome, refl, ap, subst, arith, append_assoc, inl, inr, nat_le, IsOk, MatchResult}
+-- Verdicts in turn: rules follow one another by rising numbers.
+use Rattle.std.proofs.Common.{◌≡◌, ◌≤◌, ℕ, Bool, true, List, [], ◌∷◌, ◌++◌, Result, Ok, Err, IfSome, refl, subst, arith, inl, inr, nat_le, MatchResult}
 use Rattle.std.specs.List.{list_all}
+use Rattle.std.specs.Result.{result_and}
 use Rattle.std.proofs.lemmas.Bool.Decides.{nat_tests}
 use Rattle.std.proofs.lemmas.Option.{IfSome_then}
 use Rattle.std.proofs.lemmas.List.Elements.{Contains-append_left, Contains-append_cases}
-use Rattle.pddl_domain.specs.Domains.{DomainValue}
-use Rattle.pddl_problem.specs.Problems.{ProblemValue}
 use Rattle.pddl_task.specs.Names.{Name}
-use Rattle.pddl_task.specs.Faults.{unknown_types, domain_typed, problem_typed}
-use Rattle.pddl_task.specs.Linked.{Fault, fault, fault_in, Stands, IsLowest}
+use Rattle.pddl_task.specs.Linked.{Fault, fault, Stands, IsLowest}
 use Rattle.pddl_task.proofs.Lists.{all_found}
 use Rattle.pddl_faults.specs.declared.fault.LinkFault.{LinkFault}
 use Rattle.pddl_faults.specs.Passes.{fault_of, Passes, Verdict}
-use Rattle.pddl_faults.specs.Found.{IsFound, numbered}
-use Rattle.pddl_faults.proofs.FoundFaults.{found_rest}
-use Rattle.pddl_faults.proofs.PassedParts.{pass_front}
 use Rattle.pddl_faults.proofs.Verdicts.{found_at}
-use Rattle.pddl_types.specs.Told.{unknown_among}
-use Rattle.pddl_types.specs.Known.{declared_typed}
-use Rattle.pddl_names.specs.FaultParts.{joined, domain_parts, problem_parts, part_rules}
-use Rattle.pddl_names.proofs.RuleParts.{unknown-declared, parts_verdict as rules_verdict}
 
--- what is found in the parts of a domain and a problem
-pub parts_verdict : (d : DomainValue) (p : ProblemValue) (r : Result (Unit {0}) LinkFault) → unknown_among d.types (declared_typed d) ≡ [] → IsFound (joined (domain_parts d) ++ joined (problem_parts d p)) r
-    → Verdict (map (fault_in d p) part_rules) r
-parts_verdict d p r none h = rules_verdict d p r (found_rest (numbered 23 (unknown_among d.types (declared_typed d))) (joined (domain_parts d) ++ joined (problem_parts d p)) r (ap (numbered 23) none) h)
-
--- a type of what a domain declares that is not known
-pub stopped_verdict : (d : DomainValue) (p : ProblemValue) (e : LinkFault) → Passes {T = Unit {0}} 23 (unknown_among d.types (declared_typed d)) (Err e) → Verdict {T = Unit {0}} (map (fault_in d p) part_rules) (Err e)
-stopped_verdict d p e h =
-    found_at [] 23 (unknown_types d (domain_typed d) ++ unknown_types d (problem_typed p)) (map (fault_in d p) (drop 1 part_rules)) e tt refl
-    (rw (unknown-declared d.types d, append_assoc) (pass_front 23 (unknown_among d.types (declared_typed d)) _ _ e refl h))
-
--- what holds where something is made holds once it is
-pub ok_holds : {T : Type 0} (P : Type 0) (Q : LinkFault → Type 0) (r : Result T LinkFault) → IsOk r → MatchResult r (λ _. P) Q → P
-ok_holds P Q (Ok u) is h = h
-ok_holds P Q (Err e) is h = absurd (cc is)
+-- what holds where nothing is found holds of what is given on then
+pub given_on : {U T E : Type 0} (P : T → Type 0) (Q : E → Type 0) (r : Result U E) (x : T) → MatchResult r (λ _. P x) Q → MatchResult (result_and r (Ok x)) P Q
+given_on P Q (Ok u) x h = h
+given_on P Q (Err e) x h = h
 
 -- the verdict on one fault alone
 pub alone_verdict : (n : ℕ) (words : List Name) (r : Result (Unit {0}) LinkFault) → Passes n words r → Verdict (fault n words ∷ []) r

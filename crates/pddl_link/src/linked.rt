@@ -12,14 +12,14 @@ ghost use Rattle.pddl_linked_task.specs.TaskTables.{HaveAll};
 ghost use Rattle.pddl_linked_task.specs.LinkedTasks.{files};
 
 use pddl_domain::Domain;
-use pddl_faults::{LinkFault, lower};
+use pddl_faults::LinkFault;
 use pddl_hash::Hashed;
 use pddl_linked_task::Task;
-use pddl_names::{look_at_domain, look_at_goal, look_at_problem};
+use pddl_names::{look_at_files, look_at_goal};
 use pddl_problem::Problem;
 use pddl_search::domain_name;
 use pddl_sizes::ObjectOrder;
-use pddl_types::{Known, Tables, Told, Types};
+use pddl_types::{Known, Tables, Told, Types, tell_parameters};
 use std::alloc::Allocator;
 
 /// The order of the types of objects, where no fault from 23 to 33 stands. Nothing is known before but the types of the domain, and none is told.
@@ -36,9 +36,8 @@ fn order_behind_types<'m, 'a, A: Allocator, B: Allocator>(
     ensures numbered { IfOk result (λ order. AreNumbered known.new.types (objects_in known.new) order.numbers.items) }
     ensures verdict { Verdict (map (fault_in (domain_view domain.now) (problem_in problem.entry)) part_rules) result }
 {
-    let found = look_at_domain(known, told, domain)?;
-    lower(found, look_at_problem(known, told, domain, problem))?;
-    known.add_actions(told, domain)?;
+    look_at_files(known, told, domain, problem)?;
+    tell_parameters(&known.types, told, &mut known.actions, &domain.actions)?;
     Ok(known.listed.order(&*told)?)
 }
 

@@ -1,5 +1,5 @@
 -- What is found in parts of faults.
-use Rattle.std.proofs.Common.{◌≡◌, ◌≤◌, ℕ, Bool, true, List, [], ◌∷◌, ◌++◌, Result, Ok, Err, refl, arith, OnOk, nat_le}
+use Rattle.std.proofs.Common.{◌≡◌, ◌≤◌, ℕ, Bool, true, List, [], ◌∷◌, ◌++◌, Result, Ok, Err, refl, arith, OnOk, IsOk, MatchResult, nat_le}
 use Rattle.std.specs.List.{flat_map, list_all}
 use Rattle.std.proofs.lemmas.Bool.Decides.{nat_tests}
 use Rattle.std.proofs.lemmas.List.Folds.{list_all-append, list_all-map}
@@ -44,3 +44,8 @@ passed_first n words rest e h from =
 pub holds_on : {U E P : Type 0} (r : Result U E) → P → OnOk r P
 holds_on (Ok u) h = h
 holds_on (Err e) h = tt
+
+-- what holds where something is made holds once it is
+pub ok_holds : {T : Type 0} (P : Type 0) (Q : LinkFault → Type 0) (r : Result T LinkFault) → IsOk r → MatchResult r (λ _. P) Q → P
+ok_holds P Q (Ok u) is h = h
+ok_holds P Q (Err e) is h = absurd (cc is)

@@ -1,5 +1,5 @@
 -- The faults that are looked for in parts are those that the rules of linking name.
-use Rattle.std.proofs.Common.{◌≡◌, ◌≤◌, ℕ, Bool, true, false, ◌==◌, cond, List, [], ◌∷◌, ◌++◌, Option, Some, None, Result, Ok, Err, IfSome, map, refl, sym, ap, ◌∙◌, subst, arith, append_assoc, inl, inr, Contains, filter}
+use Rattle.std.proofs.Common.{◌≡◌, ◌≤◌, ℕ, Bool, true, false, ◌==◌, cond, List, [], ◌∷◌, ◌++◌, Option, Some, None, Result, Ok, Err, IfSome, map, drop, refl, sym, ap, ◌∙◌, subst, arith, append_assoc, inl, inr, Contains, filter}
 use Rattle.std.specs.List.{AllByRecursion, list_all, list_any, flat_map}
 use Rattle.std.proofs.lemmas.Bool.Decides.{nat_tests}
 use Rattle.std.proofs.lemmas.List.{map-append}
@@ -13,12 +13,15 @@ use Rattle.pddl_problem.specs.Problems.{ProblemValue}
 use Rattle.pddl_task.specs.Names.{Name, is_in, word_if, repeated}
 use Rattle.pddl_task.specs.Places.{Place, action_places, domain_places, problem_places}
 use Rattle.pddl_task.specs.Settings.{symbol_of, function_signatures, Setting}
-use Rattle.pddl_task.specs.Faults.{domain_typed, retyped, variables_at, repeated_at, repeated_in_actions}
+use Rattle.pddl_task.specs.Faults.{unknown_types, domain_typed, problem_typed, retyped, variables_at, repeated_at, repeated_in_actions}
 use Rattle.pddl_task.specs.Linked.{Fault, fault_in, NoneStands, IsLowest}
 use Rattle.pddl_task.proofs.Lists.{all_found, any_found, append-none, nil_parts, both_nil, has_cases, has_first, has_none, is_kept, is_mapped, kept_is, mapped_is}
 use Rattle.pddl_faults.specs.declared.fault.LinkFault.{LinkFault}
-use Rattle.pddl_faults.specs.Passes.{fault_of, Verdict}
+use Rattle.pddl_faults.specs.Passes.{fault_of, Passes, Verdict}
 use Rattle.pddl_faults.specs.Found.{IsLowestOf, IsFound, numbered}
+use Rattle.pddl_faults.proofs.FoundFaults.{found_rest}
+use Rattle.pddl_faults.proofs.PassedParts.{pass_front}
+use Rattle.pddl_faults.proofs.Verdicts.{found_at}
 use Rattle.pddl_types.specs.Told.{unknown_among}
 use Rattle.pddl_types.specs.Objects.{off_types}
 use Rattle.pddl_types.specs.Known.{declared_typed}
@@ -136,7 +139,7 @@ unknown-places ts [] = refl
 unknown-places ts (pl ∷ pls) = simp (unknown-append, unknown-places ts pls)
 
 -- what a domain declares comes before its places
-pub unknown-declared : (ts : List TypeValue) (d : DomainValue)
+unknown-declared : (ts : List TypeValue) (d : DomainValue)
     → unknown_among ts (domain_typed d) ≡ unknown_among ts (declared_typed d) ++ flat_map (λ pl. unknown_among ts (variables_at pl)) (domain_places d)
 unknown-declared ts d = simp (append_assoc, unknown-append, unknown-places)
 
@@ -177,10 +180,18 @@ module _ (d : DomainValue) (p : ProblemValue) where
     none = λ none. grind (arith, nil_parts, both_nil, none_retyped d.constants p.objects, sym is ∙ none);
   }
 
-  pub parts_verdict : (r : Result (Unit {0}) LinkFault) → IsFound all_parts r → Verdict (map (fault_in d p) part_rules) r
-  parts_verdict r h =
+  -- where all that a domain declares is of known types
+  pub parts_verdict : (r : Result (Unit {0}) LinkFault) → unknown_among d.types (declared_typed d) ≡ [] → IsFound (joined (domain_parts d) ++ joined (problem_parts d p)) r → Verdict (map (fault_in d p) part_rules) r
+  parts_verdict r none h =
       verdict all_parts (map (fault_in d p) part_rules)
       (both (told all_parts 23 _ (simp (by_number, unknown-append, unknown-places))) (both (repeats_tell (simp by_number)) (both (told all_parts 25 _ (simp by_number))
       (both (told all_parts 26 _ (simp by_number)) (both (told all_parts 27 _ (simp by_number)) (both (told all_parts 28 _ (simp by_number)) (both (told all_parts 29 _ (simp by_number))
       (both (told all_parts 30 _ (simp by_number)) (both (told all_parts 31 _ (simp by_number)) (both (told all_parts 32 _ (simp by_number)) (both (told all_parts 33 _ (simp by_number)) tt)))))))))))
-      (simp (from_parts, actions_ruled)) r h
+      (simp (from_parts, actions_ruled)) r
+      (found_rest (numbered 23 (unknown_among d.types (declared_typed d))) (joined (domain_parts d) ++ joined (problem_parts d p)) r (ap (numbered 23) none) h)
+
+  -- and where something is not
+  pub stopped_verdict : (e : LinkFault) → Passes {T = Unit {0}} 23 (unknown_among d.types (declared_typed d)) (Err e) → Verdict {T = Unit {0}} (map (fault_in d p) part_rules) (Err e)
+  stopped_verdict e h =
+      found_at [] 23 (unknown_types d (domain_typed d) ++ unknown_types d (problem_typed p)) (map (fault_in d p) (drop 1 part_rules)) e tt refl
+      (rw (unknown-declared d.types d, append_assoc) (pass_front 23 (unknown_among d.types (declared_typed d)) _ _ e refl h))

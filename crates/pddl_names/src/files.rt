@@ -1,13 +1,13 @@
 //! The files that are looked at, in the order of the canonical text: what they declare, and what they use.
 
-ghost use Rattle.std.specs.Prelude.{◌≡◌, ◌++◌, [], IfOk, OnOk};
+ghost use Rattle.std.specs.Prelude.{◌≡◌, ◌++◌, [], map, OnOk};
 ghost use Rattle.pddl_domain.specs.Domains.{domain_view};
 ghost use Rattle.pddl_task.specs.Faults.{large_goals};
-ghost use Rattle.pddl_faults.specs.Passes.{Passes};
+ghost use Rattle.pddl_task.specs.Linked.{fault_in};
+ghost use Rattle.pddl_faults.specs.Passes.{Passes, Verdict};
 ghost use Rattle.pddl_faults.specs.Found.{IsFound};
-ghost use Rattle.pddl_types.specs.Told.{unknown_among};
-ghost use Rattle.pddl_types.specs.Known.{declared_typed, IsNothing, AreKnown, AreAllKnown};
-ghost use Rattle.pddl_names.specs.FaultParts.{problem_in, joined, domain_parts, problem_parts};
+ghost use Rattle.pddl_types.specs.Known.{IsNothing, AreKnown, AreAllKnown};
+ghost use Rattle.pddl_names.specs.FaultParts.{problem_in, joined, problem_parts, part_rules};
 
 use crate::walk::{search_actions, search_problem};
 use pddl_domain::Domain;
@@ -18,32 +18,8 @@ use pddl_sizes::ground_size;
 use pddl_types::{Known, Tables, Told};
 use std::alloc::Allocator;
 
-/// The lowest fault of a domain from 23 on, where the types of what it declares are known. Nothing is known before but its types, and none is told.
-///
-/// # Errors
-///
-/// `LinkFault::UnknownType` of what it declares, than which none is lower; `Memory` where memory is refused. Then nothing more is looked at.
-#[tactic(auto, using(std::proofs::lemmas::Result::err_from_is_err_and))]
-pub fn look_at_domain<'m, 'a, A: Allocator, B: Allocator>(
-    known: &mut Known<'m, 'a, A, B>,
-    told: &mut Told<'m, 'a, A, B>,
-    domain: &'m Domain<A>,
-) -> Result<Result<(), LinkFault<'m>>, LinkFault<'m>>
-    requires typed { known.old.types.declared ≡ (domain_view domain.now).types }
-    requires nothing { IsNothing known.old }
-    requires told { told.old ≡ [] }
-    ensures passes { Passes 23 (unknown_among (domain_view domain.now).types (declared_typed (domain_view domain.now))) result }
-    ensures found { IfOk result (IsFound (joined (domain_parts (domain_view domain.now)))) }
-    ensures known { IfOk result (λ _. AreKnown (domain_view domain.now) (domain_view domain.now).constants known.new told.new) }
-{
-    let names = known.add_domain(told, domain)?;
-    let actions = search_actions(&*known, told, &domain.actions);
-    let others = lower(object_types(&domain.constants), object_fluents(domain));
-    Ok(lower(names, lower(actions, others)))
-}
-
 /// The lowest fault of a problem from 23 on but for the size of its goal, behind those of its domain. Its objects are added behind the domain's constants.
-pub fn look_at_problem<'m, 'a, A: Allocator, B: Allocator>(
+fn look_at_problem<'m, 'a, A: Allocator, B: Allocator>(
     known: &mut Known<'m, 'a, A, B>,
     told: &mut Told<'m, 'a, A, B>,
     domain: &Domain<A>,
@@ -71,6 +47,31 @@ pub fn look_at_problem<'m, 'a, A: Allocator, B: Allocator>(
         }
         None => Ok(()),
     }
+}
+
+/// The lowest fault of a domain and a problem, or of a domain alone, from 23 on but for the size of the goal. Nothing is known before but the types of the domain,
+/// and none is told. Where there is no such fault, predicates, functions and objects are known, and their types are told.
+///
+/// # Errors
+///
+/// That fault; `Memory` where memory is refused. A type that is not known where something has it that is declared ends the search, since no fault is lower.
+pub fn look_at_files<'m, 'a, A: Allocator, B: Allocator>(
+    known: &mut Known<'m, 'a, A, B>,
+    told: &mut Told<'m, 'a, A, B>,
+    domain: &'m Domain<A>,
+    problem: Option<&'m Problem<A>>,
+) -> Result<(), LinkFault<'m>>
+    requires typed { known.old.types.declared ≡ (domain_view domain.now).types }
+    requires nothing { IsNothing known.old }
+    requires told { told.old ≡ [] }
+    ensures verdict { Verdict (map (fault_in (domain_view domain.now) (problem_in problem.entry)) part_rules) result }
+    ensures known { OnOk result (AreKnown (domain_view domain.now) ((domain_view domain.now).constants ++ (problem_in problem.entry).objects) known.new told.new) }
+{
+    let names = known.add_domain(told, domain)?;
+    let actions = search_actions(&*known, told, &domain.actions);
+    let others = lower(object_types(&domain.constants), object_fluents(domain));
+    let found = lower(names, lower(actions, others));
+    lower(found, look_at_problem(known, told, domain, problem))
 }
 
 /// The goal of a problem is not too large.

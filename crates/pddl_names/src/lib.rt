@@ -7,4 +7,4 @@ mod files;
 mod uses;
 mod walk;
 
-pub use files::{look_at_domain, look_at_goal, look_at_problem};
+pub use files::{look_at_files, look_at_goal};

@@ -6,22 +6,19 @@ use Rattle.std.specs.List.{slice_get}
 use Rattle.std.specs.Map.{keys_of, lookup}
 use Rattle.std.proofs.lemmas.List.{length-map}
 use Rattle.std.proofs.lemmas.Option.{slice_get-map}
-use Rattle.std.proofs.lemmas.Simd.{map-map}
 use Rattle.pddl_domain.specs.declared.domain.Action.{Action}
 use Rattle.pddl_domain.specs.Actions.{ActionValue, action_view}
 use Rattle.pddl_domain.specs.declared.domain.Domain.{Domain}
 use Rattle.pddl_domain.specs.Domains.{DomainValue, domain_view}
 use Rattle.pddl_problem.specs.Problems.{ProblemValue}
 use Rattle.pddl_task.specs.Names.{Name, is_in, repeated, number_in}
-use Rattle.pddl_task.specs.Settings.{symbol_of}
 use Rattle.pddl_task.specs.Faults.{domain_repeats, problem_repeats}
 use Rattle.pddl_task.specs.GroundSize.{capped, action_size}
 use Rattle.pddl_task.specs.Linked.{IsLinked}
 use Rattle.pddl_task.specs.Tasks.{TaskValue, task_count}
 use Rattle.pddl_task.proofs.Lists.{nil_parts}
 use Rattle.pddl_linked_task.specs.LinkedTasks.{Files}
-use Rattle.pddl_linked_task.proofs.OnceNamed.{once_declared}
-use Rattle.pddl_types.specs.KnownNames.{action_signature}
+use Rattle.pddl_linked_task.proofs.OnceNamed.{actions_once}
 use Rattle.pddl_plan_tables.proofs.HeldNames.{AreHeld, held_none}
 use Rattle.pddl_faults.proofs.PutValues.{found_or}
 use Rattle.pddl_linked_plan.specs.StepFaults.{action_name, action_names, action_named}
@@ -33,8 +30,7 @@ use Rattle.pddl_linked_plan.proofs.Numbers.{found_at_number, place_lent}
 -- ---- no two actions of linked files have one name
 
 named_once : (d : DomainValue) (p : ProblemValue) → IsLinked d p → repeated [] (map action_name d.actions) ≡ []
-named_once d p linked =
-    ap (repeated []) (sym (map-map symbol_of action_signature d.actions)) ∙ (once_declared d (nil_parts (domain_repeats d) (problem_repeats d p) linked.1.1.1.1.0).0).actions
+named_once d p linked = actions_once d (nil_parts (domain_repeats d) (problem_repeats d p) linked.1.1.1.1.0).0
 
 pub once_in_files : {A : Type 0} (d : Domain A) (f : Files) (actions : List (Action A)) → domain_view d ≡ f.domain → IsLinked f.domain f.problem → actions ≡ d.actions.items
     → repeated [] (map action_name (map action_view actions)) ≡ []

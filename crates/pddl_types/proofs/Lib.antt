@@ -7,4 +7,5 @@ pub mod ToldTypes
 pub mod TypeTables
 pub mod TaskNames
 pub mod UnknownTypes
+pub mod FirstFaults
 pub mod ObjectTables

@@ -1,28 +1,23 @@
 -- Names with their types, one after another, beside a table of each at its first place, with the number of its type.
-use Rattle.std.proofs.Common.{MatchOption, ◌≡◌, ℕ, ◌+◌, ◌<◌, ◌≤◌, ◌==◌, Bool, true, false, not, cond, List, [], ◌∷◌, ◌++◌, map, filter, length, get_or, drop, Option, Some, None, Result, refl, ap, sym, ◌∙◌, subst, bytes_eq, position, arith, Contains, option_map, find, is_some, slice_get, Bor, All}
+use Rattle.std.proofs.Common.{MatchOption, ◌≡◌, ℕ, ◌≤◌, ◌==◌, Bool, true, false, not, cond, List, [], ◌∷◌, ◌++◌, map, filter, length, Option, Some, None, refl, ap, sym, ◌∙◌, bytes_eq, position, arith, Contains, option_map, find, is_some, slice_get, Bor, All}
 use Rattle.std.specs.Cmp.Lexicographic.{nat_list_eq_equiv}
 use Rattle.std.specs.List.{position_or_len}
 use Rattle.std.specs.Map.{keys_of, lookup, values_of}
 use Rattle.std.specs.Option.{option_map_or}
 use Rattle.std.proofs.lemmas.Bool.Decides.{nat_tests}
-use Rattle.std.proofs.lemmas.List.{drop_all, take_all, map-append, map_push}
+use Rattle.std.proofs.lemmas.List.{map_push}
 use Rattle.std.proofs.lemmas.List.Elements.{All-head, All-tail, All-push, All-weaker, filter-append}
 use Rattle.std.proofs.lemmas.Option.{slice_get-map}
 use Rattle.indexmap.proofs.MapLemmas.{Found-position, Missing-position, or_len-absent}
 use Rattle.pddl_forest.specs.declared.spans.Span.{Span}
 use Rattle.pddl_formula.specs.TypedLists.{TypedValue, typed_view}
 use Rattle.pddl_formula.specs.declared.type_names.Typed.{Typed}
-use Rattle.pddl_task.specs.Names.{Name, same_names, is_in, item_of, is_named, firsts, word_if}
+use Rattle.pddl_task.specs.Names.{Name, same_names, is_in, item_of, is_named, firsts}
 use Rattle.pddl_task.proofs.Lists.{append-none, bytes_same, some_at, has_first, has_later}
-use Rattle.pddl_faults.specs.declared.fault.LinkFault.{LinkFault}
-use Rattle.pddl_faults.specs.Found.{IsFound, numbered}
-use Rattle.pddl_faults.proofs.FoundFaults.{IsFoundUpTo, up_to_more, up_to_all}
-use Rattle.pddl_faults.proofs.ListTurns.{seen_more, views_drop}
-use Rattle.pddl_faults.proofs.SeenItems.{seen_at}
 use Rattle.pddl_faults.proofs.PutValues.{is_there}
 use Rattle.pddl_types.specs.KnownNames.{object_in}
 use Rattle.pddl_types.specs.Told.{ToldValue, tops_at, first_at, IsAt, AreDistinct, AreTold, AreKept}
-use Rattle.pddl_types.specs.Objects.{IsAtOf, IsObjectAt, AreSeen, is_off, off_types}
+use Rattle.pddl_types.specs.Objects.{IsAtOf, IsObjectAt, AreSeen, is_off}
 use Rattle.pddl_types.specs.TypeSpans.{TypesValue, span_of, IsTold, AreNumbered}
 use Rattle.pddl_types.specs.declared.listed.Listed.{Listed}
 use Rattle.pddl_types.proofs.Lookups.{at_end}
@@ -95,39 +90,6 @@ module _ {A B : Type 0} {told : ToldValue} (once : AreDistinct told) (seen : Lis
       let (off, objects) = as_seen None none.value in
       let right : right ≡ true = answer ∙ rw (last, first, or_len-absent (bytes_eq k) es none.absent, at_end es (k, (o, number))) (grind (arith, nat_tests)) in
       (off ∙ ap not (sym right), record { objects = rw (last, map_push object_in es (k, (o, number)), named) objects; each = rw last (All-push (IsObjectAt told) es (k, (o, number)) are.each (sym named, at)) })
-
--- ---- a walk over what is listed
-
--- in front of what is listed at a place, the table is that of those so far, and those at odds so far are found
-pub record PutUpTo {A B : Type 0} (told : ToldValue) (seen : List TypedValue) (xs : List (Typed A)) (i : ℕ) (listed : Listed A B) (found : Result (Unit {0}) LinkFault) : Type 0 where
-  pub are : AreSeen told (seen_at typed_view seen xs i) listed
-  pub so_far : IsFoundUpTo (numbered 24 (off_types (seen_at typed_view seen xs i) (map typed_view (drop i xs)))) (numbered 24 (off_types seen (map typed_view xs))) found
-
-module _ {A B : Type 0} {told : ToldValue} {seen : List TypedValue} {xs : List (Typed A)} where
-  -- one more
-  pub put_more : {listed next : Listed A B} {i : ℕ} {found both : Result (Unit {0}) LinkFault} (x : Typed A) (now : Result (Unit {0}) LinkFault) → i < length xs → x ≡ get_or xs i x
-      → ((us vs : List (ℕ × Name)) → IsFound us found → IsFound vs now → IsFound (us ++ vs) both) → IsFound (numbered 24 (word_if (is_off (seen_at typed_view seen xs i) (typed_view x)) x.name)) now
-      → AreSeen told (seen_at typed_view seen xs i ++ typed_view x ∷ []) next → PutUpTo told seen xs i listed found → PutUpTo told seen xs (i + 1) next both
-  put_more {listed} {next} {i} {found} {both} x now low at lower here are before =
-      let s = seen_at typed_view seen xs i in
-      let rest = map typed_view (drop (i + 1) xs) in
-      let word = word_if (is_off s (typed_view x)) x.name in
-      let more = seen_more typed_view seen xs i x low at in
-      record {
-        are = subst (λ ys. AreSeen told ys next) (sym more) are;
-        so_far = up_to_more (numbered 24 word) now
-            (ap (λ ys. numbered 24 (off_types s ys)) (views_drop typed_view xs i x low at) ∙ map-append (λ (w : Name). (24, w)) word (off_types (s ++ typed_view x ∷ []) rest)
-            ∙ ap (λ ys. numbered 24 word ++ numbered 24 (off_types ys rest)) (sym more))
-            lower here before.so_far;
-      }
-
-  -- all of them
-  pub put_all : {listed : Listed A B} {i : ℕ} {found : Result (Unit {0}) LinkFault} → length xs ≤ i → PutUpTo told seen xs i listed found
-      → IsFound (numbered 24 (off_types seen (map typed_view xs))) found × AreSeen told (seen ++ map typed_view xs) listed
-  put_all {listed} {i} {found} past done = (
-    up_to_all (ap (λ ys. numbered 24 (off_types (seen_at typed_view seen xs i) (map typed_view ys))) (drop_all i xs past)) done.so_far,
-    subst (λ ys. AreSeen told (seen ++ map typed_view ys) listed) (take_all i xs past) done.are,
-  )
 
 -- ---- while more is told
 

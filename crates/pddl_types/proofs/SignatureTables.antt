@@ -1,26 +1,25 @@
 -- Tables of what is declared, as it is put into them one after another, and the types of parameters.
-use Rattle.std.proofs.Common.{◌≡◌, ℕ, ◌==◌, true, false, not, length, MatchOption, List, [], ◌∷◌, ◌++◌, map, Option, Some, None, refl, ap, sym, ◌∙◌, subst, bytes_eq, append_assoc, arith, is_some, slice_get, Bor, IsSomeAnd}
+use Rattle.std.proofs.Common.{◌≡◌, ℕ, ◌==◌, true, false, not, length, MatchOption, List, [], ◌∷◌, ◌++◌, map, Option, Some, None, refl, ap, sym, ◌∙◌, bytes_eq, append_assoc, arith, is_some, slice_get, Bor, IsSomeAnd, Vec}
 use Rattle.std.proofs.lemmas.Bool.Decides.{nat_tests}
 use Rattle.std.proofs.lemmas.List.{map-append}
-use Rattle.std.proofs.lemmas.List.Elements.{All-contains, All-push}
+use Rattle.std.proofs.lemmas.List.Elements.{All-push}
 use Rattle.std.proofs.lemmas.List.Folds.{find-append}
-use Rattle.std.proofs.lemmas.Option.{same_Some}
 use Rattle.std.proofs.lemmas.Slice.Zip.{AllZip-left}
 use Rattle.indexmap.specs.IndexMap.{IndexMap, index_of, insert_index}
 use Rattle.indexmap.proofs.MapLemmas.{Found-position, Missing-position, or_len-absent, some_index}
 use Rattle.pddl_formula.specs.TypedLists.{TypedValue, typed_view}
 use Rattle.pddl_domain.specs.Actions.{ActionValue}
 use Rattle.pddl_domain.specs.Declarations.{Signature}
-use Rattle.pddl_domain.specs.Domains.{DomainValue}
 use Rattle.pddl_task.specs.Names.{Name, is_in, word_if, repeated}
 use Rattle.pddl_task.specs.Settings.{symbol_of}
-use Rattle.pddl_task.proofs.Lists.{append-none, at_place, bytes_same, nil_parts}
-use Rattle.pddl_types.specs.KnownNames.{signature_in, action_signature}
+use Rattle.pddl_task.proofs.Lists.{append-none, bytes_same, nil_parts}
+use Rattle.pddl_types.specs.KnownNames.{signature_in}
 use Rattle.pddl_types.specs.Told.{ToldValue, IsAt, AreAt, AreKept}
 use Rattle.pddl_types.specs.Signatures.{Rows, IsSlotsAt, signature_among, AreFirst, HaveFirst, HaveSignatures}
+use Rattle.pddl_types.specs.Known.{AreParametersAt}
 use Rattle.pddl_types.specs.declared.signatures.Slots.{Slots}
-use Rattle.pddl_types.proofs.Lookups.{seen_entry, entry_seen, is_symbol}
-use Rattle.pddl_types.proofs.ToldTypes.{slots_still}
+use Rattle.pddl_types.proofs.Lookups.{is_symbol}
+use Rattle.pddl_types.proofs.ToldTypes.{still_all, slots_still}
 
 pub none_found : {X : Type 0} (o : Option X) → is_some o ≡ false → o ≡ None
 none_found None h = refl
@@ -94,22 +93,21 @@ module _ {A B S : Type 0} (m : IndexMap (Bor (List ℕ)) (Slots A B) S) {before 
 
 -- ---- the types of the parameters of actions
 
-module _ {A B : Type 0} (d : DomainValue) (told : ToldValue) (rows : Rows A B) (are : HaveSignatures told rows (map action_signature d.actions)) (i j : ℕ) (a : ActionValue) (x : TypedValue)
-    (here : slice_get d.actions i ≡ Some a) (there : slice_get a.parameters j ≡ Some x) where
-  listed : slice_get (map signature_in rows) i ≡ Some (action_signature a)
-  listed = ap (λ gs. slice_get gs i) are.signatures_are ∙ seen_entry action_signature d.actions i a here
+-- they are told still while more is told
+pub parameters_still : {B : Type 0} (before after : ToldValue) (acts : List ActionValue) (rows : List (Vec ℕ B)) → AreKept before after → AreParametersAt before acts rows → AreParametersAt after acts rows
+parameters_still before after [] [] kept are = tt
+parameters_still before after [] (r ∷ rows) kept are = are
+parameters_still before after (a ∷ acts) [] kept are = are
+parameters_still before after (a ∷ acts) (r ∷ rows) kept are = (still_all before after a.parameters r.items kept are.0, parameters_still before after acts rows kept are.1)
 
-  pub some_entry : slice_get rows i ≡ None → ⊥
-  some_entry none = let (e, at, _) = entry_seen signature_in rows i (action_signature a) listed in cc (none, at)
+module _ {B : Type 0} (told : ToldValue) (acts : List ActionValue) (rows : List (Vec ℕ B)) (are : AreParametersAt told acts rows) (i j : ℕ) (a : ActionValue) (x : TypedValue)
+    (here : slice_get acts i ≡ Some a) (there : slice_get a.parameters j ≡ Some x) where
+  row_there : IsSomeAnd (slice_get rows i) (λ r. AreAt told a.parameters r.items)
+  row_there = rw here at (AllZip-left (λ b (r : Vec ℕ B). AreAt told b.parameters r.items) acts rows are i)
 
-  -- the entry of the action has its parameters
-  module _ (e : Bor (List ℕ) × Slots A B) (at : slice_get rows i ≡ Some e) where
-    parameters_told : AreAt told a.parameters e.1.numbers.items
-    parameters_told =
-        let same = same_Some (signature_in e) (action_signature a) (sym (seen_entry signature_in rows i e at) ∙ listed) in
-        subst (λ xs. AreAt told xs e.1.numbers.items) (ap (λ s. s.parameters) same)
-        (All-contains (λ (f : Bor (List ℕ) × Slots A B). IsSlotsAt told f.1) rows e are.slots (at_place rows i e at))
+  pub some_row : slice_get rows i ≡ None → ⊥
+  some_row none = rw none at row_there
 
-    -- the type of each of them has a number
-    pub number_there : IsSomeAnd (slice_get e.1.numbers.items j) (IsAt told x.of)
-    number_there = rw there at (AllZip-left (λ (y : TypedValue). IsAt told y.of) a.parameters e.1.numbers.items parameters_told j)
+  -- the type of each of them has a number
+  pub number_there : (row : Vec ℕ B) → slice_get rows i ≡ Some row → IsSomeAnd (slice_get row.items j) (IsAt told x.of)
+  number_there row at = rw there at (AllZip-left (λ (y : TypedValue). IsAt told y.of) a.parameters row.items (rw at at row_there) j)

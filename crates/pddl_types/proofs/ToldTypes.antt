@@ -1,20 +1,19 @@
 -- Types that are told by number, with their tops, the numbers of items' types, and what is found of pairs of them.
-use Rattle.std.proofs.Common.{◌^◌, Result, Ok, Err, IfOk, IfErr, OnOk, MatchResult, MatchOption, ◌≡◌, ℕ, ◌+◌, ◌-◌, ◌<◌, ◌==◌, ◌&&◌, cond, Bool, true, not, List, [], ◌∷◌, ◌++◌, filter, length, get_or, take, Option, Some, None, position, refl, sym, ap, ◌∙◌, subst, arith, append-nil, append_assoc, map, IsTrue, Contains, option_map, slice_get, Bor, eqb-true, eq-eqb}
+use Rattle.std.proofs.Common.{◌^◌, Result, Ok, Err, IfOk, OnOk, MatchResult, MatchOption, ◌≡◌, ℕ, ◌+◌, ◌<◌, ◌==◌, ◌&&◌, cond, Bool, true, not, List, [], ◌∷◌, ◌++◌, filter, length, get_or, take, Option, Some, None, position, refl, sym, ap, ◌∙◌, subst, arith, append-nil, append_assoc, map, IsTrue, Contains, option_map, slice_get, Bor, eqb-true, eq-eqb}
 use Rattle.std.specs.Cmp.Lexicographic.{bytes_decides, pointwise_decides}
 use Rattle.std.specs.List.{IsDistinct, list_all, list_any, position_or_len}
 use Rattle.std.specs.Map.{keys_of, lookup}
 use Rattle.std.proofs.lemmas.Bool.Decides.{nat_tests}
 use Rattle.std.proofs.lemmas.Cmp.{nat_list_eq_equiv, lists_equiv, on_equiv}
-use Rattle.std.proofs.lemmas.List.{length-append, length-take, take_more, get_or-take}
+use Rattle.std.proofs.lemmas.List.{length-append, take_more}
 use Rattle.std.proofs.lemmas.List.Elements.{All-nil, All-weaker, All-push, All-contains}
-use Rattle.std.proofs.lemmas.Option.{same_Some, get_or_from_slice_get, slice_get_within, slice_get-map, slice_get-get_or, slice_get_read}
+use Rattle.std.proofs.lemmas.Option.{same_Some, get_or_from_slice_get, slice_get_within, slice_get-map, slice_get-get_or}
 use Rattle.std.proofs.lemmas.Slice.Zip.{AllZip-left, AllZip-long, all_zipped_more}
 use Rattle.indexmap.proofs.MapLemmas.{or_len-first, or_len-absent, Missing-position}
 use Rattle.indexmap.proofs.RemoveLemmas.{own_first}
 use Rattle.pddl_forest.specs.Spans.{AreApart, hold_all}
 use Rattle.pddl_forest.specs.declared.spans.Span.{Span}
 use Rattle.pddl_formula.specs.TypedLists.{TypedValue, typed_view}
-use Rattle.pddl_formula.specs.Groups.{HaveOneType}
 use Rattle.pddl_domain.specs.Declarations.{TypeValue}
 use Rattle.pddl_task.specs.Names.{Name, is_in, same_names}
 use Rattle.pddl_task.specs.Types.{types_of, pairs, itself, is_under, fits}
@@ -28,7 +27,6 @@ use Rattle.pddl_types.specs.TypeSpans.{TypesValue, IsTold, are_types}
 use Rattle.pddl_types.specs.Told.{ToldValue, tops_at, IsAt, AreAt, AreDistinct, AreTold, AreKept, IsFit, AreFitting}
 use Rattle.pddl_types.specs.Signatures.{Rows, IsSlotsAt, AreSlotsAt}
 use Rattle.pddl_types.proofs.Lookups.{entry_seen, in_front, at_end, entry_found}
-use Rattle.pddl_sizes.proofs.SharedTypes.{of_next}
 
 abbrev Entry : Type 0
 Entry = Bor (List Name) × List Span
@@ -146,17 +144,14 @@ pub found_there : (told : ToldValue) (k : Bor (List Name)) (n : ℕ) → Some n 
 found_there told k n found =
     let (e, at, same) = entry_found (same_keys k) told n (sym found) in rw at (ap Some (sym ((pointwise_decides bytes_decides k.now e.0.now).0 same)))
 
--- where there is nothing to be found, no more than memory fails
-pub put_passes : {V : Type 0} (n : ℕ) {words : List Name} (r : Result V LinkFault) → words ≡ [] → IfErr r (λ fault. fault ≡ Memory) → Passes n words r
-put_passes n (Ok v) none memory = none
-put_passes n (Err e) none memory = rw memory tt
-
--- one that is not there comes last
-pub told_put : {t : TypesValue} {told next : ToldValue} (k : Bor (List Name)) (tops : List Span) (r : Result ℕ LinkFault) → AreTold t told → None ≡ position (same_keys k) (keys_of told) → IsTold t k.now tops
-    → filter (λ n. not (is_in (types_of t.declared) n)) k.now ≡ [] → OnOk r (AreDistinct next) → IfOk r (λ place. (place ≡ position_or_len (same_keys k) (keys_of told)) × (place < 2 ^ 63))
-    → MatchResult r (λ _. MatchOption (position (same_keys k) (keys_of told)) (next ≡ told ++ (k, tops) ∷ []) (λ _. next ≡ told)) (λ _. next ≡ told) → AreKept told next × AreTold t next × IfOk r (IsAt next k.now)
-told_put {told = told} k tops (Err e) are none tell known once place put = rw put (kept_self told, are, tt)
-told_put {t} {told} k tops (Ok n) are none tell known once place put =
+-- one that is not there comes last, where its tops could be made
+pub told_put : {t : TypesValue} {told next : ToldValue} (k : Bor (List Name)) (made : Result (List Span) LinkFault) (r : Result ℕ LinkFault) → AreTold t told → None ≡ position (same_keys k) (keys_of told)
+    → IfOk made (IsTold t k.now) → Passes 23 (filter (λ n. not (is_in (types_of t.declared) n)) k.now) made → OnOk r (AreDistinct next) → IfOk r (λ place. (place ≡ position_or_len (same_keys k) (keys_of told)) × (place < 2 ^ 63))
+    → MatchResult made (λ tops. MatchResult r (λ _. MatchOption (position (same_keys k) (keys_of told)) (next ≡ told ++ (k, tops) ∷ []) (λ _. next ≡ told)) (λ fault. (next ≡ told) × (fault ≡ Memory)))
+    (λ fault. (next ≡ told) × (r ≡ Err fault)) → AreKept told next × AreTold t next × Passes 23 (filter (λ n. not (is_in (types_of t.declared) n)) k.now) r × IfOk r (IsAt next k.now)
+told_put {told = told} k (Err f) r are none tell known once place put = rw (put.0, put.1) (kept_self told, are, known, tt)
+told_put {told = told} k (Ok tops) (Err e) are none tell known once place put = rw (put.0, put.1) (kept_self told, are, tt, tt)
+told_put {t} {told} k (Ok tops) (Ok n) are none tell known once place put =
     let last = rw (← none) at put in
     let absent = Missing-position (same_keys k) told (sym none) in (
       ((k, tops) ∷ [], last),
@@ -164,6 +159,7 @@ told_put {t} {told} k tops (Ok n) are none tell known once place put =
         once = once;
         each = rw last (All-push (λ (e : Entry). IsTold t e.0.now e.1 × IsTrue (are_types t.declared e.0.now)) told (k, tops) are.each (tell, pass_all (is_in (types_of t.declared)) k.now known));
       },
+      known,
       rw (last, place.0, or_len-absent (same_keys k) told absent.absent) (ap (option_map (λ (e : Entry). e.0.now)) (at_end told (k, tops))),
     )
 
@@ -176,20 +172,12 @@ number_at told items numbers i d x are at =
     let low : i < length numbers = omega (arith, slice_get_within items i x at, AllZip-long _ items numbers are) in
     rw (at, slice_get-get_or numbers i d low) at (AllZip-left (λ (y : TypedValue). IsAt told y.of) items numbers are i)
 
-module _ (told : ToldValue) (list : List TypedValue) (count : ℕ) (numbers : List ℕ) (are : AreAt told (take count list) numbers) where
-  -- the type of the next one has the number of the one before, where it is the same
-  pub told_shared : (d : ℕ) → 0 < count → HaveOneType list (count - 1) count → (x : TypedValue) → slice_get list count ≡ Some x → IsAt told x.of (get_or numbers (count - 1) d)
-  told_shared d some one =
-      of_next (λ names. IsAt told names (get_or numbers (count - 1) d)) list (count - 1) count one
-      (λ x at. number_at told (take count list) numbers (count - 1) d x are
-      (slice_get_read (take count list) (length (take count list)) (count - 1) x refl (omega (arith, length-take count list, some, slice_get_within list (count - 1) x at))
-      (sym (get_or-take count list (count - 1) x (omega (arith, some)) ∙ get_or_from_slice_get list (count - 1) x x at))))
-
-  -- with the next one
-  pub told_next : (new : ToldValue) (next : ℕ) (x : TypedValue) → AreKept told new → slice_get list count ≡ Some x → IsAt new x.of next → AreAt new (take (count + 1) list) (numbers ++ next ∷ [])
-  told_next new next x kept at is =
-      rw (take_more list count x (slice_get_within list count x at), get_or_from_slice_get list count x x at)
-      (all_zipped_more (λ (y : TypedValue). IsAt new y.of) (take count list) numbers x next (still_all told new (take count list) numbers kept are) is)
+-- with the next one
+pub told_next : (told new : ToldValue) (list : List TypedValue) (count next : ℕ) (numbers : List ℕ) (x : TypedValue) → AreAt told (take count list) numbers → AreKept told new → slice_get list count ≡ Some x
+    → IsAt new x.of next → AreAt new (take (count + 1) list) (numbers ++ next ∷ [])
+told_next told new list count next numbers x are kept at is =
+    rw (take_more list count x (slice_get_within list count x at), get_or_from_slice_get list count x x at)
+    (all_zipped_more (λ (y : TypedValue). IsAt new y.of) (take count list) numbers x next (still_all told new (take count list) numbers kept are) is)
 
 -- ---- tables of what fits
 

@@ -1,12 +1,14 @@
 -- What is known by name of a domain, and of the objects that are listed, while files are looked at. Own.
-use Rattle.std.specs.Prelude.{◌≡◌, ℕ, List, [], ◌++◌, map, flat_map}
+use Rattle.std.specs.Prelude.{◌≡◌, ℕ, List, [], ◌++◌, Vec, map, flat_map}
+use Rattle.std.specs.List.{AllZip}
 use Rattle.pddl_formula.specs.TypedLists.{TypedValue}
+use Rattle.pddl_domain.specs.Actions.{ActionValue}
 use Rattle.pddl_domain.specs.Domains.{DomainValue}
 use Rattle.pddl_task.specs.Names.{Name, repeated}
 use Rattle.pddl_task.specs.Settings.{symbol_of, parameters_of, function_signatures}
 use Rattle.pddl_faults.specs.Found.{numbered}
-use Rattle.pddl_types.specs.KnownNames.{object_in, action_signature}
-use Rattle.pddl_types.specs.Told.{ToldValue, AreTold}
+use Rattle.pddl_types.specs.KnownNames.{object_in}
+use Rattle.pddl_types.specs.Told.{ToldValue, AreAt, AreTold}
 use Rattle.pddl_types.specs.Objects.{AreSeen, off_types}
 use Rattle.pddl_types.specs.Signatures.{HaveFirst, HaveSignatures}
 use Rattle.pddl_types.specs.declared.known.Known.{Known}
@@ -23,18 +25,25 @@ declared_typed d = d.constants ++ (flat_map parameters_of d.predicates ++ flat_m
 abbrev pub repeated_names : DomainValue → List (ℕ × Name)
 repeated_names d = numbered 24 (off_types [] d.constants) ++ (numbered 24 (repeated [] (map symbol_of d.predicates)) ++ numbered 24 (repeated [] (map symbol_of (function_signatures d))))
 
--- no predicate, no function and no action is declared twice
+-- the parameters of actions, one after another
+abbrev pub parameters_among : List ActionValue → List TypedValue
+parameters_among = flat_map (λ a. a.parameters)
+
+-- no predicate and no function is declared twice
 pub record IsDeclaredOnce (d : DomainValue) : Type 0 where
   pub predicates : repeated [] (map symbol_of d.predicates) ≡ []
   pub functions : repeated [] (map symbol_of (function_signatures d)) ≡ []
-  pub actions : repeated [] (map symbol_of (map action_signature d.actions)) ≡ []
+
+-- the types of the parameters of actions are told at these numbers
+abbrev pub AreParametersAt : {B : Type 0} → ToldValue → List ActionValue → List (Vec ℕ B) → Type 0
+AreParametersAt told = AllZip (λ a numbers. AreAt told a.parameters numbers.items)
 
 -- nothing is known but types
 pub record IsNothing {A B : Type 0} (k : Known A B) : Type 0 where
   pub objects : (told : ToldValue) → AreSeen told [] k.listed
   pub predicates : k.predicates.entries ≡ []
   pub functions : k.functions.entries ≡ []
-  pub actions : k.actions.entries ≡ []
+  pub actions : k.actions.items ≡ []
 
 -- a domain's types, its predicates and functions, of each name the first, and these objects are known, and their types are told; no actions yet
 pub record AreKnown {A B : Type 0} (d : DomainValue) (objects : List TypedValue) (k : Known A B) (told : ToldValue) : Type 0 where
@@ -42,7 +51,7 @@ pub record AreKnown {A B : Type 0} (d : DomainValue) (objects : List TypedValue)
   pub types : AreTold k.types told
   pub predicates : HaveFirst told k.predicates.entries d.predicates
   pub functions : HaveFirst told k.functions.entries (function_signatures d)
-  pub actions : k.actions.entries ≡ []
+  pub actions : k.actions.items ≡ []
   pub listed : AreSeen told objects k.listed
 
 -- all that a domain declares, and these objects are known, and their types are told
@@ -51,5 +60,5 @@ pub record AreAllKnown {A B : Type 0} (d : DomainValue) (objects : List TypedVal
   pub types : AreTold k.types told
   pub predicates : HaveSignatures told k.predicates.entries d.predicates
   pub functions : HaveSignatures told k.functions.entries (function_signatures d)
-  pub actions : HaveSignatures told k.actions.entries (map action_signature d.actions)
+  pub actions : AreParametersAt told d.actions k.actions.items
   pub listed : AreSeen told objects k.listed

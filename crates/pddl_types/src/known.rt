@@ -1,42 +1,85 @@
 //! What a domain and a problem declare, by name, and the objects that fit a type: how many, and which.
 
-ghost use Rattle.std.specs.Prelude.{◌≡◌, [], false, Some, None, List, map, slice_get, IfOk, MatchResult, flat_map};
+ghost use Rattle.std.specs.Prelude.{◌≡◌, ◌++◌, [], ℕ, false, Some, None, List, map, slice_get, IfOk, OnOk, IsOk};
 ghost use Rattle.std.specs.Option.{option_map_or};
 ghost use Rattle.pddl_formula.specs.TypedLists.{TypedValue};
-ghost use Rattle.pddl_domain.specs.Actions.{ActionValue};
+ghost use Rattle.pddl_domain.specs.Actions.{ActionValue, action_view};
 ghost use Rattle.pddl_domain.specs.Domains.{DomainValue, domain_view};
 ghost use Rattle.pddl_forest.specs.Spans.{AreApart};
-ghost use Rattle.pddl_task.specs.Settings.{parameters_of};
+ghost use Rattle.pddl_task.specs.Names.{Name};
 ghost use Rattle.pddl_task.specs.Types.{pairs, fits};
 ghost use Rattle.pddl_task.specs.GroundSize.{fitting_count};
 ghost use Rattle.pddl_task.specs.Tasks.{places_from};
-ghost use Rattle.pddl_faults.specs.Passes.{fault_of, Passes};
+ghost use Rattle.pddl_faults.specs.Passes.{Passes};
 ghost use Rattle.pddl_faults.specs.Found.{IsFound};
-ghost use Rattle.pddl_types.specs.KnownNames.{action_signature};
 ghost use Rattle.pddl_types.specs.TypeSpans.{TypesValue, IsTold, AreNumbered, AreNumbered-prop};
-ghost use Rattle.pddl_types.specs.Told.{AreTold, unknown_among};
-ghost use Rattle.pddl_types.specs.Known.{declared_typed, repeated_names, objects_in, IsDeclaredOnce, IsNothing, AreKnown, AreAllKnown};
+ghost use Rattle.pddl_types.specs.Told.{AreTold, AreKept, unknown_among};
+ghost use Rattle.pddl_types.specs.Known.{declared_typed, repeated_names, objects_in, parameters_among, IsNothing, AreParametersAt, AreKnown, AreAllKnown};
 
 use crate::listed::Listed;
 use crate::signatures::{Signatures, put};
 use crate::told::Told;
 use crate::types::Types;
 use indexmap::IndexMap;
-use pddl_domain::Domain;
+use pddl_domain::{Action, Domain};
 use pddl_faults::{LinkFault, lower};
 use pddl_forest::Span;
 use pddl_formula::TypeNames;
 use pddl_sizes::{FittingCount, ObjectOrder};
 use std::alloc::{AllocError, Allocator};
 
-/// The types of a domain, the constants and objects that are listed so far, and the predicates, functions and actions that are declared, by name.
+/// What is answered of two parts: the first fault that ends a part, or the lower of those of names.
+fn both<'m>(
+    first: Result<Result<(), LinkFault<'m>>, LinkFault<'m>>,
+    second: Result<Result<(), LinkFault<'m>>, LinkFault<'m>>,
+) -> Result<Result<(), LinkFault<'m>>, LinkFault<'m>>
+    ensures passes { (xs ys : List Name) → Passes 23 xs first.entry → Passes 23 ys second.entry → Passes 23 (xs ++ ys) result }
+    ensures found { (xs ys : List (ℕ × Name)) → IfOk first.entry (IsFound xs) → IfOk second.entry (IsFound ys) → IfOk result (IsFound (xs ++ ys)) }
+    ensures made { OnOk result (IsOk first.entry × IsOk second.entry) }
+{
+    match first {
+        Ok(first) => match second {
+            Ok(second) => Ok(lower(first, second)),
+            Err(fault) => Err(fault),
+        },
+        Err(fault) => Err(fault),
+    }
+}
+
+/// Adds the numbers at which the types of the parameters of each action are told, which are told where they were not.
+///
+/// # Errors
+///
+/// `LinkFault::UnknownType`; `Memory` where memory for them is refused.
+pub fn tell_parameters<'m, 'a, A: Allocator, B: Allocator>(
+    types: &Types<'m, 'a, A, B>,
+    told: &mut Told<'m, 'a, A, B>,
+    table: &mut Vec<Vec<usize, &'a B>, &'a B>,
+    actions: &'m [Action<A>],
+) -> Result<(), LinkFault<'m>>
+    requires told { AreTold types.now told.old }
+    requires none { table.old.items ≡ [] }
+    ensures told { AreTold types.now told.new }
+    ensures kept { AreKept told.old told.new }
+    ensures passes { Passes 23 (unknown_among types.now.declared (parameters_among (map action_view actions.now))) result }
+    ensures held { OnOk result (AreParametersAt told.new (map action_view actions.now) table.new.items) }
+{
+    for action in actions {
+        let numbers = told.tell_all(types.allocator(), types, &action.parameters)?;
+        table.push(numbers)?;
+    }
+    Ok(())
+}
+
+/// The types of a domain, the constants and objects that are listed so far, and the predicates and functions that are declared, by name; of each action, by its
+/// number, the numbers at which the types of its parameters are told.
 #[derive(Drop)]
 pub struct Known<'m, 'a, A: Allocator, B: Allocator> {
     pub types: Types<'m, 'a, A, B>,
     pub listed: Listed<'m, 'a, A, B>,
     pub predicates: Signatures<'m, 'a, A, B>,
     pub functions: Signatures<'m, 'a, A, B>,
-    pub actions: Signatures<'m, 'a, A, B>,
+    pub actions: Vec<Vec<usize, &'a B>, &'a B>,
 }
 
 impl<'m, 'a, A: Allocator, B: Allocator> Known<'m, 'a, A, B> {
@@ -52,7 +95,7 @@ impl<'m, 'a, A: Allocator, B: Allocator> Known<'m, 'a, A, B> {
             listed: Listed::new(alloc, hashed),
             predicates: IndexMap::with_hasher(alloc, hashed),
             functions: IndexMap::with_hasher(alloc, hashed),
-            actions: IndexMap::with_hasher(alloc, hashed),
+            actions: Vec::new(alloc),
         }
     }
 
@@ -74,29 +117,10 @@ impl<'m, 'a, A: Allocator, B: Allocator> Known<'m, 'a, A, B> {
         ensures found { IfOk result (IsFound (repeated_names (domain_view domain.now))) }
         ensures known { IfOk result (λ _. AreKnown (domain_view domain.now) (domain_view domain.now).constants self.new told.new) }
     {
-        let constants = self.listed.add(&self.types, told, &domain.constants)?;
-        let predicates = put(&self.types, told, &mut self.predicates, &domain.predicates)?;
-        let functions = put(&self.types, told, &mut self.functions, &domain.functions)?;
-        Ok(lower(constants, lower(predicates, functions)))
-    }
-
-    /// Adds a domain's actions, where there are none, to the rest of what it declares, none of which is declared twice or of an unknown type.
-    ///
-    /// # Errors
-    ///
-    /// `LinkFault::Memory` where memory for them is refused.
-    pub fn add_actions(
-        &mut self,
-        told: &mut Told<'m, 'a, A, B>,
-        domain: &'m Domain<A>,
-    ) -> Result<(), LinkFault<'m>>
-        requires told { AreTold self.old.types told.old }
-        requires none { self.old.actions.entries ≡ [] }
-        ensures { (objects : List TypedValue) → AreKnown (domain_view domain.now) objects self.old told.old → IsDeclaredOnce (domain_view domain.now)
-            → unknown_among (domain_view domain.now).types (flat_map parameters_of (map action_signature (domain_view domain.now).actions)) ≡ []
-            → MatchResult result (λ _. AreAllKnown (domain_view domain.now) objects self.new told.new) (λ fault. fault_of fault ≡ None) }
-    {
-        put(&self.types, told, &mut self.actions, &domain.actions)?
+        let constants = self.listed.add(&self.types, told, &domain.constants);
+        let predicates = put(&self.types, told, &mut self.predicates, &domain.predicates);
+        let functions = put(&self.types, told, &mut self.functions, &domain.functions);
+        both(constants, both(predicates, functions))
     }
 }
 
@@ -117,8 +141,8 @@ impl<'m, 'a, A: Allocator, B: Allocator> Tables<'m, 'a, A, B> {
         ensures told { (d : DomainValue) (objects : List TypedValue) (a : ActionValue) (x : TypedValue) → AreAllKnown d objects self.now.known self.now.told
             → slice_get d.actions action ≡ Some a → slice_get a.parameters parameter ≡ Some x → IsTold self.now.known.types x.of result.now }
     {
-        match self.known.actions.get_index(action) {
-            Some((_, slots)) => match slots.numbers.get(parameter) {
+        match self.known.actions.get(action) {
+            Some(numbers) => match numbers.get(parameter) {
                 Some(number) => self.told.at(*number),
                 None => &[],
             },

@@ -10,7 +10,7 @@ mod signatures;
 mod told;
 mod types;
 
-pub use known::{Known, Tables};
+pub use known::{Known, Tables, tell_parameters};
 pub use listed::Listed;
 pub use signatures::{Declares, Signatures, Slots};
 pub use told::Told;

@@ -1,20 +1,20 @@
 //! Objects by name, each with its type.
 
-ghost use Rattle.std.specs.Prelude.{◌≡◌, ◌++◌, ◌∷◌, [], List, map, not, find, length, IfOk, All};
+ghost use Rattle.std.specs.Prelude.{◌≡◌, ◌++◌, [], List, map, find, length, IfOk, All};
 ghost use Rattle.std.specs.HashMap.{values};
 ghost use Rattle.pddl_formula.specs.TypedLists.{TypedValue, typed_view};
 ghost use Rattle.pddl_task.specs.Names.{is_named};
 ghost use Rattle.pddl_faults.specs.Passes.{Passes};
 ghost use Rattle.pddl_faults.specs.Found.{IsFound, numbered};
 ghost use Rattle.pddl_types.specs.KnownNames.{object_in};
-ghost use Rattle.pddl_types.specs.Told.{ToldValue, first_at, IsAt, AreAt, AreDistinct, AreTold, AreKept, unknown_among};
-ghost use Rattle.pddl_types.specs.Objects.{IsAtOf, IsObjectAt, AreSeen, is_off, off_types};
+ghost use Rattle.pddl_types.specs.Told.{ToldValue, first_at, AreAt, AreDistinct, AreTold, AreKept, unknown_among};
+ghost use Rattle.pddl_types.specs.Objects.{IsAtOf, IsObjectAt, AreSeen, off_types};
 
 use crate::entries::put_new;
 use crate::told::Told;
 use crate::types::Types;
 use indexmap::IndexMap;
-use pddl_faults::{LinkFault, lower, once};
+use pddl_faults::{LinkFault, once};
 use pddl_formula::{Typed, TypedList};
 use pddl_hash::Hashed;
 use pddl_sizes::ObjectOrder;
@@ -37,24 +37,6 @@ impl<'m, 'a, A: Allocator, B: Allocator> Listed<'m, 'a, A, B> {
         }
     }
 
-    /// Adds an object whose type is told at a number, where its name is new. Answers whether the first of its name has this type.
-    ///
-    /// # Errors
-    ///
-    /// `LinkFault::Memory` where memory for it is refused.
-    fn put(&mut self, object: &'m Typed<A>, number: usize) -> Result<bool, LinkFault<'m>>
-        ensures memory { Passes 23 [] result }
-        ensures seen { (told : ToldValue) (seen : List TypedValue) → AreDistinct told → IsAt told object.now.types number → AreSeen told seen self.old
-            → IfOk result (λ right. (is_off seen (typed_view object.now) ≡ not right) × AreSeen told (seen ++ typed_view object.now ∷ []) self.new) }
-    {
-        let place = put_new(&mut self.objects, object.name.lent(), (object, number))?;
-        Ok(
-            self.objects
-                .get_index(place)
-                .is_some_and(|(_, first)| first.1 == number),
-        )
-    }
-
     /// Adds constants or objects whose types are told at these numbers. Answers the fault of a name that is listed with two types.
     ///
     /// # Errors
@@ -74,8 +56,13 @@ impl<'m, 'a, A: Allocator, B: Allocator> Listed<'m, 'a, A, B> {
         let mut found = Ok(());
         for place in 0..objects.len() {
             let object = &objects[place];
-            let is_right = self.put(object, numbers[place])?;
-            found = lower(found, once(is_right, object.name.as_bytes()));
+            let number = numbers[place];
+            let first = put_new(&mut self.objects, object.name.lent(), Ok((object, number)))?;
+            let is_right = match self.objects.get_index(first) {
+                Some((_, first)) => first.1 == number,
+                None => false,
+            };
+            found = found.and(once(is_right, object.name.as_bytes()));
         }
         Ok(found)
     }
@@ -98,8 +85,10 @@ impl<'m, 'a, A: Allocator, B: Allocator> Listed<'m, 'a, A, B> {
         ensures seen { (seen : List TypedValue) → AreSeen told.old seen self.old
             → IfOk result (λ found. IsFound (numbered 24 (off_types seen (map typed_view objects.now.items))) found × AreSeen told.new (seen ++ map typed_view objects.now.items) self.new) }
     {
-        let numbers = told.tell_all(*self.objects.allocator(), types, objects)?;
-        self.put_all(objects, &numbers)
+        match told.tell_all(*self.objects.allocator(), types, objects) {
+            Ok(numbers) => self.put_all(objects, &numbers),
+            Err(fault) => Err(fault),
+        }
     }
 
     /// The number at which the type of the object of this name is told.

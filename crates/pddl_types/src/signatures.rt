@@ -1,33 +1,30 @@
-//! Predicates, functions and actions, what declares them, and tables of them by name, with the types of their parameters.
+//! Predicates and functions, what declares them, and tables of them by name, with the types of their parameters.
 
-ghost use Rattle.std.specs.Prelude.{◌≡◌, [], List, map, IfOk, flat_map};
+ghost use Rattle.std.specs.Prelude.{◌≡◌, [], map, IfOk, flat_map};
 ghost use Rattle.pddl_formula.specs.TypedLists.{typed_view};
 ghost use Rattle.pddl_domain.specs.Declarations.{Signature, predicate_view, function_view};
-ghost use Rattle.pddl_domain.specs.Actions.{action_view};
 ghost use Rattle.pddl_task.specs.Names.{repeated, item_of};
 ghost use Rattle.pddl_task.specs.Settings.{symbol_of, parameters_of};
 ghost use Rattle.pddl_faults.specs.Passes.{Passes};
 ghost use Rattle.pddl_faults.specs.Found.{IsFound, numbered};
 ghost use Rattle.pddl_types.specs.Told.{AreTold, AreKept, unknown_among};
-ghost use Rattle.pddl_types.specs.KnownNames.{action_signature};
 ghost use Rattle.pddl_types.specs.Signatures.{HaveFirst};
 
 use crate::entries::put_new;
 use crate::told::Told;
 use crate::types::Types;
 use indexmap::IndexMap;
-use pddl_domain::{Action, DeclaredFunction, DeclaredPredicate};
-use pddl_faults::{LinkFault, lower, once};
+use pddl_domain::{DeclaredFunction, DeclaredPredicate};
+use pddl_faults::{LinkFault, once};
 use pddl_formula::{Typed, TypedList};
 use pddl_hash::Hashed;
 use std::alloc::Allocator;
 
-/// What declares a name with parameters: a predicate, a function or an action.
+/// What declares a name with parameters: a predicate or a function.
 pub trait Declares<A: Allocator> {
     ghost use Rattle.std.specs.Prelude.{◌≡◌};
     ghost use Rattle.pddl_formula.specs.TypedLists.{typed_view};
     ghost use Rattle.pddl_domain.specs.Declarations.{Signature, predicate_view, function_view};
-    ghost use Rattle.pddl_domain.specs.Actions.{action_view};
 
     ghost signature: { Self → Signature };
 
@@ -64,18 +61,6 @@ impl<A: Allocator> Declares<A> for DeclaredFunction<A> {
     }
 }
 
-impl<A: Allocator> Declares<A> for Action<A> {
-    ghost signature = { λ a. action_signature (action_view a) };
-
-    fn name(&self) -> &[u8] {
-        self.name.as_bytes()
-    }
-
-    fn parameters(&self) -> &TypedList<A> {
-        &self.parameters
-    }
-}
-
 /// The parameters of what is declared, and the numbers at which their types are told.
 #[derive(Drop)]
 pub struct Slots<'m, 'a, A: Allocator, B: Allocator> {
@@ -83,7 +68,7 @@ pub struct Slots<'m, 'a, A: Allocator, B: Allocator> {
     pub numbers: Vec<usize, &'a B>,
 }
 
-/// Predicates, functions or actions by name, in the order in which they are declared; of several of one name the first.
+/// Predicates or functions by name, in the order in which they are declared; of several of one name the first.
 pub type Signatures<'m, 'a, A, B> = IndexMap<&'m [u8], Slots<'m, 'a, A, B>, Hashed, &'a B>;
 
 /// Puts what is declared into an empty table, and tells the types of parameters. Answers the fault of a name that stands twice.
@@ -108,15 +93,16 @@ pub(crate) fn put<'m, 'a, A: Allocator, B: Allocator, D: Declares<A>>(
     let mut found = Ok(());
     for each in declared {
         let name = each.name();
-        let parameters = each.parameters();
-        let numbers = told.tell_all(*table.allocator(), types, parameters)?;
+        let count = table.len();
+        let list = each.parameters();
+        let parameters = list.as_slice();
+        let numbers = told.tell_all(*table.allocator(), types, list)?;
         let slots = Slots {
-            parameters: parameters.as_slice(),
+            parameters,
             numbers,
         };
-        let count = table.len();
-        let place = put_new(table, name, slots)?;
-        found = lower(found, once(place == count, name));
+        let place = put_new(table, name, Ok(slots))?;
+        found = found.and(once(place == count, name));
     }
     Ok(found)
 }

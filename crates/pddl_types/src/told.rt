@@ -235,10 +235,8 @@ impl<'m, 'a, A: Allocator, B: Allocator> Told<'m, 'a, A, B> {
         if let Some(number) = self.types.get_index_of(&names) {
             return Ok(number);
         }
-        match Tops::of(*self.types.allocator(), types, names) {
-            Ok(tops) => put_new(&mut self.types, names, tops),
-            Err(fault) => Err(fault),
-        }
+        let tops = Tops::of(*self.types.allocator(), types, names);
+        put_new(&mut self.types, names, tops)
     }
 
     /// The numbers of the types of a list's items, which are told once for a group where they were not.
@@ -260,12 +258,11 @@ impl<'m, 'a, A: Allocator, B: Allocator> Told<'m, 'a, A, B> {
         ensures many { IfOk result (λ numbers. length numbers.items ≡ length (map typed_view list.now.items)) }
     {
         let mut numbers = Vec::with_capacity(alloc, list.len())?;
+        let mut number = 0;
         for place in 0..list.len() {
-            let number = if list.shares(place) {
-                numbers[place - 1]
-            } else {
-                self.tell(types, &list[place].types)?
-            };
+            if !list.shares(place) {
+                number = self.tell(types, &list[place].types)?;
+            }
             numbers.push(number)?;
         }
         Ok(numbers)

@@ -44,7 +44,7 @@ fn put_types<'m, 'a, A: Allocator, B: Allocator>(
     for number in 0..declared.len() {
         let declared_type = &declared[number];
         if !declared.shares(number) {
-            over = put_new(parents, declared_type.parent.as_bytes(), 0)?;
+            over = put_new(parents, declared_type.parent.as_bytes(), Ok(0))?;
         }
         let name = declared_type.name.as_bytes();
         if parents.insert(name, over + 1)?.unwrap_or(0) != 0 {

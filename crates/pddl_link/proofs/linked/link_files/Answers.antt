@@ -1,5 +1,4 @@
-use Rattle.std.proofs.Common.{[], ◌∷◌, ◌++◌, map, drop, Result, Ok, Err, refl, ◌∙◌}
-use Rattle.std.specs.Result.{MatchResult, result_and}
+use Rattle.std.proofs.Common.{[], ◌∷◌, ◌++◌, map, drop, Result, Err, refl, ◌∙◌}
 use Rattle.std.proofs.lemmas.Result.{err_from_is_err_and}
 use Rattle.pddl_domain.specs.Domains.{DomainValue, domain_view}
 use Rattle.pddl_problem.specs.Problems.{ProblemValue}
@@ -11,7 +10,7 @@ use Rattle.pddl_faults.specs.Passes.{Verdict}
 use Rattle.pddl_faults.proofs.Verdicts.{decided_after}
 use Rattle.pddl_names.specs.FaultParts.{problem_in, part_rules, goal_rules}
 use Rattle.pddl_names.proofs.FoundParts.{holds_on}
-use Rattle.pddl_link.proofs.Stages.{stage_first, alone_verdict}
+use Rattle.pddl_link.proofs.Stages.{stage_first, given_on, alone_verdict}
 use Rattle.pddl_link.proofs.linked.link_files.Goals as goal
 
 pub returns-in_err-types-clause-verdict : goal.returns-in_err-types-clause-verdict
@@ -43,11 +42,6 @@ invariant_of-tables g c = record { numbered = rw c.in_ok-known.ensures.made.0 (r
 pub look_at_goal-goal-requires : goal.look_at_goal-goal-requires
 look_at_goal-goal-requires g c =
     rw c.in_ok-known.ensures.made.0 (rw c.in_ok-known.ensures.made.1 at c.order_behind_types-order.ensures.known)
-
--- what holds where nothing is found holds of what is given on then
-given_on : {U T E : Type 0} (P : T → Type 0) (Q : E → Type 0) (r : Result U E) (x : T) → MatchResult r (λ _. P x) Q → MatchResult (result_and r (Ok x)) P Q
-given_on P Q (Ok u) x h = h
-given_on P Q (Err e) x h = h
 
 pub returns-clause-known : goal.returns-clause-known
 returns-clause-known g c =

@@ -1,6 +1,6 @@
 use Rattle.std.proofs.Common.{[], ◌∷◌, refl, map, subst, ◌∙◌}
 use Rattle.std.proofs.lemmas.Result.{err_from_is_err_and}
-use Rattle.pddl_forest.specs.Rounds.{HasRound}
+use Rattle.pddl_forest.specs.Rounds.{HasRound, AreRounds}
 use Rattle.pddl_domain.specs.Declarations.{type_view}
 use Rattle.pddl_task.specs.Linked.{fault}
 use Rattle.pddl_task.proofs.Lists.{has_none}
@@ -17,6 +17,11 @@ returns-in_err-put_types-clause-verdict g c =
 pub forest_spans-requires-clause-within : goal.forest_spans-requires-clause-within
 forest_spans-requires-clause-within g c =
     rw (c.deref.ensures.value ∙ c.in_ok-parents.ensures) (parents_within (map type_view c.args.declared.now.items) c.put_types.new.parents.entries (c.in_ok-put_types.ensures.once, c.in_ok-put_types.ensures.table))
+
+pub first_cycle-requires : goal.first_cycle-requires
+first_cycle-requires g c =
+    let round = subst (λ ps. HasRound ps × AreRounds ps c.in-Err.numbers.items) (c.deref.ensures.value ∙ c.in_ok-parents.ensures) (rw c.in-Err.is at c.in_ok-spans.ensures.round) in
+    record { table = rw c.deref-in-Err-2.ensures.value (c.in_ok-put_types.ensures.once, c.in_ok-put_types.ensures.table); numbers = rw c.deref-in-Err.ensures.value round.1; round = round.0 }
 
 pub returns-in-Ok-clause-verdict : goal.returns-in-Ok-clause-verdict
 returns-in-Ok-clause-verdict g c = (

@@ -1,4 +1,4 @@
-use Rattle.pddl_types.proofs.ToldTypes.{kept_self, none_unknown, put_passes, found_there, fitting_kept, told_put}
+use Rattle.pddl_types.proofs.ToldTypes.{none_unknown, found_there, fitting_kept, told_put}
 use Rattle.pddl_types.proofs.told.Told.tell.Goals as goal
 
 pub returns-in-Some-clause-number : goal.returns-in-Some-clause-number
@@ -10,15 +10,12 @@ returns-in-Some-clause-passes g c = none_unknown c.requires.told c.args.names.no
 pub invariant_of-self : goal.invariant_of-self
 invariant_of-self g c =
     fitting_kept _ _ c.self.inside.fitting.entries
-    (told_put c.args.names c.in-Ok.tops c.put_new.result (rw (← c.self.view_is) at c.requires.told) c.in_default.ensures.index c.in-Ok.ensures.told c.in-Ok.ensures.passes c.put_new.ensures.unique c.put_new.ensures.place c.put_new.ensures.entries).0
+    (told_put c.args.names c.of-tops.result c.put_new.result (rw (← c.self.view_is) at c.requires.told) c.in_default.ensures.index c.of-tops.ensures.told c.of-tops.ensures.passes c.put_new.ensures.unique c.put_new.ensures.place c.put_new.ensures.entries).0
     c.self.invariant
 
-pub returns-in-Ok : goal.returns-in-Ok
-returns-in-Ok g c =
-    let (kept, told, number) =
-    told_put c.args.names c.in-Ok.tops c.put_new.result (rw (← c.self.view_is) at c.requires.told) c.in_default.ensures.index c.in-Ok.ensures.told c.in-Ok.ensures.passes c.put_new.ensures.unique c.put_new.ensures.place c.put_new.ensures.entries
+pub returns : goal.returns
+returns g c =
+    let (kept, told, passes, number) =
+    told_put c.args.names c.of-tops.result c.put_new.result (rw (← c.self.view_is) at c.requires.told) c.in_default.ensures.index c.of-tops.ensures.told c.of-tops.ensures.passes c.put_new.ensures.unique c.put_new.ensures.place c.put_new.ensures.entries
     in
-    record { told = told; kept = rw (← c.self.view_is) kept; passes = put_passes 23 c.put_new.result c.in-Ok.ensures.passes c.put_new.ensures.memory; number = number }
-
-pub returns-in-Err-clause-kept : goal.returns-in-Err-clause-kept
-returns-in-Err-clause-kept g c = kept_self c.args.self.now
+    record { told = told; kept = rw (← c.self.view_is) kept; passes = passes; number = number }
