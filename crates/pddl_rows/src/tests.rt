@@ -97,7 +97,7 @@ fn terms(rt: HostRuntime) -> Result<(), Fail> {
 
 #[test]
 fn twice(rt: HostRuntime) -> Result<(), Fail> {
-    all_hold(&rt, rows::TWICE, 46)
+    all_hold(&rt, rows::TWICE, 48)
 }
 
 #[test]

@@ -211,4 +211,13 @@ copy bare
 file
 | link: fault 24 NameTwice abcdefghijklmnopqrstuvwxyzabcdef
 refused problem
+
+row a variable that stands twice in front of an action that does
+file (define (domain d) (:predicates (q)) (:action a :parameters (?x ?x) :effect (q)) (:action b :effect (q)) (:action b :effect (q)))
+| link: fault 24 NameTwice x
+refused domain
+copy bare
+file
+| link: fault 24 NameTwice x
+refused problem
 ";
