@@ -13,7 +13,7 @@ use crate::walk::{search_actions, search_problem};
 use pddl_domain::Domain;
 use pddl_faults::{LinkFault, lower};
 use pddl_problem::Problem;
-use pddl_search::{contradictions, cost_values, metric, object_fluents, object_types};
+use pddl_search::{claims, metric, object_fluents, object_types};
 use pddl_sizes::ground_size;
 use pddl_types::{Known, Tables, Told};
 use std::alloc::Allocator;
@@ -33,10 +33,9 @@ fn look_at_problem<'m, 'a, A: Allocator, B: Allocator>(
         Some(problem) => {
             let alloc = known.types.allocator();
             let hashed = known.types.hashed();
-            let literals = contradictions(alloc, hashed, &problem.init);
-            let costs = cost_values(alloc, hashed, &problem.init);
+            let init = claims(alloc, hashed, &problem.init);
             let others = lower(object_types(&problem.objects), metric(&problem.metric));
-            let alone = lower(literals, lower(costs, others));
+            let alone = lower(init, others);
             match known.listed.add(&known.types, told, &problem.objects) {
                 Ok(objects) => {
                     let places = search_problem(&*known, told, problem);

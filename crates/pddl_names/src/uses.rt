@@ -39,7 +39,7 @@ fn type_of<'m, 'a, A: Allocator, B: Allocator>(
 
 /// The lowest of the faults of a predicate or a function with its terms. A term without a slot, or a slot without a term, is another fault than one that
 /// does not fit.
-fn look_at_use<'m, 'a, 'd, A: Allocator, B: Allocator>(
+pub(crate) fn look_at_use<'m, 'a, 'd, A: Allocator, B: Allocator>(
     known: &Known<'m, 'a, A, B>,
     told: &mut Told<'m, 'a, A, B>,
     scope: &Scope<'m, 'a, A, B>,
@@ -103,10 +103,12 @@ pub(crate) fn look<'m, 'a, 'd, A: Allocator, B: Allocator>(
 {
     match part {
         Part::Says(predicate, terms) => {
-            look_at_use(known, told, scope, &known.predicates, *predicate, terms)
+            let terms = Terms::Any(*terms);
+            look_at_use(known, told, scope, &known.predicates, *predicate, &terms)
         }
         Part::Calls(function, terms) => {
-            look_at_use(known, told, scope, &known.functions, *function, terms)
+            let terms = Terms::Any(*terms);
+            look_at_use(known, told, scope, &known.functions, *function, &terms)
         }
         Part::Equates(first, second) => {
             let first = look_at_term(known, scope, *first);

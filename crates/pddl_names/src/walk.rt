@@ -14,7 +14,7 @@ ghost use Rattle.pddl_search.specs.Scopes.{bound_in};
 ghost use Rattle.pddl_names.specs.Uses.{faults_by, AreAllTold};
 ghost use Rattle.pddl_names.specs.FaultParts.{action_faults};
 
-use crate::uses::{enter, look};
+use crate::uses::{enter, look, look_at_use};
 use indexmap::IndexSet;
 use pddl_domain::Action;
 use pddl_effect::Effect;
@@ -187,17 +187,16 @@ fn search_item<'m, 'a, 'd, A: Allocator, B: Allocator>(
 {
     match item {
         InitItem::Holds(fact) | InitItem::Fails(fact) => {
-            let says = Part::Says(fact.predicate.as_bytes(), Terms::Objects(&fact.objects));
-            look(known, told, scope, &says)
+            let predicate = fact.predicate.as_bytes();
+            let terms = Terms::Objects(&fact.objects);
+            look_at_use(known, told, scope, &known.predicates, predicate, &terms)
         }
         InitItem::Value(call, amount) => {
             let function = call.function.as_bytes();
-            let calls = Part::Calls(function, Terms::Objects(&call.objects));
-            let value = look(known, told, scope, &calls);
-            lower(
-                value,
-                look(known, told, scope, &Part::Counts(function, *amount)),
-            )
+            let terms = Terms::Objects(&call.objects);
+            let value = look_at_use(known, told, scope, &known.functions, function, &terms);
+            let whole = look(known, told, scope, &Part::Counts(function, *amount));
+            lower(value, whole)
         }
     }
 }

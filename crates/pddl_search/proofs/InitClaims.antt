@@ -55,9 +55,6 @@ pub record Checked {X : Type 0} (view : X → InitValue) (of_values : Bool) (xs 
       → list_any (clash_in of_values j) (seen_at view [] xs i) ≡ unequal n (unwrap_or (lookup (same_key k) es) n)
   pub rest : AreLeft view init_name (wrong_in of_values) [] xs i
 
-pub checked_start : {X : Type 0} {view : X → InitValue} {of_values : Bool} {xs : List X} (es : List (Key × ℕ)) → es ≡ [] → Checked view of_values xs 0 es
-checked_start es empty = record { told = λ j k n is. rw empty (grind (arith, nat_tests)); rest = refl }
-
 same_is : (f g : GroundValue) → same_ground f g ≡ true → f ≡ g
 same_is f g h =
     let names : f.name ≡ g.name = (bytes_decides f.name g.name).0 (grind (arith, h)) in

@@ -27,7 +27,7 @@ terms_in (Objects ns) = map name ns.now
 
 -- what stands at a place
 abbrev pub part_in : {A : _} → Part A → places.Part
-part_in (Says p ts) = says (record { predicate = p.now; terms = terms_in ts })
-part_in (Calls f ts) = calls (record { function = f.now; terms = terms_in ts })
+part_in (Says p ts) = says (record { predicate = p.now; terms = map term_view ts.now })
+part_in (Calls f ts) = calls (record { function = f.now; terms = map term_view ts.now })
 part_in (Equates t u) = equates (term_view t.now) (term_view u.now)
 part_in (Counts f n) = counts f.now n

@@ -1,15 +1,16 @@
 //! Atoms that hold and fail in `:init`, and functions of objects that have two values there.
 
-ghost use Rattle.std.specs.Prelude.{◌≡◌, [], cond, map, unwrap_or, IfOk};
+ghost use Rattle.std.specs.Prelude.{◌≡◌, ◌++◌, [], cond, map, unwrap_or, IfOk};
 ghost use Rattle.indexmap.specs.IndexMap.{get};
 ghost use Rattle.pddl_problem.specs.Inits.{init_view};
 ghost use Rattle.pddl_task.specs.Names.{wrong_words};
 ghost use Rattle.pddl_task.specs.Faults.{contradicts, init_name, clashing, wrong_values};
 ghost use Rattle.pddl_faults.specs.Passes.{Passes};
+ghost use Rattle.pddl_faults.specs.Found.{IsFound, numbered};
 ghost use Rattle.pddl_search.specs.Claims.{claim_of, claim_in, wrong_in, fault_number, is_failure};
 
 use indexmap::IndexMap;
-use pddl_faults::LinkFault;
+use pddl_faults::{LinkFault, lower};
 use pddl_hash::Hashed;
 use pddl_problem::{InitItem, ObjectNames};
 use pddl_token::Name;
@@ -94,27 +95,18 @@ fn claims_agree<'d, 'a, A: Allocator, B: Allocator>(
     agree_in(&mut IndexMap::with_hasher(alloc, hashed), init, of_values)
 }
 
-/// No atom holds and fails. Where no atom fails, nothing is looked up.
-pub fn contradictions<'d, 'a, A: Allocator, B: Allocator>(
+/// No atom holds and fails, no function of objects has two values, and `total-cost` starts at none but 0. Where no atom fails, atoms are not looked up.
+pub fn claims<'d, 'a, A: Allocator, B: Allocator>(
     alloc: &'a B,
     hashed: Hashed,
     init: &'d [InitItem<A>],
 ) -> Result<(), LinkFault<'d>>
-    ensures { Passes 29 (clashing contradicts [] (map init_view init.now)) result }
+    ensures { IsFound (numbered 29 (clashing contradicts [] (map init_view init.now)) ++ numbered 31 (wrong_values [] (map init_view init.now))) result }
 {
+    let values = claims_agree(alloc, hashed, init, true);
     if init.iter().any(is_failure) {
-        return claims_agree(alloc, hashed, init, false);
+        lower(claims_agree(alloc, hashed, init, false), values)
+    } else {
+        values
     }
-    Ok(())
-}
-
-/// No function of objects has two values, and `total-cost` starts at none but 0.
-pub fn cost_values<'d, 'a, A: Allocator, B: Allocator>(
-    alloc: &'a B,
-    hashed: Hashed,
-    init: &'d [InitItem<A>],
-) -> Result<(), LinkFault<'d>>
-    ensures { Passes 31 (wrong_values [] (map init_view init.now)) result }
-{
-    claims_agree(alloc, hashed, init, true)
 }

@@ -6,7 +6,7 @@ mod part;
 mod passes;
 mod scope;
 
-pub use init::{contradictions, cost_values};
+pub use init::claims;
 pub use part::{LentTerm, Part, Terms};
 pub use passes::{domain_name, is_taken, metric, object_fluents, object_types};
 pub use scope::Scope;

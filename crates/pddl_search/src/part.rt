@@ -30,9 +30,9 @@ pub enum Terms<'d, A: Allocator> {
 #[derive(Drop)]
 pub enum Part<'d, A: Allocator> {
     /// A predicate of terms.
-    Says(&'d [u8], Terms<'d, A>),
+    Says(&'d [u8], &'d [Term<A>]),
     /// A function of terms.
-    Calls(&'d [u8], Terms<'d, A>),
+    Calls(&'d [u8], &'d [Term<A>]),
     Equates(&'d Term<A>, &'d Term<A>),
     /// A number for a function.
     Counts(&'d [u8], Fixed),
@@ -43,14 +43,14 @@ impl<'d, A: Allocator> Part<'d, A> {
     pub fn of_atom(atom: &'d Atom<A>) -> Part<'d, A>
         ensures { part_in result ≡ says (atom_view atom.now) }
     {
-        Part::Says(atom.predicate.as_bytes(), Terms::Any(&atom.terms))
+        Part::Says(atom.predicate.as_bytes(), &atom.terms)
     }
 
     /// The total cost, a function without terms.
     pub fn total_cost() -> Part<'d, A>
         ensures { part_in result ≡ calls (bare total_cost) }
     {
-        Part::Calls(b"total-cost".as_slice(), Terms::Any(&[]))
+        Part::Calls(b"total-cost".as_slice(), &[])
     }
 
     /// What an increase adds to the total cost.
@@ -59,9 +59,7 @@ impl<'d, A: Allocator> Part<'d, A> {
     {
         match amount {
             Amount::Number(number) => Part::Counts(b"total-cost".as_slice(), *number),
-            Amount::Function(call) => {
-                Part::Calls(call.function.as_bytes(), Terms::Any(&call.terms))
-            }
+            Amount::Function(call) => Part::Calls(call.function.as_bytes(), &call.terms),
         }
     }
 }

@@ -14,13 +14,12 @@ returns-in-Ok-clause-found g c =
     let seen = c.in-Ok.ensures.seen _ c.requires.listed in
     let none = rw c.requires.typed at c.in-Ok.ensures.passes in
     rw (c.in-Some.is, none)
-    (c.lower-in-Ok-2.ensures.found _ _ seen.0
-    (c.lower-in-Ok.ensures.found _ _ (rw (known_faults (known_more c.requires c.add.ensures.told c.add.ensures.kept seen.1)) at c.search_problem-places.ensures.found)
-    (c.lower-alone.ensures.found _ _ (passed_found 29 _ _ (rw c.deref.ensures.value at c.contradictions-literals.ensures))
-    (c.lower.ensures.found _ _ (passed_found 31 _ _ (rw c.deref-in-Some.ensures.value at c.cost_values-costs.ensures))
-    (c.lower-others.ensures.found _ _ (passed_found 25 _ _ (rw c.deref-in-Some-2.ensures.value at c.object_types.ensures)) (passed_part 33 _ c.metric.result c.metric.ensures))))))
+    (c.lower-in-Ok.ensures.found _ _ seen.0
+    (c.lower.ensures.found _ _ (rw (known_faults (known_more c.requires c.add.ensures.told c.add.ensures.kept seen.1)) at c.search_problem-places.ensures.found)
+    (c.lower-alone.ensures.found _ _ (rw c.deref.ensures.value at c.claims-init.ensures)
+    (c.lower-others.ensures.found _ _ (passed_found 25 _ _ (rw c.deref-in-Some.ensures.value at c.object_types.ensures)) (passed_part 33 _ c.metric.result c.metric.ensures)))))
 
 pub returns-in-Ok-clause-known : goal.returns-in-Ok-clause-known
 returns-in-Ok-clause-known g c =
     let seen = c.in-Ok.ensures.seen _ c.requires.listed in
-    rw c.in-Some.is (holds_on c.lower-in-Ok-2.result (known_still (known_more c.requires c.add.ensures.told c.add.ensures.kept seen.1) c.search_problem-places.ensures.told))
+    rw c.in-Some.is (holds_on c.lower-in-Ok.result (known_still (known_more c.requires c.add.ensures.told c.add.ensures.kept seen.1) c.search_problem-places.ensures.told))
