@@ -15,11 +15,9 @@ use pddl_domain::Domain;
 use pddl_faults::LinkFault;
 use pddl_hash::Hashed;
 use pddl_linked_task::Task;
-use pddl_names::{look_at_files, look_at_goal};
+use pddl_names::{domain_name, look_at_files, look_at_goal};
 use pddl_problem::Problem;
-use pddl_search::domain_name;
-use pddl_sizes::ObjectOrder;
-use pddl_types::{Known, Tables, Told, Types, tell_parameters};
+use pddl_types::{Known, ObjectOrder, Tables, Told, Types, tell_parameters};
 use std::alloc::Allocator;
 
 /// The order of the types of objects, where no fault from 23 to 33 stands. Nothing is known before but the types of the domain, and none is told.

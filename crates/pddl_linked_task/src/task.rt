@@ -21,9 +21,8 @@ use pddl_domain::{Action, Domain};
 use pddl_formula::{Formula, TypeNames};
 use pddl_hash::Hashed;
 use pddl_problem::{GroundFunction, InitItem, ObjectNames, Problem};
-use pddl_sizes::{action_ground_size, ground_size};
 use pddl_token::{LentName, Name};
-use pddl_types::Tables;
+use pddl_types::{Tables, action_ground_size, ground_size};
 use std::alloc::{AllocError, Allocator};
 use std::marker::Model;
 

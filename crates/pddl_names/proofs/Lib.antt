@@ -1,3 +1,5 @@
+pub mod Scopes
+pub mod InitClaims
 pub mod FoundParts
 pub mod HeldFiles
 pub mod OffTypes

@@ -12,7 +12,7 @@ use Rattle.pddl_task.specs.Faults.{typed_term, unknown_term, is_misfit, some_mis
 use Rattle.pddl_task.proofs.Lists.{has_first}
 use Rattle.pddl_faults.proofs.PutValues.{is_there}
 use Rattle.pddl_faults.proofs.ListTurns.{rest_is}
-use Rattle.pddl_search.specs.Parts.{term_name}
+use Rattle.pddl_names.specs.Parts.{term_name}
 use Rattle.pddl_types.specs.Told.{ToldValue, IsAt}
 use Rattle.pddl_types.specs.Objects.{IsAtOf}
 

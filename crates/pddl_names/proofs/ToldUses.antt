@@ -7,7 +7,7 @@ use Rattle.std.proofs.lemmas.Slice.Zip.{AllZip-left, AllZip-long}
 use Rattle.pddl_formula.specs.TypedLists.{TypedValue, typed_view}
 use Rattle.pddl_task.specs.Names.{Name, is_named}
 use Rattle.pddl_task.proofs.Lists.{some_at}
-use Rattle.pddl_search.specs.Scopes.{bound_in, entered}
+use Rattle.pddl_names.specs.Scopes.{bound_in, entered}
 use Rattle.pddl_types.specs.declared.known.Known.{Known}
 use Rattle.pddl_types.specs.Told.{ToldValue, IsAt, AreAt, AreTold, AreKept}
 use Rattle.pddl_types.specs.Objects.{IsAtOf}

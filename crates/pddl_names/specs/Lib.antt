@@ -1,2 +1,5 @@
+pub mod Parts
+pub mod Scopes
+pub mod Claims
 pub mod Uses
 pub mod FaultParts

@@ -9,13 +9,13 @@ ghost use Rattle.pddl_faults.specs.Found.{IsFound};
 ghost use Rattle.pddl_types.specs.Known.{IsNothing, AreKnown, AreAllKnown};
 ghost use Rattle.pddl_names.specs.FaultParts.{problem_in, joined, problem_parts, part_rules};
 
+use crate::init::claims;
+use crate::passes::{metric, object_fluents, object_types};
 use crate::walk::{search_actions, search_problem};
 use pddl_domain::Domain;
 use pddl_faults::{LinkFault, lower};
 use pddl_problem::Problem;
-use pddl_search::{claims, metric, object_fluents, object_types};
-use pddl_sizes::ground_size;
-use pddl_types::{Known, Tables, Told};
+use pddl_types::{Known, Tables, Told, ground_size};
 use std::alloc::Allocator;
 
 /// The lowest fault of a problem from 23 on but for the size of its goal, behind those of its domain. Its objects are added behind the domain's constants.

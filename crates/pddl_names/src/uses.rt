@@ -9,17 +9,18 @@ ghost use Rattle.pddl_task.specs.Places.{at, binding};
 ghost use Rattle.pddl_task.specs.Faults.{typed_term, unknown_term};
 ghost use Rattle.pddl_faults.specs.Passes.{Passes};
 ghost use Rattle.pddl_faults.specs.Found.{IsFound, numbered};
-ghost use Rattle.pddl_search.specs.Parts.{term_in, terms_in, part_in};
-ghost use Rattle.pddl_search.specs.Scopes.{bound_in};
+ghost use Rattle.pddl_names.specs.Parts.{term_in, terms_in, part_in};
+ghost use Rattle.pddl_names.specs.Scopes.{bound_in};
 ghost use Rattle.pddl_types.specs.KnownNames.{signature_in};
 ghost use Rattle.pddl_types.specs.Told.{ToldValue, unknown_among};
 ghost use Rattle.pddl_types.specs.Objects.{IsAtOf};
 ghost use Rattle.pddl_types.specs.Signatures.{AreSlotsAt};
 ghost use Rattle.pddl_names.specs.Uses.{setting_of, faults_by, faults_of_use, AreAllTold};
 
+use crate::part::{LentTerm, Part, Terms};
+use crate::scope::Scope;
 use pddl_faults::{LinkFault, lower};
 use pddl_formula::{Term, TypedList};
-use pddl_search::{LentTerm, Part, Scope, Terms};
 use pddl_types::{Known, Signatures, Told};
 use std::alloc::Allocator;
 

@@ -10,10 +10,13 @@ ghost use Rattle.pddl_problem.specs.Inits.{init_view, metric_view};
 ghost use Rattle.pddl_problem.specs.Problems.{problem_view};
 ghost use Rattle.pddl_task.specs.Places.{places_in, effect_places, action_places, init_places, metric_places, problem_places};
 ghost use Rattle.pddl_faults.specs.Found.{IsFound};
-ghost use Rattle.pddl_search.specs.Scopes.{bound_in};
+ghost use Rattle.pddl_names.specs.Scopes.{bound_in};
 ghost use Rattle.pddl_names.specs.Uses.{faults_by, AreAllTold};
 ghost use Rattle.pddl_names.specs.FaultParts.{action_faults};
 
+use crate::part::{Part, Terms};
+use crate::passes::is_taken;
+use crate::scope::Scope;
 use crate::uses::{enter, look, look_at_use};
 use indexmap::IndexSet;
 use pddl_domain::Action;
@@ -22,7 +25,6 @@ use pddl_faults::{LinkFault, lower, once};
 use pddl_formula::Formula;
 use pddl_hash::Hashed;
 use pddl_problem::{InitItem, Metric, Problem};
-use pddl_search::{Part, Scope, Terms, is_taken};
 use pddl_types::{Known, Told};
 use std::alloc::Allocator;
 

@@ -15,7 +15,7 @@ use Rattle.pddl_task.specs.Types.{types_of, pairs, is_under, fits}
 use Rattle.pddl_task.specs.GroundSize.{fitting_count}
 use Rattle.pddl_task.proofs.Lists.{and_left, some_at}
 use Rattle.pddl_types.specs.TypeSpans.{TypesValue, span_of, IsTold, DoTell, are_types, IsNumberOf, AreNumbered}
-use Rattle.pddl_sizes.proofs.ListSums.{places_many}
+use Rattle.pddl_types.proofs.ListSums.{places_many}
 
 -- a type of a number fits where that is told of its one primitive
 pub number_fits : {t : TypesValue} {types : List Name} {number : ℕ} (slot : List Name) (fit : Bool) → IsNumberOf t types number

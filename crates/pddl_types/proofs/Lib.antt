@@ -9,3 +9,6 @@ pub mod TaskNames
 pub mod UnknownTypes
 pub mod FirstFaults
 pub mod ObjectTables
+pub mod Capped
+pub mod ListSums
+pub mod SharedTypes

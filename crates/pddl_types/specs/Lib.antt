@@ -6,3 +6,4 @@ pub mod Told
 pub mod Objects
 pub mod Signatures
 pub mod Known
+pub mod ObjectOrders

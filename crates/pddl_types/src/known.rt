@@ -17,7 +17,9 @@ ghost use Rattle.pddl_types.specs.Told.{AreTold, AreKept, unknown_among};
 ghost use Rattle.pddl_types.specs.Known.{declared_typed, repeated_names, objects_in, parameters_among, IsNothing, AreParametersAt, AreKnown, AreAllKnown};
 
 use crate::listed::Listed;
+use crate::object_order::ObjectOrder;
 use crate::signatures::{Signatures, put};
+use crate::size::FittingCount;
 use crate::told::Told;
 use crate::types::Types;
 use indexmap::IndexMap;
@@ -25,7 +27,6 @@ use pddl_domain::{Action, Domain};
 use pddl_faults::{LinkFault, lower};
 use pddl_forest::Span;
 use pddl_formula::TypeNames;
-use pddl_sizes::{FittingCount, ObjectOrder};
 use std::alloc::{AllocError, Allocator};
 
 /// What is answered of two parts: the first fault that ends a part, or the lower of those of names.

@@ -11,13 +11,13 @@ ghost use Rattle.pddl_types.specs.Told.{ToldValue, first_at, AreAt, AreDistinct,
 ghost use Rattle.pddl_types.specs.Objects.{IsAtOf, IsObjectAt, AreSeen, off_types};
 
 use crate::entries::put_new;
+use crate::object_order::ObjectOrder;
 use crate::told::Told;
 use crate::types::Types;
 use indexmap::IndexMap;
 use pddl_faults::{LinkFault, once};
 use pddl_formula::{Typed, TypedList};
 use pddl_hash::Hashed;
-use pddl_sizes::ObjectOrder;
 use pddl_token::LentName;
 use std::alloc::{AllocError, Allocator};
 

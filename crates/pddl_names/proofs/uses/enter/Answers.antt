@@ -1,7 +1,7 @@
 use Rattle.std.proofs.Common.{map}
 use Rattle.std.proofs.lemmas.Result.{err_from_is_err_and}
 use Rattle.pddl_formula.specs.TypedLists.{typed_view}
-use Rattle.pddl_search.proofs.Scopes.{entered_bound}
+use Rattle.pddl_names.proofs.Scopes.{entered_bound}
 use Rattle.pddl_names.proofs.ToldUses.{told_still, told_inside}
 use Rattle.pddl_names.proofs.uses.enter.Goals as goal
 

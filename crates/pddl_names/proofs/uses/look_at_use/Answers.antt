@@ -3,8 +3,8 @@ use Rattle.std.proofs.lemmas.List.{length-map}
 use Rattle.pddl_formula.specs.TypedLists.{typed_view}
 use Rattle.pddl_task.proofs.Lists.{has_first}
 use Rattle.pddl_faults.specs.declared.fault.LinkFault.TheVariants as link
-use Rattle.pddl_search.specs.Parts.{terms_in}
-use Rattle.pddl_search.specs.Scopes.{bound_in}
+use Rattle.pddl_names.specs.Parts.{terms_in}
+use Rattle.pddl_names.specs.Scopes.{bound_in}
 use Rattle.pddl_names.specs.Uses.{setting_of}
 use Rattle.pddl_names.proofs.UseFaults.{undeclared_found, declared_slots, unknown_found, others_found, misfit_found}
 use Rattle.pddl_names.proofs.TermSlots.{known_term, unknown_here, known_here, fits_slot, fits_here, past_here}

@@ -1,8 +1,8 @@
 use Rattle.std.proofs.Common.{◌≡◌, ◌||◌, not, drop, map, flat_map}
 use Rattle.pddl_formula.specs.TypedLists.{typed_view}
 use Rattle.pddl_task.specs.Faults.{unknown_term, some_misfit}
-use Rattle.pddl_search.specs.Parts.{terms_in}
-use Rattle.pddl_search.specs.Scopes.{bound_in}
+use Rattle.pddl_names.specs.Parts.{terms_in}
+use Rattle.pddl_names.specs.Scopes.{bound_in}
 use Rattle.pddl_names.specs.Uses.{setting_of}
 use Rattle.pddl_names.proofs.uses.look_at_use.Given as goal
 

@@ -10,7 +10,7 @@ use Rattle.pddl_effect.proofs.Views.{view_add, view_del, view_increase, view_and
 use Rattle.pddl_task.specs.Places.{at, calls, bare, total_cost, amount_part, effect_places, effects_places, binding}
 use Rattle.pddl_task.proofs.Lists.{append-none}
 use Rattle.pddl_faults.proofs.FoundFaults.{up_to_none}
-use Rattle.pddl_search.specs.Scopes.{bound_in}
+use Rattle.pddl_names.specs.Scopes.{bound_in}
 use Rattle.pddl_names.specs.Uses.{faults_by}
 use Rattle.pddl_names.proofs.Walks.{stopped, in_turn, one_more, at_end}
 use Rattle.pddl_names.proofs.walk.+search_effect.Goals as goal

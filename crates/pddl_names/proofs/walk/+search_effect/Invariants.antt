@@ -1,7 +1,7 @@
 use Rattle.std.proofs.Common.{◌≡◌, map}
 use Rattle.pddl_effect.specs.Effects.{effect_view, effects_of}
 use Rattle.pddl_task.specs.Places.{effects_places}
-use Rattle.pddl_search.specs.Scopes.{bound_in}
+use Rattle.pddl_names.specs.Scopes.{bound_in}
 use Rattle.pddl_names.specs.Uses.{faults_by, AreAllTold}
 use Rattle.pddl_names.proofs.Walks.{FoundBefore}
 use Rattle.pddl_names.proofs.walk.+search_effect.Given as goal

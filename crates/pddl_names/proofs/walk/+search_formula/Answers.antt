@@ -12,7 +12,7 @@ use Rattle.pddl_formula.proofs.Depths.{among}
 use Rattle.pddl_formula.proofs.Views.{view_atom, view_equal, view_not, view_imply, view_and, view_or, view_exists, view_forall}
 use Rattle.pddl_task.specs.Places.{at, binds, places_in, places_in_all, binding}
 use Rattle.pddl_task.proofs.Lists.{append-none}
-use Rattle.pddl_search.specs.Scopes.{bound_in}
+use Rattle.pddl_names.specs.Scopes.{bound_in}
 use Rattle.pddl_names.specs.Uses.{faults_by}
 use Rattle.pddl_names.proofs.Walks.{stopped, one_more, at_end}
 use Rattle.pddl_names.proofs.walk.+search_formula.Goals as goal

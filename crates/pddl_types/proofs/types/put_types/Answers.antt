@@ -5,7 +5,7 @@ use Rattle.std.proofs.lemmas.Simd.{map-map}
 use Rattle.pddl_domain.specs.Declarations.{type_view}
 use Rattle.pddl_task.specs.Names.{is_in, item_of}
 use Rattle.pddl_task.specs.Types.{types_of}
-use Rattle.pddl_sizes.proofs.SharedTypes.{of_next}
+use Rattle.pddl_types.proofs.SharedTypes.{of_next}
 use Rattle.pddl_types.specs.TypeTables.{StandsAt, IsTableOf, parent_place}
 use Rattle.pddl_types.proofs.TypeTables.{stands_on, again, put_under, parent_put}
 use Rattle.pddl_faults.proofs.ListTurns.{seen_more, viewed_at}

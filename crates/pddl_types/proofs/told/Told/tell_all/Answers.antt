@@ -6,7 +6,7 @@ use Rattle.std.proofs.lemmas.Result.{err_from_is_err_and}
 use Rattle.pddl_formula.specs.TypedLists.{typed_view}
 use Rattle.pddl_task.proofs.Lists.{some_at}
 use Rattle.pddl_faults.proofs.PassedParts.{pass_front}
-use Rattle.pddl_sizes.proofs.SharedTypes.{type_at, of_next}
+use Rattle.pddl_types.proofs.SharedTypes.{type_at, of_next}
 use Rattle.pddl_types.specs.Told.{AreTold, AreKept, IsAt}
 use Rattle.pddl_types.proofs.ToldTypes.{kept_self, kept_then, none_unknown, told_next}
 use Rattle.pddl_types.proofs.UnknownTypes.{typed_left}

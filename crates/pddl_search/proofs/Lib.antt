@@ -1,2 +1,0 @@
-pub mod Scopes
-pub mod InitClaims
