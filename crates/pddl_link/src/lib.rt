@@ -9,4 +9,3 @@ mod linked;
 pub use linked::{check_domain, link};
 pub use pddl_faults::LinkFault;
 pub use pddl_linked_task::{Task, let_go_task};
-pub use pddl_types::{FittingCount, action_ground_size, effect_ground_size, ground_size};

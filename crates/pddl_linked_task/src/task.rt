@@ -22,7 +22,7 @@ use pddl_formula::{Formula, TypeNames};
 use pddl_hash::Hashed;
 use pddl_problem::{GroundFunction, InitItem, ObjectNames, Problem};
 use pddl_token::{LentName, Name};
-use pddl_types::{Tables, action_ground_size, ground_size};
+use pddl_types::Tables;
 use std::alloc::{AllocError, Allocator};
 use std::marker::Model;
 
@@ -206,14 +206,14 @@ impl<'m, 'a, A: Allocator, B: Allocator> Task<'m, 'a, A, B> {
     pub fn ground_size<N: Allocator>(&self, formula: &Formula<N>) -> u32
         ensures { result ≡ capped (formula_size (task_count (task_of_files self.now)) (formula_view formula.now)) }
     {
-        ground_size(&self.tables, formula)
+        self.tables.ground_size(formula)
     }
 
     /// The ground size of a step of an action over the task's objects, or 1,000,001 where it is over 1,000,000.
     pub fn action_ground_size<N: Allocator>(&self, action: &Action<N>) -> u32
         ensures { result ≡ capped (action_size (task_count (task_of_files self.now)) (action_view action.now)) }
     {
-        action_ground_size(&self.tables, action)
+        self.tables.action_ground_size(action)
     }
 
     /// The cost that `:init` gives a function of these objects, or `None` where it gives none.

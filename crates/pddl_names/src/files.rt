@@ -15,7 +15,7 @@ use crate::walk::{search_actions, search_problem};
 use pddl_domain::Domain;
 use pddl_faults::{LinkFault, lower};
 use pddl_problem::Problem;
-use pddl_types::{Known, Tables, Told, ground_size};
+use pddl_types::{Known, Tables, Told};
 use std::alloc::Allocator;
 
 /// The lowest fault of a problem from 23 on but for the size of its goal, behind those of its domain. Its objects are added behind the domain's constants.
@@ -83,7 +83,7 @@ pub fn look_at_goal<'m, 'a, A: Allocator, B: Allocator>(
     ensures { Passes 35 (large_goals (domain_view domain.now) (problem_in problem.entry)) result }
 {
     match problem {
-        Some(problem) => if ground_size(tables, &problem.goal) > 1_000_000 {
+        Some(problem) => if tables.ground_size(&problem.goal) > 1_000_000 {
             Err(LinkFault::GoalTooLarge)
         } else {
             Ok(())

@@ -5,6 +5,8 @@ use Rattle.pddl_formula.specs.TypedLists.{TypedValue}
 use Rattle.pddl_domain.specs.Actions.{ActionValue}
 use Rattle.pddl_domain.specs.Domains.{DomainValue}
 use Rattle.pddl_task.specs.Names.{Name, repeated}
+use Rattle.pddl_task.specs.Types.{pairs}
+use Rattle.pddl_task.specs.GroundSize.{fitting_count}
 use Rattle.pddl_task.specs.Settings.{symbol_of, parameters_of, function_signatures}
 use Rattle.pddl_faults.specs.Found.{numbered}
 use Rattle.pddl_types.specs.KnownNames.{object_in}
@@ -16,6 +18,10 @@ use Rattle.pddl_types.specs.declared.known.Known.{Known}
 -- the objects that are listed
 abbrev pub objects_in : {A B : _} → Known A B → List TypedValue
 objects_in k = map object_in k.listed.objects.entries
+
+-- how many of them fit a type
+abbrev pub count_in : {A B : _} → Known A B → List Name → ℕ
+count_in k = fitting_count (pairs k.types.declared) (objects_in k)
 
 -- what a domain declares with a type, outside of actions
 abbrev pub declared_typed : DomainValue → List TypedValue

@@ -8,18 +8,16 @@ ghost use Rattle.pddl_domain.specs.Domains.{DomainValue, domain_view};
 ghost use Rattle.pddl_forest.specs.Spans.{AreApart};
 ghost use Rattle.pddl_task.specs.Names.{Name};
 ghost use Rattle.pddl_task.specs.Types.{pairs, fits};
-ghost use Rattle.pddl_task.specs.GroundSize.{fitting_count};
 ghost use Rattle.pddl_task.specs.Tasks.{places_from};
 ghost use Rattle.pddl_faults.specs.Passes.{Passes};
 ghost use Rattle.pddl_faults.specs.Found.{IsFound};
 ghost use Rattle.pddl_types.specs.TypeSpans.{TypesValue, IsTold, AreNumbered, AreNumbered-prop};
 ghost use Rattle.pddl_types.specs.Told.{AreTold, AreKept, unknown_among};
-ghost use Rattle.pddl_types.specs.Known.{declared_typed, repeated_names, objects_in, parameters_among, IsNothing, AreParametersAt, AreKnown, AreAllKnown};
+ghost use Rattle.pddl_types.specs.Known.{declared_typed, repeated_names, objects_in, count_in, parameters_among, IsNothing, AreParametersAt, AreKnown, AreAllKnown};
 
 use crate::listed::Listed;
 use crate::object_order::ObjectOrder;
 use crate::signatures::{Signatures, put};
-use crate::size::FittingCount;
 use crate::told::Told;
 use crate::types::Types;
 use indexmap::IndexMap;
@@ -163,7 +161,7 @@ impl<'m, 'a, A: Allocator, B: Allocator> Tables<'m, 'a, A, B> {
 
     /// How many objects fit a type, which are looked at one by one.
     fn count_each<N: Allocator>(&self, slot: &TypeNames<N>) -> usize
-        ensures { result ≡ fitting_count (pairs self.now.known.types.declared) (objects_in self.now.known) slot.now }
+        ensures { result ≡ count_in self.now.known slot.now }
     {
         let mut count = 0;
         for number in 0..self.known.listed.objects.len() {
@@ -187,24 +185,15 @@ impl<'m, 'a, A: Allocator, B: Allocator> Tables<'m, 'a, A, B> {
         let tops = self.known.types.tops(alloc, slot)?;
         self.order.objects_under(alloc, &tops)
     }
-}
 
-/// They are counted by the tops of the type, and one by one where memory for these is refused.
-impl<'m, 'a, A: Allocator, B: Allocator, N: Allocator> FittingCount<N> for Tables<'m, 'a, A, B> {
-    ghost use Rattle.pddl_task.specs.Types.{pairs};
-    ghost use Rattle.pddl_task.specs.GroundSize.{fitting_count};
-    ghost use Rattle.pddl_types.specs.Known.{objects_in};
-
-    ghost count = { λ tables slot. fitting_count (pairs tables.known.types.declared) (objects_in tables.known) slot };
-
-    fn fitting_count(&self, types: &TypeNames<N>) -> usize {
-        match self
-            .known
-            .types
-            .tops(*self.known.listed.objects.allocator(), types)
-        {
+    /// How many objects fit a type. They are counted by the tops of the type, and one by one where memory for these is refused.
+    pub(crate) fn fitting_count<N: Allocator>(&self, slot: &TypeNames<N>) -> usize
+        ensures { result ≡ count_in self.now.known slot.now }
+    {
+        let alloc = *self.known.listed.objects.allocator();
+        match self.known.types.tops(alloc, slot) {
             Ok(tops) => self.order.count(&tops),
-            Err(_) => self.count_each(types),
+            Err(_) => self.count_each(slot),
         }
     }
 }

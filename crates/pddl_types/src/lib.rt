@@ -1,7 +1,7 @@
 //! The types, objects, predicates and functions of a domain and a problem in tables, what fits what, and ground sizes.
 //!
 //! Types are numbered in pre-order, and each has the span of the numbers of what is under it, so that a test for a subtype is two comparisons. Objects stand in the
-//! order of the numbers of their types. Ground sizes go by any count of the objects that fit a type.
+//! order of the numbers of their types. Ground sizes go by how many objects fit a type.
 #![tactic(auto)]
 
 mod entries;
@@ -17,6 +17,5 @@ pub use known::{Known, Tables, tell_parameters};
 pub use listed::Listed;
 pub use object_order::ObjectOrder;
 pub use signatures::{Declares, Signatures, Slots};
-pub use size::{FittingCount, action_ground_size, effect_ground_size, ground_size};
 pub use told::Told;
 pub use types::Types;

@@ -5,8 +5,9 @@ use Rattle.pddl_formula.specs.TypedLists.{TypedValue, typed_view}
 use Rattle.pddl_task.specs.GroundSize.{capped, quantifier_size}
 use Rattle.pddl_types.proofs.Capped.{capped_product}
 use Rattle.pddl_types.proofs.SharedTypes.{of_next, type_at}
-use Rattle.pddl_types.proofs.size.quantifier_size.Goals.{then-not-shares, else-not-shares}
-use Rattle.pddl_types.proofs.size.quantifier_size.Goals as goal
+use Rattle.pddl_types.specs.Known.{count_in}
+use Rattle.pddl_types.proofs.known.Tables.quantifier_size.Goals.{then-not-shares, else-not-shares}
+use Rattle.pddl_types.proofs.known.Tables.quantifier_size.Goals as goal
 
 pub loop-i-init : goal.loop-i-init
 loop-i-init g c =
@@ -14,7 +15,7 @@ loop-i-init g c =
     let all = map typed_view items in
     let past : length all ≤ c.len-i.result = omega (arith, length-map items typed_view, c.len-i.ensures) in
     record {
-      so_far = c.sum-size.ensures ∙ ap (λ ys. capped (quantifier_size (g.C.FittingCount.count c.args.counts.now) ys c.args.body)) (sym (drop_all c.len-i.result all past));
+      so_far = c.sum-size.ensures ∙ ap (λ ys. capped (quantifier_size (count_in c.args.self.now.known) ys c.args.body)) (sym (drop_all c.len-i.result all past));
       last = λ x at. let none = slice_get_past all c.len-i.result past in cc;
     }
 
@@ -23,7 +24,7 @@ loop-i-preserved g c =
     let l = c.loop-i in
     let items = c.args.variables.now.items in
     let all = map typed_view items in
-    let count = g.C.FittingCount.count c.args.counts.now in
+    let count = count_in c.args.self.now.known in
     let low : l.i - 1 < length items = omega (arith, c.loop-i-test.true, l.auto.i, c.len-i.ensures) in
     let next : suc (l.i - 1) ≡ l.i = omega (arith, c.loop-i-test.true) in
     let told : (x : TypedValue) → slice_get all (l.i - 1) ≡ Some x → c.if-not-shares.count ≡ count x.of = elim c.if-not-shares.branch [

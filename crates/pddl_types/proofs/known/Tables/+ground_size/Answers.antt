@@ -6,7 +6,7 @@ use Rattle.pddl_formula.proofs.Views.{view_and, view_or, view_exists, view_foral
 use Rattle.pddl_formula.proofs.Depths.{among, under_and, under_or}
 use denote.Param.Weighed.{most}
 use Rattle.pddl_types.proofs.Capped.{quantified}
-use Rattle.pddl_types.proofs.size.+ground_size.Goals as goal
+use Rattle.pddl_types.proofs.known.Tables.+ground_size.Goals as goal
 
 pub returns-after-loop-part : goal.returns-after-loop-part
 returns-after-loop-part g t c =
@@ -23,12 +23,12 @@ loop-part-preserved g t c =
 
 pub ground_size-requires-in-loop-part : goal.ground_size-requires-in-loop-part
 ground_size-requires-in-loop-part g t c κs within =
-    let size = the_size g.row.A g.A.Allocator g.A.laws in
+    let size = the_size g.row.N g.N.Allocator g.N.laws in
     let f = c.args.formula.now in
     let parts = c.deref-part-items.result.now in
     let less : most size parts < size f = elim c.in-And.is [
-      | inl is ↦ under_and g.row.A g.A.Allocator g.A.laws f parts _ is c.deref-part-items.ensures.value
-      | inr is ↦ under_or g.row.A g.A.Allocator g.A.laws f parts _ is c.deref-part-items.ensures.value
+      | inl is ↦ under_and g.row.N g.N.Allocator g.N.laws f parts _ is c.deref-part-items.ensures.value
+      | inr is ↦ under_or g.row.N g.N.Allocator g.N.laws f parts _ is c.deref-part-items.ensures.value
     ] in
     (omega (arith, less, among size parts c.loop-part.part-index c.part-item.result c.loop-part-test.true c.part-item.is, c.decreases), within)
 

@@ -7,7 +7,7 @@ use Rattle.pddl_effect.proofs.Depths.{under_all}
 use Rattle.pddl_faults.proofs.ViewTurns.{effects-drop}
 use Rattle.pddl_effect.proofs.Views.{view_and, view_forall}
 use Rattle.pddl_types.proofs.Capped.{quantified}
-use Rattle.pddl_types.proofs.size.+effect_ground_size.Goals as goal
+use Rattle.pddl_types.proofs.known.Tables.+effect_ground_size.Goals as goal
 
 pub returns-after-loop-part : goal.returns-after-loop-part
 returns-after-loop-part g t c =
@@ -21,8 +21,8 @@ loop-part-preserved g t c =
 
 pub effect_ground_size-requires : goal.effect_ground_size-requires
 effect_ground_size-requires g t c κs within =
-    let size = the_size g.row.A g.A.Allocator g.A.laws in
-    let less = under_all g.row.A g.A.Allocator g.A.laws c.args.effect.now c.in-And.parts c.in-And.is in
+    let size = the_size g.row.N g.N.Allocator g.N.laws in
+    let less = under_all g.row.N g.N.Allocator g.N.laws c.args.effect.now c.in-And.parts c.in-And.is in
     let parts = ap (most size) c.deref-part-items.ensures.value in
     (omega (arith, less, parts, among size c.deref-part-items.result.now c.loop-part.part-index c.part-item.result c.loop-part-test.true c.part-item.is, c.decreases), within)
 
