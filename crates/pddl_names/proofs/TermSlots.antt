@@ -1,5 +1,5 @@
 -- Terms and their slots, in turn.
-use Rattle.std.proofs.Common.{◌≡◌, ℕ, ◌+◌, ◌<◌, ◌≤◌, Bool, false, not, ◌&&◌, ◌||◌, List, [], ◌∷◌, length, get_or, drop, Option, Some, None, refl, ap, sym, ◌∙◌, arith, Contains, is_some, slice_get, flat_map}
+use Rattle.std.proofs.Common.{◌≡◌, ℕ, ◌+◌, ◌<◌, ◌≤◌, Bool, true, false, not, cond, ◌&&◌, ◌||◌, List, [], ◌∷◌, length, get_or, drop, Option, Some, None, refl, ap, sym, ◌∙◌, arith, Contains, is_some, slice_get, flat_map}
 use Rattle.std.proofs.lemmas.List.{drop_all}
 use Rattle.std.proofs.lemmas.Option.{slice_get_within, get_or_from_slice_get}
 use Rattle.pddl_formula.specs.Terms.{TermValue, name, variable}
@@ -12,15 +12,17 @@ use Rattle.pddl_task.specs.Faults.{typed_term, unknown_term, is_misfit, some_mis
 use Rattle.pddl_task.proofs.Lists.{has_first}
 use Rattle.pddl_faults.proofs.PutValues.{is_there}
 use Rattle.pddl_faults.proofs.ListTurns.{rest_is}
-use Rattle.pddl_names.specs.Parts.{term_name}
+use Rattle.pddl_names.specs.declared.part.LentTerm.{LentTerm}
+use Rattle.pddl_names.specs.Parts.{term_in}
 use Rattle.pddl_types.specs.Told.{ToldValue, IsAt}
 use Rattle.pddl_types.specs.Objects.{IsAtOf}
 
 -- ---- a term and its slot
 
-unknown_is : (s : Setting) (b : List TypedValue) (t : TermValue) → unknown_term s b t ≡ word_if (not (is_some (typed_term s b t))) (term_name t)
-unknown_is s b (name n) = ap (λ c. word_if (not c) n) (sym (is_there s.objects n))
-unknown_is s b (variable x) = ap (λ c. word_if (not c) x) (sym (is_there b x))
+unknown_is : (s : Setting) (b : List TypedValue) (n : Name) (is_variable : Bool)
+    → let t = cond is_variable (variable n) (name n) in unknown_term s b t ≡ word_if (not (is_some (typed_term s b t))) n
+unknown_is s b n false = ap (λ c. word_if (not c) n) (sym (is_there s.objects n))
+unknown_is s b n true = ap (λ c. word_if (not c) n) (sym (is_there b n))
 
 number_some : (told : ToldValue) (y : Option TypedValue) (number : Option ℕ) → IsAtOf told y number → is_some y ≡ is_some number
 number_some told None None is = refl
@@ -28,14 +30,14 @@ number_some told (Some y) (Some n) is = refl
 number_some told None (Some n) is = absurd is
 number_some told (Some y) None is = absurd is
 
-module _ (s : Setting) (b : List TypedValue) (t : TermValue) (told : ToldValue) where
+module _ (s : Setting) (b : List TypedValue) (t : LentTerm) (told : ToldValue) where
   -- a term is known where its type is told at a number
-  pub known_term : (number : Option ℕ) → IsAtOf told (typed_term s b t) number → unknown_term s b t ≡ word_if (not (is_some number)) (term_name t)
-  known_term number is = unknown_is s b t ∙ ap (λ c. word_if (not c) (term_name t)) (number_some told (typed_term s b t) number is)
+  pub known_term : (number : Option ℕ) → IsAtOf told (typed_term s b (term_in t)) number → unknown_term s b (term_in t) ≡ word_if (not (is_some number)) t.name.now
+  known_term number is = unknown_is s b t.name.now t.is_variable ∙ ap (λ c. word_if (not c) t.name.now) (number_some told (typed_term s b (term_in t)) number is)
 
   -- and where there is none, its name is a fault
-  pub unknown_word : IsAtOf told (typed_term s b t) None → Contains (unknown_term s b t) (term_name t)
-  unknown_word is = rw (known_term None is) (has_first (term_name t) [])
+  pub unknown_word : IsAtOf told (typed_term s b (term_in t)) None → Contains (unknown_term s b (term_in t)) t.name.now
+  unknown_word is = rw (known_term None is) (has_first t.name.now [])
 
 -- whether it fits its slot, as it is found by the numbers of their types
 pub fits_slot : (told : ToldValue) (ps : List TypeValue) (y : Option TypedValue) (x : TypedValue) (n m : ℕ) (fit : Bool) → ((of to : List Name) → IsAt told of n → IsAt told to m → fit ≡ fits ps of to)

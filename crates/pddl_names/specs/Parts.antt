@@ -1,24 +1,17 @@
 -- Terms, and parts of places, that are lent.
-use Rattle.std.specs.Prelude.{ℕ, List, map}
+use Rattle.std.specs.Prelude.{List, map, cond}
 use Rattle.pddl_formula.specs.Terms.{TermValue, name, variable, term_view}
 use Rattle.pddl_task.specs.Places as places
 use Rattle.pddl_task.specs.Places.{says, calls, equates, counts}
 use Rattle.pddl_names.specs.declared.part.LentTerm.{LentTerm}
-use Rattle.pddl_names.specs.declared.part.LentTerm.TheVariants.{Object, Variable}
 use Rattle.pddl_names.specs.declared.part.Terms.{Terms}
 use Rattle.pddl_names.specs.declared.part.Terms.TheVariants.{Any, Objects}
 use Rattle.pddl_names.specs.declared.part.Part.{Part}
 use Rattle.pddl_names.specs.declared.part.Part.TheVariants.{Says, Calls, Equates, Counts}
 
 -- a term
-abbrev pub term_in : {A : _} → LentTerm A → TermValue
-term_in (Object n) = name n.now
-term_in (Variable n) = variable n.now
-
--- its name, a variable's without `?`
-abbrev pub term_name : TermValue → List ℕ
-term_name (name n) = n
-term_name (variable x) = x
+abbrev pub term_in : LentTerm → TermValue
+term_in t = cond t.is_variable (variable t.name.now) (name t.name.now)
 
 -- the terms of a predicate or a function
 abbrev pub terms_in : {A : _} → Terms A → List TermValue

@@ -4,19 +4,19 @@ ghost use Rattle.std.specs.Prelude.{◌≡◌, ◌<◌, length, get_or};
 ghost use Rattle.pddl_formula.specs.Terms.{term_view, atom_view};
 ghost use Rattle.pddl_effect.specs.Effects.{amount_view};
 ghost use Rattle.pddl_task.specs.Places.{says, calls, bare, total_cost, amount_part};
-ghost use Rattle.pddl_names.specs.Parts.{part_in, term_in, term_name, terms_in};
+ghost use Rattle.pddl_names.specs.Parts.{part_in, term_in, terms_in};
 
 use pddl_effect::Amount;
 use pddl_formula::{Atom, Term};
 use pddl_problem::ObjectNames;
-use pddl_token::{Fixed, Name};
+use pddl_token::Fixed;
 use std::alloc::Allocator;
 
-/// A term, lent by its name.
-#[derive(Drop)]
-pub(crate) enum LentTerm<'d, A: Allocator> {
-    Object(&'d [u8]),
-    Variable(&'d Name<A>),
+/// A term, lent by its name, which is a variable's without `?`.
+#[derive(Clone, Copy)]
+pub(crate) struct LentTerm<'d> {
+    pub name: &'d [u8],
+    pub is_variable: bool,
 }
 
 /// The terms of a predicate or a function, lent: any, or the objects that `:init` has.
@@ -64,24 +64,18 @@ impl<'d, A: Allocator> Part<'d, A> {
     }
 }
 
-impl<'d, A: Allocator> LentTerm<'d, A> {
+impl<'d> LentTerm<'d> {
     /// The term by its name.
-    pub fn of(term: &'d Term<A>) -> LentTerm<'d, A>
+    pub fn of<A: Allocator>(term: &'d Term<A>) -> LentTerm<'d>
         ensures { term_in result ≡ term_view term.now }
     {
-        match term {
-            Term::Name(name) => LentTerm::Object(name.as_bytes()),
-            Term::Variable(name) => LentTerm::Variable(name),
-        }
-    }
-
-    /// Its name, a variable's without `?`.
-    pub fn name(&self) -> &'d [u8]
-        ensures { result.now ≡ term_name (term_in self.now) }
-    {
-        match self {
-            LentTerm::Object(name) => *name,
-            LentTerm::Variable(name) => name.as_bytes(),
+        let (name, is_variable) = match term {
+            Term::Name(name) => (name, false),
+            Term::Variable(name) => (name, true),
+        };
+        LentTerm {
+            name: name.as_bytes(),
+            is_variable,
         }
     }
 }
@@ -98,13 +92,16 @@ impl<'d, A: Allocator> Terms<'d, A> {
     }
 
     /// The term of a number from 0.
-    pub fn at(&self, number: usize) -> LentTerm<'d, A>
+    pub fn at(&self, number: usize) -> LentTerm<'d>
         requires { number < length (terms_in self.now) }
         ensures { term_in result ≡ get_or (terms_in self.now) number (term_in result) }
     {
         match *self {
             Terms::Any(terms) => LentTerm::of(&terms[number]),
-            Terms::Objects(objects) => LentTerm::Object(objects.at(number)),
+            Terms::Objects(objects) => LentTerm {
+                name: objects.at(number),
+                is_variable: false,
+            },
         }
     }
 }

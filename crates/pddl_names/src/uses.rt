@@ -28,13 +28,14 @@ use std::alloc::Allocator;
 fn type_of<'m, 'a, A: Allocator, B: Allocator>(
     known: &Known<'m, 'a, A, B>,
     scope: &Scope<'m, 'a, A, B>,
-    term: &LentTerm<'_, A>,
+    term: LentTerm<'_>,
 ) -> Option<usize>
-    ensures { (told : ToldValue) → AreAllTold known.now told scope.now → IsAtOf told (typed_term (setting_of known.now) (bound_in scope.now) (term_in term.now)) result }
+    ensures { (told : ToldValue) → AreAllTold known.now told scope.now → IsAtOf told (typed_term (setting_of known.now) (bound_in scope.now) (term_in term.entry)) result }
 {
-    match term {
-        LentTerm::Object(object) => known.listed.type_of(*object),
-        LentTerm::Variable(variable) => scope.number_of(variable.as_bytes()),
+    if term.is_variable {
+        scope.number_of(term.name)
+    } else {
+        known.listed.type_of(term.name)
     }
 }
 
@@ -59,8 +60,8 @@ pub(crate) fn look_at_use<'m, 'a, 'd, A: Allocator, B: Allocator>(
     let mut all_fit = true;
     for i in 0..terms.len() {
         let term = terms.at(i);
-        let Some(number) = type_of(known, scope, &term) else {
-            return Err(LinkFault::UnknownName(term.name()));
+        let Some(number) = type_of(known, scope, term) else {
+            return Err(LinkFault::UnknownName(term.name));
         };
         if let Some(slot) = slots.numbers.get(i) {
             all_fit &= told.fits(&known.types, number, *slot)?;
@@ -85,9 +86,9 @@ fn look_at_term<'m, 'a, 'd, A: Allocator, B: Allocator>(
     ensures { (told : ToldValue) → AreAllTold known.now told scope.now → Passes 26 (unknown_term (setting_of known.now) (bound_in scope.now) (term_view term.now)) result }
 {
     let term = LentTerm::of(term);
-    match type_of(known, scope, &term) {
+    match type_of(known, scope, term) {
         Some(_) => Ok(()),
-        None => Err(LinkFault::UnknownName(term.name())),
+        None => Err(LinkFault::UnknownName(term.name)),
     }
 }
 

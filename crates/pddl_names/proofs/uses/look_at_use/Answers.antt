@@ -21,8 +21,8 @@ returns-in_default-type_of-clause-found g c =
     let b = bound_in c.args.scope.now in
     let ts = terms_in c.args.terms.now in
     let typed = rw c.in_default-type_of.is at c.type_of.ensures c.args.told.now c.requires.told in
-    unknown_found s b ts c.args.declared.now.entries c.args.symbol c.in-Some.slots.now c.in-Some.ensures.value c.name.result (rw c.name.ensures
-    (unknown_here s b ts c.loop-i.i _ (rw c.len-i-end.ensures at c.loop-i-test.true) c.at-term.ensures _ _ c.loop-i.invariant.unknown (known_term s b _ c.args.told.now _ typed)))
+    unknown_found s b ts c.args.declared.now.entries c.args.symbol c.in-Some.slots.now c.in-Some.ensures.value c.at-term.result.name
+    (unknown_here s b ts c.loop-i.i _ (rw c.len-i-end.ensures at c.loop-i-test.true) c.at-term.ensures _ _ c.loop-i.invariant.unknown (known_term s b c.at-term.result c.args.told.now _ typed))
 
 pub loop-i-preserved : goal.loop-i-preserved
 loop-i-preserved g c =
@@ -37,7 +37,7 @@ loop-i-preserved g c =
     let before = c.loop-i.invariant in
     let low : i < length all = rw c.len-i-end.ensures at c.loop-i-test.true in
     let typed = c.in-Some-type_of.ensures told c.requires.told in
-    let known = known_here s b all i _ low c.at-term.ensures _ before.unknown (known_term s b _ told _ typed) in
+    let known = known_here s b all i _ low c.at-term.ensures _ before.unknown (known_term s b c.at-term.result told _ typed) in
     let item = rw c.deref.ensures.value at c.get-in-loop-i.ensures.lookup in
     elim c.match-get-2.branch [
       | in-Some-get+in_ok-all_fit w ↦
