@@ -56,10 +56,9 @@ abbrev pub problem_parts : DomainValue → ProblemValue → FaultParts
 problem_parts d p =
     numbered 23 (unknown_among d.types p.objects)
     ∷ numbered 24 (off_types d.constants p.objects)
-    ∷ flat_map (place_faults d.types (in_problem d p)) (problem_places p)
+    ∷ (flat_map (place_faults d.types (in_problem d p)) (problem_places p) ++ numbered 33 (other_metrics p.metric))
     ∷ (numbered 29 (contradictions p) ++ numbered 31 (cost_values p))
-    ∷ numbered 25 (object_types p.objects)
-    ∷ numbered 33 (other_metrics p.metric) ∷ []
+    ∷ numbered 25 (object_types p.objects) ∷ []
 
 -- ---- rules
 

@@ -10,7 +10,7 @@ ghost use Rattle.pddl_types.specs.Known.{IsNothing, AreKnown, AreAllKnown};
 ghost use Rattle.pddl_names.specs.FaultParts.{problem_in, joined, problem_parts, part_rules};
 
 use crate::init::claims;
-use crate::passes::{metric, object_fluents, object_types};
+use crate::passes::{object_fluents, object_types};
 use crate::walk::{search_actions, search_problem};
 use pddl_domain::Domain;
 use pddl_faults::{LinkFault, lower};
@@ -34,8 +34,7 @@ fn look_at_problem<'m, 'a, A: Allocator, B: Allocator>(
             let alloc = known.types.allocator();
             let hashed = known.types.hashed();
             let init = claims(alloc, hashed, &problem.init);
-            let others = lower(object_types(&problem.objects), metric(&problem.metric));
-            let alone = lower(init, others);
+            let alone = lower(init, object_types(&problem.objects));
             match known.listed.add(&known.types, told, &problem.objects) {
                 Ok(objects) => {
                     let places = search_problem(&*known, told, problem);

@@ -1,6 +1,6 @@
 //! Passes over declarations, each of which looks for one fault of a domain or a problem.
 
-ghost use Rattle.std.specs.Prelude.{◌≡◌, map, option_map};
+ghost use Rattle.std.specs.Prelude.{◌≡◌, map};
 ghost use Rattle.pddl_formula.specs.TypedLists.{typed_view};
 ghost use Rattle.pddl_domain.specs.Declarations.{number};
 ghost use Rattle.pddl_domain.specs.Domains.{domain_view};
@@ -8,7 +8,7 @@ ghost use Rattle.pddl_problem.specs.Inits.{metric_view};
 ghost use Rattle.pddl_problem.specs.Problems.{problem_view};
 ghost use Rattle.pddl_task.specs.Names.{same_names};
 ghost use Rattle.pddl_task.specs.Places.{is_taken};
-ghost use Rattle.pddl_task.specs.Faults.{domain_names, object_types, object_fluents, other_metrics};
+ghost use Rattle.pddl_task.specs.Faults.{domain_names, object_types, object_fluents};
 ghost use Rattle.pddl_faults.specs.Passes.{Passes};
 
 use pddl_domain::Domain;
@@ -72,14 +72,4 @@ pub(crate) fn is_taken<A: Allocator>(metric: &Metric<A>) -> bool
     matches!(metric.direction, Direction::Minimize)
         && metric.function.function.as_bytes() == b"total-cost".as_slice()
         && metric.function.objects.len() == 0
-}
-
-/// The metric, where there is one, is taken.
-pub(crate) fn metric<'d, A: Allocator>(metric: &Option<Metric<A>>) -> Result<(), LinkFault<'d>>
-    ensures { Passes 33 (other_metrics (option_map metric_view metric.now)) result }
-{
-    match metric {
-        Some(metric) if !is_taken(metric) => Err(LinkFault::Metric),
-        _ => Ok(()),
-    }
 }

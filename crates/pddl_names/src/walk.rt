@@ -2,14 +2,15 @@
 //!
 //! Each function answers the lowest of the faults that stand in its part, and leaves what is in scope as it was.
 
-ghost use Rattle.std.specs.Prelude.{◌≡◌, [], map, option_map, flat_map};
+ghost use Rattle.std.specs.Prelude.{◌≡◌, ◌++◌, [], map, option_map, flat_map};
 ghost use Rattle.pddl_formula.specs.Formulas.{formula_view};
 ghost use Rattle.pddl_effect.specs.Effects.{effect_view};
 ghost use Rattle.pddl_domain.specs.Actions.{action_view};
 ghost use Rattle.pddl_problem.specs.Inits.{init_view, metric_view};
 ghost use Rattle.pddl_problem.specs.Problems.{problem_view};
 ghost use Rattle.pddl_task.specs.Places.{places_in, effect_places, action_places, init_places, metric_places, problem_places};
-ghost use Rattle.pddl_faults.specs.Found.{IsFound};
+ghost use Rattle.pddl_task.specs.Faults.{other_metrics};
+ghost use Rattle.pddl_faults.specs.Found.{IsFound, numbered};
 ghost use Rattle.pddl_names.specs.Scopes.{bound_in};
 ghost use Rattle.pddl_names.specs.Uses.{faults_by, AreAllTold};
 ghost use Rattle.pddl_names.specs.FaultParts.{action_faults};
@@ -203,7 +204,7 @@ fn search_item<'m, 'a, 'd, A: Allocator, B: Allocator>(
     }
 }
 
-/// Searches a metric; nothing is looked for in one that is not taken.
+/// Searches a metric; one that is not taken is a fault, and nothing else is looked for in it.
 fn search_metric<'m, 'a, 'd, A: Allocator, B: Allocator>(
     known: &Known<'m, 'a, A, B>,
     told: &mut Told<'m, 'a, A, B>,
@@ -213,11 +214,12 @@ fn search_metric<'m, 'a, 'd, A: Allocator, B: Allocator>(
     requires told { AreAllTold known.now told.old scope.now }
     requires empty { scope.now ≡ [] }
     ensures kept { told.new ≡ told.old }
-    ensures found { IsFound (flat_map (faults_by known.now) (metric_places (option_map metric_view metric.now))) result }
+    ensures found { IsFound (flat_map (faults_by known.now) (metric_places (option_map metric_view metric.now)) ++ numbered 33 (other_metrics (option_map metric_view metric.now))) result }
 {
     match metric {
         Some(metric) if is_taken(metric) => look(known, told, scope, &Part::total_cost()),
-        _ => Ok(()),
+        Some(_) => Err(LinkFault::Metric),
+        None => Ok(()),
     }
 }
 
@@ -230,7 +232,7 @@ pub(crate) fn search_problem<'m, 'a, A: Allocator, B: Allocator>(
 ) -> Result<(), LinkFault<'m>>
     requires { AreAllTold known.now told.old [] }
     ensures told { AreAllTold known.now told.new [] }
-    ensures found { IsFound (flat_map (faults_by known.now) (problem_places (problem_view problem.now))) result }
+    ensures found { IsFound (flat_map (faults_by known.now) (problem_places (problem_view problem.now)) ++ numbered 33 (other_metrics (problem_view problem.now).metric)) result }
 {
     let mut scope = Scope::new(known.types.allocator(), known.types.hashed());
     let mut init = Ok(());

@@ -1,4 +1,3 @@
-use Rattle.pddl_faults.proofs.FoundFaults.{passed_found}
 use Rattle.pddl_names.proofs.FoundParts.{from_parts, passed_first, passed_part, holds_on}
 use Rattle.pddl_names.proofs.HeldFiles.{known_faults, nothing_bound, known_still, known_more}
 use Rattle.pddl_names.proofs.files.look_at_problem.Goals as goal
@@ -17,7 +16,7 @@ returns-in-Ok-clause-found g c =
     (c.lower-in-Ok.ensures.found _ _ seen.0
     (c.lower.ensures.found _ _ (rw (known_faults (known_more c.requires c.add.ensures.told c.add.ensures.kept seen.1)) at c.search_problem-places.ensures.found)
     (c.lower-alone.ensures.found _ _ (rw c.deref.ensures.value at c.claims-init.ensures)
-    (c.lower-others.ensures.found _ _ (passed_found 25 _ _ (rw c.deref-in-Some.ensures.value at c.object_types.ensures)) (passed_part 33 _ c.metric.result c.metric.ensures)))))
+    (passed_part 25 _ c.object_types.result (rw c.deref-in-Some.ensures.value at c.object_types.ensures)))))
 
 pub returns-in-Ok-clause-known : goal.returns-in-Ok-clause-known
 returns-in-Ok-clause-known g c =

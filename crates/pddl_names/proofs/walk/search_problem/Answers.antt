@@ -15,7 +15,7 @@ loop-item-preserved g c = record {
 
 pub returns-clause-found : goal.returns-clause-found
 returns-clause-found g c =
-    rw (append_assoc, flat_map-append, flat_map-append)
+    rw (append_assoc, flat_map-append, flat_map-append, append_assoc, append_assoc)
     (c.lower-2.ensures.found _ _
     (at_end (faults_by c.args.known.now) (λ items. flat_map init_places (map init_view items)) c.deref-item-items.result.now c.loop-item-test.false refl c.deref-item-items.ensures.value c.loop-item.invariant.so_far)
     (c.lower.ensures.found _ _ (rw c.new-scope.ensures at c.search_formula-goal.ensures.found) c.search_metric-metric.ensures.found))
